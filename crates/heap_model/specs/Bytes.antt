@@ -1,0 +1,23 @@
+-- Big-endian numbers in a list of bytes, and what a write leaves.
+use Rattle.std.specs.Prelude.{◌+◌, ◌++◌, ℕ, List, length, take, drop}
+use Rattle.byteorder.specs.Endian.{big_from, big_bytes}
+
+-- the number in the two bytes at an offset; a byte beyond the end counts as zero
+unfoldable pub u16_at : List ℕ → ℕ → ℕ
+u16_at bytes at = big_from at 2 bytes
+
+-- the number in the four bytes at an offset; a byte beyond the end counts as zero
+unfoldable pub u32_at : List ℕ → ℕ → ℕ
+u32_at bytes at = big_from at 4 bytes
+
+-- the two bytes of a number
+unfoldable pub u16_bytes : ℕ → List ℕ
+u16_bytes number = big_bytes 2 number
+
+-- the four bytes of a number
+unfoldable pub u32_bytes : ℕ → List ℕ
+u32_bytes number = big_bytes 4 number
+
+-- a list of bytes after others are written over it, from an offset on
+unfoldable pub overwritten : List ℕ → ℕ → List ℕ → List ℕ
+overwritten old at bytes = take at old ++ bytes ++ drop (at + length bytes) old

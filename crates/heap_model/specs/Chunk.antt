@@ -1,0 +1,82 @@
+-- Chunks: what each is, how it is spelled in an image, and runs of them without a gap.
+use Rattle.std.specs.Prelude.{◌≡◌, ◌≤◌, ◌<◌, ◌+◌, ◌-◌, ◌*◌, ◌/◌, ◌%◌, ◌^◌, ◌⊎◌, ℕ, Bool, true, false, List, [], ◌∷◌, length, slice_range}
+use Rattle.heap_model.specs.Bytes.{u32_at}
+
+-- A chunk is free, and has a size; or movable, with bytes, a lock count below 15, an owner and the
+-- offset of the slot that it names; or fixed, with bytes and an owner.
+pub data Chunk : Type 0 where
+  free : ℕ → Chunk
+  movable : List ℕ → ℕ → ℕ → ℕ → Chunk
+  fixed : List ℕ → ℕ → Chunk
+
+-- what a chunk of so many bytes takes: 8 for its header, and the bytes rounded up to a multiple of 8
+abbrev pub need : ℕ → ℕ
+need count = 8 + 8 * ((count + 7) / 8)
+
+-- what a chunk takes
+abbrev pub size_of : Chunk → ℕ
+size_of (free size) = size
+size_of (movable bytes lock owner slot) = need (length bytes)
+size_of (fixed bytes owner) = need (length bytes)
+
+-- The offset of the slot that the chunk at an offset names by its hOffset, which is half the way
+-- from the chunk to the slot as a two's complement of 24 bits. A way that leads in front of the
+-- image ends beyond 2 ^ 24 here, where no image has a slot.
+abbrev pub slot_named : ℕ → ℕ → ℕ
+slot_named at h_offset = (at + 2 * h_offset) % 2 ^ 25
+
+-- At this offset stands the header of a free chunk of this size: the highest bit, and the size in
+-- the low 24. Its other bits and bytes may be any.
+pub record IsFree (image : List ℕ) (at size : ℕ) : Type 0 where
+  pub free_bit : 2 ^ 31 ≤ u32_at image at
+  pub size_field : u32_at image at % 2 ^ 24 ≡ size
+  pub header_fits : 8 ≤ size
+  pub whole : size % 8 ≡ 0
+  pub inside : at + size ≤ length image
+
+-- At this offset stand the header and the body of a live chunk. The first word is sizeAdj, which is
+-- how many bytes of slack there are, above the size in 24 bits; the second is the lock above the
+-- owner above hOffset in 24 bits. Slack may be any.
+pub record IsLive (image : List ℕ) (at : ℕ) (bytes : List ℕ) (lock owner h_offset : ℕ) : Type 0 where
+  pub first_word : u32_at image at ≡ (need (length bytes) - 8 - length bytes) * 2 ^ 24 + need (length bytes)
+  pub size_fits : need (length bytes) < 2 ^ 24
+  pub second_word : u32_at image (at + 4) ≡ lock * 2 ^ 28 + owner * 2 ^ 24 + h_offset
+  pub lock_fits : lock < 16
+  pub owner_fits : owner < 16
+  pub h_offset_fits : h_offset < 2 ^ 24
+  pub body : slice_range image (at + 8) (at + 8 + length bytes) ≡ bytes
+  pub inside : at + need (length bytes) ≤ length image
+
+-- The chunk is spelled in the image at this offset. The lock 15 is a fixed chunk's, whose hOffset is
+-- 0; a movable chunk that is locked has an owner other than 0.
+abbrev pub Spelled : List ℕ → ℕ → Chunk → Type 0
+Spelled image at (free size) = IsFree image at size
+Spelled image at (movable bytes lock owner slot) =
+    (h_offset : ℕ) × IsLive image at bytes lock owner h_offset × (lock < 15) × ((lock ≡ 0) ⊎ (0 < owner)) × (slot ≡ slot_named at h_offset)
+Spelled image at (fixed bytes owner) = IsLive image at bytes 15 owner 0
+
+-- the chunks are spelled one behind the other, from one offset up to another
+abbrev pub SpelledAll : List ℕ → ℕ → List Chunk → ℕ → Type 0
+SpelledAll image at [] end = at ≡ end
+SpelledAll image at (chunk ∷ chunks) end = Spelled image at chunk × SpelledAll image (at + size_of chunk) chunks end
+
+-- what chunks take together
+abbrev pub total : List Chunk → ℕ
+total [] = 0
+total (chunk ∷ chunks) = size_of chunk + total chunks
+
+-- what is free of a chunk's size
+abbrev pub free_size : Chunk → ℕ
+free_size (free size) = size
+free_size (movable bytes lock owner slot) = 0
+free_size (fixed bytes owner) = 0
+
+abbrev pub is_movable : Chunk → Bool
+is_movable (free size) = false
+is_movable (movable bytes lock owner slot) = true
+is_movable (fixed bytes owner) = false
+
+abbrev pub is_fixed : Chunk → Bool
+is_fixed (free size) = false
+is_fixed (movable bytes lock owner slot) = false
+is_fixed (fixed bytes owner) = true

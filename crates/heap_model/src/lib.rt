@@ -1,0 +1,22 @@
+//! What a heap image is, and what it means: the definitions that every contract of palmheap cites.
+//!
+//! They stand in `specs/`, in this order:
+//!
+//! | file | says |
+//! |---|---|
+//! | `Memory` | what contracts see of a region |
+//! | `Bytes` | big-endian numbers in a list of bytes, and what a write leaves |
+//! | `Chunk` | a chunk, what it takes (`need`), how it is spelled, and runs of chunks |
+//! | `Slots` | the master pointer table of an image: which offsets are those of slots |
+//! | `Heap` | the accepted heap: its head, its chunks, the ties between slots and chunks |
+//! | `Meaning` | what an accepted heap means: a map from names to (bytes, lock, owner) |
+//! | `Reading` | the same by functions that read it off the image |
+//!
+//! Offsets count bytes from the image's start, and numbers are big-endian. The fields of a chunk's
+//! header are those of the Palm OS Programmer's Companion ("Memory Architecture"); the image
+//! around the chunks, profile PHI1, is this project's own (docs/FORMAT.md).
+#![tactic(auto)]
+
+mod names;
+
+pub use names::Place;
