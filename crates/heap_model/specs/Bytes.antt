@@ -10,14 +10,14 @@ u16_at bytes at = big_from at 2 bytes
 unfoldable pub u32_at : List ℕ → ℕ → ℕ
 u32_at bytes at = big_from at 4 bytes
 
--- the two bytes of a number
+-- the lowest two bytes of a number
 unfoldable pub u16_bytes : ℕ → List ℕ
 u16_bytes number = big_bytes 2 number
 
--- the four bytes of a number
+-- the lowest four bytes of a number
 unfoldable pub u32_bytes : ℕ → List ℕ
 u32_bytes number = big_bytes 4 number
 
--- a list of bytes after others are written over it, from an offset on
+-- a list of bytes after others are written over it, from an offset on where they fit
 unfoldable pub overwritten : List ℕ → ℕ → List ℕ → List ℕ
 overwritten old at bytes = take at old ++ bytes ++ drop (at + length bytes) old

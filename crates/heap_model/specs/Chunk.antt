@@ -9,6 +9,10 @@ pub data Chunk : Type 0 where
   movable : List ℕ → ℕ → ℕ → ℕ → Chunk
   fixed : List ℕ → ℕ → Chunk
 
+-- the lock of a fixed chunk; a movable chunk's counts its locks, up to 14
+abbrev pub fixed_lock : ℕ
+fixed_lock = 15
+
 -- what a chunk of so many bytes takes: 8 for its header, and the bytes rounded up to a multiple of 8
 abbrev pub need : ℕ → ℕ
 need count = 8 + 8 * ((count + 7) / 8)
@@ -19,9 +23,9 @@ size_of (free size) = size
 size_of (movable bytes lock owner slot) = need (length bytes)
 size_of (fixed bytes owner) = need (length bytes)
 
--- The offset of the slot that the chunk at an offset names by its hOffset, which is half the way
--- from the chunk to the slot as a two's complement of 24 bits. A way that leads in front of the
--- image ends beyond 2 ^ 24 here, where no image has a slot.
+-- The offset of the slot that a chunk names by its hOffset, which is half the distance from the
+-- chunk to the slot as a two's complement of 24 bits. A distance that leads in front of the image
+-- ends at 2 ^ 24 or more here, where no image has a slot.
 abbrev pub slot_named : ℕ → ℕ → ℕ
 slot_named at h_offset = (at + 2 * h_offset) % 2 ^ 25
 
@@ -47,13 +51,13 @@ pub record IsLive (image : List ℕ) (at : ℕ) (bytes : List ℕ) (lock owner h
   pub body : slice_range image (at + 8) (at + 8 + length bytes) ≡ bytes
   pub inside : at + need (length bytes) ≤ length image
 
--- The chunk is spelled in the image at this offset. The lock 15 is a fixed chunk's, whose hOffset is
--- 0; a movable chunk that is locked has an owner other than 0.
+-- The chunk is spelled in the image at this offset. A fixed chunk's hOffset is 0; a movable chunk
+-- that is locked has an owner other than 0.
 abbrev pub Spelled : List ℕ → ℕ → Chunk → Type 0
 Spelled image at (free size) = IsFree image at size
 Spelled image at (movable bytes lock owner slot) =
-    (h_offset : ℕ) × IsLive image at bytes lock owner h_offset × (lock < 15) × ((lock ≡ 0) ⊎ (0 < owner)) × (slot ≡ slot_named at h_offset)
-Spelled image at (fixed bytes owner) = IsLive image at bytes 15 owner 0
+    (h_offset : ℕ) × IsLive image at bytes lock owner h_offset × (lock < fixed_lock) × ((lock ≡ 0) ⊎ (0 < owner)) × (slot ≡ slot_named at h_offset)
+Spelled image at (fixed bytes owner) = IsLive image at bytes fixed_lock owner 0
 
 -- the chunks are spelled one behind the other, from one offset up to another
 abbrev pub SpelledAll : List ℕ → ℕ → List Chunk → ℕ → Type 0
@@ -65,17 +69,19 @@ abbrev pub total : List Chunk → ℕ
 total [] = 0
 total (chunk ∷ chunks) = size_of chunk + total chunks
 
--- what is free of a chunk's size
+-- how much of a chunk's size is free: all of a free chunk's, nothing of a live one's
 abbrev pub free_size : Chunk → ℕ
 free_size (free size) = size
 free_size (movable bytes lock owner slot) = 0
 free_size (fixed bytes owner) = 0
 
+-- the chunk is a movable one, locked or not
 abbrev pub is_movable : Chunk → Bool
 is_movable (free size) = false
 is_movable (movable bytes lock owner slot) = true
 is_movable (fixed bytes owner) = false
 
+-- the chunk is a fixed one
 abbrev pub is_fixed : Chunk → Bool
 is_fixed (free size) = false
 is_fixed (movable bytes lock owner slot) = false

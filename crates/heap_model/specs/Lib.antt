@@ -1,7 +1,9 @@
 pub mod Memory
 pub mod Bytes
 pub mod Chunk
+pub mod Placed
 pub mod Slots
 pub mod Heap
+pub mod Pairing
 pub mod Meaning
 pub mod Reading

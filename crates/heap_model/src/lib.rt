@@ -7,9 +7,11 @@
 //! | `Memory` | what contracts see of a region |
 //! | `Bytes` | big-endian numbers in a list of bytes, and what a write leaves |
 //! | `Chunk` | a chunk, what it takes (`need`), how it is spelled, and runs of chunks |
+//! | `Placed` | what holds of every chunk where it stands, or of some one |
 //! | `Slots` | the master pointer table of an image: which offsets are those of slots |
 //! | `Heap` | the accepted heap: its head, its chunks, the ties between slots and chunks |
-//! | `Meaning` | what an accepted heap means: a map from names to (bytes, lock, owner) |
+//! | `Pairing` | the ties in two halves, as a checker meets them |
+//! | `Meaning` | what an accepted heap holds: a map from names to (bytes, lock, owner) |
 //! | `Reading` | the same by functions that read it off the image |
 //!
 //! Offsets count bytes from the image's start, and numbers are big-endian. The fields of a chunk's

@@ -1,0 +1,142 @@
+-- Frames: numbers and parts of two lists of bytes agree where the lists do, and what a write leaves.
+use Rattle.std.proofs.Common.{◌≡◌, ℕ, zero, suc, ◌+◌, ◌-◌, ◌*◌, ◌^◌, ◌<◌, ◌≤◌, List, [], ◌∷◌, ◌++◌, length, get_or, slice_index, take, drop, replicate, refl, sym, ap, ◌∙◌, append_assoc, arith, length-append, length-take, length-drop}
+use Rattle.std.proofs.lemmas.List.{get_or-take, get_or-drop, get_or_append_left, get_or-append_right, length-take-le, drop_at, same_lists, get_or_default}
+use Rattle.heap_model.specs.Bytes.{u16_at, u32_at, overwritten, u16_bytes, u32_bytes}
+use Rattle.byteorder.specs.Endian.{big_from, big_bytes}
+use Rattle.byteorder.specs.Numbers.{big_number-reads_back}
+
+-- the two lists agree from one offset up to another
+pub record SameBetween (start end : ℕ) (xs ys : List ℕ) : Type 0 where
+  pub same : (k : ℕ) → start ≤ k → k < end → slice_index xs k ≡ slice_index ys k
+
+-- part of an agreement
+pub SameBetween-within : (a b c d : ℕ) (xs ys : List ℕ) → SameBetween a b xs ys → a ≤ c → d ≤ b → SameBetween c d xs ys
+SameBetween-within a b c d xs ys agree low high = record { same = λ k l h. agree.same k (omega arith) (omega arith) }
+
+-- one agreement after another
+pub SameBetween-then : (a b : ℕ) (xs ys zs : List ℕ) → SameBetween a b xs ys → SameBetween a b ys zs → SameBetween a b xs zs
+SameBetween-then a b xs ys zs p q = record { same = λ k l h. p.same k l h ∙ q.same k l h }
+
+-- ---- what is read where two lists agree
+
+big_from-same : (i n : ℕ) (xs ys : List ℕ) → ((k : ℕ) → i ≤ k → k < i + n → get_or xs k 0 ≡ get_or ys k 0) → big_from i n xs ≡ big_from i n ys
+big_from-same i zero xs ys same = refl
+big_from-same i (suc n) xs ys same =
+    let here = same i (omega arith) (omega arith) in
+    let rest = big_from-same (suc i) n xs ys (λ k low high. same k (omega arith) (omega arith)) in
+    rw (here, rest) refl
+
+pub u32_at-same : (at : ℕ) (xs ys : List ℕ) (start end : ℕ) → SameBetween start end xs ys → start ≤ at → at + 4 ≤ end → u32_at xs at ≡ u32_at ys at
+unfolding u32_at
+u32_at-same at xs ys start end agree low high = big_from-same at 4 xs ys (λ k l h. agree.same k (omega arith) (omega arith))
+
+pub u16_at-same : (at : ℕ) (xs ys : List ℕ) (start end : ℕ) → SameBetween start end xs ys → start ≤ at → at + 2 ≤ end → u16_at xs at ≡ u16_at ys at
+unfolding u16_at
+u16_at-same at xs ys start end agree low high = big_from-same at 2 xs ys (λ k l h. agree.same k (omega arith) (omega arith))
+
+pub slice-same : (a b : ℕ) (xs ys : List ℕ) → SameBetween a b xs ys → b ≤ length xs → b ≤ length ys → take (b - a) (drop a xs) ≡ take (b - a) (drop a ys)
+slice-same a b xs ys agree in_xs in_ys =
+    same_lists _ _ (simp (length-take, length-drop) (omega arith)) (λ k d h.
+    let inside : k < b - a = omega (arith, length-take (b - a) (drop a xs)) in
+    let left = get_or-take (b - a) (drop a xs) k d inside ∙ get_or-drop a xs k d in
+    let right = get_or-take (b - a) (drop a ys) k d inside ∙ get_or-drop a ys k d in
+    let mid = get_or_default xs (a + k) d 0 (omega arith) ∙ agree.same (a + k) (omega arith) (omega arith) ∙ get_or_default ys (a + k) 0 d (omega arith) in
+    left ∙ mid ∙ sym right)
+
+-- ---- what a write leaves, and what it puts there
+
+pub length-overwritten : (old : List ℕ) (at : ℕ) (part : List ℕ) → at + length part ≤ length old → length (overwritten old at part) ≡ length old
+unfolding overwritten
+length-overwritten old at part inside = simp (length-append, length-take, length-drop) (omega arith)
+
+pub overwritten-below : (old : List ℕ) (at : ℕ) (part : List ℕ) → at + length part ≤ length old → SameBetween 0 at old (overwritten old at part)
+unfolding overwritten
+overwritten-below old at part inside = record {
+  same = λ k low high.
+      let front = get_or_append_left (take at old ++ part) (drop (at + length part) old) 0 k (simp (length-append, length-take) (omega arith)) in
+      let kept = get_or_append_left (take at old) part 0 k (simp length-take (omega arith)) in
+      let taken = get_or-take at old k 0 high in
+      sym (front ∙ kept ∙ taken);
+}
+
+pub overwritten-above : (old : List ℕ) (at : ℕ) (part : List ℕ) (end : ℕ) → at + length part ≤ length old → SameBetween (at + length part) end old (overwritten old at part)
+unfolding overwritten
+overwritten-above old at part end inside = record {
+  same = λ k low high.
+      let len : length (take at old ++ part) ≡ at + length part = simp (length-append, length-take) (omega arith) in
+      let back = get_or-append_right (take at old ++ part) (drop (at + length part) old) (at + length part) k 0 len low in
+      let dropped = get_or-drop (at + length part) old (k - (at + length part)) 0 in
+      let there : at + length part + (k - (at + length part)) ≡ k = omega arith in
+      sym (back ∙ dropped ∙ ap (λ (i : ℕ). get_or old i 0) there);
+}
+
+-- a number behind the start of a list is one of the rest
+big_from-drop : (i n k : ℕ) (xs : List ℕ) → big_from i n (drop k xs) ≡ big_from (k + i) n xs
+big_from-drop i zero k xs = refl
+big_from-drop i (suc n) k xs =
+    let rest = big_from-drop (suc i) n k xs in
+    let e : k + suc i ≡ suc (k + i) = omega arith in
+    rw (get_or-drop k xs i 0, rest, e) refl
+
+-- the number in bytes that are those of a number
+pub big_from-written : (n x at : ℕ) (old part : List ℕ) → part ≡ big_bytes n x → at + n ≤ length old → x < 256 ^ n → big_from at n (overwritten old at part) ≡ x
+unfolding overwritten
+big_from-written n x at old part is inside fits =
+    let len : length (take at old) ≡ at = length-take-le at old (omega arith) in
+    let tail : List ℕ = drop (at + length part) old in
+    let e : at + 0 ≡ at = omega arith in
+    let moved = big_from-drop 0 n at (take at old ++ part ++ tail) ∙ ap (λ (i : ℕ). big_from i n (take at old ++ part ++ tail)) e in
+    let cut : drop at (take at old ++ part ++ tail) ≡ part ++ tail = ap (drop at) (append_assoc (take at old) part tail) ∙ drop_at (take at old) (part ++ tail) at len in
+    let front : big_from 0 n (part ++ tail) ≡ x = ap (λ (p : List ℕ). big_from 0 n (p ++ tail)) is ∙ big_number-reads_back n x tail fits in
+    sym moved ∙ ap (big_from 0 n) cut ∙ front
+
+pub u32_at-written : (x at : ℕ) (old : List ℕ) → at + 4 ≤ length old → x < 2 ^ 32 → u32_at (overwritten old at (u32_bytes x)) at ≡ x
+unfolding u32_at u32_bytes
+u32_at-written x at old inside fits = big_from-written 4 x at old (u32_bytes x) refl inside fits
+
+pub u16_at-written : (x at : ℕ) (old : List ℕ) → at + 2 ≤ length old → x < 2 ^ 16 → u16_at (overwritten old at (u16_bytes x)) at ≡ x
+unfolding u16_at u16_bytes
+u16_at-written x at old inside fits = big_from-written 2 x at old (u16_bytes x) refl inside fits
+
+pub length-u32_bytes : (x : ℕ) → length (u32_bytes x) ≡ 4
+unfolding u32_bytes
+length-u32_bytes x = refl
+
+pub length-u16_bytes : (x : ℕ) → length (u16_bytes x) ≡ 2
+unfolding u16_bytes
+length-u16_bytes x = refl
+
+-- ---- a number apart from what is written
+
+pub u32_at-below : (o at : ℕ) (old part : List ℕ) → o + 4 ≤ at → at + length part ≤ length old → u32_at (overwritten old at part) o ≡ u32_at old o
+u32_at-below o at old part low inside = sym (u32_at-same o old (overwritten old at part) 0 at (overwritten-below old at part inside) (omega arith) low)
+
+pub u32_at-above : (o at : ℕ) (old part : List ℕ) → at + length part ≤ o → at + length part ≤ length old → u32_at (overwritten old at part) o ≡ u32_at old o
+u32_at-above o at old part high inside = sym (u32_at-same o old (overwritten old at part) (at + length part) (o + 4) (overwritten-above old at part (o + 4) inside) high (omega arith))
+
+pub u16_at-below : (o at : ℕ) (old part : List ℕ) → o + 2 ≤ at → at + length part ≤ length old → u16_at (overwritten old at part) o ≡ u16_at old o
+u16_at-below o at old part low inside = sym (u16_at-same o old (overwritten old at part) 0 at (overwritten-below old at part inside) (omega arith) low)
+
+pub u16_at-above : (o at : ℕ) (old part : List ℕ) → at + length part ≤ o → at + length part ≤ length old → u16_at (overwritten old at part) o ≡ u16_at old o
+u16_at-above o at old part high inside = sym (u16_at-same o old (overwritten old at part) (at + length part) (o + 2) (overwritten-above old at part (o + 2) inside) high (omega arith))
+
+-- ---- zeros read as zero
+
+slice_index-zeros : (m i : ℕ) → slice_index (replicate m 0) i ≡ 0
+slice_index-zeros zero i = refl
+slice_index-zeros (suc m) zero = refl
+slice_index-zeros (suc m) (suc i) = slice_index-zeros m i
+
+big_from-zeros : (i n m : ℕ) → big_from i n (replicate m 0) ≡ 0
+big_from-zeros i zero m = refl
+big_from-zeros i (suc n) m =
+    let rest = big_from-zeros (suc i) n m in
+    rw (slice_index-zeros m i, rest) (omega arith)
+
+pub u32_at-zeros : (at m : ℕ) → u32_at (replicate m 0) at ≡ 0
+unfolding u32_at
+u32_at-zeros at m = big_from-zeros at 4 m
+
+pub u16_at-zeros : (at m : ℕ) → u16_at (replicate m 0) at ≡ 0
+unfolding u16_at
+u16_at-zeros at m = big_from-zeros at 2 m

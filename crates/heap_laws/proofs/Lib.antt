@@ -1,0 +1,10 @@
+pub mod Frames
+pub mod Chunks
+pub mod Tests
+pub mod Shapes
+pub mod Runs
+pub mod Slots
+pub mod Bodies
+pub mod Placed
+pub mod Accepted
+pub mod Meanings

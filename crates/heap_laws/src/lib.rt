@@ -1,0 +1,2 @@
+//! Laws of the definitions in `heap_model`.
+#![tactic(auto)]
