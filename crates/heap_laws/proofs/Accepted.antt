@@ -4,13 +4,14 @@ use Rattle.std.proofs.lemmas.Bool.{cases_eq}
 use Rattle.std.proofs.lemmas.Bool.Decides.{Decides-and, Decides-or, Decides-eqb, Decides-ltb, Decides-like}
 use Rattle.std.specs.Prelude.{◌⊎◌, ◌==◌, ◌||◌, nat_lt, nat_le}
 use Rattle.std.specs.Bool.{Decides}
+use Rattle.std.specs.List.{list_all}
 use Rattle.heap_model.specs.Bytes.{u16_at, u32_at}
 use Rattle.heap_model.specs.Chunk.{Chunk, free, movable, fixed, total, SpelledAll}
 use Rattle.heap_model.specs.Slots.{IsSlot, slot_count, table_end, head_end, slots_of, area_start, is_slot}
 use Rattle.heap_model.specs.Heap.{magic, IsHead, Tiles, BodyHere, IsCallersIfFixed, ManagersHere, HasDirectory, directory_of, IsHeap, HeapAccepted}
 use Rattle.heap_model.specs.Placed.{EveryPlaced, AnyPlaced, any_placed, EveryOne}
 use Rattle.heap_model.specs.Pairing.{HoldsBody, NamesItsSlot}
-use Rattle.heap_model.specs.Reading.{chunks_from, chunks_of, has_head, is_body_here, holds_body, names_its_slot, is_callers_if_fixed, is_managers_here, is_accepted}
+use Rattle.heap_model.specs.Reading.{chunks_from, chunks_of, head_tests, area_tests, is_body_here, holds_body, names_its_slot, is_callers_if_fixed, is_managers_here, is_accepted}
 use Rattle.heap_laws.proofs.Tests.{Decides-nat_le}
 use Rattle.heap_laws.proofs.Chunks.{SpelledAll-end}
 use Rattle.heap_laws.proofs.Placed.{Decides-every, Decides-any, Decides-every_one}
@@ -19,34 +20,32 @@ use Rattle.heap_laws.proofs.Bodies.{tied_halves, halves_tied}
 
 -- ---- the head
 
-pub Decides-head : (image : List ℕ) → Decides (has_head image) (IsHead image)
-Decides-head image = Decides-like _ (λ h. record {
-    magic_is = h.0.0.0.0.0.0.0.0;
-    size_is = h.0.0.0.0.0.0.0.1;
-    least = h.0.0.0.0.0.0.1;
-    most = h.0.0.0.0.0.1;
-    whole = h.0.0.0.0.1;
-    some_slot = h.0.0.0.1;
-    a_chunk_fits = h.0.0.1;
-    reserved = h.0.1;
-    padding = λ ne. elim h.1 [ inl none ↦ absurd (ne none) | inr zero_there ↦ zero_there ];
-  })
-  (λ s. ((((((((s.magic_is, s.size_is), s.least), s.most), s.whole), s.some_slot), s.a_chunk_fits), s.reserved), padded s)) (
-  Decides-and _ _ (
-  Decides-and _ _ (
-  Decides-and _ _ (
-  Decides-and _ _ (
-  Decides-and _ _ (
-  Decides-and _ _ (
-  Decides-and _ _ (
-  Decides-and _ _ (Decides-eqb (u32_at image 0) magic) (Decides-eqb (u32_at image 4) (length image)))
-  (Decides-nat_le 64 (length image)))
-  (Decides-nat_le (length image) 16777208))
-  (Decides-eqb (length image % 8) 0))
-  (Decides-ltb 0 (slot_count image)))
-  (Decides-nat_le (area_start image + 8) (length image)))
-  (Decides-eqb (u16_at image 10) 0))
-  (Decides-or _ _ (Decides-eqb (head_end image) (area_start image)) (Decides-eqb (u32_at image (head_end image)) 0))) where
+no_test : Decides (list_all (λ test. test) []) (Unit {0})
+no_test = (λ e. tt, λ h. refl)
+
+-- what the tests of a head decide, before others
+head_then : {Q : Type 0} (image : List ℕ) (others : List Bool) → Decides (list_all (λ test. test) others) Q → Decides (list_all (λ test. test) (head_tests image ++ others)) (IsHead image × Q)
+head_then image others q = Decides-like _ (λ h. (record {
+    magic_is = h.0;
+    size_is = h.1.0;
+    least = h.1.1.0;
+    most = h.1.1.1.0;
+    whole = h.1.1.1.1.0;
+    some_slot = h.1.1.1.1.1.0;
+    a_chunk_fits = h.1.1.1.1.1.1.0;
+    reserved = h.1.1.1.1.1.1.1.0;
+    padding = λ ne. elim h.1.1.1.1.1.1.1.1.0 [ inl none ↦ absurd (ne none) | inr zero_there ↦ zero_there ];
+  }, h.1.1.1.1.1.1.1.1.1))
+  (λ s. (s.0.magic_is, (s.0.size_is, (s.0.least, (s.0.most, (s.0.whole, (s.0.some_slot, (s.0.a_chunk_fits, (s.0.reserved, (padded s.0, s.1))))))))))
+  (Decides-and _ _ (Decides-eqb (u32_at image 0) magic)
+  (Decides-and _ _ (Decides-eqb (u32_at image 4) (length image))
+  (Decides-and _ _ (Decides-nat_le 64 (length image))
+  (Decides-and _ _ (Decides-nat_le (length image) 16777208)
+  (Decides-and _ _ (Decides-eqb (length image % 8) 0)
+  (Decides-and _ _ (Decides-ltb 0 (slot_count image))
+  (Decides-and _ _ (Decides-nat_le (area_start image + 8) (length image))
+  (Decides-and _ _ (Decides-eqb (u16_at image 10) 0)
+  (Decides-and _ _ (Decides-or _ _ (Decides-eqb (head_end image) (area_start image)) (Decides-eqb (u32_at image (head_end image)) 0)) q))))))))) where
     padded : IsHead image → (head_end image ≡ area_start image) ⊎ (u32_at image (head_end image) ≡ 0)
     padded s = elim (cases_eq (head_end image) (area_start image)) [ inl none ↦ inl none | inr ne ↦ inr (s.padding ne) ]
 
@@ -97,33 +96,35 @@ Decides-managers slot at (fixed bytes owner) = (λ e. absurd cc, λ b. absurd b)
 
 -- ---- the whole
 
--- what the test decides, conjunct by conjunct
+-- what the tests decide, conjunct by conjunct
 abbrev Conjuncts : List ℕ → Type 0
 Conjuncts image =
-    ((((IsHead image × Reaches image) × EveryOne (HoldsBody image (chunks_of image)) (slots_of image)) × EveryPlaced (NamesItsSlot image) (area_start image) (chunks_of image))
-    × EveryPlaced IsCallersIfFixed (area_start image) (chunks_of image)) × HasDirectory image (chunks_of image)
+    IsHead image
+    × (Reaches image
+    × (EveryOne (HoldsBody image (chunks_of image)) (slots_of image)
+    × (EveryPlaced (NamesItsSlot image) (area_start image) (chunks_of image)
+    × (EveryPlaced IsCallersIfFixed (area_start image) (chunks_of image)
+    × (HasDirectory image (chunks_of image)
+    × Unit {0})))))
 
 Decides-conjuncts : (image : List ℕ) → Decides (is_accepted image) (Conjuncts image)
 unfolding is_accepted
 Decides-conjuncts image =
     let cs : List Chunk = chunks_of image in
-    Decides-and _ _ (
-    Decides-and _ _ (
-    Decides-and _ _ (
-    Decides-and _ _ (
-    Decides-and _ _ (Decides-head image)
-    (Decides-eqb (area_start image + total cs) (length image)))
-    (Decides-every_one _ (HoldsBody image cs) (Decides-holds image) (slots_of image)))
-    (Decides-every _ _ (Decides-names image) (area_start image) cs))
-    (Decides-every _ _ Decides-callers (area_start image) cs))
-    (Decides-or _ _ (Decides-eqb (directory_of image) 0) (Decides-any _ _ (Decides-managers (directory_of image)) (area_start image) cs))
+    let start : ℕ = area_start image in
+    head_then image (area_tests image)
+    (Decides-and _ _ (Decides-eqb (start + total cs) (length image))
+    (Decides-and _ _ (Decides-every_one _ (HoldsBody image cs) (Decides-holds image) (slots_of image))
+    (Decides-and _ _ (Decides-every _ _ (Decides-names image) start cs)
+    (Decides-and _ _ (Decides-every _ _ Decides-callers start cs)
+    (Decides-and _ _ (Decides-or _ _ (Decides-eqb (directory_of image) 0) (Decides-any _ _ (Decides-managers (directory_of image)) start cs)) no_test)))))
 
 conjuncts_heap : (image : List ℕ) → Conjuncts image → IsHeap image (chunks_of image)
 conjuncts_heap image h = record {
-  tiles = reaches_tiles image h.0.0.0.0.0 h.0.0.0.0.1;
-  tied = halves_tied image (chunks_of image) h.0.0.0.1 h.0.0.1;
-  fixed_are_callers = h.0.1;
-  directory = h.1;
+  tiles = reaches_tiles image h.0 h.1.0;
+  tied = halves_tied image (chunks_of image) h.1.1.0 h.1.1.1.0;
+  fixed_are_callers = h.1.1.1.1.0;
+  directory = h.1.1.1.1.1.0;
 }
 
 -- the chunks of an accepted heap are those that are read
@@ -133,7 +134,7 @@ heap_of_read image cs h = subst (λ (xs : List Chunk). IsHeap image xs) (sym (ch
 heap_conjuncts : (image : List ℕ) → IsHeap image (chunks_of image) → Conjuncts image
 heap_conjuncts image h =
     let halves = tied_halves image (chunks_of image) h.tied in
-    (((((h.tiles.head, tiles_reaches image (chunks_of image) h.tiles), halves.0), halves.1), h.fixed_are_callers), h.directory)
+    (h.tiles.head, (tiles_reaches image (chunks_of image) h.tiles, (halves.0, (halves.1, (h.fixed_are_callers, (h.directory, tt))))))
 
 pub Decides-accepted : (image : List ℕ) → Decides (is_accepted image) (HeapAccepted image)
 Decides-accepted image = Decides-like _ (λ c. (chunks_of image, conjuncts_heap image c)) (λ h. heap_conjuncts image (heap_of_read image h.0 h.1)) (Decides-conjuncts image)

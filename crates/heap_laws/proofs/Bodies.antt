@@ -1,13 +1,14 @@
 -- Where bodies are, and the two halves of the ties.
-use Rattle.std.proofs.Common.{◌≡◌, ◌≢◌, ℕ, ◌+◌, ◌<◌, ◌≤◌, List, [], ◌∷◌, ◌++◌, length, refl, sym, ap, subst, ◌∙◌, arith, inl, inr}
+use Rattle.std.proofs.Common.{◌≡◌, ◌≢◌, ℕ, ◌+◌, ◌-◌, ◌<◌, ◌≤◌, List, [], ◌∷◌, ◌++◌, length, refl, sym, ap, subst, ◌∙◌, arith, inl, inr}
 use Rattle.std.specs.Prelude.{◌⊎◌, ◌↔◌}
 use Rattle.heap_model.specs.Bytes.{u32_at}
 use Rattle.heap_model.specs.Chunk.{Chunk, free, movable, fixed, size_of, total}
 use Rattle.heap_model.specs.Slots.{IsSlot, slots_of, area_start}
-use Rattle.heap_model.specs.Heap.{BodyHere, IsBody, Tied}
+use Rattle.heap_model.specs.Heap.{BodyHere, IsBody, Tied, Tiles}
 use Rattle.heap_model.specs.Placed.{EveryPlaced, AnyPlaced, EveryOne}
 use Rattle.heap_model.specs.Pairing.{HoldsBody, NamesItsSlot}
 use Rattle.heap_laws.proofs.Slots.{every_slot, each_slot}
+use Rattle.heap_laws.proofs.Placed.{At, AnyPlaced-map, one_at, SpelledAll-takes}
 
 -- ---- where a body is
 
@@ -66,3 +67,28 @@ pub halves_tied : (image : List ℕ) (cs : List Chunk) → EveryOne (HoldsBody i
 halves_tied image cs slots names slot place positive =
     (λ h. subst (λ (p : ℕ). IsBody (area_start image) cs slot p) h.1 (each_slot (HoldsBody image cs) image slots slot h.0 (λ none. let e = h.1 in omega arith)),
      λ b. names_held image (area_start image) cs names slot place b)
+
+-- ---- one place for a slot, and one slot for a place
+
+pub one_place : (image : List ℕ) (cs : List Chunk) → Tied image cs → (slot place other : ℕ) → IsBody (area_start image) cs slot place → IsBody (area_start image) cs slot other → place ≡ other
+one_place image cs tied slot place other b d =
+    let low = IsBody-low (area_start image) cs slot place b in
+    let high = IsBody-low (area_start image) cs slot other d in
+    sym ((tied slot place (omega arith)).1 b).1 ∙ ((tied slot other (omega arith)).1 d).1
+
+body_offset : (slot place at : ℕ) (c : Chunk) → 8 ≤ place → BodyHere slot place at c → At (place - 8) (BodyHere slot place) at c
+body_offset slot place at c low b = let e = (body_here slot place at c b).0 in (omega arith, b)
+
+same_slot : (slot other place at : ℕ) (c : Chunk) → BodyHere slot place at c → BodyHere other place at c → slot ≡ other
+same_slot slot other place at (free size) b d = absurd b
+same_slot slot other place at (movable bytes lock owner named) b d = sym b.0 ∙ d.0
+same_slot slot other place at (fixed bytes owner) b d = absurd b
+
+pub one_slot : (image : List ℕ) (cs : List Chunk) → Tiles image cs → (slot other place : ℕ) → IsBody (area_start image) cs slot place → IsBody (area_start image) cs other place → slot ≡ other
+one_slot image cs tiles slot other place b d =
+    let start : ℕ = area_start image in
+    let low = IsBody-low start cs slot place b in
+    let there = AnyPlaced-map (BodyHere slot place) (At (place - 8) (BodyHere slot place)) (λ at c. body_offset slot place at c (omega arith)) start cs b in
+    let here = AnyPlaced-map (BodyHere other place) (At (place - 8) (BodyHere other place)) (λ at c. body_offset other place at c (omega arith)) start cs d in
+    let one = one_at (BodyHere slot place) (BodyHere other place) (place - 8) start cs (SpelledAll-takes image start cs (length image) tiles.area) there here in
+    same_slot slot other place (place - 8) one.0 one.1 one.2

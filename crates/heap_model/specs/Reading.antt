@@ -2,7 +2,7 @@
 -- it. They answer for every list of bytes, and what they answer means something where the image is
 -- accepted. Contracts are written with these functions; the relations of `Chunk`, `Heap` and
 -- `Meaning` say what they are to be, and `heap_laws` proves that the two agree.
-use Rattle.std.specs.Prelude.{◌+◌, ◌-◌, ◌/◌, ◌%◌, ◌^◌, ◌==◌, ◌&&◌, ◌||◌, not, nat_le, nat_lt, if◌then◌else◌, ℕ, zero, suc, Bool, true, false, List, [], ◌∷◌, length, slice_range, Option, Some, None}
+use Rattle.std.specs.Prelude.{◌+◌, ◌-◌, ◌/◌, ◌%◌, ◌^◌, ◌==◌, ◌&&◌, ◌||◌, ◌++◌, not, nat_le, nat_lt, if◌then◌else◌, ℕ, zero, suc, Bool, true, false, List, [], ◌∷◌, length, slice_range, Option, Some, None}
 use Rattle.std.specs.List.{list_all}
 use Rattle.heap_model.specs.Bytes.{u16_at, u32_at}
 use Rattle.heap_model.specs.Chunk.{Chunk, free, movable, fixed, fixed_lock, need, size_of, total, slot_named}
@@ -93,13 +93,19 @@ held image name = live_under (area_start image) (chunks_of image) name
 
 -- ---- whether a heap is accepted
 
-abbrev pub has_head : List ℕ → Bool
-has_head image =
-    (u32_at image 0 == magic) && (u32_at image 4 == length image)
-    && nat_le 64 (length image) && nat_le (length image) 16777208 && (length image % 8 == 0)
-    && nat_lt 0 (slot_count image) && nat_le (area_start image + 8) (length image)
-    && (u16_at image 10 == 0)
-    && ((head_end image == area_start image) || (u32_at image (head_end image) == 0))
+-- what stands in front of the chunks is right, test by test
+abbrev pub head_tests : List ℕ → List Bool
+head_tests image =
+    (u32_at image 0 == magic)
+    ∷ (u32_at image 4 == length image)
+    ∷ nat_le 64 (length image)
+    ∷ nat_le (length image) 16777208
+    ∷ (length image % 8 == 0)
+    ∷ nat_lt 0 (slot_count image)
+    ∷ nat_le (area_start image + 8) (length image)
+    ∷ (u16_at image 10 == 0)
+    ∷ ((head_end image == area_start image) || (u32_at image (head_end image) == 0))
+    ∷ []
 
 -- the chunks reach the end
 abbrev pub is_tiled : List ℕ → Bool
@@ -136,9 +142,16 @@ is_managers_here slot at (fixed bytes owner) = false
 abbrev pub has_directory : List ℕ → Bool
 has_directory image = (directory_of image == 0) || any_placed (is_managers_here (directory_of image)) (area_start image) (chunks_of image)
 
+-- the chunks and slots are right, test by test
+abbrev pub area_tests : List ℕ → List Bool
+area_tests image =
+    is_tiled image
+    ∷ list_all (holds_body image) (slots_of image)
+    ∷ every_placed (names_its_slot image) (area_start image) (chunks_of image)
+    ∷ every_placed is_callers_if_fixed (area_start image) (chunks_of image)
+    ∷ has_directory image
+    ∷ []
+
 -- the image is an accepted heap
 unfoldable pub is_accepted : List ℕ → Bool
-is_accepted image =
-    has_head image && is_tiled image && list_all (holds_body image) (slots_of image)
-    && every_placed (names_its_slot image) (area_start image) (chunks_of image)
-    && every_placed is_callers_if_fixed (area_start image) (chunks_of image) && has_directory image
+is_accepted image = list_all (λ test. test) (head_tests image ++ area_tests image)

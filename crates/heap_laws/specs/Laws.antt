@@ -1,0 +1,55 @@
+-- What the definitions promise together: the statements of the laws.
+use Rattle.std.specs.Prelude.{◌≡◌, ◌≤◌, ◌<◌, ◌+◌, ◌%◌, ◌↔◌, ℕ, Bool, List, true, Option, Some, None}
+use Rattle.heap_model.specs.Bytes.{u32_at}
+use Rattle.heap_model.specs.Chunk.{Chunk, need, Spelled}
+use Rattle.heap_model.specs.Slots.{IsSlot, slots_of, area_start}
+use Rattle.heap_model.specs.Placed.{EveryOne}
+use Rattle.heap_model.specs.Heap.{Tiles, IsBody, Tied, HeapAccepted}
+use Rattle.heap_model.specs.Meaning.{ChunkMap, Holds}
+use Rattle.heap_model.specs.Reading.{chunk_at, chunks_of, held, is_accepted}
+
+-- an image is tiled by one list of chunks at most
+abbrev pub TiledOnce : Type 0
+TiledOnce = (image : List ℕ) (cs ds : List Chunk) → Tiles image cs → Tiles image ds → cs ≡ ds
+
+-- the chunk that is read at an offset is the one that is spelled there
+abbrev pub ChunksAreRead : Type 0
+ChunksAreRead = (image : List ℕ) (at : ℕ) (chunk : Chunk) → ((chunk_at image at ≡ Some chunk) ↔ Spelled image at chunk)
+
+-- the chunks that are read off an image are those that tile it
+abbrev pub TilesAreRead : Type 0
+TilesAreRead = (image : List ℕ) (cs : List Chunk) → Tiles image cs → chunks_of image ≡ cs
+
+-- the list of an image's slots has the offset of each slot, and no other
+abbrev pub SlotsAreListed : Type 0
+SlotsAreListed = (image : List ℕ) → EveryOne (IsSlot image) (slots_of image) × ((P : ℕ → Bool) → EveryOne (λ slot. P slot ≡ true) (slots_of image) → (slot : ℕ) → IsSlot image slot → P slot ≡ true)
+
+-- the test of an accepted heap says yes exactly where one is accepted
+abbrev pub AcceptanceIsDecided : Type 0
+AcceptanceIsDecided = (image : List ℕ) → ((is_accepted image ≡ true) ↔ HeapAccepted image)
+
+-- a slot in use has one chunk, and a chunk one slot
+pub record PairsOne (image : List ℕ) (cs : List Chunk) : Type 0 where
+  pub one_place : (slot place other : ℕ) → IsBody (area_start image) cs slot place → IsBody (area_start image) cs slot other → place ≡ other
+  pub one_slot : (slot other place : ℕ) → IsBody (area_start image) cs slot place → IsBody (area_start image) cs other place → slot ≡ other
+
+abbrev pub TiesPairOneToOne : Type 0
+TiesPairOneToOne = (image : List ℕ) (cs : List Chunk) → Tiles image cs → Tied image cs → PairsOne image cs
+
+-- an accepted heap holds the map that is read off it, and no other
+abbrev pub HoldsOneMap : Type 0
+HoldsOneMap = (image : List ℕ) → HeapAccepted image → Holds image (held image) × ((m n : ChunkMap) → Holds image m → Holds image n → m ≡ n)
+
+-- in an accepted heap the name 0 names nothing
+abbrev pub ZeroNamesNothing : Type 0
+ZeroNamesNothing = (image : List ℕ) → HeapAccepted image → held image 0 ≡ None
+
+-- what a chunk takes: whole units of 8, its header, its bytes, and less than 8 bytes more
+pub record IsNeed (count : ℕ) : Type 0 where
+  pub whole : need count % 8 ≡ 0
+  pub least : 8 ≤ need count
+  pub holds : count + 8 ≤ need count
+  pub tight : need count < count + 16
+
+abbrev pub NeedIsWhole : Type 0
+NeedIsWhole = (count : ℕ) → IsNeed count

@@ -1,0 +1,48 @@
+//! The laws, each as the promise of a function.
+
+ghost use Rattle.heap_laws.specs.Laws.{TiledOnce, ChunksAreRead, TilesAreRead, SlotsAreListed, AcceptanceIsDecided, TiesPairOneToOne, HoldsOneMap, ZeroNamesNothing, NeedIsWhole};
+
+/// An image is tiled by one list of chunks at most.
+pub fn tiled_once()
+    ensures { TiledOnce }
+{}
+
+/// The chunk that is read at an offset is the one that is spelled there.
+pub fn chunks_are_read()
+    ensures { ChunksAreRead }
+{}
+
+/// The chunks that are read off an image are those that tile it.
+pub fn tiles_are_read()
+    ensures { TilesAreRead }
+{}
+
+/// The list of an image's slots has the offset of each slot, and no other.
+pub fn slots_are_listed()
+    ensures { SlotsAreListed }
+{}
+
+/// Whether a heap is accepted can be read off its image.
+pub fn acceptance_is_decided()
+    ensures { AcceptanceIsDecided }
+{}
+
+/// A slot in use has one chunk, and a movable chunk one slot.
+pub fn tied_one_to_one()
+    ensures { TiesPairOneToOne }
+{}
+
+/// An accepted heap holds the map that is read off it, and no other.
+pub fn holds_one_map()
+    ensures { HoldsOneMap }
+{}
+
+/// In an accepted heap the name 0 names nothing.
+pub fn zero_names_nothing()
+    ensures { ZeroNamesNothing }
+{}
+
+/// What a chunk takes is a multiple of 8, and at least 8.
+pub fn need_is_whole()
+    ensures { NeedIsWhole }
+{}
