@@ -12,7 +12,7 @@ use Rattle.heap_model.specs.Heap.{magic, IsHead, Tiles, BodyHere, IsCallersIfFix
 use Rattle.heap_model.specs.Placed.{EveryPlaced, AnyPlaced, any_placed, EveryOne}
 use Rattle.heap_model.specs.Pairing.{HoldsBody, NamesItsSlot}
 use Rattle.heap_model.specs.Reading.{chunks_from, chunks_of, head_tests, area_tests, is_body_here, holds_body, names_its_slot, is_callers_if_fixed, is_managers_here, is_accepted}
-use Rattle.heap_laws.proofs.Tests.{Decides-nat_le}
+use Rattle.heap_laws.proofs.Deciding.{Decides-nat_le}
 use Rattle.heap_laws.proofs.Chunks.{SpelledAll-end}
 use Rattle.heap_laws.proofs.Placed.{Decides-every, Decides-any, Decides-every_one}
 use Rattle.heap_laws.proofs.Runs.{chunks_from-spelled, chunks_of-tiled}

@@ -1,6 +1,6 @@
 pub mod Frames
 pub mod Chunks
-pub mod Tests
+pub mod Deciding
 pub mod Shapes
 pub mod Runs
 pub mod Slots

@@ -9,7 +9,7 @@ use Rattle.heap_model.specs.Heap.{BodyHere, IsBody, IsHeap, HeapAccepted}
 use Rattle.heap_model.specs.Placed.{EveryPlaced, AnyPlaced}
 use Rattle.heap_model.specs.Meaning.{LiveChunk, ChunkMap, NamedHere, Holds}
 use Rattle.heap_model.specs.Reading.{chunks_of, live_under, held}
-use Rattle.heap_laws.proofs.Tests.{some, same_some, none_some}
+use Rattle.heap_laws.proofs.Deciding.{some, same_some, none_some}
 use Rattle.heap_laws.proofs.Placed.{At, one_at, SpelledAll-takes}
 use Rattle.heap_laws.proofs.Runs.{chunks_of-tiled, Tiles-unique}
 use Rattle.heap_laws.proofs.Bodies.{IsBody-low}

@@ -9,7 +9,6 @@ ghost use Rattle.heap_model.specs.Reading.{chunk_at, chunks_of, held, is_accepte
 ghost use Rattle.heap_laws.specs.Images.{words, blank_image, one_chunk_image, database_image, padded, small_image, BreaksAlone, IsOutOfShape};
 
 /// A blank image has one free chunk and holds nothing.
-#[test]
 fn blank_image_is_read()
     ensures accepted { is_accepted blank_image ≡ true }
     ensures chunks { chunks_of blank_image ≡ free 96 ∷ [] }
@@ -18,7 +17,6 @@ fn blank_image_is_read()
 {}
 
 /// A movable chunk has its bytes without the slack, and is held under its slot.
-#[test]
 fn movable_chunk_is_read()
     ensures accepted { is_accepted one_chunk_image ≡ true }
     ensures chunks { chunks_of one_chunk_image ≡ movable (replicate 10 0) 0 1 16 ∷ free 72 ∷ [] }
@@ -27,7 +25,6 @@ fn movable_chunk_is_read()
 {}
 
 /// The chunks of a database: directory, header and two records.
-#[test]
 fn database_image_is_read()
     ensures accepted { is_accepted database_image ≡ true }
     ensures sizes { map size_of (chunks_of database_image) ≡ 16 ∷ 104 ∷ 16 ∷ 16 ∷ 8 ∷ [] }
@@ -36,7 +33,6 @@ fn database_image_is_read()
 {}
 
 /// A fixed chunk is held under its place. Slack may be any, and free neighbours need not be joined.
-#[test]
 fn fixed_chunk_is_read()
     ensures accepted { is_accepted (small_image 0 0 (0x04000010 ∷ 0xFE000000 ∷ 0x01020304 ∷ 0xFFFFFFFF ∷ 0x80000008 ∷ 7 ∷ 0x80000010 ∷ [])) ≡ true }
     ensures chunks { chunks_of (small_image 0 0 (0x04000010 ∷ 0xFE000000 ∷ 0x01020304 ∷ 0xFFFFFFFF ∷ 0x80000008 ∷ 7 ∷ 0x80000010 ∷ [])) ≡ fixed (1 ∷ 2 ∷ 3 ∷ 4 ∷ []) 14 ∷ free 8 ∷ free 16 ∷ [] }
@@ -44,7 +40,6 @@ fn fixed_chunk_is_read()
 {}
 
 /// Each part of the head is broken by an image that keeps all others. (A length that is not a multiple of 8 has no such image, and the greatest size none that is small.)
-#[test]
 fn head_parts_break_alone()
     ensures magic { BreaksAlone (padded 64 (0x50484932 ∷ 64 ∷ 0x00010000 ∷ 0 ∷ 0 ∷ 0 ∷ 0x80000028 ∷ [])) 0 }
     ensures size { BreaksAlone (padded 64 (0x50484931 ∷ 72 ∷ 0x00010000 ∷ 0 ∷ 0 ∷ 0 ∷ 0x80000028 ∷ [])) 1 }
@@ -56,7 +51,6 @@ fn head_parts_break_alone()
 {}
 
 /// Each part of the chunks and slots is broken by an image that keeps all others.
-#[test]
 fn area_parts_break_alone()
     ensures tiled { BreaksAlone (small_image 0 0 (0x80000030 ∷ [])) 9 }
     ensures rest { BreaksAlone (small_image 0 0 (0x80000020 ∷ [])) 9 }
@@ -73,7 +67,6 @@ fn area_parts_break_alone()
 {}
 
 /// Each way in which a chunk is out of shape, and the words beside it that are in shape.
-#[test]
 fn shape_is_read()
     ensures size_below_8 { IsOutOfShape 0x80000000 0 }
     ensures size_not_whole { IsOutOfShape 0x8000000C 0 }
@@ -86,3 +79,15 @@ fn shape_is_read()
     ensures locked { chunk_at (small_image 0 0 (0x07000010 ∷ 0xE1FFFFFC ∷ 0x41000000 ∷ [])) 24 ≡ Some (movable (0x41 ∷ []) 14 1 16) }
     ensures behind_its_slot { chunk_at (small_image 0 0 (0x00000008 ∷ 0x00000004 ∷ [])) 24 ≡ Some (movable [] 0 0 32) }
 {}
+
+/// What the functions above promise is proved, and they run to their end.
+#[test]
+fn definitions_are_tried() {
+    blank_image_is_read();
+    movable_chunk_is_read();
+    database_image_is_read();
+    fixed_chunk_is_read();
+    head_parts_break_alone();
+    area_parts_break_alone();
+    shape_is_read();
+}
