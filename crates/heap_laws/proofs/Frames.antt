@@ -1,6 +1,6 @@
 -- Frames: numbers and parts of two lists of bytes agree where the lists do, and what a write leaves.
 use Rattle.std.proofs.Common.{◌≡◌, ℕ, zero, suc, ◌+◌, ◌-◌, ◌*◌, ◌^◌, ◌<◌, ◌≤◌, List, [], ◌∷◌, ◌++◌, length, get_or, slice_index, take, drop, replicate, refl, sym, ap, ◌∙◌, append_assoc, arith, length-append, length-take, length-drop}
-use Rattle.std.proofs.lemmas.List.{get_or-take, get_or-drop, get_or_append_left, get_or-append_right, length-take-le, drop_at, same_lists, get_or_default}
+use Rattle.std.proofs.lemmas.List.{get_or-take, get_or-drop, get_or_append_left, get_or-append_right, length-take-le, drop_at, take_at, drop-drop, same_lists, get_or_default}
 use Rattle.heap_model.specs.Bytes.{u16_at, u32_at, overwritten, u16_bytes, u32_bytes}
 use Rattle.byteorder.specs.Endian.{big_from, big_bytes}
 use Rattle.byteorder.specs.Numbers.{big_number-reads_back}
@@ -106,6 +106,23 @@ pub length-u16_bytes : (x : ℕ) → length (u16_bytes x) ≡ 2
 unfolding u16_bytes
 length-u16_bytes x = refl
 
+-- two writes one behind the other are one
+pub overwritten-behind : (old : List ℕ) (at : ℕ) (front back : List ℕ) (there : ℕ) → there ≡ at + length front → there + length back ≤ length old
+    → overwritten (overwritten old at front) there back ≡ overwritten old at (front ++ back)
+unfolding overwritten
+overwritten-behind old at front back there e inside =
+    let start : List ℕ = take at old ++ front in
+    let len : length start ≡ there = simp (length-append, length-take) (omega arith) in
+    let end : there + length back - there ≡ length back = omega arith in
+    let head : take there (start ++ drop (at + length front) old) ≡ start = take_at start (drop (at + length front) old) there len in
+    let past : drop (there + length back) (start ++ drop (at + length front) old) ≡ drop (length back) (drop (at + length front) old) =
+        sym (drop-drop (length back) there (start ++ drop (at + length front) old)) ∙ ap (drop (length back)) (drop_at start (drop (at + length front) old) there len) in
+    let tail : drop (length back) (drop (at + length front) old) ≡ drop (at + length (front ++ back)) old =
+        drop-drop (length back) (at + length front) old ∙ ap (λ (n : ℕ). drop n old) (simp length-append (omega arith)) in
+    ap (λ (x : List ℕ). x ++ back ++ drop (there + length back) (start ++ drop (at + length front) old)) head
+    ∙ ap (λ (x : List ℕ). start ++ back ++ x) (past ∙ tail)
+    ∙ ap (λ (x : List ℕ). x ++ drop (at + length (front ++ back)) old) (append_assoc (take at old) front back)
+
 -- ---- a number apart from what is written
 
 pub u32_at-below : (o at : ℕ) (old part : List ℕ) → o + 4 ≤ at → at + length part ≤ length old → u32_at (overwritten old at part) o ≡ u32_at old o
@@ -122,7 +139,7 @@ u16_at-above o at old part high inside = sym (u16_at-same o old (overwritten old
 
 -- ---- zeros read as zero
 
-slice_index-zeros : (m i : ℕ) → slice_index (replicate m 0) i ≡ 0
+pub slice_index-zeros : (m i : ℕ) → slice_index (replicate m 0) i ≡ 0
 slice_index-zeros zero i = refl
 slice_index-zeros (suc m) zero = refl
 slice_index-zeros (suc m) (suc i) = slice_index-zeros m i

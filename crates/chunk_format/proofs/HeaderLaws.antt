@@ -1,0 +1,38 @@
+-- A header and the chunk that is spelled where it stands.
+use Rattle.std.proofs.Common.{◌≡◌, ℕ, ◌+◌, ◌-◌, ◌<◌, ◌≤◌, List, [], ◌∷◌, length, take, drop, Option, Some, None, refl, sym, ap, subst, ◌∙◌, arith, length-take, length-drop}
+use Rattle.std.specs.Prelude.{option_map, IfSome, IfNone, slice_range}
+use Rattle.heap_model.specs.Chunk.{Chunk, free, movable, fixed, size_of, Spelled}
+use Rattle.heap_model.specs.Reading.{chunk_at}
+use Rattle.heap_laws.proofs.Chunks.{Spelled-unique}
+use Rattle.heap_laws.proofs.Shapes.{chunk_at-spelled, chunk_at-none}
+use Rattle.chunk_format.specs.declared.header.Header.{Header}
+use Rattle.chunk_format.specs.declared.header.Header.TheVariants as headers
+use Rattle.chunk_format.specs.Header.{header_of, size_by, chunk_with, HasHeader}
+
+slice_length : (image : List ℕ) (at count : ℕ) → at + 8 + count ≤ length image → count ≡ length (slice_range image (at + 8) (at + 8 + count))
+slice_length image at count inside = simp (length-take, length-drop) (omega arith)
+
+header_with : (image : List ℕ) (at : ℕ) (h : Header) → at + size_by h ≤ length image → h ≡ header_of (chunk_with image at h)
+header_with image at (headers.Free size) inside = refl
+header_with image at (headers.Movable count lock owner slot) inside = ap (λ (n : ℕ). headers.Movable n lock owner slot) (slice_length image at count (omega arith))
+header_with image at (headers.Fixed count owner) inside = ap (λ (n : ℕ). headers.Fixed n owner) (slice_length image at count (omega arith))
+
+pub has_header : (image : List ℕ) (at : ℕ) (h : Header) → at + size_by h ≤ length image → Spelled image at (chunk_with image at h) → HasHeader image at h
+has_header image at h inside spelled = record { chunk = chunk_with image at h; spelled = spelled; header_is = header_with image at h inside }
+
+pub found_header : (image : List ℕ) (at : ℕ) (r : Option Header) → IfSome r (λ h. at + size_by h ≤ length image) → IfSome r (λ h. Spelled image at (chunk_with image at h)) → IfSome r (HasHeader image at)
+found_header image at None inside spelled = tt
+found_header image at (Some h) inside spelled = has_header image at h inside spelled
+
+-- the header that was found is that of the chunk that is read
+pub header_read : (image : List ℕ) (at : ℕ) (r : Option Header) → IfSome r (HasHeader image at) → IfNone r ((c : Chunk) → Spelled image at c → ⊥) → r ≡ option_map header_of (chunk_at image at)
+header_read image at None found none = sym (ap (option_map header_of) (chunk_at-none image at none))
+header_read image at (Some h) found none = ap some found.header_is ∙ sym (ap (option_map header_of) (chunk_at-spelled image at found.chunk found.spelled)) where
+  some : Header → Option Header
+  some x = Some x
+
+-- the size that a header says is that of its chunk
+pub size_by-header_of : (c : Chunk) → size_by (header_of c) ≡ size_of c
+size_by-header_of (free size) = refl
+size_by-header_of (movable bytes lock owner slot) = refl
+size_by-header_of (fixed bytes owner) = refl

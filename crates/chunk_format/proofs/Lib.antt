@@ -1,0 +1,4 @@
+pub mod HeaderLaws
+pub mod WriteLaws
+pub mod WalkLaws
+pub mod BlankLaws

@@ -1,0 +1,60 @@
+-- The header of a chunk: what its two words say.
+use Rattle.std.specs.Prelude.{◌≡◌, ◌≤◌, ◌<◌, ◌+◌, ◌-◌, ◌*◌, ◌/◌, ◌%◌, ◌^◌, ◌++◌, ◌⊎◌, ℕ, List, [], ◌∷◌, length, slice_range}
+use Rattle.heap_model.specs.Bytes.{u32_bytes}
+use Rattle.heap_model.specs.Chunk.{Chunk, free, movable, fixed, fixed_lock, need, size_of, Spelled}
+use Rattle.heap_model.specs.declared.names.Place.{Place}
+use Rattle.chunk_format.specs.declared.header.Header.{Header}
+use Rattle.chunk_format.specs.declared.header.Header.TheVariants as headers
+
+-- the header of a chunk, which leaves its bytes out
+abbrev pub header_of : Chunk → Header
+header_of (free size) = headers.Free size
+header_of (movable bytes lock owner slot) = headers.Movable (length bytes) lock owner slot
+header_of (fixed bytes owner) = headers.Fixed (length bytes) owner
+
+-- the size of the chunk of a header
+abbrev pub size_by : Header → ℕ
+size_by (headers.Free size) = size
+size_by (headers.Movable length lock owner slot) = need length
+size_by (headers.Fixed length owner) = need length
+
+-- the chunk with this header whose bytes are those behind it
+abbrev pub chunk_with : List ℕ → ℕ → Header → Chunk
+chunk_with image at (headers.Free size) = free size
+chunk_with image at (headers.Movable length lock owner slot) = movable (slice_range image (at + 8) (at + 8 + length)) lock owner slot
+chunk_with image at (headers.Fixed length owner) = fixed (slice_range image (at + 8) (at + 8 + length)) owner
+
+-- a chunk with this header is spelled at this offset
+pub record HasHeader (image : List ℕ) (at : ℕ) (header : Header) : Type 0 where
+  pub chunk : Chunk
+  pub spelled : Spelled image at chunk
+  pub header_is : header ≡ header_of chunk
+
+-- the places and headers of chunks, the first of which begins at this offset
+abbrev pub headers_of : ℕ → List Chunk → List (Place × Header)
+headers_of at [] = []
+headers_of at (chunk ∷ chunks) = (record { 0 = at + 8 }, header_of chunk) ∷ headers_of (at + size_of chunk) chunks
+
+-- the header can be written at this offset: its numbers fit their fields, and the slot stands at an
+-- even distance
+abbrev pub IsWritable : ℕ → Header → Type 0
+IsWritable at (headers.Free size) = (8 ≤ size) × (size % 8 ≡ 0) × (size < 2 ^ 24)
+IsWritable at (headers.Movable length lock owner slot) =
+    (need length < 2 ^ 24) × (lock < fixed_lock) × (owner < 16) × ((lock ≡ 0) ⊎ (0 < owner)) × (slot < 2 ^ 24) × (slot % 2 ≡ at % 2)
+IsWritable at (headers.Fixed length owner) = (need length < 2 ^ 24) × (owner < 16)
+
+-- the two words of a live chunk of so many bytes: sizeAdj above the size, and the lock above the
+-- owner above hOffset
+abbrev pub live_words : ℕ → ℕ → ℕ → ℕ → List ℕ
+live_words length lock owner h_offset = u32_bytes ((need length - 8 - length) * 2 ^ 24 + need length) ++ u32_bytes (lock * 2 ^ 28 + owner * 2 ^ 24 + h_offset)
+
+-- half the distance from an offset to a slot, as a two's complement of 24 bits
+abbrev pub h_offset_to : ℕ → ℕ → ℕ
+h_offset_to at slot = (slot + 2 ^ 25 - at) / 2 % 2 ^ 24
+
+-- The bytes that spell a header at an offset. Of a free chunk only the first word is spelled, and
+-- its other bits are zero.
+abbrev pub header_bytes : ℕ → Header → List ℕ
+header_bytes at (headers.Free size) = u32_bytes (2 ^ 31 + size)
+header_bytes at (headers.Movable length lock owner slot) = live_words length lock owner (h_offset_to at slot)
+header_bytes at (headers.Fixed length owner) = live_words length fixed_lock owner 0

@@ -1,0 +1,180 @@
+//! Headers of chunks, read and written.
+
+ghost use Rattle.std.specs.Prelude.{◌≡◌, ◌%◌, ◌+◌, ◌≤◌, ◌<◌, ◌^◌, length, option_map, IfSome, IfNone, SomeIff};
+ghost use Rattle.heap_model.specs.Bytes.{overwritten};
+ghost use Rattle.heap_model.specs.Chunk.{Chunk, need, Spelled};
+ghost use Rattle.heap_model.specs.Reading.{chunk_at};
+ghost use Rattle.chunk_format.specs.Header.{chunk_with, size_by, h_offset_to, live_words};
+
+use raw_region::Region;
+
+/// The greatest size of a region, and so of a chunk, in bytes.
+const MAX_SIZE: u32 = 16_777_208;
+
+/// The free bit of the first word.
+const FREE_BIT: u32 = 0x8000_0000;
+
+/// What stands above the 24 bits of a size or of an hOffset is a multiple of this.
+const ABOVE_24_BITS: u32 = 0x100_0000;
+
+/// What stands above the 28 bits of owner and hOffset is a multiple of this.
+const ABOVE_28_BITS: u32 = 0x1000_0000;
+
+/// The lock field of a fixed chunk. A movable chunk's counts its locks, up to 14.
+const FIXED_LOCK: u8 = 15;
+
+/// What a chunk is, by its header: the free bit and the lock field tell which (Palm OS Programmer's
+/// Companion, "Memory Architecture").
+#[derive(Clone, Copy, Debug, PartialEq, Eq)]
+pub enum Header {
+    /// A free chunk of `size` bytes, its header included.
+    Free { size: u32 },
+    /// A chunk that may move while its lock count is 0. `length` is that of its body in bytes, and
+    /// `slot` the offset of the slot that its hOffset names, whether or not a slot stands there.
+    Movable {
+        length: u32,
+        lock: u8,
+        owner: u8,
+        slot: u32,
+    },
+    /// A chunk that never moves.
+    Fixed { length: u32, owner: u8 },
+}
+
+/// What a chunk with a body of `length` bytes takes: 8 for its header, and the body rounded up to a
+/// multiple of 8. None where that is more than a region can have.
+pub fn chunk_size(length: u32) -> Option<u32>
+    ensures { SomeIff result (need length ≤ 16777208) (need length) }
+{
+    if length > MAX_SIZE - 8 {
+        return None;
+    }
+    Some(8 + 8 * ((length + 7) / 8))
+}
+
+impl Header {
+    ghost use Rattle.chunk_format.specs.Header.{header_of, HasHeader, IsWritable, header_bytes};
+
+    /// The header of the chunk at `at`, an offset in bytes from the image's start. None where what
+    /// stands there is out of shape, or beyond the end.
+    #[inline]
+    pub fn read(region: &Region, at: u32) -> Option<Header>
+        requires small { length region.now.bytes < 2 ^ 24 }
+        ensures is { result ≡ option_map header_of (chunk_at region.now.bytes at) }
+        ensures found { IfSome result (HasHeader region.now.bytes at) }
+        ensures none { IfNone result ((chunk : Chunk) → Spelled region.now.bytes at chunk → ⊥) }
+    {
+        decode(region, at)
+    }
+
+    /// Writes the header at `at`: of a free chunk its first word alone, with every bit but the free
+    /// bit and the size zero, and of a live one both words. The caller shows that the chunk lies
+    /// within the region, and that its numbers fit their fields.
+    pub fn write(self, region: &mut Region, at: u32)
+        requires inside { at + size_by self ≤ length region.old.bytes }
+        requires small { length region.old.bytes < 2 ^ 24 }
+        requires writable { IsWritable at self }
+        ensures after { region.new ≡ record region.old { bytes = overwritten region.old.bytes at (header_bytes at self) } }
+        ensures len { length region.new.bytes ≡ length region.old.bytes }
+        ensures spelled { HasHeader region.new.bytes at self }
+    {
+        match self {
+            Header::Free { size } => region.put_u32(at as usize, FREE_BIT + size),
+            Header::Movable {
+                length,
+                lock,
+                owner,
+                slot,
+            } => write_live(region, at, length, lock, owner, h_offset(at, slot)),
+            Header::Fixed { length, owner } => write_live(region, at, length, FIXED_LOCK, owner, 0),
+        }
+    }
+
+    /// The size of the chunk in bytes, its header included.
+    #[inline]
+    pub fn size(self) -> u32
+        requires { size_by self < 2 ^ 24 }
+        ensures { result ≡ size_by self }
+    {
+        match self {
+            Header::Free { size } => size,
+            Header::Movable { length, .. } | Header::Fixed { length, .. } => {
+                8 + 8 * ((length + 7) / 8)
+            }
+        }
+    }
+}
+
+/// The header by the two words at `at`, in the order in which a checker looks at their fields.
+#[inline]
+fn decode(region: &Region, at: u32) -> Option<Header>
+    requires small { length region.now.bytes < 2 ^ 24 }
+    ensures found { IfSome result (λ header. Spelled region.now.bytes at (chunk_with region.now.bytes at header)) }
+    ensures inside { IfSome result (λ header. at + size_by header ≤ length region.now.bytes) }
+    ensures none { IfNone result ((chunk : Chunk) → Spelled region.now.bytes at chunk → ⊥) }
+{
+    let offset = at as usize;
+    let end = region.len();
+    if offset + 8 > end {
+        return None;
+    }
+    let first = region.get_u32(offset);
+    let size = first % ABOVE_24_BITS;
+    if size < 8 || size % 8 != 0 || size as usize > end - offset {
+        return None;
+    }
+    if first >= FREE_BIT {
+        return Some(Header::Free { size });
+    }
+    let adjustment = first / ABOVE_24_BITS;
+    if adjustment > 7 || adjustment > size - 8 {
+        return None;
+    }
+    let length = size - 8 - adjustment;
+    let second = region.get_u32(offset + 4);
+    let lock = (second / ABOVE_28_BITS) as u8;
+    let owner = (second / ABOVE_24_BITS % 16) as u8;
+    let h_offset = second % ABOVE_24_BITS;
+    if lock == FIXED_LOCK {
+        if h_offset != 0 {
+            return None;
+        }
+        return Some(Header::Fixed { length, owner });
+    }
+    if lock != 0 && owner == 0 {
+        return None;
+    }
+    let slot = (at + 2 * h_offset) % (2 * ABOVE_24_BITS);
+    Some(Header::Movable {
+        length,
+        lock,
+        owner,
+        slot,
+    })
+}
+
+/// Half the distance from the chunk at `at` to a slot, as a two's complement of 24 bits.
+fn h_offset(at: u32, slot: u32) -> u32
+    requires at { at < 2 ^ 24 }
+    requires slot { slot < 2 ^ 24 }
+    ensures { result ≡ h_offset_to at slot }
+{
+    (slot + 2 * ABOVE_24_BITS - at) / 2 % ABOVE_24_BITS
+}
+
+/// Writes the two words of a live chunk.
+fn write_live(region: &mut Region, at: u32, count: u32, lock: u8, owner: u8, h_offset: u32)
+    requires inside { at + need count ≤ length region.old.bytes }
+    requires small { length region.old.bytes < 2 ^ 24 }
+    requires lock { lock < 16 }
+    requires owner { owner < 16 }
+    requires h_offset { h_offset < 2 ^ 24 }
+    ensures after { region.new ≡ record region.old { bytes = overwritten region.old.bytes at (live_words count lock owner h_offset) } }
+    ensures len { length region.new.bytes ≡ length region.old.bytes }
+{
+    let size = 8 + 8 * ((count + 7) / 8);
+    let offset = at as usize;
+    region.put_u32(offset, (size - 8 - count) * ABOVE_24_BITS + size);
+    let above = lock as u32 * ABOVE_28_BITS + owner as u32 * ABOVE_24_BITS;
+    region.put_u32(offset + 4, above + h_offset);
+}

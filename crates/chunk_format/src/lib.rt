@@ -1,0 +1,24 @@
+//! Chunks of a heap image: their headers, their sizes, the walk over them, and blank images.
+//!
+//! The chunks tile the image behind the master pointer table. Each is a header of two big-endian
+//! words and a body:
+//!
+//! ```text
+//!            31     30..28   27..24    23..0
+//! word 1   | free | zero   | sizeAdj | size, header included     |
+//!            31..28          27..24    23..0
+//! word 2   | lock          | owner   | hOffset, two's complement |
+//! body     | length = size - 8 - sizeAdj | sizeAdj bytes of slack |
+//! ```
+//!
+//! Of a free chunk only the free bit and the size are read. `specs/Header.antt` ties a header to the
+//! chunk that is spelled there: start there.
+#![tactic(auto)]
+
+mod header;
+mod image;
+mod walk;
+
+pub use header::{Header, chunk_size};
+pub use image::{BlankFault, area_start, blank};
+pub use walk::Walk;

@@ -1,0 +1,65 @@
+//! The walk over the chunks of an image.
+
+ghost use Rattle.std.specs.Prelude.{◌≡◌, ◌<◌, ◌^◌, length};
+ghost use Rattle.heap_model.specs.Reading.{chunks_from};
+ghost use Rattle.chunk_format.specs.Header.{headers_of};
+
+use crate::header::Header;
+use heap_model::Place;
+use raw_region::Region;
+use std::marker::Model;
+
+/// The places and headers of chunks that stand one behind the other, in order. It ends at the end of
+/// the region, or in front of what is out of shape.
+///
+/// Contracts see it as the list of those that are left.
+#[derive(Drop)]
+pub struct Walk<'a> {
+    region: &'a Region,
+    at: u32,
+}
+
+impl<'a> Model for Walk<'a> {
+    ghost use Rattle.std.specs.Prelude.{◌<◌, ◌^◌, List, length};
+    ghost use Rattle.heap_model.specs.declared.names.Place.{Place};
+    ghost use Rattle.heap_model.specs.Reading.{chunks_from};
+    ghost use Rattle.chunk_format.specs.declared.header.Header.{Header};
+    ghost use Rattle.chunk_format.specs.Header.{headers_of};
+
+    ghost Value = { List (Place × Header) };
+
+    ghost view = { λ walk. headers_of walk.at (chunks_from walk.region.now.bytes walk.at) };
+
+    ghost invariant = { λ walk. length walk.region.now.bytes < 2 ^ 24 };
+}
+
+impl<'a> Walk<'a> {
+    /// From the chunk at `start` on, an offset in bytes from the image's start.
+    pub fn new(region: &'a Region, start: u32) -> Walk<'a>
+        requires small { length region.now.bytes < 2 ^ 24 }
+        ensures { result ≡ headers_of start (chunks_from region.now.bytes start) }
+    {
+        Walk { region, at: start }
+    }
+}
+
+impl<'a> Iterator for Walk<'a> {
+    type Item = (Place, Header);
+
+    ghost use Rattle.std.specs.Iterator.{YieldsFirst, item_count};
+
+    ghost remaining = { item_count (λ walk. walk) };
+
+    ghost next_gives = { YieldsFirst (λ walk. walk) };
+
+    fn next(&mut self) -> Option<(Place, Header)> {
+        let at = self.at;
+        match Header::read(self.region, at) {
+            Some(header) => {
+                self.at = at + header.size();
+                Some((Place(at + 8), header))
+            }
+            None => None,
+        }
+    }
+}
