@@ -79,12 +79,12 @@ pub Decides-slot : (image : List ℕ) (slot : ℕ) → Decides (is_slot image sl
 Decides-slot image slot = Decides-like _ (λ h. record { behind_head = h.0.0; in_table = h.0.1; whole = h.1 }) (λ s. ((s.behind_head, s.in_table), s.whole))
     (Decides-and _ _ (Decides-and _ _ (Decides-nat_le 16 slot) (Decides-ltb slot (table_end image))) (Decides-eqb (slot % 4) 0))
 
-Decides-names : (image : List ℕ) (at : ℕ) (c : Chunk) → Decides (names_its_slot image at c) (NamesItsSlot image at c)
+pub Decides-names : (image : List ℕ) (at : ℕ) (c : Chunk) → Decides (names_its_slot image at c) (NamesItsSlot image at c)
 Decides-names image at (free size) = (λ e. tt, λ h. refl)
 Decides-names image at (movable bytes lock owner slot) = Decides-and _ _ (Decides-slot image slot) (Decides-eqb (u32_at image slot) (at + 8))
 Decides-names image at (fixed bytes owner) = (λ e. tt, λ h. refl)
 
-Decides-callers : (at : ℕ) (c : Chunk) → Decides (is_callers_if_fixed at c) (IsCallersIfFixed at c)
+pub Decides-callers : (at : ℕ) (c : Chunk) → Decides (is_callers_if_fixed at c) (IsCallersIfFixed at c)
 Decides-callers at (free size) = (λ e. tt, λ h. refl)
 Decides-callers at (movable bytes lock owner slot) = (λ e. tt, λ h. refl)
 Decides-callers at (fixed bytes owner) = Decides-and _ _ (Decides-ltb 0 owner) (Decides-ltb owner 15)

@@ -1,7 +1,7 @@
 -- What holds of every chunk where it stands, of some one, and of all but a first.
 use Rattle.std.proofs.Common.{◌≡◌, ℕ, ◌+◌, ◌≤◌, Bool, List, [], ◌∷◌, ◌++◌, Option, Some, None, refl, sym, ap, subst, append_assoc, ◌∙◌, arith, inl, inr}
 use Rattle.std.proofs.lemmas.Bool.Decides.{Decides-and, Decides-or}
-use Rattle.std.specs.Prelude.{◌⊎◌, MatchOption}
+use Rattle.std.specs.Prelude.{◌⊎◌, ◌↔◌}
 use Rattle.std.specs.Bool.{Decides}
 use Rattle.std.specs.List.{list_all}
 use Rattle.heap_model.specs.Chunk.{Chunk, size_of, total, SpelledAll}
@@ -121,13 +121,9 @@ FirstWithout-not P at cs there f every =
     let split = EveryPlaced-split P at f.before (f.chunk ∷ f.after) (subst (λ (xs : List Chunk). EveryPlaced P at xs) f.parts every) in
     f.without (subst (λ (n : ℕ). P n f.chunk) (sym f.place) split.1.0)
 
--- the first without it, if there is one, among the chunks that were looked at
-abbrev pub Noted : (ℕ → Chunk → Type 0) → ℕ → List Chunk → Option ℕ → Type 0
-Noted P at cs found = MatchOption found (EveryPlaced P at cs) (λ there. FirstWithout P at cs there)
-
 -- one chunk more is looked at, where one was found before
-pub Noted-kept : (P : ℕ → Chunk → Type 0) (at : ℕ) (cs : List Chunk) (c : Chunk) (there : ℕ) → FirstWithout P at cs there → FirstWithout P at (cs ++ c ∷ []) there
-Noted-kept P at cs c there f = record {
+pub FirstWithout-kept : (P : ℕ → Chunk → Type 0) (at : ℕ) (cs : List Chunk) (c : Chunk) (there : ℕ) → FirstWithout P at cs there → FirstWithout P at (cs ++ c ∷ []) there
+FirstWithout-kept P at cs c there f = record {
   before = f.before;
   chunk = f.chunk;
   after = f.after ++ c ∷ [];
@@ -138,8 +134,8 @@ Noted-kept P at cs c there f = record {
 }
 
 -- one chunk more, the first without it
-pub Noted-first : (P : ℕ → Chunk → Type 0) (at : ℕ) (cs : List Chunk) (c : Chunk) (end : ℕ) → end ≡ at + total cs → EveryPlaced P at cs → (P end c → ⊥) → FirstWithout P at (cs ++ c ∷ []) end
-Noted-first P at cs c end e every without = record { before = cs; chunk = c; after = []; parts = refl; place = e; earlier = every; without = without }
+pub FirstWithout-first : (P : ℕ → Chunk → Type 0) (at : ℕ) (cs : List Chunk) (c : Chunk) (end : ℕ) → end ≡ at + total cs → EveryPlaced P at cs → (P end c → ⊥) → FirstWithout P at (cs ++ c ∷ []) end
+FirstWithout-first P at cs c end e every without = record { before = cs; chunk = c; after = []; parts = refl; place = e; earlier = every; without = without }
 
 -- ---- lists
 
@@ -149,6 +145,21 @@ EveryOne-mid P (y ∷ before) x after h = EveryOne-mid P before x after h.1
 
 pub FirstOne-not : (P : ℕ → Type 0) (xs : List ℕ) (x : ℕ) → FirstOne P xs x → EveryOne P xs → ⊥
 FirstOne-not P xs x f every = f.without (EveryOne-mid P f.before x f.after (subst (λ (ys : List ℕ). EveryOne P ys) f.parts every))
+
+pub EveryOne-split : (P : ℕ → Type 0) (xs ys : List ℕ) → EveryOne P (xs ++ ys) → EveryOne P xs × EveryOne P ys
+EveryOne-split P [] ys h = (tt, h)
+EveryOne-split P (x ∷ xs) ys h = let rest = EveryOne-split P xs ys h.1 in ((h.0, rest.0), rest.1)
+
+-- where two facts agree on each number, one holds of every one where the other does
+pub EveryOne-like : (P Q : ℕ → Type 0) (xs : List ℕ) → EveryOne (λ x. P x ↔ Q x) xs → EveryOne P xs → EveryOne Q xs
+EveryOne-like P Q [] like h = tt
+EveryOne-like P Q (x ∷ xs) like h = (like.0.0 h.0, EveryOne-like P Q xs like.1 h.1)
+
+-- and the first number without the one is the first without the other
+pub FirstOne-like : (P Q : ℕ → Type 0) (xs : List ℕ) (x : ℕ) → EveryOne (λ x. P x ↔ Q x) xs → FirstOne P xs x → FirstOne Q xs x
+FirstOne-like P Q xs x like f =
+    let parts = EveryOne-split (λ y. P y ↔ Q y) f.before (x ∷ f.after) (subst (λ (ys : List ℕ). EveryOne (λ y. P y ↔ Q y) ys) f.parts like) in
+    record { before = f.before; after = f.after; parts = f.parts; earlier = EveryOne-like P Q f.before parts.0 f.earlier; without = λ q. f.without (parts.1.0.1 q) }
 
 -- ---- tests
 

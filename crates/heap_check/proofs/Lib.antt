@@ -1,0 +1,4 @@
+pub mod SurveyLaws
+pub mod SlotLaws
+pub mod DirectoryLaws
+pub mod CheckLaws

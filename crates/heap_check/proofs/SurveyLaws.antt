@@ -1,0 +1,157 @@
+-- A survey of one chunk more.
+use Rattle.std.proofs.Common.{◌≡◌, ◌≢◌, ℕ, ◌+◌, ◌*◌, ◌<◌, ◌≤◌, Bool, true, false, cond, List, [], ◌∷◌, ◌++◌, length, Option, Some, None, refl, sym, ap, subst, ◌∙◌, arith, inl, inr}
+use Rattle.std.specs.Prelude.{◌⊎◌, ◌↔◌, slice_index_or, count_by, sum_by}
+use Rattle.std.specs.Bool.{Decides}
+use Rattle.std.proofs.lemmas.Bool.{false≢true}
+use Rattle.std.proofs.lemmas.List.Sums.{sum_by_push}
+use Rattle.heap_model.specs.Bytes.{u32_at}
+use Rattle.heap_model.specs.Chunk.{Chunk, free, movable, fixed, size_of, total, is_movable, is_fixed, free_size, SpelledAll}
+use Rattle.heap_model.specs.Slots.{slot_count, area_start}
+use Rattle.heap_model.specs.Heap.{BodyHere, IsBody, IsCallersIfFixed}
+use Rattle.heap_model.specs.Placed.{EveryPlaced, AnyPlaced}
+use Rattle.heap_model.specs.Pairing.{NamesItsSlot}
+use Rattle.heap_model.specs.Reading.{chunks_of, names_its_slot, is_callers_if_fixed}
+use Rattle.heap_laws.proofs.Chunks.{Spelled-size, SpelledAll-end, SpelledAll-push}
+use Rattle.heap_laws.proofs.Runs.{chunks_from-tiled}
+use Rattle.heap_laws.proofs.Accepted.{Decides-names, Decides-callers}
+use Rattle.heap_laws.proofs.Placed.{AnyPlaced-left, AnyPlaced-right, AnyPlaced-split, EveryPlaced-push, FirstWithout-first, FirstWithout-kept}
+use Rattle.chunk_format.specs.declared.header.Header.{Header}
+use Rattle.chunk_format.specs.Header.{header_of, size_by, HasHeader}
+use Rattle.chunk_format.proofs.HeaderLaws.{size_by-header_of}
+use Rattle.heap_check.specs.declared.survey.Survey.{Survey}
+use Rattle.heap_check.specs.Survey.{movable_by, fixed_by, free_by, names_by, callers_by, BodyBy, noted, AreMarks, IsFirstWithout, Surveys, HasSurveyed, IsSurvey}
+
+-- ---- what is read off a header is so of its chunk
+
+movable_of : (c : Chunk) → movable_by (header_of c) ≡ count_by is_movable (c ∷ [])
+movable_of (free size) = refl
+movable_of (movable bytes lock owner slot) = refl
+movable_of (fixed bytes owner) = refl
+
+fixed_of : (c : Chunk) → fixed_by (header_of c) ≡ count_by is_fixed (c ∷ [])
+fixed_of (free size) = refl
+fixed_of (movable bytes lock owner slot) = refl
+fixed_of (fixed bytes owner) = refl
+
+free_of : (c : Chunk) → free_by (header_of c) ≡ free_size c
+free_of (free size) = refl
+free_of (movable bytes lock owner slot) = refl
+free_of (fixed bytes owner) = refl
+
+names_of : (image : List ℕ) (at : ℕ) (c : Chunk) → names_by image at (header_of c) ≡ names_its_slot image at c
+names_of image at (free size) = refl
+names_of image at (movable bytes lock owner slot) = refl
+names_of image at (fixed bytes owner) = refl
+
+callers_of : (at : ℕ) (c : Chunk) → callers_by (header_of c) ≡ is_callers_if_fixed at c
+callers_of at (free size) = refl
+callers_of at (movable bytes lock owner slot) = refl
+callers_of at (fixed bytes owner) = refl
+
+body_of : (slot place at : ℕ) (c : Chunk) → BodyBy slot place at (header_of c) ≡ BodyHere slot place at c
+body_of slot place at (free size) = refl
+body_of slot place at (movable bytes lock owner named) = refl
+body_of slot place at (fixed bytes owner) = refl
+
+-- a header counts for no more bytes than its chunk takes
+pub counts_within : (c : Chunk) → 8 ≤ size_of c → movable_by (header_of c) + fixed_by (header_of c) + free_by (header_of c) ≤ size_of c
+counts_within (free size) s = omega arith
+counts_within (movable bytes lock owner slot) s = omega arith
+counts_within (fixed bytes owner) s = omega arith
+
+-- ---- no chunk
+
+pub surveys_none : (image : List ℕ) (survey : Survey) (marks : List Bool) → survey.movable ≡ 0 → survey.fixed ≡ 0 → survey.free ≡ 0 → survey.without_slot ≡ None → survey.bad_owner ≡ None
+    → ((k : ℕ) → k < slot_count image → slice_index_or marks k false ≡ false) → Surveys image [] survey marks
+surveys_none image survey marks m f s w o clear = record {
+  movable = m;
+  fixed = f;
+  free = s;
+  marked = λ k below. (λ is. absurd (false≢true (sym (clear k below) ∙ is)), λ b. absurd b);
+  without_slot = subst (λ (found : Option ℕ). IsFirstWithout (NamesItsSlot image) (area_start image) [] found) (sym w) tt;
+  bad_owner = subst (λ (found : Option ℕ). IsFirstWithout IsCallersIfFixed (area_start image) [] found) (sym o) tt;
+}
+
+-- ---- one chunk more
+
+count_push : (test : Chunk → Bool) (cs : List Chunk) (c : Chunk) → count_by test (cs ++ c ∷ []) ≡ count_by test cs + count_by test (c ∷ [])
+count_push test cs c = let e : cond (test c) 1 0 ≡ 0 + cond (test c) 1 0 = omega arith in sum_by_push (λ (x : Chunk). cond (test x) 1 0) cs c ∙ ap (λ (n : ℕ). count_by test cs + n) e
+
+noted_more : (P : ℕ → Chunk → Type 0) (start : ℕ) (before : List Chunk) (c : Chunk) (at : ℕ) (found : Option ℕ) (right : Bool) → at ≡ start + total before → Decides right (P at c)
+    → IsFirstWithout P start before found → IsFirstWithout P start (before ++ c ∷ []) (noted found at right)
+noted_more P start before c at (Some first) right e decides was = FirstWithout-kept P start before c first was
+noted_more P start before c at None true e decides was = EveryPlaced-push P start before c at e was (decides.0 refl)
+noted_more P start before c at None false e decides was = FirstWithout-first P start before c at e was (λ p. false≢true (decides.1 p))
+
+-- what adding a chunk by its header does to a survey and to the marks
+pub record Adds (image : List ℕ) (at : ℕ) (header : Header) (old new : Survey) (before_marks after_marks : List Bool) : Type 0 where
+  pub movable : new.movable ≡ old.movable + movable_by header
+  pub fixed : new.fixed ≡ old.fixed + fixed_by header
+  pub free : new.free ≡ old.free + free_by header
+  pub without_slot : new.without_slot ≡ noted old.without_slot at (names_by image at header)
+  pub bad_owner : new.bad_owner ≡ noted old.bad_owner at (callers_by header)
+  pub marked : (k : ℕ) → k < slot_count image → ((slice_index_or after_marks k false ≡ true) ↔ ((slice_index_or before_marks k false ≡ true) ⊎ BodyBy (16 + 4 * k) (u32_at image (16 + 4 * k)) at header))
+
+pub surveys_more : (image : List ℕ) (before : List Chunk) (c : Chunk) (at : ℕ) (header : Header) (old new : Survey) (before_marks after_marks : List Bool) → at ≡ area_start image + total before → header ≡ header_of c
+    → Surveys image before old before_marks → Adds image at header old new before_marks after_marks → Surveys image (before ++ c ∷ []) new after_marks
+surveys_more image before c at header old new before_marks after_marks e is was adds = record {
+  movable = adds.movable ∙ ap (λ (n : ℕ). old.movable + n) (ap movable_by is ∙ movable_of c) ∙ ap (λ (n : ℕ). n + count_by is_movable (c ∷ [])) was.movable ∙ sym (count_push is_movable before c);
+  fixed = adds.fixed ∙ ap (λ (n : ℕ). old.fixed + n) (ap fixed_by is ∙ fixed_of c) ∙ ap (λ (n : ℕ). n + count_by is_fixed (c ∷ [])) was.fixed ∙ sym (count_push is_fixed before c);
+  free = adds.free ∙ ap (λ (n : ℕ). old.free + n) (ap free_by is ∙ free_of c) ∙ ap (λ (n : ℕ). n + free_size c) was.free ∙ sym (sum_by_push free_size before c);
+  marked = λ k below.
+      let slot : ℕ = 16 + 4 * k in
+      let place : ℕ = u32_at image (16 + 4 * k) in
+      let here : BodyBy slot place at header ≡ BodyHere slot place (area_start image + total before) c = ap (BodyBy slot place at) is ∙ body_of slot place at c ∙ ap (λ (n : ℕ). BodyHere slot place n c) e in (
+        λ marked. elim ((adds.marked k below).0 marked) [
+          | inl earlier ↦ AnyPlaced-left (BodyHere slot place) (area_start image) before (c ∷ []) ((was.marked k below).0 earlier)
+          | inr own ↦ AnyPlaced-right (BodyHere slot place) (area_start image) before (c ∷ []) (inl (coe_to here own))
+        ],
+        λ body. (adds.marked k below).1 (elim (AnyPlaced-split (BodyHere slot place) (area_start image) before (c ∷ []) body) [
+          | inl left ↦ inl ((was.marked k below).1 left)
+          | inr own ↦ inr (elim own [ inl b ↦ coe_to (sym here) b | inr none ↦ absurd none ])
+        ]),
+      );
+  without_slot = subst (λ (found : Option ℕ). IsFirstWithout (NamesItsSlot image) (area_start image) (before ++ c ∷ []) found) (sym adds.without_slot)
+      (noted_more (NamesItsSlot image) (area_start image) before c at old.without_slot (names_by image at header) e
+      (subst (λ (b : Bool). Decides b (NamesItsSlot image at c)) (sym (ap (names_by image at) is ∙ names_of image at c)) (Decides-names image at c)) was.without_slot);
+  bad_owner = subst (λ (found : Option ℕ). IsFirstWithout IsCallersIfFixed (area_start image) (before ++ c ∷ []) found) (sym adds.bad_owner)
+      (noted_more IsCallersIfFixed (area_start image) before c at old.bad_owner (callers_by header) e
+      (subst (λ (b : Bool). Decides b (IsCallersIfFixed at c)) (sym (ap callers_by is ∙ callers_of at c)) (Decides-callers at c)) was.bad_owner);
+} where
+  coe_to : {A B : Type 0} → A ≡ B → A → B
+  coe_to e x = subst (λ (X : Type 0). X) e x
+
+-- ---- the walk
+
+pub walked_more : (image : List ℕ) (at : ℕ) (header : Header) (old new : Survey) (before_marks after_marks : List Bool) → HasSurveyed image at old before_marks → HasHeader image at header
+    → Adds image at header old new before_marks after_marks → HasSurveyed image (at + size_by header) new after_marks
+walked_more image at header old new before_marks after_marks was found adds =
+    let c : Chunk = found.chunk in
+    let size : size_by header ≡ size_of c = ap size_by found.header_is ∙ size_by-header_of c in
+    let takes = Spelled-size image at c found.spelled in
+    let here : at ≡ area_start image + total was.chunks = SpelledAll-end image (area_start image) was.chunks at was.spelled in
+    let counts = was.counts in
+    let within = counts_within c takes.0 in
+    let m : new.movable ≡ old.movable + movable_by (header_of c) = adds.movable ∙ ap (λ (h : Header). old.movable + movable_by h) found.header_is in
+    let f : new.fixed ≡ old.fixed + fixed_by (header_of c) = adds.fixed ∙ ap (λ (h : Header). old.fixed + fixed_by h) found.header_is in
+    let s : new.free ≡ old.free + free_by (header_of c) = adds.free ∙ ap (λ (h : Header). old.free + free_by h) found.header_is in
+    record {
+      chunks = was.chunks ++ c ∷ [];
+      spelled = SpelledAll-push image (area_start image) was.chunks at c (at + size_by header) was.spelled found.spelled (ap (λ (n : ℕ). at + n) size);
+      surveys = surveys_more image was.chunks c at header old new before_marks after_marks here found.header_is was.surveys adds;
+      counts = omega arith;
+      inside = omega arith;
+    }
+
+-- at the end all chunks are surveyed
+pub walked_all : (image : List ℕ) (at : ℕ) (survey : Survey) (marks : List Bool) → length image ≤ at → HasSurveyed image at survey marks → IsSurvey image survey marks
+unfolding chunks_of
+walked_all image at survey marks beyond was =
+    let inside = was.inside in
+    let end : at ≡ length image = omega arith in
+    let spelled : SpelledAll image (area_start image) was.chunks (length image) = subst (λ (n : ℕ). SpelledAll image (area_start image) was.chunks n) end was.spelled in
+    let all : was.chunks ≡ chunks_of image = sym (chunks_from-tiled image (area_start image) was.chunks spelled) in
+    record {
+      spelled = subst (λ (cs : List Chunk). SpelledAll image (area_start image) cs (length image)) all spelled;
+      surveys = subst (λ (cs : List Chunk). Surveys image cs survey marks) all was.surveys;
+    }

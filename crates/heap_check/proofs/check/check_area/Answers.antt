@@ -1,0 +1,34 @@
+use Rattle.std.proofs.Common.{◌≡◌, sym, ◌∙◌, refl}
+use Rattle.std.proofs.lemmas.Bool.{false≢true}
+use Rattle.heap_laws.proofs.Slots.{length-slots_of}
+use Rattle.heap_check.proofs.CheckLaws.{surveyed_mismatch, surveyed_without, surveyed_owner, Passed, passed_paired, passed_directory, passed_heap}
+use Rattle.heap_check.proofs.check.check_area.Goals as goal
+
+pub returns-in-Some-clause-fault : goal.returns-in-Some-clause-fault
+returns-in-Some-clause-fault c = surveyed_mismatch c.args.region.now.bytes c.in-Ok.survey _ c.in-Some.slot c.requires.head c.in-Ok.ensures.surveyed c.in-Some.ensures.some
+
+pub returns-in-Some-without_slot-clause-fault : goal.returns-in-Some-without_slot-clause-fault
+returns-in-Some-without_slot-clause-fault c = surveyed_without c.args.region.now.bytes c.in-Ok.survey _ c.in-Some-without_slot.at c.requires.head c.in-Ok.ensures.surveyed c.in_default.ensures.none c.in-Some-without_slot.is
+
+pub returns-in-Some-bad_owner-clause-fault : goal.returns-in-Some-bad_owner-clause-fault
+returns-in-Some-bad_owner-clause-fault c =
+    surveyed_owner c.args.region.now.bytes c.in-Ok.survey _ c.in-Some-bad_owner.at c.requires.head c.in-Ok.ensures.surveyed c.in_default.ensures.none c.in_default-without_slot.is c.in-Some-bad_owner.is
+
+pub has_directory-requires-clause-paired : goal.has_directory-requires-clause-paired
+has_directory-requires-clause-paired c =
+    passed_paired c.args.region.now.bytes c.in-Ok.survey _ record { head = c.requires.head; surveyed = c.in-Ok.ensures.surveyed; marked = c.in_default.ensures.none; without_slot = c.in_default-without_slot.is; bad_owner = c.in_default-bad_owner.is }
+
+pub returns-then-not-has_directory-clause-fault : goal.returns-then-not-has_directory-clause-fault
+returns-then-not-has_directory-clause-fault c =
+    passed_directory c.args.region.now.bytes c.in-Ok.survey _ record { head = c.requires.head; surveyed = c.in-Ok.ensures.surveyed; marked = c.in_default.ensures.none; without_slot = c.in_default-without_slot.is; bad_owner = c.in_default-bad_owner.is }
+    (λ has. false≢true (c.if-not-has_directory.ensures.1 has))
+
+pub returns-clause-accepted : goal.returns-clause-accepted
+returns-clause-accepted c =
+    passed_heap c.args.region.now.bytes c.in-Ok.survey _ record { head = c.requires.head; surveyed = c.in-Ok.ensures.surveyed; marked = c.in_default.ensures.none; without_slot = c.in_default-without_slot.is; bad_owner = c.in_default-bad_owner.is }
+    (c.if-not-has_directory.ensures.0 refl)
+
+pub returns-clause-summary : goal.returns-clause-summary
+returns-clause-summary c =
+    let s = c.in-Ok.ensures.surveyed.surveys in
+    record { size = c.len.ensures; slots = c.get_u16-slots.ensures ∙ sym (length-slots_of c.args.region.now.bytes); movable = s.movable; fixed = s.fixed; free = s.free }

@@ -1,0 +1,11 @@
+use Rattle.std.proofs.Common.{List, ℕ, Ok, Err, Result}
+use Rattle.std.specs.Prelude.{IfErr, OnErr}
+use Rattle.heap_model.specs.Heap.{HeapAccepted}
+use Rattle.heap_check.proofs.CheckLaws.{refuses, refused_by}
+use Rattle.heap_check.proofs.check.check_heap.Goals as goal
+
+pub returns-in-Ok-clause-refused : goal.returns-in-Ok-clause-refused
+returns-in-Ok-clause-refused c = refused_by c.args.region.now.bytes c.check_with_marks.result c.check_with_marks.ensures.fault
+
+pub returns-in-Err-clause-refused : goal.returns-in-Err-clause-refused
+returns-in-Err-clause-refused c = refuses c.args.region.now.bytes c.in-Err.fault c.in-Err.ensures.fault

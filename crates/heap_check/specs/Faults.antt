@@ -1,0 +1,105 @@
+-- The faults of a heap image, in the order in which they are looked for.
+use Rattle.std.specs.Prelude.{◌≡◌, ◌≢◌, ◌<◌, ◌+◌, ◌%◌, ◌⊎◌, ℕ, List, [], ◌∷◌, length}
+use Rattle.heap_model.specs.Bytes.{u16_at, u32_at}
+use Rattle.heap_model.specs.Chunk.{Chunk, Spelled, SpelledAll}
+use Rattle.heap_model.specs.Placed.{FirstWithout, FirstOne}
+use Rattle.heap_model.specs.Slots.{slot_count, head_end, slots_of, area_start}
+use Rattle.heap_model.specs.Heap.{magic, Tiles, IsCallersIfFixed, HasDirectory}
+use Rattle.heap_model.specs.Pairing.{HoldsBody, NamesItsSlot}
+use Rattle.heap_model.specs.Reading.{chunks_of}
+use Rattle.heap_check.specs.declared.fault.HeapFault.{HeapFault}
+use Rattle.heap_check.specs.declared.fault.HeapFault.TheVariants.{TooShort, BadMagic, BadSize, BadSlotCount, BadReserved, BadPadding, BadChunk, SlotMismatch, ChunkWithoutSlot, BadFixedOwner, BadDirectory}
+
+-- ---- what each fault says
+
+-- under 16 bytes, or the magic is there and the size field is above the length
+abbrev pub IsTooShort : List ℕ → Type 0
+IsTooShort image = (length image < 16) ⊎ ((u32_at image 0 ≡ magic) × (length image < u32_at image 4))
+
+-- the first four bytes are others
+abbrev pub HasBadMagic : List ℕ → Type 0
+HasBadMagic image = u32_at image 0 ≢ magic
+
+-- the size field isn't the length, isn't a multiple of 8, or isn't 64 to 16,777,208
+abbrev pub HasBadSize : List ℕ → Type 0
+HasBadSize image = (u32_at image 4 ≢ length image) ⊎ ((length image % 8 ≢ 0) ⊎ ((length image < 64) ⊎ (16777208 < length image)))
+
+-- no slots, or less than 8 bytes are left behind the table and its padding
+abbrev pub HasBadSlotCount : List ℕ → Type 0
+HasBadSlotCount image = (slot_count image ≡ 0) ⊎ (length image < area_start image + 8)
+
+-- bytes 10 and 11 aren't zero
+abbrev pub HasBadReserved : List ℕ → Type 0
+HasBadReserved image = u16_at image 10 ≢ 0
+
+-- there is padding, and a byte of it isn't zero
+abbrev pub HasBadPadding : List ℕ → Type 0
+HasBadPadding image = (head_end image ≢ area_start image) × (u32_at image (head_end image) ≢ 0)
+
+-- chunks stand one behind the other up to this offset within the image, and there none is spelled
+pub record IsBadChunk (image : List ℕ) (at : ℕ) : Type 0 where
+  pub before : List Chunk
+  pub spelled : SpelledAll image (area_start image) before at
+  pub inside : at < length image
+  pub nothing : (chunk : Chunk) → Spelled image at chunk → ⊥
+
+-- the first slot in use that isn't the place of a movable chunk which names it
+abbrev pub IsSlotMismatch : List ℕ → ℕ → Type 0
+IsSlotMismatch image slot = Tiles image (chunks_of image) × FirstOne (HoldsBody image (chunks_of image)) (slots_of image) slot
+
+-- the first movable chunk, by its offset, that names no slot which holds its place
+abbrev pub IsChunkWithoutSlot : List ℕ → ℕ → Type 0
+IsChunkWithoutSlot image at = Tiles image (chunks_of image) × FirstWithout (NamesItsSlot image) (area_start image) (chunks_of image) at
+
+-- the first fixed chunk, by its offset, with owner 0 or 15
+abbrev pub IsBadFixedOwner : List ℕ → ℕ → Type 0
+IsBadFixedOwner image at = Tiles image (chunks_of image) × FirstWithout IsCallersIfFixed (area_start image) (chunks_of image) at
+
+-- the directory word is neither 0 nor a slot whose chunk is the manager's
+abbrev pub HasBadDirectory : List ℕ → Type 0
+HasBadDirectory image = Tiles image (chunks_of image) × (HasDirectory image (chunks_of image) → ⊥)
+
+-- ---- the table
+
+infix 70 ◌brings◌
+-- where this holds, there is this fault
+abbrev pub ◌brings◌ : Type 0 → HeapFault → HeapFault → Type 0
+◌brings◌ P named fault = P × (fault ≡ named)
+
+infix 70 ◌locates◌
+-- where this holds of an offset, there is this fault with the offset
+abbrev pub ◌locates◌ : (ℕ → Type 0) → (ℕ → HeapFault) → HeapFault → Type 0
+◌locates◌ P named fault = (offset : ℕ) × P offset × (fault ≡ named offset)
+
+-- of an image that is tiled
+abbrev pub slot_faults : List ℕ → List (HeapFault → Type 0)
+slot_faults image =
+    (IsSlotMismatch image locates SlotMismatch)
+    ∷ (IsChunkWithoutSlot image locates ChunkWithoutSlot)
+    ∷ (IsBadFixedOwner image locates BadFixedOwner)
+    ∷ (HasBadDirectory image brings BadDirectory)
+    ∷ []
+
+-- of the chunks, and then those
+abbrev pub area_faults : List ℕ → List (HeapFault → Type 0)
+area_faults image = (IsBadChunk image locates BadChunk) ∷ slot_faults image
+
+-- of what stands in front of the chunks, and then those
+abbrev pub faults : List ℕ → List (HeapFault → Type 0)
+faults image =
+    (IsTooShort image brings TooShort)
+    ∷ (HasBadMagic image brings BadMagic)
+    ∷ (HasBadSize image brings BadSize)
+    ∷ (HasBadSlotCount image brings BadSlotCount)
+    ∷ (HasBadReserved image brings BadReserved)
+    ∷ (HasBadPadding image brings BadPadding)
+    ∷ area_faults image
+
+-- the fault is what the first row of the table brings that brings any
+abbrev pub FirstBrought : List (HeapFault → Type 0) → HeapFault → Type 0
+FirstBrought [] fault = ⊥
+FirstBrought (row ∷ rows) fault = row fault ⊎ (((other : HeapFault) → row other → ⊥) × FirstBrought rows fault)
+
+-- the image has the fault, and none of those that are looked for earlier
+abbrev pub IsFirstFault : List ℕ → HeapFault → Type 0
+IsFirstFault image fault = FirstBrought (faults image) fault

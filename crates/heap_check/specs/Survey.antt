@@ -1,0 +1,103 @@
+-- What a walk over chunks has found, and what one header adds to it.
+use Rattle.std.specs.Prelude.{◌≡◌, ◌≢◌, ◌<◌, ◌+◌, ◌-◌, ◌*◌, ◌/◌, ◌==◌, ◌&&◌, ◌↔◌, ◌≤◌, nat_lt, ℕ, Bool, true, false, List, length, slice_index_or, count_by, sum_by, Option, Some, None, MatchOption}
+use Rattle.heap_model.specs.Bytes.{u32_at}
+use Rattle.heap_model.specs.Chunk.{Chunk, free, movable, fixed, SpelledAll, is_movable, is_fixed, free_size}
+use Rattle.heap_model.specs.Placed.{EveryPlaced, FirstWithout, EveryOne}
+use Rattle.heap_model.specs.Slots.{slot_count, area_start, is_slot, slots_of}
+use Rattle.heap_model.specs.Heap.{Tiles, IsBody, IsCallersIfFixed}
+use Rattle.heap_model.specs.Pairing.{HoldsBody, NamesItsSlot}
+use Rattle.heap_model.specs.Reading.{chunks_of}
+use Rattle.chunk_format.specs.declared.header.Header.{Header}
+use Rattle.chunk_format.specs.declared.header.Header.TheVariants as headers
+use Rattle.heap_check.specs.declared.survey.Survey.{Survey}
+
+-- ---- one chunk, by its header
+
+abbrev pub movable_by : Header → ℕ
+movable_by (headers.Free size) = 0
+movable_by (headers.Movable length lock owner slot) = 1
+movable_by (headers.Fixed length owner) = 0
+
+abbrev pub fixed_by : Header → ℕ
+fixed_by (headers.Free size) = 0
+fixed_by (headers.Movable length lock owner slot) = 0
+fixed_by (headers.Fixed length owner) = 1
+
+abbrev pub free_by : Header → ℕ
+free_by (headers.Free size) = size
+free_by (headers.Movable length lock owner slot) = 0
+free_by (headers.Fixed length owner) = 0
+
+-- the chunk, where it is movable, names a slot that holds its place
+abbrev pub names_by : List ℕ → ℕ → Header → Bool
+names_by image at (headers.Free size) = true
+names_by image at (headers.Movable length lock owner slot) = is_slot image slot && (u32_at image slot == at + 8)
+names_by image at (headers.Fixed length owner) = true
+
+-- the chunk, where it is fixed, is a caller's
+abbrev pub callers_by : Header → Bool
+callers_by (headers.Free size) = true
+callers_by (headers.Movable length lock owner slot) = true
+callers_by (headers.Fixed length owner) = nat_lt 0 owner && nat_lt owner 15
+
+-- the chunk is movable, names this slot and has its body at this place
+abbrev pub BodyBy : ℕ → ℕ → ℕ → Header → Type 0
+BodyBy slot place at (headers.Free size) = ⊥
+BodyBy slot place at (headers.Movable length lock owner named) = (named ≡ slot) × (at + 8 ≡ place)
+BodyBy slot place at (headers.Fixed length owner) = ⊥
+
+-- the first offset that failed a test, once the test of one more is known
+abbrev pub noted : Option ℕ → ℕ → Bool → Option ℕ
+noted (Some first) at right = Some first
+noted None at true = None
+noted None at false = Some at
+
+-- ---- all chunks so far
+
+-- the slot of each number is marked where a chunk that names it has its body at the place it holds
+abbrev pub AreMarks : List ℕ → List Chunk → List Bool → Type 0
+AreMarks image chunks marks =
+    (k : ℕ) → k < slot_count image → ((slice_index_or marks k false ≡ true) ↔ IsBody (area_start image) chunks (16 + 4 * k) (u32_at image (16 + 4 * k)))
+
+-- the first chunk without something, if there is one
+abbrev pub IsFirstWithout : (ℕ → Chunk → Type 0) → ℕ → List Chunk → Option ℕ → Type 0
+IsFirstWithout P at chunks found = MatchOption found (EveryPlaced P at chunks) (λ there. FirstWithout P at chunks there)
+
+-- the survey and the marks are those of these chunks, the first of the image
+pub record Surveys (image : List ℕ) (chunks : List Chunk) (survey : Survey) (marks : List Bool) : Type 0 where
+  pub movable : survey.movable ≡ count_by is_movable chunks
+  pub fixed : survey.fixed ≡ count_by is_fixed chunks
+  pub free : survey.free ≡ sum_by free_size chunks
+  pub marked : AreMarks image chunks marks
+  pub without_slot : IsFirstWithout (NamesItsSlot image) (area_start image) chunks survey.without_slot
+  pub bad_owner : IsFirstWithout IsCallersIfFixed (area_start image) chunks survey.bad_owner
+
+-- a slot in use is marked
+abbrev pub IsMarked : List ℕ → List Bool → ℕ → Type 0
+IsMarked image marks slot = u32_at image slot ≢ 0 → slice_index_or marks ((slot - 16) / 4) false ≡ true
+
+-- the chunks reach the end, and the survey and the marks are those of them all
+pub record IsSurvey (image : List ℕ) (survey : Survey) (marks : List Bool) : Type 0 where
+  pub spelled : SpelledAll image (area_start image) (chunks_of image) (length image)
+  pub surveys : Surveys image (chunks_of image) survey marks
+
+-- a walk has come to this offset: the chunks in front of it, and the survey and the marks of those
+pub record HasSurveyed (image : List ℕ) (at : ℕ) (survey : Survey) (marks : List Bool) : Type 0 where
+  pub chunks : List Chunk
+  pub spelled : SpelledAll image (area_start image) chunks at
+  pub surveys : Surveys image chunks survey marks
+  pub counts : survey.movable + survey.fixed + survey.free ≤ at
+  pub inside : at ≤ length image
+
+-- the image is tiled, and its slots and movable chunks are paired, in both halves
+pub record IsPaired (image : List ℕ) : Type 0 where
+  pub tiles : Tiles image (chunks_of image)
+  pub slots : EveryOne (HoldsBody image (chunks_of image)) (slots_of image)
+  pub names : EveryPlaced (NamesItsSlot image) (area_start image) (chunks_of image)
+
+-- there is a chunk, and it is a movable one of the manager's
+abbrev pub ManagersAt : Option Chunk → Type 0
+ManagersAt None = ⊥
+ManagersAt (Some (free size)) = ⊥
+ManagersAt (Some (movable bytes lock owner slot)) = owner ≡ 0
+ManagersAt (Some (fixed bytes owner)) = ⊥

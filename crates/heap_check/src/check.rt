@@ -1,0 +1,77 @@
+//! The check of a whole image.
+
+ghost use Rattle.std.specs.Prelude.{◌≡◌, ◌≤◌, ℕ, false, length, slice_index_or, IfOk, IfErr, OnOk, OnErr};
+ghost use Rattle.heap_model.specs.Heap.{IsHead, HeapAccepted};
+ghost use Rattle.heap_check.specs.Faults.{IsFirstFault};
+ghost use Rattle.heap_check.specs.Summary.{Summarizes};
+
+use crate::directory::has_directory;
+use crate::fault::HeapFault;
+use crate::head::check_head;
+use crate::slots::find_unmarked;
+use crate::summary::Summary;
+use crate::survey::survey_chunks;
+use raw_region::Region;
+
+/// The most slots that a table can have, and one mark more.
+const MAX_SLOTS: usize = 65_536;
+
+/// Whether the bytes of a region are an accepted heap: its counts, or else its first fault. It takes
+/// no memory, reads each chunk's header once and each slot once, and changes nothing.
+pub fn check_heap(region: &Region) -> Result<Summary, HeapFault>
+    ensures accepted { OnOk result (HeapAccepted region.now.bytes) }
+    ensures summary { IfOk result (Summarizes region.now.bytes) }
+    ensures fault { IfErr result (IsFirstFault region.now.bytes) }
+    ensures refused { OnErr result (HeapAccepted region.now.bytes → ⊥) }
+{
+    match check_head(region) {
+        Ok(()) => check_with_marks(region),
+        Err(fault) => Err(fault),
+    }
+}
+
+/// Checks the chunks and the slots behind a right head, with marks of its own.
+fn check_with_marks(region: &Region) -> Result<Summary, HeapFault>
+    requires head { IsHead region.now.bytes }
+    ensures accepted { OnOk result (HeapAccepted region.now.bytes) }
+    ensures summary { IfOk result (Summarizes region.now.bytes) }
+    ensures fault { IfErr result (IsFirstFault region.now.bytes) }
+{
+    let mut marks = [false; MAX_SLOTS];
+    check_area(region, &mut marks)
+}
+
+/// Checks the chunks and the slots behind a right head, with a mark for the slot of each number.
+fn check_area(region: &Region, marks: &mut [bool]) -> Result<Summary, HeapFault>
+    requires head { IsHead region.now.bytes }
+    requires room { 65535 ≤ length marks.old }
+    requires clear { (k : ℕ) → slice_index_or marks.old k false ≡ false }
+    ensures accepted { OnOk result (HeapAccepted region.now.bytes) }
+    ensures summary { IfOk result (Summarizes region.now.bytes) }
+    ensures fault { IfErr result (IsFirstFault region.now.bytes) }
+{
+    let slots = region.get_u16(8);
+    let survey = match survey_chunks(region, slots, marks) {
+        Ok(survey) => survey,
+        Err(at) => return Err(HeapFault::BadChunk(at)),
+    };
+    if let Some(slot) = find_unmarked(region, slots, marks) {
+        return Err(HeapFault::SlotMismatch(slot));
+    }
+    if let Some(at) = survey.without_slot {
+        return Err(HeapFault::ChunkWithoutSlot(at));
+    }
+    if let Some(at) = survey.bad_owner {
+        return Err(HeapFault::BadFixedOwner(at));
+    }
+    if !has_directory(region, slots) {
+        return Err(HeapFault::BadDirectory);
+    }
+    Ok(Summary {
+        size: region.len() as u32,
+        slots: slots as u32,
+        movable: survey.movable,
+        fixed: survey.fixed,
+        free: survey.free,
+    })
+}

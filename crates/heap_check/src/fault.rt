@@ -1,0 +1,42 @@
+//! The faults of a heap image.
+
+use thiserror::Error;
+
+/// The first fault of an image that isn't a heap, in the order in which they are looked for. Its text
+/// is its name and, where it has one, the offset in bytes from the image's start.
+#[derive(Clone, Copy, Debug, PartialEq, Eq, Error)]
+pub enum HeapFault {
+    /// Under 16 bytes, or the magic is there and the size field is above the length.
+    #[error("TooShort")]
+    TooShort,
+    /// The first four bytes aren't `PHI1`.
+    #[error("BadMagic")]
+    BadMagic,
+    /// The size field isn't the length, isn't a multiple of 8, or isn't 64 to 16,777,208.
+    #[error("BadSize")]
+    BadSize,
+    /// There are no slots, or less than 8 bytes are left behind the table and its padding.
+    #[error("BadSlotCount")]
+    BadSlotCount,
+    /// Bytes 10 and 11 aren't zero.
+    #[error("BadReserved")]
+    BadReserved,
+    /// A padding byte behind the table isn't zero.
+    #[error("BadPadding")]
+    BadPadding,
+    /// The first chunk out of shape, by its offset.
+    #[error("BadChunk {0}")]
+    BadChunk(u32),
+    /// The first slot in use that isn't the place of a movable chunk which names it, by its offset.
+    #[error("SlotMismatch {0}")]
+    SlotMismatch(u32),
+    /// The first movable chunk that names no slot which holds its place, by its offset.
+    #[error("ChunkWithoutSlot {0}")]
+    ChunkWithoutSlot(u32),
+    /// The first fixed chunk with owner 0 or 15, by its offset.
+    #[error("BadFixedOwner {0}")]
+    BadFixedOwner(u32),
+    /// The directory word is neither 0 nor the offset of a slot in use whose chunk has owner 0.
+    #[error("BadDirectory")]
+    BadDirectory,
+}

@@ -1,0 +1,18 @@
+//! The checker of heap images: whether an image is an accepted heap, and if not, its first fault.
+//!
+//! `check_heap` reads the head, walks over the chunks once and then over the table once, and takes
+//! no memory. `specs/Faults.antt` says what each fault means and in which order they are looked for;
+//! `heap_model` says what an accepted heap is.
+#![tactic(auto)]
+
+mod check;
+mod directory;
+mod fault;
+mod head;
+mod slots;
+mod summary;
+mod survey;
+
+pub use check::check_heap;
+pub use fault::HeapFault;
+pub use summary::Summary;
