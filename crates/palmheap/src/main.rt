@@ -1,0 +1,111 @@
+//! The program `palmheap`, which makes and checks heap images.
+//!
+//! `main` alone meets the system: it takes the words, reads the input files, prints, and puts the
+//! output file in place. What a command does stands in `commands`, in functions over bytes and
+//! writers, whose contracts say which status comes when and what was written by then.
+//!
+//! | module | does |
+//! |---|---|
+//! | `arguments` | reads the words of the command line, and has the texts of the help |
+//! | `commands` | one function for each subcommand |
+//! | `input` | reads a file to its end, within the limit |
+//! | `output` | writes all of some bytes to a writer, or answers that a write failed |
+//! | `output_file` | a file that takes the place of another as a whole |
+//! | `status` | what a run came to, and the exit status for it |
+#![tactic(auto)]
+
+mod arguments;
+mod commands;
+mod input;
+mod output;
+mod output_file;
+mod status;
+#[cfg(test)]
+mod tests;
+
+use arguments::Request;
+use clap::error::ErrorKind;
+use commands::{cmd_check, cmd_new};
+use input::{InputFault, read_input};
+use output_file::OutputFile;
+use status::Status;
+use std::fs::File;
+use std::process::ExitCode;
+use std::rt::{Env, Files};
+use std::{env, io};
+
+fn main(rt: HostRuntime) -> ExitCode {
+    let status = run(&rt);
+    if let Some(fault) = status.fault() {
+        let _ = eprintln!(rt; "fault {fault}");
+    }
+    ExitCode::from(status.code())
+}
+
+/// Does what the words of the command line ask for.
+fn run<R: Env + Files + Print + Eprint + AllocGlobal>(rt: &R) -> Status {
+    let words = match words(rt) {
+        Ok(words) => words,
+        Err(status) => return status,
+    };
+    match arguments::parse(rt.alloc(), words.as_slice()) {
+        Ok(Request::New { size, slots, out }) => new(rt, size, slots, out),
+        Ok(Request::Check { image }) => check(rt, image),
+        Err(error) => answer(rt, &error),
+    }
+}
+
+/// The words of the command line, the program's own name first.
+fn words<R: Env + Eprint + AllocGlobal>(rt: &R) -> Result<Vec<String>, Status> {
+    match env::args(rt) {
+        Ok(words) => words.collect(rt.alloc()).map_err(|_| Status::NoMemory),
+        Err(error) if error.kind() == io::ErrorKind::OutOfMemory => Err(Status::NoMemory),
+        Err(error) => {
+            let _ = eprintln!(rt; "error: the words could not be read: {error}");
+            Err(Status::BadWords)
+        }
+    }
+}
+
+/// Prints the text for words that ask for no command: what is wrong with them, or the help or the
+/// version that they ask for.
+fn answer<R: Print + Eprint>(rt: &R, error: &clap::Error) -> Status {
+    if error.kind() == ErrorKind::OutOfMemory {
+        return Status::NoMemory;
+    }
+    let printed = error.print(rt);
+    if error.use_stderr() {
+        Status::BadWords
+    } else if printed.is_err() {
+        Status::WriteFault
+    } else {
+        Status::Done
+    }
+}
+
+/// Runs `new`.
+fn new<R: Files + Print + AllocGlobal>(rt: &R, size: u32, slots: u16, path: &str) -> Status {
+    let Ok(mut image_out) = OutputFile::new(rt, path) else {
+        return Status::NoMemory;
+    };
+    let mut out = io::writer(rt);
+    let status = cmd_new(rt.alloc(), size, slots, &mut image_out, &mut out);
+    image_out.close();
+    status
+}
+
+/// Runs `check`.
+fn check<R: Files + Print + AllocGlobal>(rt: &R, path: &str) -> Status {
+    match read_file(rt, path) {
+        Ok(image) => cmd_check(rt.alloc(), image.as_slice(), &mut io::writer(rt)),
+        Err(fault) => Status::from(fault),
+    }
+}
+
+/// All of a file.
+fn read_file<R: Files + AllocGlobal>(rt: &R, path: &str) -> Result<Vec<u8>, InputFault> {
+    match File::open(rt, path) {
+        Ok(mut file) => read_input(rt.alloc(), &mut file),
+        Err(_) => Err(InputFault::Read),
+    }
+}

@@ -1,0 +1,220 @@
+//! The commands: what they print and write, and a writer that fails.
+
+use super::fakes::{Narrow, Unflushed, WhenFull};
+use super::images::{blank, bytes_of, change, cut_off, database, long_chunk, one_chunk, two_slots};
+use crate::commands::{cmd_check, cmd_new};
+use crate::status::Status;
+use std::io::ErrorKind;
+use std::test::Fail;
+
+#[test]
+fn new_writes_a_blank_image(rt: HostRuntime) -> Result<(), Fail> {
+    let alloc = rt.alloc();
+    let (mut image, mut out) = (Vec::new(alloc), Vec::new(alloc));
+    let status = cmd_new(alloc, 128, 4, &mut image, &mut out);
+    assert_eq!(rt; status, Status::Done);
+    assert_eq!(rt; out.as_slice(), b"ok\n".as_slice());
+    assert_eq!(rt; image.as_slice(), bytes_of(alloc, blank())?.as_slice());
+    Ok(())
+}
+
+#[test]
+fn new_refuses_what_is_no_image(rt: HostRuntime) {
+    let alloc = rt.alloc();
+    for (size, slots, line) in [
+        (66, 4, "bad BadSize\n"),
+        (56, 4, "bad BadSize\n"),
+        (16_777_216, 4, "bad BadSize\n"),
+        (0, 0, "bad BadSize\n"),
+        (64, 13, "bad BadSlotCount\n"),
+        (64, 0, "bad BadSlotCount\n"),
+        (128, 65_535, "bad BadSlotCount\n"),
+    ] {
+        let (mut image, mut out) = (Vec::new(alloc), Vec::new(alloc));
+        let status = cmd_new(alloc, size, slots, &mut image, &mut out);
+        assert_eq!(rt; status, Status::BadWords, "{size} {slots}");
+        assert_eq!(rt; out.as_slice(), line.as_bytes(), "{size} {slots}");
+        assert!(rt; image.is_empty(), "{size} {slots}");
+    }
+}
+
+#[test]
+fn check_says_what_is_there(rt: HostRuntime) -> Result<(), Fail> {
+    let alloc = rt.alloc();
+    for (image, line) in [
+        (blank(), "ok size 128 slots 4 movable 0 fixed 0 free 96\n"),
+        (
+            one_chunk(),
+            "ok size 128 slots 4 movable 1 fixed 0 free 72\n",
+        ),
+        (database(), "ok size 208 slots 8 movable 4 fixed 0 free 8\n"),
+    ] {
+        let image = bytes_of(alloc, image)?;
+        let mut out = Vec::new(alloc);
+        assert_eq!(rt;
+            cmd_check(alloc, image.as_slice(), &mut out),
+            Status::Done,
+            "{line}"
+        );
+        assert_eq!(rt; out.as_slice(), line.as_bytes());
+    }
+    Ok(())
+}
+
+#[test]
+fn check_says_what_is_bad(rt: HostRuntime) -> Result<(), Fail> {
+    let alloc = rt.alloc();
+    for (image, line) in [
+        ("", "bad TooShort\n"),
+        (cut_off(), "bad TooShort\n"),
+        (long_chunk(), "bad BadChunk 32\n"),
+        (two_slots(), "bad SlotMismatch 20\n"),
+    ] {
+        let image = bytes_of(alloc, image)?;
+        let mut out = Vec::new(alloc);
+        assert_eq!(rt;
+            cmd_check(alloc, image.as_slice(), &mut out),
+            Status::Refused,
+            "{line}"
+        );
+        assert_eq!(rt; out.as_slice(), line.as_bytes());
+    }
+    Ok(())
+}
+
+#[test]
+fn check_says_which_fault_is_first(rt: HostRuntime) -> Result<(), Fail> {
+    let alloc = rt.alloc();
+    for (at, digits, line) in [
+        (3, "33", "bad BadMagic\n"),
+        (7, "D8", "bad TooShort\n"),
+        (7, "C8", "bad BadSize\n"),
+        (9, "00", "bad BadSlotCount\n"),
+        (9, "09", "bad BadPadding\n"),
+        (10, "01", "bad BadReserved\n"),
+        (15, "18", "bad BadDirectory\n"),
+        (172, "FF", "bad BadChunk 168\n"),
+        (175, "BA", "bad SlotMismatch 24\n"),
+        (31, "00", "bad ChunkWithoutSlot 184\n"),
+    ] {
+        let mut image = bytes_of(alloc, database())?;
+        change(&mut image, at, digits)?;
+        let mut out = Vec::new(alloc);
+        assert_eq!(rt;
+            cmd_check(alloc, image.as_slice(), &mut out),
+            Status::Refused,
+            "{line}"
+        );
+        assert_eq!(rt; out.as_slice(), line.as_bytes());
+    }
+    Ok(())
+}
+
+#[test]
+fn check_says_that_a_fixed_chunk_is_no_callers(rt: HostRuntime) -> Result<(), Fail> {
+    let alloc = rt.alloc();
+    let mut image = bytes_of(alloc, database())?;
+    change(&mut image, 27, "00")?;
+    change(&mut image, 172, "FF000000")?;
+    let mut out = Vec::new(alloc);
+    assert_eq!(rt;
+        cmd_check(alloc, image.as_slice(), &mut out),
+        Status::Refused
+    );
+    assert_eq!(rt; out.as_slice(), b"bad BadFixedOwner 168\n".as_slice());
+    Ok(())
+}
+
+/// What a writer may do that takes no more.
+const WAYS: [WhenFull; 3] = [
+    WhenFull::TakesNothing,
+    WhenFull::Fails(ErrorKind::StorageFull),
+    WhenFull::Fails(ErrorKind::Interrupted),
+];
+
+#[test]
+fn new_stops_where_the_image_is_not_taken(rt: HostRuntime) {
+    let alloc = rt.alloc();
+    for (i, way) in WAYS.iter().enumerate() {
+        let room = [0, 1, 127][i];
+        let mut image = Narrow::new(alloc, room, 50, *way);
+        let mut out = Vec::new(alloc);
+        let status = cmd_new(alloc, 128, 4, &mut image, &mut out);
+        assert_eq!(rt; status, Status::WriteFault, "{way:?}");
+        assert_eq!(rt; image.taken.len(), room, "{way:?}");
+        assert_eq!(rt;
+            image.refused,
+            1,
+            "nothing is written after the fault: {way:?}"
+        );
+        assert!(rt; out.is_empty(), "{way:?}");
+    }
+    let mut image = Unflushed(Vec::new(alloc));
+    let mut out = Vec::new(alloc);
+    assert_eq!(rt;
+        cmd_new(alloc, 128, 4, &mut image, &mut out),
+        Status::WriteFault
+    );
+    assert!(rt; out.is_empty());
+}
+
+#[test]
+fn new_takes_short_writes(rt: HostRuntime) -> Result<(), Fail> {
+    let alloc = rt.alloc();
+    let mut image = Narrow::new(alloc, 128, 7, WhenFull::TakesNothing);
+    let mut out = Narrow::new(alloc, 3, 1, WhenFull::TakesNothing);
+    assert_eq!(rt; cmd_new(alloc, 128, 4, &mut image, &mut out), Status::Done);
+    assert_eq!(rt;
+        image.taken.as_slice(),
+        bytes_of(alloc, blank())?.as_slice()
+    );
+    assert_eq!(rt; out.taken.as_slice(), b"ok\n".as_slice());
+    Ok(())
+}
+
+#[test]
+fn new_stops_where_its_line_is_not_taken(rt: HostRuntime) {
+    let alloc = rt.alloc();
+    for (i, way) in WAYS.iter().enumerate() {
+        for (size, wanted) in [(128, 128), (66, 0)] {
+            let mut image = Vec::new(alloc);
+            let mut out = Narrow::new(alloc, i, 2, *way);
+            let status = cmd_new(alloc, size, 4, &mut image, &mut out);
+            assert_eq!(rt; status, Status::WriteFault, "{size} {way:?}");
+            assert_eq!(rt; image.len(), wanted, "{size} {way:?}");
+            assert_eq!(rt;
+                out.refused,
+                1,
+                "nothing is written after the fault: {way:?}"
+            );
+        }
+    }
+    let (mut image, mut out) = (Vec::new(alloc), Unflushed(Vec::new(alloc)));
+    assert_eq!(rt;
+        cmd_new(alloc, 128, 4, &mut image, &mut out),
+        Status::WriteFault
+    );
+}
+
+#[test]
+fn check_stops_where_its_line_is_not_taken(rt: HostRuntime) -> Result<(), Fail> {
+    let alloc = rt.alloc();
+    let blank = bytes_of(alloc, blank())?;
+    for (i, way) in WAYS.iter().enumerate() {
+        for image in [blank.as_slice(), b"".as_slice()] {
+            let mut out = Narrow::new(alloc, 4 * i, 3, *way);
+            assert_eq!(rt;
+                cmd_check(alloc, image, &mut out),
+                Status::WriteFault,
+                "{way:?}"
+            );
+            assert_eq!(rt; out.taken.len(), 4 * i, "{way:?}");
+            assert_eq!(rt;
+                out.refused,
+                1,
+                "nothing is written after the fault: {way:?}"
+            );
+        }
+    }
+    Ok(())
+}
