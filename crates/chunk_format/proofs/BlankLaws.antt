@@ -70,11 +70,11 @@ reads size slots start word plan word_is =
     let s2 = overwritten-above i1 4 (u32_bytes size) size (omega arith) in
     let s3 = overwritten-above i2 8 (u16_bytes slots) size (omega arith) in
     let zeros : SameBetween 10 size i0 i3 =
-        SameBetween-then 10 size i0 i2 i3
-        (SameBetween-then 10 size i0 i1 i2
-        (SameBetween-within (0 + length magic_bytes) size 10 size i0 i1 s1 (omega arith) (omega arith))
-        (SameBetween-within (4 + length (u32_bytes size)) size 10 size i1 i2 s2 (omega arith) (omega arith)))
-        (SameBetween-within (8 + length (u16_bytes slots)) size 10 size i2 i3 s3 (omega arith) (omega arith)) in
+    SameBetween-then 10 size i0 i2 i3
+    (SameBetween-then 10 size i0 i1 i2
+    (SameBetween-within (0 + length magic_bytes) size 10 size i0 i1 s1 (omega arith) (omega arith))
+    (SameBetween-within (4 + length (u32_bytes size)) size 10 size i1 i2 s2 (omega arith) (omega arith)))
+    (SameBetween-within (8 + length (u16_bytes slots)) size 10 size i2 i3 s3 (omega arith) (omega arith)) in
     record {
       len = length-overwritten i3 start (u32_bytes word) (omega arith) ∙ l3;
       magic_is = u32_at-below 0 start i3 (u32_bytes word) (omega arith) (omega arith) ∙ u32_at-below 0 8 i2 (u16_bytes slots) (omega arith) (omega arith)

@@ -40,23 +40,25 @@ words_read old at first second inside fits_first fits_second =
 -- the chunk of so many bytes that stands behind those words
 live_written : (old : List ℕ) (at count lock owner h_offset : ℕ) → at + need count ≤ length old → need count < 2 ^ 24 → lock < 16 → owner < 16 → h_offset < 2 ^ 24
     → IsLive (overwritten old at (live_words count lock owner h_offset)) at (slice_range (overwritten old at (live_words count lock owner h_offset)) (at + 8) (at + 8 + count)) lock owner h_offset
-      × (length (slice_range (overwritten old at (live_words count lock owner h_offset)) (at + 8) (at + 8 + count)) ≡ count)
+    × (length (slice_range (overwritten old at (live_words count lock owner h_offset)) (at + 8) (at + 8 + count)) ≡ count)
 live_written old at count lock owner h_offset inside fits lock_fits owner_fits way_fits =
     let image : List ℕ = overwritten old at (live_words count lock owner h_offset) in
     let r = words_read old at ((need count - 8 - count) * 2 ^ 24 + need count) (lock * 2 ^ 28 + owner * 2 ^ 24 + h_offset) (omega arith) (omega arith) (omega arith) in
     let total = r.len in
     let len : length (slice_range image (at + 8) (at + 8 + count)) ≡ count = simp (length-take, length-drop) (omega arith) in
-    let same_need : need (length (slice_range image (at + 8) (at + 8 + count))) ≡ need count = ap need len in
-    (record {
-      first_word = r.first_is ∙ ap (λ (n : ℕ). (need n - 8 - n) * 2 ^ 24 + need n) (sym len);
-      size_fits = omega arith;
-      second_word = r.second_is;
-      lock_fits = lock_fits;
-      owner_fits = owner_fits;
-      h_offset_fits = way_fits;
-      body = ap (λ (n : ℕ). slice_range image (at + 8) (at + 8 + n)) len;
-      inside = omega arith;
-    }, len)
+    let same_need : need (length (slice_range image (at + 8) (at + 8 + count))) ≡ need count = ap need len in (
+      record {
+        first_word = r.first_is ∙ ap (λ (n : ℕ). (need n - 8 - n) * 2 ^ 24 + need n) (sym len);
+        size_fits = omega arith;
+        second_word = r.second_is;
+        lock_fits = lock_fits;
+        owner_fits = owner_fits;
+        h_offset_fits = way_fits;
+        body = ap (λ (n : ℕ). slice_range image (at + 8) (at + 8 + n)) len;
+        inside = omega arith;
+      },
+      len,
+    )
 
 -- the distance to a slot leads back to it
 pub slot_named-h_offset_to : (at slot : ℕ) → at < 2 ^ 24 → slot < 2 ^ 24 → slot % 2 ≡ at % 2 → slot ≡ slot_named at (h_offset_to at slot)

@@ -28,7 +28,9 @@ const FIXED_LOCK: u8 = 15;
 #[derive(Clone, Copy, Debug, PartialEq, Eq)]
 pub enum Header {
     /// A free chunk of `size` bytes, its header included.
-    Free { size: u32 },
+    Free {
+        size: u32,
+    },
     /// A chunk that may move while its lock count is 0. `length` is that of its body in bytes, and
     /// `slot` the offset of the slot that its hOffset names, whether or not a slot stands there.
     Movable {
@@ -38,7 +40,10 @@ pub enum Header {
         slot: u32,
     },
     /// A chunk that never moves.
-    Fixed { length: u32, owner: u8 },
+    Fixed {
+        length: u32,
+        owner: u8,
+    },
 }
 
 /// What a chunk with a body of `length` bytes takes: 8 for its header, and the body rounded up to a

@@ -22,3 +22,6 @@ mod walk;
 pub use header::{Header, chunk_size};
 pub use image::{BlankFault, area_start, blank};
 pub use walk::Walk;
+
+#[cfg(test)]
+mod tests;
