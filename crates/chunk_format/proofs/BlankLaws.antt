@@ -1,12 +1,12 @@
 -- A blank image is an accepted heap that holds nothing.
-use Rattle.std.proofs.Common.{◌≡◌, ℕ, zero, suc, ◌+◌, ◌-◌, ◌*◌, ◌/◌, ◌%◌, ◌^◌, ◌<◌, ◌≤◌, List, [], ◌∷◌, ◌++◌, length, get_or, take, drop, replicate, refl, sym, ap, subst, ◌∙◌, arith, inl, inr, lit<}
-use Rattle.std.specs.Prelude.{codes, slice_index, ◌↔◌}
+use Rattle.std.proofs.Common.{◌≡◌, ℕ, ◌+◌, ◌-◌, ◌%◌, ◌^◌, ◌<◌, ◌≤◌, List, [], ◌∷◌, length, replicate, refl, sym, ap, subst, ◌∙◌, arith, inl, inr, lit<}
+use Rattle.std.specs.Prelude.{codes}
 use Rattle.std.proofs.lemmas.List.{length-replicate}
 use Rattle.heap_model.specs.Memory.{Memory}
 use Rattle.heap_model.specs.Bytes.{u16_at, u32_at, u16_bytes, u32_bytes, overwritten}
-use Rattle.heap_model.specs.Chunk.{Chunk, free, IsFree}
-use Rattle.heap_model.specs.Slots.{IsSlot, slot_count, table_end, head_end, area_start}
-use Rattle.heap_model.specs.Heap.{magic, IsHead, IsHeap, BodyHere, IsBody}
+use Rattle.heap_model.specs.Chunk.{free, IsFree}
+use Rattle.heap_model.specs.Slots.{slot_count, table_end, head_end, area_start}
+use Rattle.heap_model.specs.Heap.{magic, IsHead, IsHeap, IsBody}
 use Rattle.heap_laws.proofs.Frames.{SameBetween, SameBetween-within, SameBetween-then, big_from-written, u32_at-same, u16_at-same, length-overwritten, overwritten-below, overwritten-above, u32_at-written, u16_at-written, length-u32_bytes, length-u16_bytes, u32_at-below, u32_at-zeros, u16_at-zeros, slice_index-zeros, u16_at-below}
 use Rattle.heap_laws.proofs.Meanings.{held-is}
 use Rattle.chunk_format.specs.Blank.{start_behind, IsPlanned, IsBlank}

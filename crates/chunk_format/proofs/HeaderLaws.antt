@@ -1,9 +1,8 @@
 -- A header and the chunk that is spelled where it stands.
-use Rattle.std.proofs.Common.{◌≡◌, ℕ, ◌+◌, ◌-◌, ◌<◌, ◌≤◌, List, [], ◌∷◌, length, take, drop, Option, Some, None, refl, sym, ap, subst, ◌∙◌, arith, length-take, length-drop}
+use Rattle.std.proofs.Common.{◌≡◌, ℕ, ◌+◌, ◌≤◌, List, length, Option, Some, None, refl, sym, ap, ◌∙◌, arith, length-take, length-drop}
 use Rattle.std.specs.Prelude.{option_map, IfSome, IfNone, slice_range}
 use Rattle.heap_model.specs.Chunk.{Chunk, free, movable, fixed, size_of, Spelled}
 use Rattle.heap_model.specs.Reading.{chunk_at}
-use Rattle.heap_laws.proofs.Chunks.{Spelled-unique}
 use Rattle.heap_laws.proofs.Shapes.{chunk_at-spelled, chunk_at-none}
 use Rattle.chunk_format.specs.declared.header.Header.{Header}
 use Rattle.chunk_format.specs.declared.header.Header.TheVariants as headers

@@ -1,5 +1,5 @@
 -- Blank images.
-use Rattle.std.specs.Prelude.{◌≡◌, ◌≤◌, ◌<◌, ◌+◌, ◌-◌, ◌*◌, ◌/◌, ◌%◌, ℕ, List, [], ◌∷◌, length, slice_index, Option, None}
+use Rattle.std.specs.Prelude.{◌≡◌, ◌≤◌, ◌<◌, ◌+◌, ◌-◌, ◌*◌, ◌/◌, ◌%◌, ℕ, List, [], ◌∷◌, length, slice_index, None}
 use Rattle.heap_model.specs.Chunk.{free}
 use Rattle.heap_model.specs.Slots.{slot_count}
 use Rattle.heap_model.specs.Heap.{IsHeap}

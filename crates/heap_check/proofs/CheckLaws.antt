@@ -1,9 +1,8 @@
 -- Faults in their order, and what an image without them is.
-use Rattle.std.proofs.Common.{◌≡◌, ◌≢◌, ℕ, ◌+◌, ◌*◌, ◌<◌, ◌≤◌, Bool, List, [], ◌∷◌, ◌++◌, length, Option, Some, None, Result, Ok, Err, refl, sym, ap, subst, ◌∙◌, arith, inl, inr}
-use Rattle.std.specs.Prelude.{◌⊎◌, ◌↔◌, IfErr, OnErr}
-use Rattle.heap_model.specs.Bytes.{u16_at, u32_at}
-use Rattle.heap_model.specs.Chunk.{Chunk, SpelledAll}
-use Rattle.heap_model.specs.Slots.{slots_of, area_start, head_end}
+use Rattle.std.proofs.Common.{◌≡◌, ℕ, Bool, List, Option, Some, None, Result, Ok, Err, refl, subst, arith, inl, inr}
+use Rattle.std.specs.Prelude.{IfErr, OnErr}
+use Rattle.heap_model.specs.Chunk.{Chunk}
+use Rattle.heap_model.specs.Slots.{slots_of, area_start}
 use Rattle.heap_model.specs.Heap.{IsHead, Tiles, IsCallersIfFixed, HasDirectory, IsHeap, HeapAccepted}
 use Rattle.heap_model.specs.Placed.{EveryPlaced, FirstWithout, EveryOne, FirstOne}
 use Rattle.heap_model.specs.Pairing.{HoldsBody, NamesItsSlot}
@@ -17,7 +16,7 @@ use Rattle.heap_check.specs.declared.fault.HeapFault.TheVariants.{BadChunk, Slot
 use Rattle.heap_check.specs.declared.survey.Survey.{Survey}
 use Rattle.heap_check.specs.Survey.{IsFirstWithout, IsMarked, IsSurvey, IsPaired}
 use Rattle.heap_check.proofs.SlotLaws.{all_hold, first_mismatch}
-use Rattle.heap_check.specs.Faults.{IsTooShort, HasBadMagic, HasBadSize, HasBadSlotCount, HasBadReserved, HasBadPadding, IsBadChunk, IsSlotMismatch, IsChunkWithoutSlot, IsBadFixedOwner, HasBadDirectory, slot_faults, area_faults, faults, FirstBrought, IsFirstFault}
+use Rattle.heap_check.specs.Faults.{IsTooShort, HasBadSize, HasBadSlotCount, IsBadChunk, IsSlotMismatch, IsChunkWithoutSlot, IsBadFixedOwner, HasBadDirectory, slot_faults, area_faults, FirstBrought, IsFirstFault}
 
 -- ---- what rules a fault out
 
@@ -38,13 +37,25 @@ not_chunk image t at f = stuck_run image (area_start image) at f.before (chunks_
 -- no fault of the head, and then one of the others
 past_head : (image : List ℕ) (fault : HeapFault) → IsHead image → FirstBrought (area_faults image) fault → IsFirstFault image fault
 past_head image fault h f =
-    inr (λ other b. not_short image h b.0,
-    inr (λ other b. b.0 h.magic_is,
-    inr (λ other b. not_size image h b.0,
-    inr (λ other b. not_count image h b.0,
-    inr (λ other b. b.0 h.reserved,
-    inr (λ other b. b.0.1 (h.padding b.0.0),
-    f))))))
+    inr (
+      λ other b. not_short image h b.0,
+      inr (
+        λ other b. b.0 h.magic_is,
+        inr (
+          λ other b. not_size image h b.0,
+          inr (
+            λ other b. not_count image h b.0,
+            inr (
+              λ other b. b.0 h.reserved,
+              inr (
+                λ other b. b.0.1 (h.padding b.0.0),
+                f,
+              ),
+            ),
+          ),
+        ),
+      ),
+    )
 
 -- the chunks, and the later tests so far as they were passed
 abbrev pub Slotted : List ℕ → Type 0
@@ -95,23 +106,42 @@ pub refuses : (image : List ℕ) (fault : HeapFault) → IsFirstFault image faul
 refuses image fault f accepted = head f where
   heap : IsHeap image (chunks_of image)
   heap = heap_of_read image accepted.0 accepted.1
+
   halves : Slotted image × Named image
   halves = tied_halves image (chunks_of image) heap.tied
+
   slots : FirstBrought (slot_faults image) fault → ⊥
-  slots f = elim f [ inl b ↦ not_mismatch image halves.0 b.0 b.1 | inr p ↦ elim p.1 [ inl b ↦ not_without image halves.1 b.0 b.1 | inr p ↦ elim p.1 [
-      | inl b ↦ not_owner image heap.fixed_are_callers b.0 b.1
-      | inr p ↦ elim p.1 [ inl b ↦ b.0.1 heap.directory | inr p ↦ p.1 ]
-  ] ] ]
+  slots f = elim f [
+    | inl b ↦ not_mismatch image halves.0 b.0 b.1
+    | inr p ↦ elim p.1 [
+      | inl b ↦ not_without image halves.1 b.0 b.1
+      | inr p ↦ elim p.1 [
+        | inl b ↦ not_owner image heap.fixed_are_callers b.0 b.1
+        | inr p ↦ elim p.1 [ inl b ↦ b.0.1 heap.directory | inr p ↦ p.1 ]
+      ]
+    ]
+  ]
+
   area : FirstBrought (area_faults image) fault → ⊥
   area f = elim f [ inl b ↦ not_chunk image heap.tiles b.0 b.1 | inr p ↦ slots p.1 ]
+
   head : IsFirstFault image fault → ⊥
-  head f = elim f [ inl b ↦ not_short image heap.tiles.head b.0 | inr p ↦ elim p.1 [ inl b ↦ b.0 heap.tiles.head.magic_is | inr p ↦ elim p.1 [
-      | inl b ↦ not_size image heap.tiles.head b.0
-      | inr p ↦ elim p.1 [ inl b ↦ not_count image heap.tiles.head b.0 | inr p ↦ elim p.1 [
-        | inl b ↦ b.0 heap.tiles.head.reserved
-        | inr p ↦ elim p.1 [ inl b ↦ b.0.1 (heap.tiles.head.padding b.0.0) | inr p ↦ area p.1 ]
-      ] ]
-  ] ] ]
+  head f = elim f [
+    | inl b ↦ not_short image heap.tiles.head b.0
+    | inr p ↦ elim p.1 [
+      | inl b ↦ b.0 heap.tiles.head.magic_is
+      | inr p ↦ elim p.1 [
+        | inl b ↦ not_size image heap.tiles.head b.0
+        | inr p ↦ elim p.1 [
+          | inl b ↦ not_count image heap.tiles.head b.0
+          | inr p ↦ elim p.1 [
+            | inl b ↦ b.0 heap.tiles.head.reserved
+            | inr p ↦ elim p.1 [ inl b ↦ b.0.1 (heap.tiles.head.padding b.0.0) | inr p ↦ area p.1 ]
+          ]
+        ]
+      ]
+    ]
+  ]
 
 pub refused_by : {A : Type 0} (image : List ℕ) (answer : Result A HeapFault) → IfErr answer (IsFirstFault image) → OnErr answer (HeapAccepted image → ⊥)
 refused_by image (Ok x) f = tt

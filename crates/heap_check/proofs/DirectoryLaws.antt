@@ -1,11 +1,11 @@
 -- The directory word of an image whose slots and chunks are paired.
-use Rattle.std.proofs.Common.{◌≡◌, ◌≢◌, ℕ, ◌+◌, ◌-◌, ◌*◌, ◌<◌, ◌≤◌, List, [], ◌∷◌, ◌++◌, length, Option, Some, None, refl, sym, ap, subst, ◌∙◌, arith, inl, inr}
-use Rattle.std.specs.Prelude.{◌⊎◌, ◌↔◌}
+use Rattle.std.proofs.Common.{◌≡◌, ◌≢◌, ℕ, ◌+◌, ◌-◌, ◌≤◌, List, ◌∷◌, ◌++◌, length, Option, Some, sym, ap, subst, ◌∙◌, arith, inl, inr}
+use Rattle.std.specs.Prelude.{◌↔◌}
 use Rattle.heap_model.specs.Bytes.{u32_at}
-use Rattle.heap_model.specs.Chunk.{Chunk, free, movable, fixed, total, Spelled, SpelledAll}
-use Rattle.heap_model.specs.Slots.{IsSlot, slot_count, area_start, slots_of}
+use Rattle.heap_model.specs.Chunk.{Chunk, free, movable, fixed, total, SpelledAll}
+use Rattle.heap_model.specs.Slots.{IsSlot, area_start}
 use Rattle.heap_model.specs.Heap.{BodyHere, ManagersHere, directory_of, HasDirectory, Tiles}
-use Rattle.heap_model.specs.Placed.{EveryPlaced, AnyPlaced}
+use Rattle.heap_model.specs.Placed.{AnyPlaced}
 use Rattle.heap_model.specs.Pairing.{HoldsBody, NamesItsSlot}
 use Rattle.heap_model.specs.Reading.{chunk_at, chunks_of}
 use Rattle.heap_laws.proofs.Chunks.{SpelledAll-split}
@@ -84,12 +84,13 @@ back image slot place paired is m =
     (omega arith, subst (λ (c : Option Chunk). ManagersAt c) (sym read) (managers_at slot (start + total p.before) p.chunk p.holds.2))
 
 pub directory_decided : (image : List ℕ) (word place : ℕ) → IsPaired image → word ≡ directory_of image → word ≢ 0 → IsSlot image word → place ≡ u32_at image word → (DirectoryChunk image place ↔ HasDirectory image (chunks_of image))
-directory_decided image word place paired is some s at =
-    (λ d. inr (subst (λ (w : ℕ). AnyPlaced (ManagersHere w) (area_start image) (chunks_of image)) is (there image word place paired s at d)),
-     λ h. elim h [
-       | inl none ↦ absurd (some (is ∙ none))
-       | inr m ↦ back image word place paired at (subst (λ (w : ℕ). AnyPlaced (ManagersHere w) (area_start image) (chunks_of image)) (sym is) m)
-     ])
+directory_decided image word place paired is some s at = (
+  λ d. inr (subst (λ (w : ℕ). AnyPlaced (ManagersHere w) (area_start image) (chunks_of image)) is (there image word place paired s at d)),
+  λ h. elim h [
+    | inl none ↦ absurd (some (is ∙ none))
+    | inr m ↦ back image word place paired at (subst (λ (w : ℕ). AnyPlaced (ManagersHere w) (area_start image) (chunks_of image)) (sym is) m)
+  ],
+)
 
 pub no_directory : (image : List ℕ) (word : ℕ) → IsPaired image → word ≡ directory_of image → word ≢ 0 → (IsSlot image word → ⊥) → HasDirectory image (chunks_of image) → ⊥
 no_directory image word paired is some none h = elim h [

@@ -1,14 +1,13 @@
 -- A survey of one chunk more.
-use Rattle.std.proofs.Common.{◌≡◌, ◌≢◌, ℕ, ◌+◌, ◌*◌, ◌<◌, ◌≤◌, Bool, true, false, cond, List, [], ◌∷◌, ◌++◌, length, Option, Some, None, refl, sym, ap, subst, ◌∙◌, arith, inl, inr}
-use Rattle.std.specs.Prelude.{◌⊎◌, ◌↔◌, slice_index_or, count_by, sum_by}
+use Rattle.std.proofs.Common.{◌≡◌, ℕ, ◌+◌, ◌*◌, ◌<◌, ◌≤◌, Bool, true, false, cond, List, [], ◌∷◌, ◌++◌, length, Option, Some, None, refl, sym, ap, subst, ◌∙◌, arith, inl, inr}
+use Rattle.std.specs.Prelude.{◌⊎◌, ◌↔◌, slice_index_or, count_by}
 use Rattle.std.specs.Bool.{Decides}
 use Rattle.std.proofs.lemmas.Bool.{false≢true}
 use Rattle.std.proofs.lemmas.List.Sums.{sum_by_push}
 use Rattle.heap_model.specs.Bytes.{u32_at}
 use Rattle.heap_model.specs.Chunk.{Chunk, free, movable, fixed, size_of, total, is_movable, is_fixed, free_size, SpelledAll}
 use Rattle.heap_model.specs.Slots.{slot_count, area_start}
-use Rattle.heap_model.specs.Heap.{BodyHere, IsBody, IsCallersIfFixed}
-use Rattle.heap_model.specs.Placed.{EveryPlaced, AnyPlaced}
+use Rattle.heap_model.specs.Heap.{BodyHere, IsCallersIfFixed}
 use Rattle.heap_model.specs.Pairing.{NamesItsSlot}
 use Rattle.heap_model.specs.Reading.{chunks_of, names_its_slot, is_callers_if_fixed}
 use Rattle.heap_laws.proofs.Chunks.{Spelled-size, SpelledAll-end, SpelledAll-push}
@@ -19,7 +18,7 @@ use Rattle.chunk_format.specs.declared.header.Header.{Header}
 use Rattle.chunk_format.specs.Header.{header_of, size_by, HasHeader}
 use Rattle.chunk_format.proofs.HeaderLaws.{size_by-header_of}
 use Rattle.heap_check.specs.declared.survey.Survey.{Survey}
-use Rattle.heap_check.specs.Survey.{movable_by, fixed_by, free_by, names_by, callers_by, BodyBy, noted, AreMarks, IsFirstWithout, Surveys, HasSurveyed, IsSurvey}
+use Rattle.heap_check.specs.Survey.{movable_by, fixed_by, free_by, names_by, callers_by, BodyBy, noted, IsFirstWithout, Surveys, HasSurveyed, IsSurvey}
 
 -- ---- what is read off a header is so of its chunk
 

@@ -1,6 +1,3 @@
-use Rattle.std.proofs.Common.{List, ℕ, Ok, Err, Result}
-use Rattle.std.specs.Prelude.{IfErr, OnErr}
-use Rattle.heap_model.specs.Heap.{HeapAccepted}
 use Rattle.heap_check.proofs.CheckLaws.{refuses, refused_by}
 use Rattle.heap_check.proofs.check.check_heap.Goals as goal
 

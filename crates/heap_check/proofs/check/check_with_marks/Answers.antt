@@ -1,5 +1,3 @@
-use Rattle.std.proofs.Common.{◌≡◌, ℕ, zero, suc, false, replicate, refl}
-use Rattle.std.specs.Prelude.{slice_index_or}
 use Rattle.heap_check.proofs.SlotLaws.{none_marked}
 use Rattle.heap_check.proofs.check.check_with_marks.Goals as goal
 

@@ -1,4 +1,4 @@
-use Rattle.std.proofs.Common.{◌≡◌, refl, sym, ◌∙◌, ap, arith}
+use Rattle.std.proofs.Common.{refl, arith}
 use Rattle.std.proofs.lemmas.Bool.{false≢true}
 use Rattle.heap_laws.proofs.Slots.{slots_below-suc, slots_below-all}
 use Rattle.heap_check.specs.Survey.{IsMarked}

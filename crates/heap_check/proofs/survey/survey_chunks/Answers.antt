@@ -1,4 +1,4 @@
-use Rattle.std.proofs.Common.{◌≡◌, ◌+◌, ap, subst, sym, arith}
+use Rattle.std.proofs.Common.{◌+◌, subst, sym, arith}
 use Rattle.heap_check.specs.Survey.{HasSurveyed}
 use Rattle.heap_check.proofs.SurveyLaws.{Adds, walked_more, walked_all}
 use Rattle.heap_check.proofs.survey.survey_chunks.Goals as goal

@@ -1,4 +1,4 @@
-use Rattle.std.proofs.Common.{◌+◌, ◌-◌, ◌≤◌, length}
+use Rattle.std.proofs.Common.{◌-◌, length}
 use Rattle.heap_check.specs.Survey.{HasSurveyed}
 use Rattle.heap_check.proofs.survey.survey_chunks.Given as goal
 

@@ -1,6 +1,4 @@
-use Rattle.std.proofs.Common.{◌≡◌, ◌∷◌, ◌+◌, List, length, suc, rules, ap, sym, ◌∙◌}
-use Rattle.heap_model.specs.declared.names.Place.{Place}
-use Rattle.chunk_format.specs.declared.header.Header.{Header}
+use Rattle.std.proofs.Common.{◌≡◌, ◌∷◌, ◌+◌, length, suc, rules, ap, sym, ◌∙◌}
 use Rattle.chunk_format.proofs.WalkLaws.{left_from, left-none, left-some}
 use Rattle.chunk_format.proofs.walk.WalkIterator.next.Goals as goal
 
