@@ -26,9 +26,18 @@ pub(crate) struct Survey {
 fn note(first: Option<u32>, at: u32, right: bool) -> Option<u32>
     ensures { result ≡ noted first at right }
 {
+    if right { first } else { note_wrong(first, at) }
+}
+
+/// The same where the test failed. It stands apart so that the walk, which seldom comes here, keeps no
+/// register for it.
+#[cold]
+#[inline(never)]
+fn note_wrong(first: Option<u32>, at: u32) -> Option<u32>
+    ensures { result ≡ noted first at false }
+{
     match first {
         Some(_) => first,
-        None if right => None,
         None => Some(at),
     }
 }
