@@ -145,7 +145,7 @@ static struct answer check_heap(const uint8_t *image, size_t len)
             if (h_offset != 0)
                 return fault_at(BAD_CHUNK, at);
             fixed++;
-            if (bad_owner == NONE && (owner == 0 || owner == 15))
+            if ((owner == 0 || owner == 15) && bad_owner == NONE)
                 bad_owner = at;
         } else {
             if (lock != 0 && owner == 0)

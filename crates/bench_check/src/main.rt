@@ -31,7 +31,11 @@ fn main(rt: HostRuntime) -> io::Result<ExitCode> {
 }
 
 /// The times of so many checks of a region, each with its answer thrown away.
-fn time_checks(rt: &(impl Clock + AllocGlobal), region: &Region, repeats: u16) -> io::Result<Times> {
+fn time_checks(
+    rt: &(impl Clock + AllocGlobal),
+    region: &Region,
+    repeats: u16,
+) -> io::Result<Times> {
     let mut times = Times::new(rt.alloc());
     for _ in 0..repeats {
         let start = Instant::now(rt)?;
@@ -43,8 +47,8 @@ fn time_checks(rt: &(impl Clock + AllocGlobal), region: &Region, repeats: u16) -
 
 fn print_answer(rt: &impl Print, answer: Result<Summary, HeapFault>) -> io::Result<()> {
     match answer {
-        Ok(found) => println!(
-            rt; "ok size {} slots {} movable {} fixed {} free {}",
+        Ok(found) => println!(rt;
+            "ok size {} slots {} movable {} fixed {} free {}",
             found.size, found.slots, found.movable, found.fixed, found.free,
         ),
         Err(fault) => println!(rt; "bad {fault}"),

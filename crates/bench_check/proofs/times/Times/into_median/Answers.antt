@@ -5,5 +5,5 @@ use Rattle.bench_check.proofs.times.Times.into_median.Goals as goal
 -- sorting leaves the same times
 pub returns-clause-measured : goal.returns-clause-measured
 returns-clause-measured c =
-  let inside : Contains c.sort_unstable.new.self.items c.index.result.now = search rules
-  in Contains-permutation _ _ _ (IsPermutation-sym _ _ c.sort_unstable.ensures.permutation) inside
+    let inside : Contains c.sort_unstable.new.self.items c.index.result.now = search rules
+    in Contains-permutation _ _ _ (IsPermutation-sym _ _ c.sort_unstable.ensures.permutation) inside
