@@ -19,9 +19,9 @@ header_with image at (headers.Fixed count owner) inside = ap (λ (n : ℕ). head
 pub has_header : (image : List ℕ) (at : ℕ) (h : Header) → at + size_by h ≤ length image → Spelled image at (chunk_with image at h) → HasHeader image at h
 has_header image at h inside spelled = record { chunk = chunk_with image at h; spelled = spelled; header_is = header_with image at h inside }
 
-pub found_header : (image : List ℕ) (at : ℕ) (r : Option Header) → IfSome r (λ h. at + size_by h ≤ length image) → IfSome r (λ h. Spelled image at (chunk_with image at h)) → IfSome r (HasHeader image at)
+pub found_header : (image : List ℕ) (at : ℕ) (r : Option (Header × ℕ)) → IfSome r (λ both. at + size_by both.0 ≤ length image) → IfSome r (λ both. Spelled image at (chunk_with image at both.0)) → IfSome r (λ both. HasHeader image at both.0)
 found_header image at None inside spelled = tt
-found_header image at (Some h) inside spelled = has_header image at h inside spelled
+found_header image at (Some both) inside spelled = has_header image at both.0 inside spelled
 
 -- the header that was found is that of the chunk that is read
 pub header_read : (image : List ℕ) (at : ℕ) (r : Option Header) → IfSome r (HasHeader image at) → IfNone r ((c : Chunk) → Spelled image at c → ⊥) → r ≡ option_map header_of (chunk_at image at)

@@ -69,6 +69,21 @@ impl Header {
         ensures found { IfSome result (HasHeader region.now.bytes at) }
         ensures none { IfNone result ((chunk : Chunk) → Spelled region.now.bytes at chunk → ⊥) }
     {
+        match Header::read_with_size(region, at) {
+            Some((header, _)) => Some(header),
+            None => None,
+        }
+    }
+
+    /// The header of the chunk at `at`, as `read` answers it, and the size of that chunk. A walk takes
+    /// both, since the size stands in the first word and follows from the header only by a sum.
+    #[inline]
+    pub fn read_with_size(region: &Region, at: u32) -> Option<(Header, u32)>
+        requires small { length region.now.bytes < 2 ^ 24 }
+        ensures found { IfSome result (λ both. HasHeader region.now.bytes at both.0) }
+        ensures size { IfSome result (λ both. both.1 ≡ size_by both.0) }
+        ensures none { IfNone result ((chunk : Chunk) → Spelled region.now.bytes at chunk → ⊥) }
+    {
         decode(region, at)
     }
 
@@ -110,12 +125,14 @@ impl Header {
     }
 }
 
-/// The header by the two words at `at`, in the order in which a checker looks at their fields.
+/// The header by the two words at `at`, in the order in which a checker looks at their fields, and
+/// the size.
 #[inline]
-fn decode(region: &Region, at: u32) -> Option<Header>
+fn decode(region: &Region, at: u32) -> Option<(Header, u32)>
     requires small { length region.now.bytes < 2 ^ 24 }
-    ensures found { IfSome result (λ header. Spelled region.now.bytes at (chunk_with region.now.bytes at header)) }
-    ensures inside { IfSome result (λ header. at + size_by header ≤ length region.now.bytes) }
+    ensures found { IfSome result (λ both. Spelled region.now.bytes at (chunk_with region.now.bytes at both.0)) }
+    ensures inside { IfSome result (λ both. at + size_by both.0 ≤ length region.now.bytes) }
+    ensures size { IfSome result (λ both. both.1 ≡ size_by both.0) }
     ensures none { IfNone result ((chunk : Chunk) → Spelled region.now.bytes at chunk → ⊥) }
 {
     let offset = at as usize;
@@ -129,7 +146,7 @@ fn decode(region: &Region, at: u32) -> Option<Header>
         return None;
     }
     if first >= FREE_BIT {
-        return Some(Header::Free { size });
+        return Some((Header::Free { size }, size));
     }
     let adjustment = first / ABOVE_24_BITS;
     if adjustment > 7 || adjustment > size - 8 {
@@ -144,18 +161,19 @@ fn decode(region: &Region, at: u32) -> Option<Header>
         if h_offset != 0 {
             return None;
         }
-        return Some(Header::Fixed { length, owner });
+        return Some((Header::Fixed { length, owner }, size));
     }
     if lock != 0 && owner == 0 {
         return None;
     }
     let slot = (at + 2 * h_offset) % (2 * ABOVE_24_BITS);
-    Some(Header::Movable {
+    let header = Header::Movable {
         length,
         lock,
         owner,
         slot,
-    })
+    };
+    Some((header, size))
 }
 
 /// Half the distance from the chunk at `at` to a slot, as a two's complement of 24 bits.

@@ -54,9 +54,9 @@ impl<'a> Iterator for Walk<'a> {
 
     fn next(&mut self) -> Option<(Place, Header)> {
         let at = self.at;
-        match Header::read(self.region, at) {
-            Some(header) => {
-                self.at = at + header.size();
+        match Header::read_with_size(self.region, at) {
+            Some((header, size)) => {
+                self.at = at + size;
                 Some((Place(at + 8), header))
             }
             None => None,

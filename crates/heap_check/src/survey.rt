@@ -128,11 +128,11 @@ pub(crate) fn survey_chunks(region: &Region, slots: u16, marks: &mut [bool]) -> 
     let mut survey = Survey::new();
     let mut at = area_start(slots);
     while (at as usize) < region.len() {
-        let Some(header) = Header::read(region, at) else {
+        let Some((header, size)) = Header::read_with_size(region, at) else {
             return Err(at);
         };
         survey.add(region, at, header, slots, marks);
-        at += header.size();
+        at += size;
     }
     Ok(survey)
 }

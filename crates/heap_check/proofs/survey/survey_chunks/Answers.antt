@@ -15,7 +15,7 @@ loop-at-preserved c =
       bad_owner = c.add.ensures.bad_owner;
       marked = c.add.ensures.marked;
     } in
-    subst (λ n. HasSurveyed image (at + n) c.add.new.self c.add.new.marks) (sym c.size-at.ensures) (walked_more image at c.in-Some.header _ _ _ _ c.loop-at.invariant c.in-Some.ensures.found adds)
+    subst (λ n. HasSurveyed image (at + n) c.add.new.self c.add.new.marks) (sym c.in-Some.ensures.size) (walked_more image at c.in-Some.header _ _ _ _ c.loop-at.invariant c.in-Some.ensures.found adds)
 
 pub returns-clause-surveyed : goal.returns-clause-surveyed
 returns-clause-surveyed c = walked_all c.args.region.now.bytes c.loop-at.at c.loop-at.survey c.loop-at.marks (omega arith) c.loop-at.invariant
