@@ -1,17 +1,17 @@
 -- The test of an accepted heap decides it.
-use Rattle.std.proofs.Common.{◌≡◌, ◌≢◌, ℕ, ◌+◌, ◌*◌, ◌/◌, ◌%◌, ◌<◌, ◌≤◌, Bool, true, false, List, [], ◌∷◌, ◌++◌, length, refl, sym, ap, subst, ◌∙◌, arith, inl, inr}
+use Rattle.std.proofs.Common.{◌≡◌, ℕ, ◌+◌, ◌%◌, Bool, List, [], ◌++◌, length, refl, sym, ap, subst, ◌∙◌, inl, inr}
 use Rattle.std.proofs.lemmas.Bool.{cases_eq}
 use Rattle.std.proofs.lemmas.Bool.Decides.{Decides-and, Decides-or, Decides-eqb, Decides-ltb, Decides-like}
-use Rattle.std.specs.Prelude.{◌⊎◌, ◌==◌, ◌||◌, nat_lt, nat_le}
+use Rattle.std.specs.Prelude.{◌⊎◌}
 use Rattle.std.specs.Bool.{Decides}
 use Rattle.std.specs.List.{list_all}
 use Rattle.heap_model.specs.Bytes.{u16_at, u32_at}
 use Rattle.heap_model.specs.Chunk.{Chunk, free, movable, fixed, total, SpelledAll}
 use Rattle.heap_model.specs.Slots.{IsSlot, slot_count, table_end, head_end, slots_of, area_start, is_slot}
 use Rattle.heap_model.specs.Heap.{magic, IsHead, Tiles, BodyHere, IsCallersIfFixed, ManagersHere, HasDirectory, directory_of, IsHeap, HeapAccepted}
-use Rattle.heap_model.specs.Placed.{EveryPlaced, AnyPlaced, any_placed, EveryOne}
+use Rattle.heap_model.specs.Placed.{EveryPlaced, AnyPlaced, EveryOne}
 use Rattle.heap_model.specs.Pairing.{HoldsBody, NamesItsSlot}
-use Rattle.heap_model.specs.Reading.{chunks_from, chunks_of, head_tests, area_tests, is_body_here, holds_body, names_its_slot, is_callers_if_fixed, is_managers_here, is_accepted}
+use Rattle.heap_model.specs.Reading.{chunks_of, head_tests, area_tests, is_body_here, holds_body, names_its_slot, is_callers_if_fixed, is_managers_here, is_accepted}
 use Rattle.heap_laws.proofs.Deciding.{Decides-nat_le}
 use Rattle.heap_laws.proofs.Chunks.{SpelledAll-end}
 use Rattle.heap_laws.proofs.Placed.{Decides-every, Decides-any, Decides-every_one}
@@ -25,7 +25,8 @@ no_test = (λ e. tt, λ h. refl)
 
 -- what the tests of a head decide, before others
 head_then : {Q : Type 0} (image : List ℕ) (others : List Bool) → Decides (list_all (λ test. test) others) Q → Decides (list_all (λ test. test) (head_tests image ++ others)) (IsHead image × Q)
-head_then image others q = Decides-like _ (λ h. (record {
+head_then image others q = Decides-like _ (λ h. (
+  record {
     magic_is = h.0;
     size_is = h.1.0;
     least = h.1.1.0;
@@ -35,19 +36,21 @@ head_then image others q = Decides-like _ (λ h. (record {
     a_chunk_fits = h.1.1.1.1.1.1.0;
     reserved = h.1.1.1.1.1.1.1.0;
     padding = λ ne. elim h.1.1.1.1.1.1.1.1.0 [ inl none ↦ absurd (ne none) | inr zero_there ↦ zero_there ];
-  }, h.1.1.1.1.1.1.1.1.1))
-  (λ s. (s.0.magic_is, (s.0.size_is, (s.0.least, (s.0.most, (s.0.whole, (s.0.some_slot, (s.0.a_chunk_fits, (s.0.reserved, (padded s.0, s.1))))))))))
-  (Decides-and _ _ (Decides-eqb (u32_at image 0) magic)
-  (Decides-and _ _ (Decides-eqb (u32_at image 4) (length image))
-  (Decides-and _ _ (Decides-nat_le 64 (length image))
-  (Decides-and _ _ (Decides-nat_le (length image) 16777208)
-  (Decides-and _ _ (Decides-eqb (length image % 8) 0)
-  (Decides-and _ _ (Decides-ltb 0 (slot_count image))
-  (Decides-and _ _ (Decides-nat_le (area_start image + 8) (length image))
-  (Decides-and _ _ (Decides-eqb (u16_at image 10) 0)
-  (Decides-and _ _ (Decides-or _ _ (Decides-eqb (head_end image) (area_start image)) (Decides-eqb (u32_at image (head_end image)) 0)) q))))))))) where
-    padded : IsHead image → (head_end image ≡ area_start image) ⊎ (u32_at image (head_end image) ≡ 0)
-    padded s = elim (cases_eq (head_end image) (area_start image)) [ inl none ↦ inl none | inr ne ↦ inr (s.padding ne) ]
+  },
+  h.1.1.1.1.1.1.1.1.1,
+))
+    (λ s. (s.0.magic_is, (s.0.size_is, (s.0.least, (s.0.most, (s.0.whole, (s.0.some_slot, (s.0.a_chunk_fits, (s.0.reserved, (padded s.0, s.1))))))))))
+    (Decides-and _ _ (Decides-eqb (u32_at image 0) magic)
+    (Decides-and _ _ (Decides-eqb (u32_at image 4) (length image))
+    (Decides-and _ _ (Decides-nat_le 64 (length image))
+    (Decides-and _ _ (Decides-nat_le (length image) 16777208)
+    (Decides-and _ _ (Decides-eqb (length image % 8) 0)
+    (Decides-and _ _ (Decides-ltb 0 (slot_count image))
+    (Decides-and _ _ (Decides-nat_le (area_start image + 8) (length image))
+    (Decides-and _ _ (Decides-eqb (u16_at image 10) 0)
+    (Decides-and _ _ (Decides-or _ _ (Decides-eqb (head_end image) (area_start image)) (Decides-eqb (u32_at image (head_end image)) 0)) q))))))))) where
+      padded : IsHead image → (head_end image ≡ area_start image) ⊎ (u32_at image (head_end image) ≡ 0)
+      padded s = elim (cases_eq (head_end image) (area_start image)) [ inl none ↦ inl none | inr ne ↦ inr (s.padding ne) ]
 
 -- ---- the chunks
 

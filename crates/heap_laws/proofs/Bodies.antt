@@ -1,11 +1,10 @@
 -- Where bodies are, and the two halves of the ties.
-use Rattle.std.proofs.Common.{◌≡◌, ◌≢◌, ℕ, ◌+◌, ◌-◌, ◌<◌, ◌≤◌, List, [], ◌∷◌, ◌++◌, length, refl, sym, ap, subst, ◌∙◌, arith, inl, inr}
-use Rattle.std.specs.Prelude.{◌⊎◌, ◌↔◌}
+use Rattle.std.proofs.Common.{◌≡◌, ℕ, ◌+◌, ◌-◌, ◌≤◌, List, [], ◌∷◌, length, refl, sym, ap, subst, ◌∙◌, arith, inl, inr}
 use Rattle.heap_model.specs.Bytes.{u32_at}
 use Rattle.heap_model.specs.Chunk.{Chunk, free, movable, fixed, size_of, total}
 use Rattle.heap_model.specs.Slots.{IsSlot, slots_of, area_start}
 use Rattle.heap_model.specs.Heap.{BodyHere, IsBody, Tied, Tiles}
-use Rattle.heap_model.specs.Placed.{EveryPlaced, AnyPlaced, EveryOne}
+use Rattle.heap_model.specs.Placed.{EveryPlaced, EveryOne}
 use Rattle.heap_model.specs.Pairing.{HoldsBody, NamesItsSlot}
 use Rattle.heap_laws.proofs.Slots.{every_slot, each_slot}
 use Rattle.heap_laws.proofs.Placed.{At, AnyPlaced-map, one_at, SpelledAll-takes}
@@ -59,14 +58,16 @@ held_names image at (c ∷ cs) held = (held_here image at c (λ slot place b. he
 
 pub tied_halves : (image : List ℕ) (cs : List Chunk) → Tied image cs → EveryOne (HoldsBody image cs) (slots_of image) × EveryPlaced (NamesItsSlot image) (area_start image) cs
 tied_halves image cs tied =
-    let start : ℕ = area_start image in
-    (every_slot (HoldsBody image cs) image (λ slot s used. (tied slot (u32_at image slot) (omega arith)).0 (s, refl)),
-     held_names image start cs (λ slot place b. let low = IsBody-low start cs slot place b in (tied slot place (omega arith)).1 b))
+    let start : ℕ = area_start image in (
+      every_slot (HoldsBody image cs) image (λ slot s used. (tied slot (u32_at image slot) (omega arith)).0 (s, refl)),
+      held_names image start cs (λ slot place b. let low = IsBody-low start cs slot place b in (tied slot place (omega arith)).1 b),
+    )
 
 pub halves_tied : (image : List ℕ) (cs : List Chunk) → EveryOne (HoldsBody image cs) (slots_of image) → EveryPlaced (NamesItsSlot image) (area_start image) cs → Tied image cs
-halves_tied image cs slots names slot place positive =
-    (λ h. subst (λ (p : ℕ). IsBody (area_start image) cs slot p) h.1 (each_slot (HoldsBody image cs) image slots slot h.0 (λ none. let e = h.1 in omega arith)),
-     λ b. names_held image (area_start image) cs names slot place b)
+halves_tied image cs slots names slot place positive = (
+  λ h. subst (λ (p : ℕ). IsBody (area_start image) cs slot p) h.1 (each_slot (HoldsBody image cs) image slots slot h.0 (λ none. let e = h.1 in omega arith)),
+  λ b. names_held image (area_start image) cs names slot place b,
+)
 
 -- ---- one place for a slot, and one slot for a place
 

@@ -1,8 +1,8 @@
 -- Tests and the facts that they decide.
-use Rattle.std.proofs.Common.{◌≡◌, ◌≢◌, ℕ, ◌≤◌, ◌<◌, Bool, true, false, cond, Option, Some, None, refl, arith, inl, inr}
+use Rattle.std.proofs.Common.{◌≡◌, ℕ, ◌≤◌, ◌<◌, Bool, true, false, cond, Option, Some, None, refl, arith, inl, inr}
 use Rattle.std.proofs.lemmas.Bool.{leb-true}
 use Rattle.std.proofs.lemmas.Bool.Decides.{nat_tests}
-use Rattle.std.specs.Prelude.{◌⊎◌, nat_le, not}
+use Rattle.std.specs.Prelude.{◌⊎◌, nat_le}
 use Rattle.std.specs.Bool.{Decides}
 
 pub Decides-nat_le : (a b : ℕ) → Decides (nat_le a b) (a ≤ b)

@@ -1,5 +1,5 @@
 -- Frames: numbers and parts of two lists of bytes agree where the lists do, and what a write leaves.
-use Rattle.std.proofs.Common.{◌≡◌, ℕ, zero, suc, ◌+◌, ◌-◌, ◌*◌, ◌^◌, ◌<◌, ◌≤◌, List, [], ◌∷◌, ◌++◌, length, get_or, slice_index, take, drop, replicate, refl, sym, ap, ◌∙◌, append_assoc, arith, length-append, length-take, length-drop}
+use Rattle.std.proofs.Common.{◌≡◌, ℕ, zero, suc, ◌+◌, ◌-◌, ◌^◌, ◌<◌, ◌≤◌, List, ◌++◌, length, get_or, slice_index, take, drop, replicate, refl, sym, ap, ◌∙◌, append_assoc, arith, length-append, length-take, length-drop}
 use Rattle.std.proofs.lemmas.List.{get_or-take, get_or-drop, get_or_append_left, get_or-append_right, length-take-le, drop_at, take_at, drop-drop, same_lists, get_or_default}
 use Rattle.heap_model.specs.Bytes.{u16_at, u32_at, overwritten, u16_bytes, u32_bytes}
 use Rattle.byteorder.specs.Endian.{big_from, big_bytes}
@@ -116,9 +116,9 @@ overwritten-behind old at front back there e inside =
     let end : there + length back - there ≡ length back = omega arith in
     let head : take there (start ++ drop (at + length front) old) ≡ start = take_at start (drop (at + length front) old) there len in
     let past : drop (there + length back) (start ++ drop (at + length front) old) ≡ drop (length back) (drop (at + length front) old) =
-        sym (drop-drop (length back) there (start ++ drop (at + length front) old)) ∙ ap (drop (length back)) (drop_at start (drop (at + length front) old) there len) in
+    sym (drop-drop (length back) there (start ++ drop (at + length front) old)) ∙ ap (drop (length back)) (drop_at start (drop (at + length front) old) there len) in
     let tail : drop (length back) (drop (at + length front) old) ≡ drop (at + length (front ++ back)) old =
-        drop-drop (length back) (at + length front) old ∙ ap (λ (n : ℕ). drop n old) (simp length-append (omega arith)) in
+    drop-drop (length back) (at + length front) old ∙ ap (λ (n : ℕ). drop n old) (simp length-append (omega arith)) in
     ap (λ (x : List ℕ). x ++ back ++ drop (there + length back) (start ++ drop (at + length front) old)) head
     ∙ ap (λ (x : List ℕ). start ++ back ++ x) (past ∙ tail)
     ∙ ap (λ (x : List ℕ). x ++ drop (at + length (front ++ back)) old) (append_assoc (take at old) front back)

@@ -1,12 +1,12 @@
 -- An accepted heap holds exactly one map, and that is the one which is read off it.
-use Rattle.std.proofs.Common.{◌≡◌, ◌≢◌, ℕ, ◌+◌, ◌<◌, ◌≤◌, Bool, true, false, cond, List, [], ◌∷◌, length, Option, Some, None, refl, sym, ap, subst, ◌∙◌, arith, inl, inr}
-use Rattle.std.proofs.lemmas.Bool.{eqb-true, eqb-false, eq-eqb}
+use Rattle.std.proofs.Common.{◌≡◌, ℕ, ◌+◌, ◌<◌, ◌≤◌, Bool, true, false, cond, List, [], ◌∷◌, length, Option, Some, None, refl, sym, ap, subst, ◌∙◌, arith, inl, inr}
+use Rattle.std.proofs.lemmas.Bool.{eqb-true, eq-eqb}
 use Rattle.std.specs.Prelude.{◌⊎◌, ◌↔◌, ◌==◌}
 use Rattle.heap_model.specs.Bytes.{u32_at}
 use Rattle.heap_model.specs.Chunk.{Chunk, free, movable, fixed, fixed_lock, need, size_of}
 use Rattle.heap_model.specs.Slots.{IsSlot, table_end, area_start}
 use Rattle.heap_model.specs.Heap.{BodyHere, IsBody, IsHeap, HeapAccepted}
-use Rattle.heap_model.specs.Placed.{EveryPlaced, AnyPlaced}
+use Rattle.heap_model.specs.Placed.{AnyPlaced}
 use Rattle.heap_model.specs.Meaning.{LiveChunk, ChunkMap, NamedHere, Holds}
 use Rattle.heap_model.specs.Reading.{chunks_of, live_under, held}
 use Rattle.heap_laws.proofs.Deciding.{some, same_some, none_some}
@@ -73,9 +73,9 @@ with_offset name live start [] h = absurd h
 with_offset name live start (c ∷ cs) h = elim h [
   | inl own ↦ record { at = start; behind = omega arith; there = inl (refl, own); kind = elim (kinds name live start c own) [ inl b ↦ inl (inl b) | inr is ↦ inr is ] }
   | inr later ↦
-    let o = with_offset name live (start + size_of c) cs later in
-    let behind = o.behind in
-    record { at = o.at; behind = omega arith; there = inr o.there; kind = elim o.kind [ inl b ↦ inl (inr b) | inr is ↦ inr is ] }
+      let o = with_offset name live (start + size_of c) cs later in
+      let behind = o.behind in
+      record { at = o.at; behind = omega arith; there = inr o.there; kind = elim o.kind [ inl b ↦ inl (inr b) | inr is ↦ inr is ] }
 ]
 
 -- the slot of a body holds its place
@@ -89,11 +89,11 @@ apart image name at slot behind is = let high : name < table_end image = slot.in
 same_offset : (image : List ℕ) (cs : List Chunk) (name : ℕ) (x y : LiveChunk) → IsHeap image cs → (o : Offset name x (area_start image) cs) → (p : Offset name y (area_start image) cs) → o.at ≡ p.at
 same_offset image cs name x y h o p = elim o.kind [
   | inl b ↦
-    let s = slot_place image cs name (o.at + 8) h b in
-    elim p.kind [
-      | inl c ↦ let same : o.at + 8 ≡ p.at + 8 = sym s.1 ∙ (slot_place image cs name (p.at + 8) h c).1 in omega arith
-      | inr is ↦ absurd (apart image name p.at s.0 p.behind is)
-    ]
+      let s = slot_place image cs name (o.at + 8) h b in
+      elim p.kind [
+        | inl c ↦ let same : o.at + 8 ≡ p.at + 8 = sym s.1 ∙ (slot_place image cs name (p.at + 8) h c).1 in omega arith
+        | inr is ↦ absurd (apart image name p.at s.0 p.behind is)
+      ]
   | inr mine ↦ elim p.kind [
     | inl c ↦ absurd (apart image name o.at (slot_place image cs name (p.at + 8) h c).0 o.behind mine)
     | inr is ↦ omega arith
@@ -117,11 +117,12 @@ one_named image cs name x y h mine other =
 -- ---- the map that is read is the one that is held
 
 pub live_under-is : (image : List ℕ) (cs : List Chunk) (name : ℕ) (live : LiveChunk) → IsHeap image cs → ((live_under (area_start image) cs name ≡ Some live) ↔ AnyPlaced (NamedHere name live) (area_start image) cs)
-live_under-is image cs name live h =
-    (live_under-there (area_start image) cs name live,
-     λ there.
-     let found = live_under-some (area_start image) cs name live there in
-     found.1 ∙ ap some (one_named image cs name found.0 live h (live_under-there (area_start image) cs name found.0 found.1) there))
+live_under-is image cs name live h = (
+  live_under-there (area_start image) cs name live,
+  λ there.
+      let found = live_under-some (area_start image) cs name live there in
+      found.1 ∙ ap some (one_named image cs name found.0 live h (live_under-there (area_start image) cs name found.0 found.1) there),
+)
 
 -- what is held, by the chunks
 pub held-is : (image : List ℕ) (cs : List Chunk) (name : ℕ) → IsHeap image cs → held image name ≡ live_under (area_start image) cs name
@@ -143,6 +144,7 @@ pub holds_one : (image : List ℕ) (m n : ChunkMap) → Holds image m → Holds 
 holds_one image m n a b = λ i name. same name i where
   chunks : b.chunks ≡ a.chunks
   chunks = Tiles-unique image b.chunks a.chunks b.heap.tiles a.heap.tiles
+
   same : (name : ℕ) → m name ≡ n name
   same name = same_option (m name) (n name)
       (λ live is. (b.each name live).1 (subst (λ (cs : List Chunk). AnyPlaced (NamedHere name live) (area_start image) cs) (sym chunks) ((a.each name live).0 is)))
@@ -153,6 +155,7 @@ pub held-zero : (image : List ℕ) → HeapAccepted image → held image 0 ≡ N
 held-zero image h = nothing (held image 0) refl where
   m : Holds image (held image)
   m = heap_holds image h
+
   nothing : (r : Option LiveChunk) → held image 0 ≡ r → r ≡ None
   nothing None e = refl
   nothing (Some live) e =

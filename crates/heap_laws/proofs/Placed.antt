@@ -1,5 +1,5 @@
 -- What holds of every chunk where it stands, of some one, and of all but a first.
-use Rattle.std.proofs.Common.{◌≡◌, ℕ, ◌+◌, ◌≤◌, Bool, List, [], ◌∷◌, ◌++◌, Option, Some, None, refl, sym, ap, subst, append_assoc, ◌∙◌, arith, inl, inr}
+use Rattle.std.proofs.Common.{◌≡◌, ℕ, ◌+◌, ◌≤◌, Bool, List, [], ◌∷◌, ◌++◌, refl, sym, ap, subst, append_assoc, ◌∙◌, arith, inl, inr}
 use Rattle.std.proofs.lemmas.Bool.Decides.{Decides-and, Decides-or}
 use Rattle.std.specs.Prelude.{◌⊎◌, ◌↔◌}
 use Rattle.std.specs.Bool.{Decides}
@@ -66,9 +66,9 @@ AnyPlaced-parts P at [] h = absurd h
 AnyPlaced-parts P at (c ∷ cs) h = elim h [
   | inl here ↦ let e : at ≡ at + 0 = omega arith in record { before = []; chunk = c; after = cs; parts = refl; holds = subst (λ (n : ℕ). P n c) e here }
   | inr later ↦
-    let p = AnyPlaced-parts P (at + size_of c) cs later in
-    let e : at + size_of c + total p.before ≡ at + (size_of c + total p.before) = omega arith in
-    record { before = c ∷ p.before; chunk = p.chunk; after = p.after; parts = ap (λ (xs : List Chunk). c ∷ xs) p.parts; holds = subst (λ (n : ℕ). P n p.chunk) e p.holds }
+      let p = AnyPlaced-parts P (at + size_of c) cs later in
+      let e : at + size_of c + total p.before ≡ at + (size_of c + total p.before) = omega arith in
+      record { before = c ∷ p.before; chunk = p.chunk; after = p.after; parts = ap (λ (xs : List Chunk). c ∷ xs) p.parts; holds = subst (λ (n : ℕ). P n p.chunk) e p.holds }
 ]
 
 pub AnyPlaced-mid : (P : ℕ → Chunk → Type 0) (at : ℕ) (before : List Chunk) (c : Chunk) (after : List Chunk) → P (at + total before) c → AnyPlaced P at (before ++ c ∷ after)

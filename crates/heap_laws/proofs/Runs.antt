@@ -1,11 +1,10 @@
 -- The chunks that are read from an offset on, and a walk over them.
-use Rattle.std.proofs.Common.{◌≡◌, ◌≢◌, ℕ, zero, suc, ◌+◌, ◌-◌, ◌<◌, ◌≤◌, List, [], ◌∷◌, ◌++◌, length, Option, Some, None, refl, sym, ap, subst, ◌∙◌, append_assoc, arith, inl, inr}
-use Rattle.std.proofs.lemmas.Bool.{cases_lt}
+use Rattle.std.proofs.Common.{◌≡◌, ℕ, zero, suc, ◌+◌, ◌-◌, ◌<◌, ◌≤◌, List, [], ◌∷◌, length, Option, Some, None, refl, ap, subst, ◌∙◌, arith}
 use Rattle.heap_model.specs.Chunk.{Chunk, size_of, total, Spelled, SpelledAll}
 use Rattle.heap_model.specs.Slots.{area_start}
 use Rattle.heap_model.specs.Heap.{Tiles}
 use Rattle.heap_model.specs.Reading.{chunk_at, first_then, chunks_within, chunks_from, chunks_of}
-use Rattle.heap_laws.proofs.Chunks.{Spelled-size, SpelledAll-end, SpelledAll-push, SpelledAll-rest, SpelledAll-unique}
+use Rattle.heap_laws.proofs.Chunks.{Spelled-size, SpelledAll-rest, SpelledAll-unique}
 use Rattle.heap_laws.proofs.Shapes.{chunk_at-spelled, chunk_at-stands, chunk_at-none}
 
 -- what is read moves on, within the image

@@ -1,5 +1,5 @@
 -- The chunk that is read at an offset is the one that is spelled there.
-use Rattle.std.proofs.Common.{◌≡◌, ◌≢◌, ℕ, zero, suc, ◌+◌, ◌-◌, ◌*◌, ◌/◌, ◌%◌, ◌^◌, ◌<◌, ◌≤◌, Bool, true, false, List, [], ◌∷◌, ◌++◌, length, Option, Some, None, refl, sym, ap, subst, ◌∙◌, arith, inl, inr}
+use Rattle.std.proofs.Common.{◌≡◌, ◌≢◌, ℕ, ◌+◌, ◌-◌, ◌%◌, ◌^◌, ◌<◌, ◌≤◌, true, false, List, length, Option, Some, None, refl, sym, ap, subst, ◌∙◌, arith, inl, inr}
 use Rattle.std.proofs.lemmas.Bool.Decides.{Decides-and, Decides-or, Decides-not, Decides-eqb, nat_tests}
 use Rattle.std.proofs.lemmas.Bool.{eqb-true, eqb-false, leb-true, leb-false, cases_eq, eq-eqb}
 use Rattle.std.proofs.lemmas.List.{length-take, length-drop}
@@ -78,18 +78,19 @@ live_spelled : (image : List ℕ) (at first second : ℕ) → IsLive image at (b
     → Spelled image at (live_by_words image at first second)
 live_spelled image at first second live word = elim (true_or_false (lock_field second == 15)) [
   | inl is ↦
-    let lock : lock_field second ≡ 15 = eqb-true (lock_field second) 15 is in
-    subst (λ (c : Chunk). Spelled image at c) (sym (cond-true _ _ _ is))
-    (subst (λ (k : ℕ). IsLive image at (body_at image at first) k (owner_field second) 0) lock
-    (subst (λ (h : ℕ). IsLive image at (body_at image at first) (lock_field second) (owner_field second) h) (no_way word.0.1 lock) live))
+      let lock : lock_field second ≡ 15 = eqb-true (lock_field second) 15 is in
+      subst (λ (c : Chunk). Spelled image at c) (sym (cond-true _ _ _ is))
+      (subst (λ (k : ℕ). IsLive image at (body_at image at first) k (owner_field second) 0) lock
+      (subst (λ (h : ℕ). IsLive image at (body_at image at first) (lock_field second) (owner_field second) h) (no_way word.0.1 lock) live))
   | inr isnt ↦
-    let lock : lock_field second ≢ 15 = eqb-false (lock_field second) 15 isnt in
-    let high : lock_field second ≤ 15 = word.0.0 in
-    subst (λ (c : Chunk). Spelled image at c) (sym (cond-false _ _ _ isnt)) (h_offset_field second, live, omega arith, owned word.1 lock, refl)
+      let lock : lock_field second ≢ 15 = eqb-false (lock_field second) 15 isnt in
+      let high : lock_field second ≤ 15 = word.0.0 in
+      subst (λ (c : Chunk). Spelled image at c) (sym (cond-false _ _ _ isnt)) (h_offset_field second, live, omega arith, owned word.1 lock, refl)
 ] where
   no_way : (((lock_field second ≡ 15) → ⊥) ⊎ (h_offset_field second ≡ 0)) → lock_field second ≡ 15 → h_offset_field second ≡ 0
   no_way (inl isnt) is = absurd (isnt is)
   no_way (inr none) is = none
+
   owned : (((lock_field second ≡ 0) ⊎ (lock_field second ≡ 15)) ⊎ ((owner_field second ≡ 0) → ⊥)) → lock_field second ≢ 15 → (lock_field second ≡ 0) ⊎ (0 < owner_field second)
   owned (inl (inl zero_lock)) isnt = inl zero_lock
   owned (inl (inr is)) isnt = absurd (isnt is)
@@ -98,13 +99,13 @@ live_spelled image at first second live word = elim (true_or_false (lock_field s
 shape_spelled : (image : List ℕ) (at : ℕ) → Shape (length image - at) (u32_at image at) (u32_at image (at + 4)) → Spelled image at (chunk_by_words image at (u32_at image at) (u32_at image (at + 4)))
 shape_spelled image at s = elim (true_or_false (nat_le (2 ^ 31) (u32_at image at))) [
   | inl high ↦
-    let header : 8 ≤ size_field (u32_at image at) = s.0.0.0 in
-    let inside : size_field (u32_at image at) ≤ length image - at = s.0.1 in
-    let is_free : IsFree image at (size_field (u32_at image at)) = record { free_bit = leb-true _ _ high; size_field = refl; header_fits = header; whole = s.0.0.1; inside = omega arith } in
-    subst (λ (c : Chunk). Spelled image at c) (sym (cond-true _ _ _ high)) is_free
+      let header : 8 ≤ size_field (u32_at image at) = s.0.0.0 in
+      let inside : size_field (u32_at image at) ≤ length image - at = s.0.1 in
+      let is_free : IsFree image at (size_field (u32_at image at)) = record { free_bit = leb-true _ _ high; size_field = refl; header_fits = header; whole = s.0.0.1; inside = omega arith } in
+      subst (λ (c : Chunk). Spelled image at c) (sym (cond-true _ _ _ high)) is_free
   | inr low ↦
-    let live = shape_live image at s (leb-false _ _ low) in
-    subst (λ (c : Chunk). Spelled image at c) (sym (cond-false _ _ _ low)) (live_spelled image at (u32_at image at) (u32_at image (at + 4)) live.0 live.1)
+      let live = shape_live image at s (leb-false _ _ low) in
+      subst (λ (c : Chunk). Spelled image at c) (sym (cond-false _ _ _ low)) (live_spelled image at (u32_at image at) (u32_at image (at + 4)) live.0 live.1)
 ]
 
 -- ---- a chunk that is spelled is in shape, and is read
@@ -133,6 +134,7 @@ live_word : (second lock owner h_offset : ℕ) → lock_field second ≡ lock �
 live_word second lock owner h_offset a b c low fixed_way owned = ((omega arith, way), own owned) where
   way : ((lock_field second ≡ 15) → ⊥) ⊎ (h_offset_field second ≡ 0)
   way = elim (cases_eq lock 15) [ inl is ↦ inr (c ∙ fixed_way is) | inr isnt ↦ inl (λ e. isnt (sym a ∙ e)) ]
+
   own : ((lock ≡ 0) ⊎ (lock ≡ 15)) ⊎ (0 < owner) → ((lock_field second ≡ 0) ⊎ (lock_field second ≡ 15)) ⊎ ((owner_field second ≡ 0) → ⊥)
   own (inl (inl z)) = inl (inl (a ∙ z))
   own (inl (inr f)) = inl (inr (a ∙ f))

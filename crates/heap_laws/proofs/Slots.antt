@@ -1,5 +1,5 @@
 -- The slots of an image, by their number and one after the other.
-use Rattle.std.proofs.Common.{◌≡◌, ℕ, zero, suc, ◌+◌, ◌-◌, ◌*◌, ◌/◌, ◌%◌, ◌<◌, ◌≤◌, List, [], ◌∷◌, ◌++◌, length, refl, sym, ap, subst, ◌∙◌, arith, inl, inr}
+use Rattle.std.proofs.Common.{◌≡◌, ℕ, zero, suc, ◌+◌, ◌-◌, ◌*◌, ◌/◌, ◌<◌, List, ◌∷◌, ◌++◌, length, refl, sym, ap, subst, ◌∙◌, arith, inl, inr}
 use Rattle.std.proofs.lemmas.Bool.{cases_lt}
 use Rattle.heap_model.specs.Slots.{slot_count, table_end, slots_in_row, slots_of, IsSlot}
 use Rattle.heap_model.specs.Placed.{EveryOne}
@@ -28,9 +28,10 @@ length-slots_of image = length-slots_in_row 16 (slot_count image)
 EveryOne-row : (P : ℕ → Type 0) (first count : ℕ) → ((k : ℕ) → k < count → P (first + 4 * k)) → EveryOne P (slots_in_row first count)
 EveryOne-row P first zero each = tt
 EveryOne-row P first (suc count) each =
-    let here : first + 4 * 0 ≡ first = omega arith in
-    (subst P here (each 0 (omega arith)),
-     EveryOne-row P (first + 4) count (λ k below. let there : first + 4 * (suc k) ≡ first + 4 + 4 * k = omega arith in subst P there (each (suc k) (omega arith))))
+    let here : first + 4 * 0 ≡ first = omega arith in (
+      subst P here (each 0 (omega arith)),
+      EveryOne-row P (first + 4) count (λ k below. let there : first + 4 * (suc k) ≡ first + 4 + 4 * k = omega arith in subst P there (each (suc k) (omega arith))),
+    )
 
 row_every : (P : ℕ → Type 0) (first count : ℕ) → EveryOne P (slots_in_row first count) → (k : ℕ) → k < count → P (first + 4 * k)
 row_every P first zero every k below = absurd (omega arith)

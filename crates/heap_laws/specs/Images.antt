@@ -1,5 +1,5 @@
 -- Images to try the definitions on.
-use Rattle.std.specs.Prelude.{◌≡◌, ◌++◌, ◌-◌, ◌*◌, ℕ, Bool, true, false, List, [], ◌∷◌, length, replicate, Option, None}
+use Rattle.std.specs.Prelude.{◌≡◌, ◌++◌, ◌-◌, ◌*◌, ℕ, Bool, true, false, List, [], ◌∷◌, length, replicate, None}
 use Rattle.heap_model.specs.Bytes.{u32_bytes}
 use Rattle.heap_model.specs.Reading.{chunk_at, head_tests, area_tests}
 

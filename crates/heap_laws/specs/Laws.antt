@@ -1,6 +1,5 @@
 -- What the definitions promise together: the statements of the laws.
-use Rattle.std.specs.Prelude.{◌≡◌, ◌≤◌, ◌<◌, ◌+◌, ◌%◌, ◌↔◌, ℕ, Bool, List, true, Option, Some, None}
-use Rattle.heap_model.specs.Bytes.{u32_at}
+use Rattle.std.specs.Prelude.{◌≡◌, ◌≤◌, ◌<◌, ◌+◌, ◌%◌, ◌↔◌, ℕ, Bool, List, true, Some, None}
 use Rattle.heap_model.specs.Chunk.{Chunk, need, Spelled}
 use Rattle.heap_model.specs.Slots.{IsSlot, slots_of, area_start}
 use Rattle.heap_model.specs.Placed.{EveryOne}

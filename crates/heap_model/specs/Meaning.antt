@@ -1,5 +1,5 @@
 -- What an accepted heap holds: a map from names to live chunks.
-use Rattle.std.specs.Prelude.{◌≡◌, ◌+◌, ◌↔◌, ℕ, List, Option, Some, None}
+use Rattle.std.specs.Prelude.{◌≡◌, ◌+◌, ◌↔◌, ℕ, List, Option, Some}
 use Rattle.heap_model.specs.Chunk.{Chunk, free, movable, fixed, fixed_lock}
 use Rattle.heap_model.specs.Placed.{AnyPlaced}
 use Rattle.heap_model.specs.Slots.{area_start}

@@ -9,7 +9,7 @@ use Rattle.heap_model.specs.Chunk.{Chunk, free, movable, fixed, fixed_lock, need
 use Rattle.heap_model.specs.Placed.{every_placed, any_placed}
 use Rattle.heap_model.specs.Slots.{slot_count, head_end, area_start, slots_of, is_slot}
 use Rattle.heap_model.specs.Heap.{magic, directory_of}
-use Rattle.heap_model.specs.Meaning.{LiveChunk, ChunkMap}
+use Rattle.heap_model.specs.Meaning.{ChunkMap}
 
 -- ---- chunks
 
