@@ -1,7 +1,7 @@
 //! Heap images in hex, and what the checker finds in each.
 //!
-//! The images are those of docs/FORMAT.md; a case names what it changes in one of them. This crate
-//! has no code but its tests.
+//! One of the images is the worked one of docs/FORMAT.md; a case names what it changes in an image.
+//! This crate has no code but its tests.
 #![tactic(auto)]
 
 #[cfg(test)]

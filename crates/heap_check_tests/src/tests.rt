@@ -4,7 +4,25 @@ use crate::images::{BLANK, DATABASE, ONE_CHUNK, bytes_of, found, image};
 use chunk_format::blank;
 use heap_check::{HeapFault, Summary, check_heap};
 use raw_region::Region;
+use std::process::Abort;
 use std::test::*;
+
+/// Each case has changes of the listing's image, and the text of what the checker finds then.
+fn check_changed(
+    rt: &(impl Abort + AllocGlobal),
+    listing: &str,
+    cases: &[(&str, &str)],
+) -> Result<(), Fail> {
+    for (changes, text) in cases {
+        let region = image(rt.alloc(), listing, changes)?;
+        assert_eq!(rt;
+            found(rt.alloc(), &region)?.as_str(),
+            *text,
+            "changed: {changes}"
+        );
+    }
+    Ok(())
+}
 
 #[test]
 fn a_heap_has_its_counts(rt: HostRuntime) -> Result<(), Fail> {
@@ -24,7 +42,7 @@ fn a_heap_has_its_counts(rt: HostRuntime) -> Result<(), Fail> {
 
 #[test]
 fn a_database_is_checked(rt: HostRuntime) -> Result<(), Fail> {
-    for (changes, text) in [
+    let cases = [
         ("", "size 208 slots 8 movable 4 fixed 0 free 8"),
         ("3: 33", "BadMagic"),
         ("7: D8", "TooShort"),
@@ -41,15 +59,8 @@ fn a_database_is_checked(rt: HostRuntime) -> Result<(), Fail> {
         ("15: 14", "size 208 slots 8 movable 4 fixed 0 free 8"),
         // two chunks that name one slot: the one whose place it doesn't hold is without
         ("27: 00, 175: BA", "ChunkWithoutSlot 168"),
-    ] {
-        let region = image(rt.alloc(), DATABASE, changes)?;
-        assert_eq!(rt;
-            found(rt.alloc(), &region)?.as_str(),
-            text,
-            "changed: {changes}"
-        );
-    }
-    Ok(())
+    ];
+    check_changed(&rt, DATABASE, &cases)
 }
 
 #[test]
@@ -66,7 +77,7 @@ fn every_shorter_prefix_is_too_short(rt: HostRuntime) -> Result<(), Fail> {
 #[test]
 fn one_chunk_is_checked(rt: HostRuntime) -> Result<(), Fail> {
     let accepted = "size 128 slots 4 movable 1 fixed 0 free 72";
-    for (changes, text) in [
+    let cases = [
         ("", accepted),
         // slack of any bytes, and a free chunk whose other bits and second word are any
         ("50: FFFFFFFFFFFF", accepted),
@@ -94,20 +105,13 @@ fn one_chunk_is_checked(rt: HostRuntime) -> Result<(), Fail> {
         ("15: 10", "BadDirectory"),
         ("15: 10, 36: 00", accepted),
         ("15: 10, 36: 0F", "BadDirectory"),
-    ] {
-        let region = image(rt.alloc(), ONE_CHUNK, changes)?;
-        assert_eq!(rt;
-            found(rt.alloc(), &region)?.as_str(),
-            text,
-            "changed: {changes}"
-        );
-    }
-    Ok(())
+    ];
+    check_changed(&rt, ONE_CHUNK, &cases)
 }
 
 #[test]
 fn a_blank_image_is_checked(rt: HostRuntime) -> Result<(), Fail> {
-    for (changes, text) in [
+    let cases = [
         ("", "size 128 slots 4 movable 0 fixed 0 free 96"),
         // an odd count of slots, with padding
         ("9: 03", "size 128 slots 3 movable 0 fixed 0 free 96"),
@@ -140,21 +144,14 @@ fn a_blank_image_is_checked(rt: HostRuntime) -> Result<(), Fail> {
         ("15: 0C", "BadDirectory"),
         ("15: 20", "BadDirectory"),
         ("12: FFFFFFFF", "BadDirectory"),
-    ] {
-        let region = image(rt.alloc(), BLANK, changes)?;
-        assert_eq!(rt;
-            found(rt.alloc(), &region)?.as_str(),
-            text,
-            "changed: {changes}"
-        );
-    }
-    Ok(())
+    ];
+    check_changed(&rt, BLANK, &cases)
 }
 
 /// Each image has two faults, neighbours in their order, or the same one twice.
 #[test]
 fn the_first_fault_is_answered(rt: HostRuntime) -> Result<(), Fail> {
-    for (changes, text) in [
+    let cases = [
         ("0: 00, 7: 88", "BadMagic"),
         ("0: 00, 7: 78", "BadMagic"),
         ("7: 78, 9: 00", "BadSize"),
@@ -184,15 +181,8 @@ fn the_first_fault_is_answered(rt: HostRuntime) -> Result<(), Fail> {
             "32: 00000008F1000000, 40: 00000008F0000000, 48: 00000008FF000000, 56: 80000048",
             "BadFixedOwner 40",
         ),
-    ] {
-        let region = image(rt.alloc(), BLANK, changes)?;
-        assert_eq!(rt;
-            found(rt.alloc(), &region)?.as_str(),
-            text,
-            "changed: {changes}"
-        );
-    }
-    Ok(())
+    ];
+    check_changed(&rt, BLANK, &cases)
 }
 
 /// Images whose lengths or slot counts stand at a limit.
