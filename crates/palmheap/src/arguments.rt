@@ -101,3 +101,6 @@ fn check<'a>(alloc: Global) -> Result<Command<'a>, AllocError> {
             .arg(image)?,
     )
 }
+
+#[cfg(test)]
+mod tests;

@@ -1,34 +1,16 @@
 //! The program `palmheap`, which makes and checks heap images.
 //!
-//! `main` alone meets the system: it takes the words, reads the input files, prints, and puts the
-//! output file in place. What a command does stands in `commands`, in functions over bytes and
-//! writers, whose contracts say which status comes when and what was written by then.
-//!
-//! | module | does |
-//! |---|---|
-//! | `arguments` | reads the words of the command line, and has the texts of the help |
-//! | `commands` | one function for each subcommand |
-//! | `input` | reads a file to its end, within the limit |
-//! | `output` | writes all of some bytes to a writer, or answers that a write failed |
-//! | `output_file` | a file that takes the place of another as a whole |
-//! | `status` | what a run came to, and the exit status for it |
+//! `main` alone meets the system: it takes the words, reads the input files, prints, and has the
+//! output file put in place. What a command does stands in the crate `palmheap_commands`, whose
+//! contracts say which status comes when and what was written by then. The module `arguments` reads
+//! the words of the command line, and has the texts of the help.
 #![tactic(auto)]
 
 mod arguments;
-mod commands;
-mod input;
-mod output;
-mod output_file;
-mod status;
-#[cfg(test)]
-mod tests;
 
 use arguments::Request;
 use clap::error::ErrorKind;
-use commands::{cmd_check, cmd_new};
-use input::{InputFault, read_input};
-use output_file::OutputFile;
-use status::Status;
+use palmheap_commands::{InputFault, OutputFile, Status, cmd_check, cmd_new, read_input};
 use std::fs::File;
 use std::process::ExitCode;
 use std::rt::{Env, Files};

@@ -2,7 +2,7 @@
 
 ghost use Rattle.std.specs.Prelude.{OnOk, OnErr};
 ghost use Rattle.std.specs.Io.KnownBytes.{Appends};
-ghost use Rattle.palmheap.specs.Output.{AppendsFront};
+ghost use Rattle.palmheap_commands.specs.Output.{AppendsFront};
 
 use std::io::Write;
 use thiserror::Error;

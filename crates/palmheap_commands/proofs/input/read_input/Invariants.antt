@@ -1,6 +1,6 @@
 use Rattle.std.proofs.Common.{◌<◌, ◌≤◌, ◌-◌, vec_len, length}
 use Rattle.std.specs.Io.KnownBytes.{Keeps, prepend_known}
-use Rattle.palmheap.proofs.input.read_input.Given as goal
+use Rattle.palmheap_commands.proofs.input.read_input.Given as goal
 
 -- what was read and what is left are what the reader had
 abbrev pub invariant-loop-bytes : goal.invariant-loop-bytes

@@ -4,8 +4,8 @@ ghost use Rattle.std.specs.Prelude.{◌≡◌, ◌≢◌, ◌⊎◌, codes, IfOk
 ghost use Rattle.std.specs.Io.KnownBytes.{Appends, Keeps};
 ghost use Rattle.heap_model.specs.Heap.{HeapAccepted};
 ghost use Rattle.chunk_format.specs.Blank.{IsRegionSize, LeavesRoom};
-ghost use Rattle.palmheap.specs.Commands.{summary_line, BreaksOff, IsBadLine, WritesBad, WritesBlank, WritesSummary};
-ghost use Rattle.palmheap.specs.Output.{AppendsFront};
+ghost use Rattle.palmheap_commands.specs.Commands.{summary_line, BreaksOff, IsBadLine, WritesBad, WritesBlank, WritesSummary};
+ghost use Rattle.palmheap_commands.specs.Output.{AppendsFront};
 
 use crate::output::put;
 use crate::status::Status;

@@ -1,7 +1,7 @@
 use Rattle.std.proofs.Common.{◌++◌, take}
 use Rattle.std.proofs.KnownBytes.{Appends-trans}
-use Rattle.palmheap.proofs.Fronts.{one_more, failed, stalled}
-use Rattle.palmheap.proofs.output.put_all.Goals as goal
+use Rattle.palmheap_commands.proofs.Fronts.{one_more, failed, stalled}
+use Rattle.palmheap_commands.proofs.output.put_all.Goals as goal
 
 pub loop-rest-preserved : goal.loop-rest-preserved
 loop-rest-preserved g c =

@@ -1,7 +1,7 @@
 //! What a run of the program came to.
 
 ghost use Rattle.std.specs.Prelude.{◌≡◌, ◌↔◌, ◌⊎◌, option_map};
-ghost use Rattle.palmheap.specs.Status.{fault_word};
+ghost use Rattle.palmheap_commands.specs.Status.{fault_word};
 
 use crate::input::InputFault;
 
@@ -54,7 +54,7 @@ impl Status {
 }
 
 impl From<InputFault> for Status {
-    ghost use Rattle.palmheap.specs.Status.{status_of};
+    ghost use Rattle.palmheap_commands.specs.Status.{status_of};
 
     ghost from_gives = { λ fault status. status ≡ status_of fault };
 

@@ -1,6 +1,6 @@
 use Rattle.std.proofs.Common.{◌≡◌, List, ℕ, ◌++◌, length}
 use Rattle.std.specs.Io.KnownBytes.{Appends}
-use Rattle.palmheap.proofs.output.put_all.Given as goal
+use Rattle.palmheap_commands.proofs.output.put_all.Given as goal
 
 -- the bytes are those that went out and then the rest
 abbrev pub invariant-loop-rest : goal.invariant-loop-rest

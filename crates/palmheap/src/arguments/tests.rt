@@ -1,6 +1,6 @@
 //! The words of the command line.
 
-use crate::arguments::{Request, parse};
+use super::{Request, parse};
 use std::alloc::{AllocError, Global};
 use std::test::Fail;
 

@@ -1,7 +1,7 @@
 -- What the commands write.
 use Rattle.std.specs.Prelude.{◌≡◌, ◌⊎◌, ℕ, List, ◌++◌, codes, decimal, Option}
 use Rattle.std.specs.Io.KnownBytes.{Appends, Keeps}
-use Rattle.palmheap.specs.Output.{AppendsFront}
+use Rattle.palmheap_commands.specs.Output.{AppendsFront}
 use Rattle.chunk_format.specs.Blank.{IsBlank}
 use Rattle.heap_check.specs.declared.summary.Summary.{Summary}
 use Rattle.heap_check.specs.Summary.{Summarizes}

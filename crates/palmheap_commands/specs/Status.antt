@@ -1,10 +1,10 @@
 -- Statuses of runs that broke off.
 use Rattle.std.specs.Prelude.{ℕ, List, Option, codes}
 use Rattle.std.specs.declared.option.Option.TheVariants.{None, Some}
-use Rattle.palmheap.specs.declared.input.InputFault.{InputFault}
-use Rattle.palmheap.specs.declared.input.InputFault.TheVariants.{Read, TooLong, Memory}
-use Rattle.palmheap.specs.declared.status.Status.{Status}
-use Rattle.palmheap.specs.declared.status.Status.TheVariants.{Done, Refused, BadWords, ReadFault, WriteFault, NoMemory}
+use Rattle.palmheap_commands.specs.declared.input.InputFault.{InputFault}
+use Rattle.palmheap_commands.specs.declared.input.InputFault.TheVariants.{Read, TooLong, Memory}
+use Rattle.palmheap_commands.specs.declared.status.Status.{Status}
+use Rattle.palmheap_commands.specs.declared.status.Status.TheVariants.{Done, Refused, BadWords, ReadFault, WriteFault, NoMemory}
 
 -- the word that standard error gets behind `fault`
 abbrev pub fault_word : Status → Option (List ℕ)

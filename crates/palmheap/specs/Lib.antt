@@ -1,3 +1,0 @@
-pub mod Output
-pub mod Status
-pub mod Commands

@@ -1,0 +1,6 @@
+pub mod Output
+pub mod Status
+pub mod Commands
+pub use Rattle.heap_model.specs.Heap
+pub use Rattle.chunk_format.specs.Blank
+pub use Rattle.heap_check.specs.Summary

@@ -1,0 +1,27 @@
+//! What the program palmheap does, apart from its command line.
+//!
+//! Each command is a function over bytes and writers, whose contract says which status comes when
+//! and what was written by then. `read_input` reads a file for them, and `OutputFile` is the file
+//! that they write an image to. Start at `cmd_new`.
+//!
+//! | module | does |
+//! |---|---|
+//! | `commands` | one function for each command |
+//! | `input` | reads a file to its end, within the limit |
+//! | `output` | writes all of some bytes to a writer, or answers that a write failed |
+//! | `output_file` | a file that takes the place of another as a whole |
+//! | `status` | what a run came to, and the exit status for it |
+#![tactic(auto)]
+
+mod commands;
+mod input;
+mod output;
+mod output_file;
+mod status;
+#[cfg(test)]
+mod tests;
+
+pub use commands::{cmd_check, cmd_new};
+pub use input::{INPUT_LIMIT, InputFault, read_input};
+pub use output_file::OutputFile;
+pub use status::Status;
