@@ -7,3 +7,8 @@ pub mod Heap
 pub mod Pairing
 pub mod Meaning
 pub mod Reading
+pub mod Maps
+pub mod Space
+pub mod Numbers
+pub mod Refusals
+pub mod MemorySteps

@@ -1,6 +1,7 @@
-//! What a heap image is, and what it means: the definitions that every contract of palmheap cites.
+//! What a heap image is, and what it means: the definitions that every contract of palmheap cites,
+//! and the types that its layers share.
 //!
-//! They stand in `specs/`, in this order:
+//! The definitions stand in `specs/`, in this order:
 //!
 //! | file | says |
 //! |---|---|
@@ -13,12 +14,22 @@
 //! | `Pairing` | the ties in two halves, as a checker meets them |
 //! | `Meaning` | what an accepted heap holds: a map from names to (bytes, lock, owner) |
 //! | `Reading` | the same by functions that read it off the image |
+//! | `Maps` | the changes of a map that calls make |
+//! | `Space` | free chunks and free slots: how much there is, and where |
+//! | `Refusals` | checks in order, and the refusal that the first one brings |
+//! | `MemorySteps` | what each call of the memory manager answers and does |
 //!
 //! Offsets count bytes from the image's start, and numbers are big-endian. The fields of a chunk's
 //! header are those of the Palm OS Programmer's Companion ("Memory Architecture"); the image
 //! around the chunks, profile PHI1, is this project's own (docs/FORMAT.md).
 #![tactic(auto)]
 
+mod bytes;
+mod call;
 mod names;
+mod refusal;
 
-pub use names::Place;
+pub use bytes::Bytes;
+pub use call::{MemoryCall, Reply};
+pub use names::{Name, Place};
+pub use refusal::Refusal;

@@ -1,0 +1,16 @@
+-- The numbers of refusals.
+use Rattle.std.specs.Prelude.{ℕ}
+use Rattle.heap_model.specs.declared.refusal.Refusal.{Refusal}
+use Rattle.heap_model.specs.declared.refusal.Refusal.TheVariants.{InvalidHandle, OwnedByDatabase, ChunkLocked, ChunkNotLocked, LockOverflow, ChunkFixed, InvalidOwner, NotEnoughSpace, OutOfBounds, OutOfMemory}
+
+abbrev pub number_of : Refusal → ℕ
+number_of InvalidHandle = 1
+number_of OwnedByDatabase = 2
+number_of ChunkLocked = 3
+number_of ChunkNotLocked = 4
+number_of LockOverflow = 5
+number_of ChunkFixed = 6
+number_of InvalidOwner = 7
+number_of NotEnoughSpace = 8
+number_of OutOfBounds = 9
+number_of OutOfMemory = 26

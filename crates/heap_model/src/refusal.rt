@@ -1,0 +1,50 @@
+//! Why a call was refused.
+
+ghost use Rattle.std.specs.Prelude.{◌≡◌};
+ghost use Rattle.heap_model.specs.Numbers.{number_of};
+
+/// Why a call was refused. A refused call leaves what the heap means as it was. The numbers are this
+/// project's own, whatever a device answers.
+#[derive(Clone, Copy, Debug, PartialEq, Eq)]
+pub enum Refusal {
+    /// The name is no caller's chunk, nor a database's.
+    InvalidHandle,
+    /// The chunk is a database's.
+    OwnedByDatabase,
+    /// The chunk is locked.
+    ChunkLocked,
+    /// The chunk has no lock.
+    ChunkNotLocked,
+    /// The chunk has 14 locks already.
+    LockOverflow,
+    /// The chunk is fixed.
+    ChunkFixed,
+    /// The owner isn't 1 to 14.
+    InvalidOwner,
+    /// No slot or not enough free space is left.
+    NotEnoughSpace,
+    /// The range reaches beyond the chunk's end.
+    OutOfBounds,
+    /// Memory for the answer was refused.
+    OutOfMemory,
+}
+
+impl Refusal {
+    /// The number of the refusal.
+    pub fn number(self) -> u8
+        ensures { result ≡ number_of self }
+    {
+        match self {
+            Refusal::InvalidHandle => 1,
+            Refusal::OwnedByDatabase => 2,
+            Refusal::ChunkLocked => 3,
+            Refusal::ChunkNotLocked => 4,
+            Refusal::LockOverflow => 5,
+            Refusal::ChunkFixed => 6,
+            Refusal::InvalidOwner => 7,
+            Refusal::NotEnoughSpace => 8,
+            Refusal::OutOfBounds => 9,
+            Refusal::OutOfMemory => 26,
+        }
+    }
+}
