@@ -8,3 +8,6 @@ pub mod Bodies
 pub mod Placed
 pub mod Accepted
 pub mod Meanings
+pub mod Replacing
+pub mod Lives
+pub mod Freeing

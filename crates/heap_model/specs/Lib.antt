@@ -9,6 +9,7 @@ pub mod Meaning
 pub mod Reading
 pub mod Maps
 pub mod Space
+pub mod Placing
 pub mod Numbers
 pub mod Refusals
 pub mod MemorySteps
