@@ -86,3 +86,7 @@ slots_below-suc P k every here = EveryOne-row P 16 (k + 1) (λ j below. at j bel
 pub slots_below-all : (P : ℕ → Type 0) (image : List ℕ) (k : ℕ) → k ≡ slot_count image → EveryOne P (slots_below k) → EveryOne P (slots_of image)
 unfolding slots_of
 slots_below-all P image k e every = subst (λ (n : ℕ). EveryOne P (slots_in_row 16 n)) e every
+
+-- the slots below the next number
+pub slots_below-push : (k : ℕ) → slots_below (k + 1) ≡ slots_below k ++ (16 + 4 * k) ∷ []
+slots_below-push k = let e : k + 1 ≡ k + suc 0 = omega arith in ap (slots_in_row 16) e ∙ row_parts 16 k 0
