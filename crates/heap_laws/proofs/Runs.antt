@@ -86,3 +86,18 @@ stuck_run image start at before cs done inside none s =
       no_more : (after : List Chunk) → SpelledAll image at after (length image) → ⊥
       no_more [] t = omega (arith, t)
       no_more (c ∷ after) t = none c t.0
+
+-- behind the first chunks of an image, in front of its end, stands a chunk
+pub chunk_there : (image : List ℕ) (cs before : List Chunk) (at : ℕ) → Tiles image cs → SpelledAll image (area_start image) before at → at < length image → (c : Chunk) × Spelled image at c
+chunk_there image cs before at t done inside =
+    let rest = SpelledAll-rest image (area_start image) before cs at (length image) done t.area (omega arith) in
+    first rest.0 rest.2 where
+      first : (after : List Chunk) → SpelledAll image at after (length image) → (c : Chunk) × Spelled image at c
+      first [] s = absurd (omega (arith, s))
+      first (c ∷ after) s = (c, s.0)
+
+-- the chunks of an image are those that were walked over, and others
+pub chunks_after : (image : List ℕ) (cs before : List Chunk) (at : ℕ) → Tiles image cs → SpelledAll image (area_start image) before at → at ≤ length image → (after : List Chunk) × (chunks_of image ≡ before ++ after) × SpelledAll image at after (length image)
+chunks_after image cs before at t done inside =
+    let rest = SpelledAll-rest image (area_start image) before cs at (length image) done t.area inside in
+    (rest.0, chunks_of-tiled image cs t ∙ rest.1, rest.2)

@@ -1,0 +1,4 @@
+//! space
+use raw_region::Region;
+/// Todo
+pub struct Space { region: Region }
