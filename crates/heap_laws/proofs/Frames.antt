@@ -123,6 +123,16 @@ overwritten-behind old at front back there e inside =
     ∙ ap (λ (x : List ℕ). start ++ back ++ x) (past ∙ tail)
     ∙ ap (λ (x : List ℕ). x ++ drop (at + length (front ++ back)) old) (append_assoc (take at old) front back)
 
+-- the part that was written
+pub slice-overwritten : (old : List ℕ) (at : ℕ) (part : List ℕ) (count : ℕ) → length part ≡ count → at + count ≤ length old → take (at + count - at) (drop at (overwritten old at part)) ≡ part
+unfolding overwritten
+slice-overwritten old at part count e inside =
+    let len : length (take at old) ≡ at = length-take-le at old (omega arith) in
+    let tail : List ℕ = drop (at + length part) old in
+    let size : at + count - at ≡ length part = omega arith in
+    let cut : drop at (take at old ++ part ++ tail) ≡ part ++ tail = ap (drop at) (append_assoc (take at old) part tail) ∙ drop_at (take at old) (part ++ tail) at len in
+    ap (λ (n : ℕ). take n (drop at (take at old ++ part ++ tail))) size ∙ ap (take (length part)) cut ∙ take_at part tail (length part) refl
+
 -- ---- a number apart from what is written
 
 pub u32_at-below : (o at : ℕ) (old part : List ℕ) → o + 4 ≤ at → at + length part ≤ length old → u32_at (overwritten old at part) o ≡ u32_at old o

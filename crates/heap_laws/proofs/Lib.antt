@@ -11,3 +11,4 @@ pub mod Meanings
 pub mod Replacing
 pub mod Lives
 pub mod Freeing
+pub mod Writing

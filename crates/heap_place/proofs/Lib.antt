@@ -1,1 +1,3 @@
 pub mod SearchLaws
+pub mod SpaceLaws
+pub mod ReleaseLaws

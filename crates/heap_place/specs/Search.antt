@@ -1,9 +1,13 @@
 -- Runs of neighbouring free chunks, and the search for one.
-use Rattle.std.specs.Prelude.{◌≡◌, ◌<◌, ◌≤◌, ◌+◌, ◌++◌, ℕ, List, [], ◌∷◌, length}
+use Rattle.std.specs.Prelude.{◌≡◌, ◌≢◌, ◌<◌, ◌≤◌, ◌+◌, ◌-◌, ◌^◌, ◌++◌, ◌⊎◌, ℕ, List, [], ◌∷◌, length, Option, Some, None}
+use Rattle.heap_model.specs.Bytes.{u32_bytes, overwritten}
 use Rattle.heap_model.specs.Chunk.{Chunk, free, movable, fixed, total, SpelledAll}
 use Rattle.heap_model.specs.Slots.{area_start}
-use Rattle.heap_model.specs.Reading.{chunks_of}
+use Rattle.heap_model.specs.Meaning.{LiveChunk}
+use Rattle.heap_model.specs.Placing.{Finds, ChangesName}
+use Rattle.heap_model.specs.Reading.{chunk_at, chunks_of}
 use Rattle.heap_model.specs.Space.{AllFree}
+use Rattle.chunk_format.specs.Header.{HasHeader}
 use Rattle.chunk_format.specs.declared.header.Header.{Header}
 use Rattle.chunk_format.specs.declared.header.Header.TheVariants as headers
 
@@ -48,3 +52,37 @@ abbrev pub run_by : ℕ → Header → ℕ
 run_by begun (headers.Free size) = begun + size
 run_by begun (headers.Movable length lock owner slot) = 0
 run_by begun (headers.Fixed length owner) = 0
+
+-- the chunk that has its body at this place is live and not the manager's
+pub record IsCallersChunk (image : List ℕ) (place : ℕ) : Type 0 where
+  pub name : ℕ
+  pub live : LiveChunk
+  pub chunk : Chunk
+  pub found : Finds image name live chunk (place - 8)
+  pub behind_header : 8 ≤ place
+  pub owned : live.owner ≢ 0
+
+-- whatever chunk was found at an offset, its name now stands for nothing
+abbrev pub GivesBack : List ℕ → List ℕ → ℕ → Type 0
+GivesBack old new at = (name : ℕ) (live : LiveChunk) (chunk : Chunk) → Finds old name live chunk at → ChangesName old new name None None
+
+-- the size of the free chunk that is read at an offset
+abbrev pub size_if_free : Option Chunk → ℕ
+size_if_free None = 0
+size_if_free (Some (free size)) = size
+size_if_free (Some (movable bytes lock owner slot)) = 0
+size_if_free (Some (fixed bytes owner)) = 0
+
+abbrev pub free_size_at : List ℕ → ℕ → ℕ
+free_size_at image at = size_if_free (chunk_at image at)
+
+-- nothing was written, or the header of a free chunk of a size that is not 0
+abbrev pub WroteRest : List ℕ → List ℕ → ℕ → ℕ → Type 0
+WroteRest old new at size =
+    ((size ≡ 0) × (new ≡ old)) ⊎ ((0 < size) × ((new ≡ overwritten old at (u32_bytes (2 ^ 31 + size))) × HasHeader new at (headers.Free size)))
+
+-- the slot of a movable chunk is emptied
+abbrev pub Emptied : List ℕ → Header → List ℕ → Type 0
+Emptied mid (headers.Free size) new = new ≡ mid
+Emptied mid (headers.Movable length lock owner slot) new = new ≡ overwritten mid slot (u32_bytes 0)
+Emptied mid (headers.Fixed length owner) new = new ≡ mid

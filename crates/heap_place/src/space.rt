@@ -1,4 +1,192 @@
-//! space
+//! The type that owns a heap's region.
+
+ghost use Rattle.std.specs.Prelude.{◌≡◌, ◌≤◌, ◌<◌, ◌+◌, ◌-◌, ◌%◌, ◌^◌, ℕ, length, replicate, IfSome, IfNone, Some, None};
+ghost use Rattle.heap_model.specs.Bytes.{u32_at};
+ghost use Rattle.heap_model.specs.Chunk.{Chunk, need};
+ghost use Rattle.heap_model.specs.Slots.{IsSlot};
+ghost use Rattle.heap_model.specs.Heap.{HeapAccepted};
+ghost use Rattle.heap_model.specs.Meaning.{LiveChunk};
+ghost use Rattle.heap_model.specs.Reading.{chunks_of};
+ghost use Rattle.heap_model.specs.Space.{NoRun};
+ghost use Rattle.heap_model.specs.Placing.{Untouched, IsReserved, ChangesName, Finds};
+ghost use Rattle.heap_place.specs.Search.{IsFreeRun, IsCallersChunk, GivesBack, WroteRest, free_size_at};
+
+use crate::search::{FreeRun, find_run};
+use chunk_format::Header;
+use heap_model::{Name, Place};
 use raw_region::Region;
-/// Todo
-pub struct Space { region: Region }
+use std::marker::Model;
+
+/// A region that is a heap, and what is known of its free chunks. Contracts see the region's value
+/// alone.
+#[derive(Drop)]
+pub struct Space {
+    region: Region,
+}
+
+impl Model for Space {
+    ghost use Rattle.heap_model.specs.Memory.{Memory};
+
+    ghost Value = { Memory };
+
+    ghost view = { λ space. space.region };
+}
+
+impl Space {
+    /// Takes a region.
+    pub fn new(region: Region) -> Space
+        ensures { result ≡ region }
+    {
+        Space { region }
+    }
+
+    /// Gives the region back.
+    pub fn into_region(self) -> Region
+        ensures { result ≡ self }
+    {
+        self.region
+    }
+
+    /// The region, to read.
+    #[inline]
+    pub fn region(&self) -> &Region
+        ensures { result.now ≡ self.now }
+    {
+        &self.region
+    }
+
+    /// Makes the front of a run of neighbouring free chunks one free chunk of exactly `size` bytes,
+    /// header included, and answers the place of its body. None where no such run has so many bytes.
+    pub fn place(&mut self, size: u32) -> Option<Place>
+        requires accepted { HeapAccepted self.old.bytes }
+        requires least { 8 ≤ size }
+        requires whole { size % 8 ≡ 0 }
+        ensures untouched { IfSome result (λ place. Untouched self.old.bytes self.new.bytes) }
+        ensures reserved { IfSome result (λ place. IsReserved self.new.bytes size place.0) }
+        ensures none { IfNone result (NoRun (chunks_of self.old.bytes) size) }
+        ensures unchanged { IfNone result (self.new ≡ self.old) }
+    {
+        reserve(&mut self.region, size)
+    }
+
+    /// Makes the free chunk at a place a movable one of `count` zeros and no locks, which the empty
+    /// slot names.
+    pub fn claim(&mut self, place: Place, slot: Name, count: u32, owner: u8)
+        requires accepted { HeapAccepted self.old.bytes }
+        requires reserved { IsReserved self.old.bytes (need count) place.0 }
+        requires slot { IsSlot self.old.bytes slot.0 }
+        requires empty { u32_at self.old.bytes slot.0 ≡ 0 }
+        requires owner { owner < 16 }
+        ensures made { ChangesName self.old.bytes self.new.bytes slot.0 (Some (record { bytes = replicate count 0; lock = 0; owner = owner })) (Some place.0) }
+        ensures used { u32_at self.new.bytes slot.0 ≡ place.0 }
+    {
+        claim_movable(&mut self.region, place.0 - 8, slot, count, owner);
+    }
+
+    /// Makes the live chunk at a place free, and joins it with the free chunk behind it, if one is
+    /// there. Its slot is emptied.
+    pub fn give_back(&mut self, place: Place)
+        requires accepted { HeapAccepted self.old.bytes }
+        requires live { IsCallersChunk self.old.bytes place.0 }
+        ensures { GivesBack self.old.bytes self.new.bytes (place.0 - 8) }
+    {
+        release(&mut self.region, place.0 - 8);
+    }
+}
+
+/// Finds a run of free chunks, and makes its front one of `size` bytes.
+fn reserve(region: &mut Region, size: u32) -> Option<Place>
+    requires accepted { HeapAccepted region.old.bytes }
+    requires least { 8 ≤ size }
+    requires whole { size % 8 ≡ 0 }
+    ensures untouched { IfSome result (λ place. Untouched region.old.bytes region.new.bytes) }
+    ensures reserved { IfSome result (λ place. IsReserved region.new.bytes size place.0) }
+    ensures none { IfNone result (NoRun (chunks_of region.old.bytes) size) }
+    ensures unchanged { IfNone result (region.new ≡ region.old) }
+{
+    match find_run(region, size) {
+        Some(run) => {
+            carve(region, run, size);
+            Some(Place(run.at + 8))
+        }
+        None => None,
+    }
+}
+
+/// Makes the front of a run of free chunks one of `size` bytes, and what is left another.
+fn carve(region: &mut Region, run: FreeRun, size: u32)
+    requires accepted { HeapAccepted region.old.bytes }
+    requires run { IsFreeRun region.old.bytes run.at run.size }
+    requires least { 8 ≤ size }
+    requires whole { size % 8 ≡ 0 }
+    requires within { size ≤ run.size }
+    ensures untouched { Untouched region.old.bytes region.new.bytes }
+    ensures reserved { IsReserved region.new.bytes size (run.at + 8) }
+{
+    write_rest(region, run.at + size, run.size - size);
+    Header::Free { size }.write(region, run.at);
+}
+
+/// Writes the header of a free chunk of `size` bytes at `at`, unless there are none.
+fn write_rest(region: &mut Region, at: u32, size: u32)
+    requires inside { at + size ≤ length region.old.bytes }
+    requires small { length region.old.bytes < 2 ^ 24 }
+    requires whole { size % 8 ≡ 0 }
+    ensures { WroteRest region.old.bytes region.new.bytes at size }
+{
+    if size > 0 {
+        Header::Free { size }.write(region, at);
+    }
+}
+
+/// Makes the free chunk at `at` a movable one of zeros.
+fn claim_movable(region: &mut Region, at: u32, slot: Name, count: u32, owner: u8)
+    requires accepted { HeapAccepted region.old.bytes }
+    requires reserved { IsReserved region.old.bytes (need count) (at + 8) }
+    requires slot { IsSlot region.old.bytes slot.0 }
+    requires empty { u32_at region.old.bytes slot.0 ≡ 0 }
+    requires owner { owner < 16 }
+    ensures made { ChangesName region.old.bytes region.new.bytes slot.0 (Some (record { bytes = replicate count 0; lock = 0; owner = owner })) (Some (at + 8)) }
+    ensures used { u32_at region.new.bytes slot.0 ≡ at + 8 }
+{
+    let header = Header::Movable {
+        length: count,
+        lock: 0,
+        owner,
+        slot: slot.0,
+    };
+    header.write(region, at);
+    region.fill(at as usize + 8, count as usize, 0);
+    master_table::set(region, slot, Place(at + 8));
+}
+
+/// Makes the live chunk at `at` free, with the free chunk behind it.
+fn release(region: &mut Region, at: u32)
+    requires accepted { HeapAccepted region.old.bytes }
+    requires live { IsCallersChunk region.old.bytes (at + 8) }
+    ensures { GivesBack region.old.bytes region.new.bytes at }
+{
+    let header = match Header::read(region, at) {
+        Some(header) => header,
+        None => unreachable!(),
+    };
+    let size = header.size();
+    let joined = Header::Free {
+        size: size + free_size(region, at + size),
+    };
+    joined.write(region, at);
+    if let Header::Movable { slot, .. } = header {
+        master_table::clear(region, Name(slot));
+    }
+}
+
+/// The size of the free chunk at `at`, or 0 where none stands there.
+fn free_size(region: &Region, at: u32) -> u32
+    requires small { length region.now.bytes < 2 ^ 24 }
+    ensures { result ≡ free_size_at region.now.bytes at }
+{
+    match Header::read(region, at) {
+        Some(Header::Free { size }) => size,
+        _ => 0,
+    }
+}
