@@ -12,3 +12,4 @@ pub mod Replacing
 pub mod Lives
 pub mod Freeing
 pub mod Writing
+pub mod Finding

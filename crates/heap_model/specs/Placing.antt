@@ -1,7 +1,7 @@
 -- What placing a chunk, claiming a free one and giving a live one back do to an accepted heap.
 use Rattle.std.specs.Prelude.{◌≡◌, ◌≢◌, ◌+◌, ◌++◌, ℕ, List, [], ◌∷◌, length, Option, Some, None}
 use Rattle.heap_model.specs.Bytes.{u32_at}
-use Rattle.heap_model.specs.Chunk.{Chunk, free, size_of, total}
+use Rattle.heap_model.specs.Chunk.{Chunk, free, movable, fixed, size_of, total}
 use Rattle.heap_model.specs.Slots.{IsSlot, slot_count, area_start}
 use Rattle.heap_model.specs.Heap.{HeapAccepted}
 use Rattle.heap_model.specs.Meaning.{LiveChunk, NamedHere}
@@ -46,3 +46,9 @@ pub record Finds (image : List ℕ) (name : ℕ) (live : LiveChunk) (chunk : Chu
   pub chunks : chunks_of image ≡ before ++ chunk ∷ after
   pub there : at ≡ area_start image + total before
   pub named : NamedHere name live at chunk
+
+-- the chunk is no fixed one of this name
+abbrev pub NotFixedAs : ℕ → ℕ → Chunk → Type 0
+NotFixedAs name at (free size) = Unit {0}
+NotFixedAs name at (movable bytes lock owner slot) = Unit {0}
+NotFixedAs name at (fixed bytes owner) = at + 8 ≢ name

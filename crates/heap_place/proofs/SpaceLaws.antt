@@ -1,6 +1,6 @@
 -- What the writes of placing, claiming and giving back do to an accepted heap.
 use Rattle.std.proofs.Common.{◌≡◌, ◌≢◌, ℕ, zero, suc, ◌+◌, ◌-◌, ◌*◌, ◌/◌, ◌%◌, ◌^◌, ◌<◌, ◌≤◌, List, [], ◌∷◌, ◌++◌, length, take, drop, replicate, Option, Some, None, refl, sym, ap, subst, ◌∙◌, append_assoc, arith, inl, inr, length-append}
-use Rattle.std.specs.Prelude.{◌⊎◌, slice_range}
+use Rattle.std.specs.Prelude.{◌⊎◌, slice_range, sum_by}
 use Rattle.std.proofs.lemmas.List.{length-replicate}
 use Rattle.heap_model.specs.Bytes.{u32_at, u32_bytes, overwritten}
 use Rattle.heap_model.specs.Chunk.{Chunk, free, movable, fixed, need, size_of, total, IsFree, IsLive, Spelled, SpelledAll}
@@ -8,7 +8,7 @@ use Rattle.heap_model.specs.Slots.{IsSlot, area_start, table_end}
 use Rattle.heap_model.specs.Heap.{IsHeap, HeapAccepted}
 use Rattle.heap_model.specs.Meaning.{LiveChunk, NamedHere}
 use Rattle.heap_model.specs.Reading.{chunk_at, chunks_of}
-use Rattle.heap_model.specs.Space.{AllFree}
+use Rattle.heap_model.specs.Space.{AllFree, NoRun}
 use Rattle.heap_model.specs.Placing.{Untouched, IsReserved, ChangesName, Finds}
 use Rattle.heap_laws.proofs.Frames.{SameBetween, SameBetween-within, u32_at-same, u32_at-written, slice-same, slice-overwritten, length-u32_bytes}
 use Rattle.heap_laws.proofs.Chunks.{total-append, Spelled-size, Spelled-same, SpelledAll-split, SpelledAll-end}
@@ -17,7 +17,7 @@ use Rattle.heap_laws.proofs.Shapes.{chunk_at-spelled, chunk_at-stands}
 use Rattle.heap_laws.proofs.Accepted.{heap_of_read}
 use Rattle.heap_laws.proofs.Replacing.{SameHead, same_count, slot_there, Replaces, same_start, SameSlots}
 use Rattle.heap_laws.proofs.Writing.{WroteWithin, wrote_none, wrote_part, wrote_word, wrote_wider, wrote_then, wrote_apart, wrote_word_apart, WroteArea, area_replaces, area_slots}
-use Rattle.heap_laws.proofs.Freeing.{untouched, OtherSlots, claimed, released}
+use Rattle.heap_laws.proofs.Freeing.{free_sum, untouched, OtherSlots, claimed, released}
 use Rattle.chunk_format.specs.declared.header.Header.{Header}
 use Rattle.chunk_format.specs.declared.header.Header.TheVariants as headers
 use Rattle.chunk_format.specs.Header.{header_of, HasHeader, live_words, h_offset_to}
@@ -137,6 +137,14 @@ run_facts image at size accepted r =
     let whole = m.whole in
     let sums = r.sums in
     (omega arith, omega arith, m.most)
+
+-- a run that has the size is one
+pub is_run : (image : List ℕ) (at run_size size : ℕ) → IsFreeRun image at run_size → size ≤ run_size → NoRun (chunks_of image) size → ⊥
+is_run image at run_size size r enough none =
+    let short = none r.before r.run r.after r.chunks r.all_free in
+    let sum = free_sum r.run r.all_free in
+    let sums = r.sums in
+    omega arith
 
 pub rest_length : (old new : List ℕ) (at size : ℕ) → WroteRest old new at size → at + size ≤ length old → size % 8 ≡ 0 → length new ≡ length old
 rest_length old new at size w inside whole = (rest_within old new at size at (at + size) w (omega arith) (omega arith) inside whole).len

@@ -63,6 +63,7 @@ impl Space {
         requires whole { size % 8 ≡ 0 }
         ensures untouched { IfSome result (λ place. Untouched self.old.bytes self.new.bytes) }
         ensures reserved { IfSome result (λ place. IsReserved self.new.bytes size place.0) }
+        ensures some { IfSome result (λ place. NoRun (chunks_of self.old.bytes) size → ⊥) }
         ensures none { IfNone result (NoRun (chunks_of self.old.bytes) size) }
         ensures unchanged { IfNone result (self.new ≡ self.old) }
     {
@@ -101,6 +102,7 @@ fn reserve(region: &mut Region, size: u32) -> Option<Place>
     requires whole { size % 8 ≡ 0 }
     ensures untouched { IfSome result (λ place. Untouched region.old.bytes region.new.bytes) }
     ensures reserved { IfSome result (λ place. IsReserved region.new.bytes size place.0) }
+    ensures some { IfSome result (λ place. NoRun (chunks_of region.old.bytes) size → ⊥) }
     ensures none { IfNone result (NoRun (chunks_of region.old.bytes) size) }
     ensures unchanged { IfNone result (region.new ≡ region.old) }
 {

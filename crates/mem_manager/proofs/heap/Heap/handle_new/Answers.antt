@@ -1,0 +1,41 @@
+use Rattle.std.proofs.Common.{ℕ, ◌≡◌, ◌≢◌, ◌≤◌, ◌<◌, ◌+◌, ◌*◌, ap, sym, subst, ◌∙◌, Option, None, Some, arith, inl, inr}
+use Rattle.heap_model.specs.Memory.{Memory}
+use Rattle.heap_model.specs.Chunk.{need}
+use Rattle.heap_model.specs.Heap.{HeapAccepted}
+use Rattle.heap_model.specs.Space.{NoRun, free_slots}
+use Rattle.heap_model.specs.Reading.{chunks_of, held}
+use Rattle.heap_model.specs.MemorySteps.{Does, IsNoCaller}
+use Rattle.heap_model.specs.declared.call.MemoryCall.TheVariants.{HandleNew}
+use Rattle.heap_model.specs.declared.call.Reply.TheVariants.{Refused, Named}
+use Rattle.heap_model.specs.declared.refusal.Refusal.TheVariants.{NotEnoughSpace}
+use Rattle.master_table.specs.Table.{IsFirstEmpty}
+use Rattle.mem_manager.proofs.Stepping.{new_no_caller, new_no_run, no_run_so_big, callers_owner, then_changes, slot_unheld, new_made}
+use Rattle.mem_manager.proofs.heap.Heap.handle_new.Goals as goal
+use Rattle.mem_manager.proofs.heap.Heap.handle_new.Goals.{then-owner-eq0-via-then-owner-eq0, then-owner-eq0-via-else-owner-eq0+then-owner-gt14}
+
+pub returns-then-owner-eq0 : goal.returns-then-owner-eq0
+returns-then-owner-eq0 c =
+    new_no_caller c.args.self.now.bytes c.args.size c.args.owner (subst (λ (m : Memory). HeapAccepted m.bytes) c.self.view_is c.self.invariant.accepted)
+    (elim c.then-owner-eq0.branch [
+      | then-owner-eq0-via-then-owner-eq0 w ↦ inl w.if-owner-eq0.true
+      | then-owner-eq0-via-else-owner-eq0+then-owner-gt14 w ↦ inr w.if-owner-gt14.true
+    ])
+
+pub returns-in-None-chunk_size : goal.returns-in-None-chunk_size
+returns-in-None-chunk_size c =
+    let h = subst (λ (m : Memory). HeapAccepted m.bytes) c.self.view_is c.self.invariant.accepted in
+    let big = c.in-None-chunk_size.ensures in
+    new_no_run c.args.self.now.bytes c.args.size c.args.owner h (callers_owner c.args.owner c.if-owner-eq0.false c.if-owner-gt14.false) (no_run_so_big c.args.self.now.bytes (need c.args.size) h (omega arith))
+
+pub returns : goal.returns
+returns c =
+    let old = c.self.inside.space.bytes in
+    let first = subst (λ (m : Memory). IsFirstEmpty m.bytes c.in-Some.number) c.region-region.ensures c.in-Some.ensures.some in
+    subst (λ (m : Memory). Does m.bytes (HandleNew c.args.size c.args.owner) (Named (record { 0 = c.slot_of.result })) c.claim.new.self.bytes) c.self.view_is
+    (new_made old c.claim.new.self.bytes c.args.size c.args.owner (record { 0 = c.slot_of.result }) (Some c.in-Some-place.place.0) c.self.invariant.accepted (callers_owner c.args.owner c.if-owner-eq0.false c.if-owner-gt14.false)
+    (λ none. some_slot c.in-Some.number (c.in-Some.ensures.none.1 (ap (λ (m : Memory). free_slots m.bytes) c.region-region.ensures ∙ none)))
+    (λ none. c.in-Some-place.ensures.some (subst (λ (n : ℕ). NoRun (chunks_of old) n) (sym c.in-Some-chunk_size.ensures.1) none))
+    (ap (held old) c.slot_of.ensures ∙ slot_unheld old c.in-Some.number c.self.invariant.accepted first)
+    (then_changes old c.place.new.self.bytes c.claim.new.self.bytes c.slot_of.result _ _ c.in-Some-place.ensures.untouched c.claim.ensures.made)) where
+      some_slot : (n : ℕ) → Some n ≡ None → ⊥
+      some_slot n e = absurd cc

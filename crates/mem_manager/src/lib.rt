@@ -1,0 +1,13 @@
+//! The memory manager: chunks are made, asked for and freed by name.
+//!
+//! `Heap` owns a region that is an accepted heap. The contract of each of its methods is the step of
+//! the abstract store for that call: the reply is right, and what the image means afterwards is the
+//! store after the call. Beside it each says that the image is still accepted, and that no chunk
+//! that is locked or fixed, and still live, has moved.
+#![tactic(auto)]
+
+mod heap;
+mod lookup;
+mod walks;
+
+pub use heap::{Heap, NotAHeap};

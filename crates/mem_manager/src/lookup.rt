@@ -1,0 +1,80 @@
+//! What a name stands for.
+
+ghost use Rattle.std.specs.Prelude.{◌≡◌, ◌≤◌, ◌-◌, ℕ, IfSome, IfNone, MatchOption, None};
+ghost use Rattle.heap_model.specs.Heap.{HeapAccepted};
+ghost use Rattle.heap_model.specs.Maps.{callers_map};
+ghost use Rattle.heap_model.specs.Reading.{held};
+ghost use Rattle.master_table.specs.Table.{HoldsPlace};
+ghost use Rattle.mem_manager.specs.Lookup.{IsFound, movable_by};
+
+use crate::walks::find_fixed;
+use chunk_format::Header;
+use heap_model::{Name, Place};
+use master_table::resolve;
+use raw_region::Region;
+
+/// The lock of a fixed chunk.
+pub(crate) const FIXED_LOCK: u8 = 15;
+
+/// A live chunk: where its body is, how many bytes it has, its lock (15 if it is fixed) and owner.
+#[derive(Clone, Copy)]
+pub(crate) struct Found {
+    pub(crate) place: Place,
+    pub(crate) length: u32,
+    pub(crate) lock: u8,
+    pub(crate) owner: u8,
+}
+
+/// The caller's chunk that a name stands for. The manager's own are no caller's.
+pub(crate) fn find(region: &Region, name: Name) -> Option<Found>
+    requires accepted { HeapAccepted region.now.bytes }
+    ensures found { IfSome result (IsFound region.now.bytes name.0) }
+    ensures callers { IfSome result (λ found. 1 ≤ found.owner) }
+    ensures none { IfNone result (callers_map region.now.bytes name.0 ≡ None) }
+{
+    match find_any(region, name) {
+        Some(found) if found.owner > 0 => Some(found),
+        _ => None,
+    }
+}
+
+/// The chunk that a name stands for. That of a slot costs the same however large the heap is; for
+/// any other name the chunks are walked.
+fn find_any(region: &Region, name: Name) -> Option<Found>
+    requires accepted { HeapAccepted region.now.bytes }
+    ensures found { IfSome result (IsFound region.now.bytes name.0) }
+    ensures none { IfNone result (held region.now.bytes name.0 ≡ None) }
+{
+    match resolve(region, name) {
+        Some(place) => movable_at(region, place),
+        None => find_fixed(region, name),
+    }
+}
+
+/// The movable chunk whose body is at a place.
+fn movable_at(region: &Region, place: Place) -> Option<Found>
+    requires accepted { HeapAccepted region.now.bytes }
+    requires behind_header { 8 ≤ place.0 }
+    ensures { (name : ℕ) → HoldsPlace region.now.bytes name place.0 → MatchOption result ⊥ (IsFound region.now.bytes name) }
+{
+    match Header::read(region, place.0 - 8) {
+        Some(header) => as_movable(header, place),
+        None => None,
+    }
+}
+
+/// The chunk whose body is at a place, if its header is a movable one's.
+#[inline]
+fn as_movable(header: Header, place: Place) -> Option<Found>
+    ensures { result ≡ movable_by header place }
+{
+    match header {
+        Header::Movable { length, lock, owner, .. } => Some(Found {
+            place,
+            length,
+            lock,
+            owner,
+        }),
+        _ => None,
+    }
+}

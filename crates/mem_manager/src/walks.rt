@@ -1,0 +1,81 @@
+//! Walks over all chunks.
+
+ghost use Rattle.std.specs.Prelude.{◌≡◌, ◌≤◌, ◌<◌, ◌+◌, ◌^◌, length, IfSome, IfNone};
+ghost use Rattle.heap_model.specs.Heap.{HeapAccepted};
+ghost use Rattle.heap_model.specs.Reading.{chunks_of};
+ghost use Rattle.heap_model.specs.Space.{free_total};
+ghost use Rattle.mem_manager.specs.Lookup.{IsFound, NoneFixedAs, fixed_by, free_by};
+
+use crate::lookup::{FIXED_LOCK, Found};
+use chunk_format::{Header, area_start};
+use heap_model::{Name, Place};
+use master_table::slot_count;
+use raw_region::Region;
+
+/// The fixed chunk that a name stands for: the name is the offset of its body.
+pub(crate) fn find_fixed(region: &Region, name: Name) -> Option<Found>
+    requires accepted { HeapAccepted region.now.bytes }
+    ensures found { IfSome result (IsFound region.now.bytes name.0) }
+    ensures none { IfNone result (NoneFixedAs region.now.bytes name.0 (chunks_of region.now.bytes)) }
+{
+    let end = region.len() as u32;
+    let mut at = area_start(slot_count(region));
+    while at < end {
+        let header = match Header::read(region, at) {
+            Some(header) => header,
+            None => unreachable!(),
+        };
+        if let Some(found) = fixed_as(header, at, name) {
+            return Some(found);
+        }
+        at += header.size();
+    }
+    None
+}
+
+/// The sizes of the free chunks together.
+pub(crate) fn free_bytes(region: &Region) -> u32
+    requires accepted { HeapAccepted region.now.bytes }
+    ensures { result ≡ free_total region.now.bytes }
+{
+    let end = region.len() as u32;
+    let mut at = area_start(slot_count(region));
+    let mut count = 0;
+    while at < end {
+        let header = match Header::read(region, at) {
+            Some(header) => header,
+            None => unreachable!(),
+        };
+        count += size_if_free(header);
+        at += header.size();
+    }
+    count
+}
+
+/// A fixed chunk at `at`, if its header is one's and its name is this.
+#[inline]
+fn fixed_as(header: Header, at: u32, name: Name) -> Option<Found>
+    requires { at + 8 < 2 ^ 32 }
+    ensures { result ≡ fixed_by header at name.0 }
+{
+    match header {
+        Header::Fixed { length, owner } if at + 8 == name.0 => Some(Found {
+            place: Place(at + 8),
+            length,
+            lock: FIXED_LOCK,
+            owner,
+        }),
+        _ => None,
+    }
+}
+
+/// The size of a free chunk, and 0 of any other.
+#[inline]
+fn size_if_free(header: Header) -> u32
+    ensures { result ≡ free_by header }
+{
+    match header {
+        Header::Free { size } => size,
+        _ => 0,
+    }
+}
