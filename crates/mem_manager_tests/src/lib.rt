@@ -1,0 +1,6 @@
+//! Tests of the memory manager, in a crate of their own: so its proofs are not checked a second time
+//! for them.
+#![tactic(auto)]
+
+#[cfg(test)]
+mod tests;
