@@ -6,8 +6,8 @@ ghost use Rattle.heap_model.specs.Heap.{HasDirectory};
 ghost use Rattle.heap_model.specs.Reading.{chunk_at, chunks_of};
 ghost use Rattle.heap_check.specs.Survey.{IsPaired, ManagersAt};
 
-use crate::slots::number_of;
 use chunk_format::Header;
+use master_table::number_of;
 use raw_region::Region;
 
 /// Whether the directory word is 0, or the offset of a slot whose chunk is the manager's.

@@ -7,6 +7,7 @@ ghost use Rattle.heap_model.specs.Heap.{magic, IsHead};
 ghost use Rattle.heap_check.specs.Faults.{IsTooShort, HasBadMagic, HasBadSize, HasBadSlotCount, HasBadReserved, HasBadPadding, IsFirstFault};
 
 use crate::fault::HeapFault;
+use master_table::{slot_count, slot_of};
 use raw_region::Region;
 
 /// The first four bytes of an image, as a number: `PHI1`.
@@ -38,7 +39,7 @@ fn has_bad_slot_count(region: &Region) -> bool
     requires { 16 ≤ length region.now.bytes }
     ensures { IsTrue result ↔ HasBadSlotCount region.now.bytes }
 {
-    let slots = region.get_u16(8);
+    let slots = slot_count(region);
     slots == 0 || region.len() < chunk_format::area_start(slots) as usize + 8
 }
 
@@ -53,8 +54,8 @@ fn has_bad_padding(region: &Region) -> bool
     requires { area_start region.now.bytes + 8 ≤ length region.now.bytes }
     ensures { IsTrue result ↔ HasBadPadding region.now.bytes }
 {
-    let slots = region.get_u16(8);
-    let end = 16 + 4 * slots as u32;
+    let slots = slot_count(region);
+    let end = slot_of(slots);
     end != chunk_format::area_start(slots) && region.get_u32(end as usize) != 0
 }
 

@@ -1,31 +1,12 @@
-//! The slots of an image by their numbers, and whether each in use has its chunk.
+//! Whether each slot in use has its chunk.
 
-ghost use Rattle.std.specs.Prelude.{◌≡◌, ◌≤◌, ◌<◌, ◌+◌, ◌*◌, ◌%◌, ◌↔◌, length, IsTrue, IfSome, IfNone};
+ghost use Rattle.std.specs.Prelude.{◌≡◌, ◌≤◌, ◌<◌, ◌+◌, ◌*◌, ◌↔◌, length, IsTrue, IfSome, IfNone};
 ghost use Rattle.heap_model.specs.Slots.{slot_count, slots_of};
 ghost use Rattle.heap_model.specs.Placed.{EveryOne, FirstOne};
 ghost use Rattle.heap_check.specs.Survey.{IsMarked};
 
+use master_table::slot_of;
 use raw_region::Region;
-
-/// The offset of the slot of a number.
-#[inline]
-fn slot_of(number: u16) -> u32
-    ensures { result ≡ 16 + 4 * number }
-{
-    16 + 4 * number as u32
-}
-
-/// The number of the slot at an offset, if one of so many slots stands there.
-#[inline]
-pub(crate) fn number_of(slot: u32, slots: u16) -> Option<u16>
-    ensures some { IfSome result (λ number. (number < slots) × (slot ≡ 16 + 4 * number)) }
-    ensures none { IfNone result (((16 ≤ slot) × (slot < 16 + 4 * slots) × (slot % 4 ≡ 0)) → ⊥) }
-{
-    if slot < 16 || slot >= slot_of(slots) || slot % 4 != 0 {
-        return None;
-    }
-    Some(((slot - 16) / 4) as u16)
-}
 
 /// Whether the slot of a number is marked, if it is in use.
 fn is_marked(region: &Region, number: u16, marks: &[bool]) -> bool

@@ -6,8 +6,8 @@ ghost use Rattle.heap_model.specs.Slots.{slot_count, area_start, is_slot};
 ghost use Rattle.heap_check.specs.Faults.{IsBadChunk};
 ghost use Rattle.heap_check.specs.Survey.{noted, IsSurvey};
 
-use crate::slots::number_of;
 use chunk_format::{Header, area_start};
+use master_table::number_of;
 use raw_region::Region;
 
 /// What a walk has found so far: how many chunks there are of each kind, the free bytes, and the

@@ -1,5 +1,5 @@
 -- The slots of an image, by their number and one after the other.
-use Rattle.std.proofs.Common.{◌≡◌, ℕ, zero, suc, ◌+◌, ◌-◌, ◌*◌, ◌/◌, ◌<◌, List, ◌∷◌, ◌++◌, length, refl, sym, ap, subst, ◌∙◌, arith, inl, inr}
+use Rattle.std.proofs.Common.{◌≡◌, ℕ, zero, suc, ◌+◌, ◌-◌, ◌*◌, ◌/◌, ◌<◌, List, ◌∷◌, ◌++◌, length, refl, sym, ap, subst, ◌∙◌, arith, inl, inr, []}
 use Rattle.std.proofs.lemmas.Bool.{cases_lt}
 use Rattle.heap_model.specs.Slots.{slot_count, table_end, slots_in_row, slots_of, IsSlot}
 use Rattle.heap_model.specs.Placed.{EveryOne}
