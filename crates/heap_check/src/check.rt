@@ -11,6 +11,7 @@ use crate::head::check_head;
 use crate::slots::find_unmarked;
 use crate::summary::Summary;
 use crate::survey::survey_chunks;
+use master_table::slot_count;
 use raw_region::Region;
 
 /// The most slots that a table can have, and one mark more.
@@ -50,7 +51,7 @@ fn check_area(region: &Region, marks: &mut [bool]) -> Result<Summary, HeapFault>
     ensures summary { IfOk result (Summarizes region.now.bytes) }
     ensures fault { IfErr result (IsFirstFault region.now.bytes) }
 {
-    let slots = region.get_u16(8);
+    let slots = slot_count(region);
     let survey = match survey_chunks(region, slots, marks) {
         Ok(survey) => survey,
         Err(at) => return Err(HeapFault::BadChunk(at)),
