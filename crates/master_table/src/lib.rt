@@ -10,3 +10,6 @@ mod table;
 
 pub use slots::{number_of, slot_count, slot_of};
 pub use table::{clear, free_slot, resolve, set, slots_free};
+
+#[cfg(test)]
+mod tests;
