@@ -45,7 +45,7 @@ fn no_place_is_found_where_one_unit_is_missing(rt: HostRuntime) -> Result<(), Fa
     Ok(())
 }
 
-/// Free chunks of 24 bytes at 32 and 80 with a live one between them, whose slot is the first.
+/// Free chunks of 24 bytes at 32, 80 and 104, and a live one of the first slot at 56.
 #[test]
 fn a_live_chunk_ends_a_run(rt: HostRuntime) -> Result<(), Fail> {
     let words = [
@@ -83,7 +83,6 @@ fn a_claimed_chunk_is_zeros(rt: HostRuntime) -> Result<(), Fail> {
     let mut space = heap(
         rt.alloc(),
         &[
-            (16, 0),
             (36, ones),
             (40, ones),
             (44, ones),

@@ -1,6 +1,6 @@
 -- How many slots are empty.
-use Rattle.std.proofs.Common.{◌≡◌, ◌≢◌, ℕ, zero, suc, ◌+◌, ◌*◌, ◌<◌, ◌≤◌, Bool, true, false, cond, List, [], ◌∷◌, ◌++◌, refl, sym, ap, subst, ◌∙◌, arith, inl, inr}
-use Rattle.std.specs.Prelude.{◌==◌, ◌↔◌, count_by, sum_by}
+use Rattle.std.proofs.Common.{◌≡◌, ◌≢◌, ℕ, zero, suc, ◌+◌, ◌*◌, ◌<◌, ◌≤◌, Bool, true, false, cond, List, ◌∷◌, ◌++◌, refl, sym, ap, subst, ◌∙◌, arith, inl, inr}
+use Rattle.std.specs.Prelude.{◌==◌, count_by, sum_by}
 use Rattle.std.proofs.lemmas.Bool.{eq-eqb, cases_lt}
 use Rattle.std.proofs.lemmas.Bool.Decides.{nat_tests}
 use Rattle.std.proofs.lemmas.List.Sums.{sum_by_push, sum_by-append, sum_by-cons}
@@ -8,7 +8,7 @@ use Rattle.heap_model.specs.Bytes.{u32_at}
 use Rattle.heap_model.specs.Slots.{slot_count, slots_of}
 use Rattle.heap_model.specs.Space.{free_slots}
 use Rattle.heap_laws.proofs.Slots.{slots_below, slots_below-push, slots_parts}
-use Rattle.master_table.specs.Table.{UsedBelow, IsFirstEmpty}
+use Rattle.master_table.specs.Table.{UsedBelow}
 
 -- how many of the slots below a number are empty
 abbrev pub empty_below : List ℕ → ℕ → ℕ

@@ -1,5 +1,5 @@
 -- The table as a partial map from slots to places.
-use Rattle.std.specs.Prelude.{◌≡◌, ◌≢◌, ◌<◌, ◌≤◌, ◌+◌, ◌*◌, ℕ, List, length}
+use Rattle.std.specs.Prelude.{◌≡◌, ◌≢◌, ◌<◌, ◌+◌, ◌*◌, ℕ, List}
 use Rattle.heap_model.specs.Bytes.{u32_at}
 use Rattle.heap_model.specs.Slots.{IsSlot, slot_count}
 

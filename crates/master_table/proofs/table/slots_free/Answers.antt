@@ -1,4 +1,4 @@
-use Rattle.std.proofs.Common.{◌≡◌, ◌≢◌, refl, sym, ◌∙◌, arith}
+use Rattle.std.proofs.Common.{refl, ◌∙◌, arith}
 use Rattle.std.proofs.lemmas.Bool.{false≢true}
 use Rattle.master_table.proofs.CountLaws.{empty_more, empty_same, empty_all}
 use Rattle.master_table.proofs.table.slots_free.Goals as goal
