@@ -1,9 +1,8 @@
 -- A live chunk of an accepted heap is made free, with the free chunk behind it.
-use Rattle.std.proofs.Common.{◌≡◌, ◌≢◌, ℕ, zero, suc, ◌+◌, ◌-◌, ◌*◌, ◌/◌, ◌%◌, ◌^◌, ◌<◌, ◌≤◌, List, [], ◌∷◌, ◌++◌, length, Option, Some, None, refl, sym, ap, subst, ◌∙◌, append_assoc, arith, inl, inr}
-use Rattle.std.specs.Prelude.{◌⊎◌}
+use Rattle.std.proofs.Common.{◌≡◌, ℕ, ◌+◌, ◌-◌, ◌%◌, ◌^◌, ◌<◌, ◌≤◌, List, [], ◌∷◌, ◌++◌, length, Some, None, refl, sym, ap, subst, ◌∙◌, arith, inl, inr}
 use Rattle.std.specs.Option.{option_map}
 use Rattle.heap_model.specs.Bytes.{u32_at, u32_bytes, overwritten}
-use Rattle.heap_model.specs.Chunk.{Chunk, free, movable, fixed, need, size_of, total, Spelled, SpelledAll}
+use Rattle.heap_model.specs.Chunk.{Chunk, free, movable, fixed, size_of, total, Spelled, SpelledAll}
 use Rattle.heap_model.specs.Slots.{IsSlot, area_start, table_end}
 use Rattle.heap_model.specs.Heap.{BodyHere, IsHeap, HeapAccepted}
 use Rattle.heap_model.specs.Meaning.{LiveChunk, NamedHere}
@@ -86,10 +85,12 @@ pub callers : (image : List ℕ) (at name : ℕ) (live : LiveChunk) (chunk : Chu
 callers image at name live chunk accepted own f = subst NotManagers same (owned own.chunk own.found.named) where
   place : at + 8 - 8 ≡ at
   place = omega arith
+
   same : own.chunk ≡ chunk
   same = one (sym (found_there image at own.name own.live own.chunk accepted (subst (λ (n : ℕ). Finds image own.name own.live own.chunk n) place own.found)) ∙ found_there image at name live chunk accepted f) where
     one : Some own.chunk ≡ Some chunk → own.chunk ≡ chunk
     one e = cc
+
   owned : (c : Chunk) → NamedHere own.name own.live (at + 8 - 8) c → NotManagers c
   owned (free size) n = tt
   owned (movable bytes lock owner slot) n = λ e. own.owned (sym (ap (λ (l : LiveChunk). l.owner) n.1) ∙ e)

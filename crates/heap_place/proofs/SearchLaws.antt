@@ -1,10 +1,8 @@
 -- The search for a run of free chunks, step by step.
-use Rattle.std.proofs.Common.{◌≡◌, ◌≢◌, ℕ, zero, suc, ◌+◌, ◌-◌, ◌<◌, ◌≤◌, List, [], ◌∷◌, ◌++◌, length, refl, sym, ap, subst, ◌∙◌, append_assoc, append-nil, arith}
-use Rattle.std.specs.Prelude.{sum_by}
-use Rattle.std.proofs.lemmas.List.Sums.{sum_by-cons}
-use Rattle.heap_model.specs.Chunk.{Chunk, free, movable, fixed, size_of, total, free_size, Spelled, SpelledAll}
+use Rattle.std.proofs.Common.{◌≡◌, ℕ, ◌+◌, ◌-◌, ◌<◌, ◌≤◌, List, [], ◌∷◌, ◌++◌, length, refl, sym, ap, subst, ◌∙◌, append_assoc, append-nil, arith}
+use Rattle.heap_model.specs.Chunk.{Chunk, free, movable, fixed, size_of, total, Spelled, SpelledAll}
 use Rattle.heap_model.specs.Slots.{area_start}
-use Rattle.heap_model.specs.Heap.{IsHeap, HeapAccepted}
+use Rattle.heap_model.specs.Heap.{HeapAccepted}
 use Rattle.heap_model.specs.Reading.{chunks_of}
 use Rattle.heap_model.specs.Space.{AllFree, NoRun}
 use Rattle.heap_laws.proofs.Chunks.{total-append, Spelled-size, SpelledAll-end, SpelledAll-push}

@@ -1,27 +1,24 @@
 -- What the writes of placing, claiming and giving back do to an accepted heap.
-use Rattle.std.proofs.Common.{◌≡◌, ◌≢◌, ℕ, zero, suc, ◌+◌, ◌-◌, ◌*◌, ◌/◌, ◌%◌, ◌^◌, ◌<◌, ◌≤◌, List, [], ◌∷◌, ◌++◌, length, take, drop, replicate, Option, Some, None, refl, sym, ap, subst, ◌∙◌, append_assoc, arith, inl, inr, length-append}
-use Rattle.std.specs.Prelude.{◌⊎◌, slice_range, sum_by}
+use Rattle.std.proofs.Common.{◌≡◌, ℕ, zero, suc, ◌+◌, ◌-◌, ◌*◌, ◌%◌, ◌^◌, ◌<◌, ◌≤◌, List, [], ◌∷◌, ◌++◌, length, take, drop, replicate, Some, refl, sym, ap, subst, ◌∙◌, arith, inl, inr, length-append}
+use Rattle.std.specs.Prelude.{slice_range}
 use Rattle.std.proofs.lemmas.List.{length-replicate}
 use Rattle.heap_model.specs.Bytes.{u32_at, u32_bytes, overwritten}
-use Rattle.heap_model.specs.Chunk.{Chunk, free, movable, fixed, need, size_of, total, IsFree, IsLive, Spelled, SpelledAll}
+use Rattle.heap_model.specs.Chunk.{Chunk, free, movable, fixed, need, size_of, total, IsFree, Spelled, SpelledAll}
 use Rattle.heap_model.specs.Slots.{IsSlot, area_start, table_end}
 use Rattle.heap_model.specs.Heap.{IsHeap, HeapAccepted}
-use Rattle.heap_model.specs.Meaning.{LiveChunk, NamedHere}
-use Rattle.heap_model.specs.Reading.{chunk_at, chunks_of}
-use Rattle.heap_model.specs.Space.{AllFree, NoRun}
-use Rattle.heap_model.specs.Placing.{Untouched, IsReserved, ChangesName, Finds}
-use Rattle.heap_laws.proofs.Frames.{SameBetween, SameBetween-within, u32_at-same, u32_at-written, slice-same, slice-overwritten, length-u32_bytes}
-use Rattle.heap_laws.proofs.Chunks.{total-append, Spelled-size, Spelled-same, SpelledAll-split, SpelledAll-end}
+use Rattle.heap_model.specs.Reading.{chunks_of}
+use Rattle.heap_model.specs.Space.{AllFree}
+use Rattle.heap_model.specs.Placing.{Untouched, IsReserved, ChangesName}
+use Rattle.heap_laws.proofs.Frames.{u32_at-written, slice-same, slice-overwritten, length-u32_bytes}
+use Rattle.heap_laws.proofs.Chunks.{Spelled-size, Spelled-same, SpelledAll-split, SpelledAll-end}
 use Rattle.heap_laws.proofs.Runs.{chunks_of-tiled}
-use Rattle.heap_laws.proofs.Shapes.{chunk_at-spelled, chunk_at-stands}
 use Rattle.heap_laws.proofs.Accepted.{heap_of_read}
 use Rattle.heap_laws.proofs.Replacing.{SameHead, same_count, slot_there, Replaces, same_start, SameSlots}
 use Rattle.heap_laws.proofs.Writing.{WroteWithin, wrote_none, wrote_part, wrote_word, wrote_wider, wrote_then, wrote_apart, wrote_word_apart, WroteArea, area_replaces, area_slots}
-use Rattle.heap_laws.proofs.Freeing.{free_sum, untouched, OtherSlots, claimed, released}
-use Rattle.chunk_format.specs.declared.header.Header.{Header}
+use Rattle.heap_laws.proofs.Freeing.{untouched, OtherSlots, claimed}
 use Rattle.chunk_format.specs.declared.header.Header.TheVariants as headers
 use Rattle.chunk_format.specs.Header.{header_of, HasHeader, live_words, h_offset_to}
-use Rattle.heap_place.specs.Search.{IsFreeRun, IsCallersChunk, WroteRest, size_if_free, free_size_at}
+use Rattle.heap_place.specs.Search.{IsFreeRun, WroteRest}
 
 -- ---- chunks of a heap
 
@@ -90,8 +87,8 @@ gap_spelled old mid new at size at_rest zero end e f least inside len w r = omeg
 gap_spelled old mid new at size at_rest (suc n) end e f least inside len w r = elim r [
   | inl none ↦ absurd (let z = none.0 in omega arith)
   | inr some ↦
-    let there : IsFree mid at_rest (suc n) = has_free mid at_rest (suc n) some.1.1 in
-    (Spelled-same mid new at_rest (free (suc n)) (wrote_apart mid new at (at + 4) at_rest (at_rest + suc n) w (inr (omega arith, omega arith))) len there, omega arith)
+      let there : IsFree mid at_rest (suc n) = has_free mid at_rest (suc n) some.1.1 in
+      (Spelled-same mid new at_rest (free (suc n)) (wrote_apart mid new at (at + 4) at_rest (at_rest + suc n) w (inr (omega arith, omega arith))) len there, omega arith)
 ]
 
 rest_within : (old mid : List ℕ) (at_rest rest low high : ℕ) → WroteRest old mid at_rest rest → low ≤ at_rest → at_rest + rest ≤ high → high ≤ length old → rest % 8 ≡ 0 → WroteWithin old mid low high
@@ -121,13 +118,15 @@ carved old mid new at run_size size accepted r least whole within wrote is heade
     let replaces = area_replaces old new r.before r.run others r.after at r.there m.inside (subst (λ (n : ℕ). WroteArea old new at (at + n)) sums area) spelled in
     let slots : SameSlots old new = record { same = λ slot s. let low_slot : slot < table_end old = s.in_table in let four : slot % 4 ≡ 0 = s.whole in wrote_word_apart old new at (at + run_size) slot all (inl (omega arith)) } in
     let u = untouched old new r.before r.run others r.after at heap replaces slots r.all_free (gap_free rest) in
-    let start_new : area_start new ≡ area_start old = same_start old new replaces.head in
-    (u.1, record {
-      before = r.before;
-      after = gap rest ++ r.after;
-      chunks = chunks_of-tiled new (r.before ++ (others ++ r.after)) u.0.tiles;
-      there = omega arith;
-    })
+    let start_new : area_start new ≡ area_start old = same_start old new replaces.head in (
+      u.1,
+      record {
+        before = r.before;
+        after = gap rest ++ r.after;
+        chunks = chunks_of-tiled new (r.before ++ (others ++ r.after)) u.0.tiles;
+        there = omega arith;
+      },
+    )
 
 -- where a run of free chunks lies
 pub run_facts : (image : List ℕ) (at size : ℕ) → HeapAccepted image → IsFreeRun image at size → (at + size ≤ length image) × (size % 8 ≡ 0) × (length image ≤ 16777208)
@@ -137,14 +136,6 @@ run_facts image at size accepted r =
     let whole = m.whole in
     let sums = r.sums in
     (omega arith, omega arith, m.most)
-
--- a run that has the size is one
-pub is_run : (image : List ℕ) (at run_size size : ℕ) → IsFreeRun image at run_size → size ≤ run_size → NoRun (chunks_of image) size → ⊥
-is_run image at run_size size r enough none =
-    let short = none r.before r.run r.after r.chunks r.all_free in
-    let sum = free_sum r.run r.all_free in
-    let sums = r.sums in
-    omega arith
 
 pub rest_length : (old new : List ℕ) (at size : ℕ) → WroteRest old new at size → at + size ≤ length old → size % 8 ≡ 0 → length new ≡ length old
 rest_length old new at size w inside whole = (rest_within old new at size at (at + size) w (omega arith) (omega arith) inside whole).len
@@ -185,17 +176,22 @@ zeroed h new at count lock owner slot found len first second body =
     let zeros : length (replicate {A = ℕ} count 0) ≡ count = length-replicate count 0 in
     let same : length (replicate {A = ℕ} count 0) ≡ length m.0 = zeros ∙ sym m.1.1 in
     let inside : at + need (length m.0) ≤ length h = s.1.inside in
-    let fits : need (length m.0) < 2 ^ 24 = s.1.size_fits in
-    (s.0, record {
-      first_word = first ∙ s.1.first_word ∙ ap (λ (n : ℕ). (need n - 8 - n) * 2 ^ 24 + need n) (sym same);
-      size_fits = omega arith;
-      second_word = second ∙ s.1.second_word;
-      lock_fits = s.1.lock_fits;
-      owner_fits = s.1.owner_fits;
-      h_offset_fits = s.1.h_offset_fits;
-      body = ap (λ (n : ℕ). slice_range new (at + 8) (at + 8 + n)) zeros ∙ body;
-      inside = omega arith;
-    }, s.2, s.3, s.4)
+    let fits : need (length m.0) < 2 ^ 24 = s.1.size_fits in (
+      s.0,
+      record {
+        first_word = first ∙ s.1.first_word ∙ ap (λ (n : ℕ). (need n - 8 - n) * 2 ^ 24 + need n) (sym same);
+        size_fits = omega arith;
+        second_word = second ∙ s.1.second_word;
+        lock_fits = s.1.lock_fits;
+        owner_fits = s.1.owner_fits;
+        h_offset_fits = s.1.h_offset_fits;
+        body = ap (λ (n : ℕ). slice_range new (at + 8) (at + 8 + n)) zeros ∙ body;
+        inside = omega arith;
+      },
+      s.2,
+      s.3,
+      s.4,
+    )
 
 live_words_length : (count lock owner h : ℕ) → length (live_words count lock owner h) ≡ 8
 live_words_length count lock owner h =
@@ -257,13 +253,13 @@ claimed_write old h z new at count owner slot accepted r s empty h_is header z_i
     let first : u32_at new at ≡ u32_at h at = wrote_word_apart z new slot (slot + 4) at word (inr (omega arith, omega arith)) ∙ wrote_word_apart h z (at + 8) (at + 8 + length (replicate {A = ℕ} count 0)) at w2' (inl (omega arith)) in
     let second : u32_at new (at + 4) ≡ u32_at h (at + 4) = wrote_word_apart z new slot (slot + 4) (at + 4) word (inr (omega arith, omega arith)) ∙ wrote_word_apart h z (at + 8) (at + 8 + length (replicate {A = ℕ} count 0)) (at + 4) w2' (inl (omega arith)) in
     let body : slice_range new (at + 8) (at + 8 + count) ≡ replicate count 0 =
-        sym (slice-same (at + 8) (at + 8 + count) z new (wrote_apart z new slot (slot + 4) (at + 8) (at + 8 + count) word (inr (omega arith, omega arith))) (omega arith) (omega arith))
-        ∙ ap (λ (x : List ℕ). take (at + 8 + count - (at + 8)) (drop (at + 8) x)) z_is ∙ slice-overwritten h (at + 8) (replicate count 0) count zeros (omega arith) in
+    sym (slice-same (at + 8) (at + 8 + count) z new (wrote_apart z new slot (slot + 4) (at + 8) (at + 8 + count) word (inr (omega arith, omega arith))) (omega arith) (omega arith))
+    ∙ ap (λ (x : List ℕ). take (at + 8 + count - (at + 8)) (drop (at + 8) x)) z_is ∙ slice-overwritten h (at + 8) (replicate count 0) count zeros (omega arith) in
     let spelled : Spelled new at (movable (replicate count 0) 0 owner slot) = zeroed h new at count 0 owner slot header (omega arith) first second body in
     let takes : need (length (replicate {A = ℕ} count 0)) ≡ size = ap need zeros in
     let is : at ≡ area_start old + total r.before = omega arith in
     let wrote : WroteArea old new at (at + (size + 0)) = subst (λ (n : ℕ). WroteArea old new at (at + n)) (let e : size ≡ size + 0 = omega arith in e)
-        record { mid = z; slot = slot; area = area; word = word; is_slot = inr s; there = omega arith; fits = omega arith } in
+    record { mid = z; slot = slot; area = area; word = word; is_slot = inr s; there = omega arith; fits = omega arith } in
     let replaces : Replaces old new r.before (free size ∷ []) (movable (replicate count 0) 0 owner slot ∷ []) r.after at = area_replaces old new r.before (free size ∷ []) (movable (replicate count 0) 0 owner slot ∷ []) r.after at is (omega arith) wrote (spelled, omega arith) in
     let now : u32_at new slot ≡ at + 8 = ap (λ (x : List ℕ). u32_at x slot) new_is ∙ u32_at-written (at + 8) slot z (omega arith) (omega arith) in
     let others : OtherSlots old new slot = record { same = λ t ts ne. area_slots old new at (at + (size + 0)) t wrote ts (omega arith) (λ e. ne (sym (slot_of e))) } in

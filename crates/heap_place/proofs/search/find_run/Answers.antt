@@ -1,7 +1,7 @@
-use Rattle.std.proofs.Common.{◌≡◌, ◌<◌, ◌≤◌, ◌+◌, ◌-◌, ◌*◌, ◌/◌, ℕ, ap, sym, subst, ◌∙◌, length, arith}
+use Rattle.std.proofs.Common.{◌≡◌, ◌<◌, ◌+◌, ◌-◌, ◌*◌, ◌/◌, ℕ, ap, sym, subst, ◌∙◌, arith}
 use Rattle.heap_model.specs.Slots.{area_start}
 use Rattle.chunk_format.specs.Header.{size_by}
-use Rattle.heap_place.specs.Search.{IsFreeRun, Searched, run_by}
+use Rattle.heap_place.specs.Search.{IsFreeRun, Searched}
 use Rattle.heap_place.proofs.SearchLaws.{search_start, search_there, search_fits, search_size, search_more, search_found, search_none}
 use Rattle.heap_place.proofs.search.find_run.Goals as goal
 

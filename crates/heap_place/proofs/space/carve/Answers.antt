@@ -1,4 +1,4 @@
-use Rattle.std.proofs.Common.{◌≡◌, ◌≤◌, ◌<◌, length, ap, arith}
+use Rattle.std.proofs.Common.{ap, arith}
 use Rattle.heap_model.specs.Memory.{Memory}
 use Rattle.heap_place.proofs.SpaceLaws.{run_facts, rest_length, carved}
 use Rattle.heap_place.proofs.space.carve.Goals as goal

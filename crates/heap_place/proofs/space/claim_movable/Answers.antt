@@ -1,4 +1,4 @@
-use Rattle.std.proofs.Common.{◌≡◌, ◌≤◌, ◌<◌, ◌+◌, ◌%◌, ℕ, length, ap, inl, refl, arith}
+use Rattle.std.proofs.Common.{◌+◌, ap, inl, refl, arith}
 use Rattle.heap_model.specs.Memory.{Memory}
 use Rattle.heap_model.specs.Chunk.{need}
 use Rattle.heap_place.proofs.SpaceLaws.{reserved_facts, slot_facts, claimed_area, table_kept, claimed_write}

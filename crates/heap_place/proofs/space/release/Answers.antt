@@ -1,4 +1,4 @@
-use Rattle.std.proofs.Common.{◌≡◌, ◌≤◌, ◌<◌, ◌+◌, ◌%◌, ℕ, ap, sym, subst, ◌∙◌, Some, arith}
+use Rattle.std.proofs.Common.{◌+◌, ap, sym, subst, ◌∙◌, Some, arith}
 use Rattle.heap_model.specs.Memory.{Memory}
 use Rattle.chunk_format.specs.declared.header.Header.{Header}
 use Rattle.heap_place.specs.Search.{Emptied}

@@ -1,4 +1,4 @@
-use Rattle.std.proofs.Common.{◌≡◌, ◌-◌, subst}
+use Rattle.std.proofs.Common.{◌-◌, subst}
 use Rattle.heap_model.specs.Memory.{Memory}
 use Rattle.heap_place.specs.Search.{GivesBack}
 use Rattle.heap_place.proofs.space.Space.give_back.Goals as goal
