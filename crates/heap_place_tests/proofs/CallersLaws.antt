@@ -1,9 +1,9 @@
 -- Chunks of callers, as they are found in an accepted heap.
-use Rattle.std.proofs.Common.{◌≡◌, ◌≢◌, ℕ, ◌+◌, ◌-◌, ◌<◌, ◌≤◌, List, [], ◌∷◌, ◌++◌, length, Option, Some, None, refl, sym, ap, subst, ◌∙◌, arith}
+use Rattle.std.proofs.Common.{◌≡◌, ◌≢◌, ℕ, ◌+◌, ◌-◌, ◌<◌, ◌≤◌, List, [], ◌∷◌, ◌++◌, length, Some, refl, sym, ap, subst, ◌∙◌, arith}
 use Rattle.std.specs.Option.{option_map}
 use Rattle.heap_model.specs.Chunk.{Chunk, free, movable, fixed, fixed_lock, total, Spelled}
 use Rattle.heap_model.specs.Slots.{area_start}
-use Rattle.heap_model.specs.Heap.{BodyHere, IsBody, IsHeap, HeapAccepted}
+use Rattle.heap_model.specs.Heap.{BodyHere, IsHeap, HeapAccepted}
 use Rattle.heap_model.specs.Reading.{chunk_at, chunks_of}
 use Rattle.heap_model.specs.Placing.{Finds}
 use Rattle.heap_laws.proofs.Accepted.{heap_of_read}

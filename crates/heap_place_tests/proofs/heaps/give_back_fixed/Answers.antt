@@ -1,4 +1,4 @@
-use Rattle.std.proofs.Common.{sym, subst}
+use Rattle.std.proofs.Common.{subst}
 use Rattle.heap_model.specs.Memory.{Memory}
 use Rattle.heap_place.specs.Search.{IsCallersChunk}
 use Rattle.heap_place_tests.proofs.CallersLaws.{gave_accepted}
