@@ -28,7 +28,7 @@ read_heap image h = heap_of_read image h.0 h.1
 pub finds_held : (image : List ℕ) (name : ℕ) (live : LiveChunk) (chunk : Chunk) (at : ℕ) → HeapAccepted image → Finds image name live chunk at → held image name ≡ Some live
 finds_held image name live chunk at h f =
     let there : AnyPlaced (NamedHere name live) (area_start image) (chunks_of image) = subst (λ (cs : List Chunk). AnyPlaced (NamedHere name live) (area_start image) cs) (sym f.chunks)
-        (AnyPlaced-mid (NamedHere name live) (area_start image) f.before chunk f.after (subst (λ (n : ℕ). NamedHere name live n chunk) f.there f.named)) in
+    (AnyPlaced-mid (NamedHere name live) (area_start image) f.before chunk f.after (subst (λ (n : ℕ). NamedHere name live n chunk) f.there f.named)) in
     held-is image (chunks_of image) name (read_heap image h) ∙ (live_under-is image (chunks_of image) name live (read_heap image h)).1 there
 
 -- what is held is found
@@ -100,7 +100,7 @@ none_held image name h empty every = nothing (held image name) refl where
       let found = held_finds image name live h e in
       let f = found.finds in
       let here : EveryPlaced (NotFixedAs name) (area_start image + total f.before) (found.chunk ∷ f.after) =
-          (EveryPlaced-split (NotFixedAs name) (area_start image) f.before (found.chunk ∷ f.after) (subst (λ (cs : List Chunk). EveryPlaced (NotFixedAs name) (area_start image) cs) f.chunks every)).1 in
+      (EveryPlaced-split (NotFixedAs name) (area_start image) f.before (found.chunk ∷ f.after) (subst (λ (cs : List Chunk). EveryPlaced (NotFixedAs name) (area_start image) cs) f.chunks every)).1 in
       absurd (not_found image name live f.before found.chunk f.after (subst (λ (cs : List Chunk). IsHeap image cs) f.chunks (read_heap image h)) (subst (λ (n : ℕ). NamedHere name live n found.chunk) f.there f.named) empty here.0)
 
 -- ---- what callers may name

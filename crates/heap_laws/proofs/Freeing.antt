@@ -73,23 +73,27 @@ untouched old new before mid others after at h r slots fm fo =
     let starts : area_start new ≡ start = same_start old new r.head in
     let heap : IsHeap new (before ++ (others ++ after)) = replaced_heap old new before mid others after at h r record {
       ties = kept_ties old new before mid others after at h r slots (λ slot place. (
-        λ b. absurd (any_free (BodyHere slot place) (λ at size b. b) at mid fm b), λ b. absurd (any_free (BodyHere slot place) (λ at size b. b) at others fo b)));
+        λ b. absurd (any_free (BodyHere slot place) (λ at size b. b) at mid fm b),
+        λ b. absurd (any_free (BodyHere slot place) (λ at size b. b) at others fo b),
+      ));
       callers = every_free at others fo;
       directory = kept_directory old new before mid others after at h r (λ b. absurd (any_free (ManagersHere (directory_of old)) (λ at size b. b) at mid fm b));
-    } in
-    (heap, record {
-      frame = frame_of old new (before ++ (others ++ after)) r.head heap;
-      map = λ name. reads_live new (before ++ (others ++ after)) start name heap starts
-          ∙ live_replaced start before mid others after name sizes (live_under-free (start + total before) others name fo ∙ sym (live_under-free (start + total before) mid name fm))
-          ∙ sym (reads_live old (before ++ (mid ++ after)) start name h refl);
-      places = λ name. reads_place new (before ++ (others ++ after)) start name heap starts
-          ∙ place_replaced start before mid others after name sizes (place_under-free (start + total before) others name fo ∙ sym (place_under-free (start + total before) mid name fm))
-          ∙ sym (reads_place old (before ++ (mid ++ after)) start name h refl);
-      free = reads_free new (before ++ (others ++ after)) heap
-          ∙ sum_middle before others mid after (free_sum others fo ∙ sizes ∙ sym (free_sum mid fm))
-          ∙ sym (reads_free old (before ++ (mid ++ after)) h);
-      slots = slots.same;
-    })
+    } in (
+      heap,
+      record {
+        frame = frame_of old new (before ++ (others ++ after)) r.head heap;
+        map = λ name. reads_live new (before ++ (others ++ after)) start name heap starts
+            ∙ live_replaced start before mid others after name sizes (live_under-free (start + total before) others name fo ∙ sym (live_under-free (start + total before) mid name fm))
+            ∙ sym (reads_live old (before ++ (mid ++ after)) start name h refl);
+        places = λ name. reads_place new (before ++ (others ++ after)) start name heap starts
+            ∙ place_replaced start before mid others after name sizes (place_under-free (start + total before) others name fo ∙ sym (place_under-free (start + total before) mid name fm))
+            ∙ sym (reads_place old (before ++ (mid ++ after)) start name h refl);
+        free = reads_free new (before ++ (others ++ after)) heap
+            ∙ sum_middle before others mid after (free_sum others fo ∙ sizes ∙ sym (free_sum mid fm))
+            ∙ sym (reads_free old (before ++ (mid ++ after)) h);
+        slots = slots.same;
+      },
+    )
 
 -- ---- one slot changes
 
@@ -119,37 +123,44 @@ claimed_ties old new before after at size bytes owner slot h r s empty now other
     elim (cases_eq t slot) [ inl same ↦ mine same | inr apart ↦ other apart ] where
       start : ℕ
       start = area_start old
+
       sizes : need (length bytes) + 0 ≡ size + 0
       sizes = replaced_total old new before (free size ∷ []) (movable bytes 0 owner slot ∷ []) after at r
+
       there : at ≡ start + total before
       there = r.there
+
       new_list : List Chunk
       new_list = before ++ (movable bytes 0 owner slot ∷ after)
+
       old_body : (u : ℕ) → u ≢ slot → IsBody start new_list u place → IsBody start (before ++ (free size ∷ after)) u place
       old_body u apart b = any_replaced (BodyHere u place) start before (movable bytes 0 owner slot ∷ []) (free size ∷ []) after (sym sizes)
           (λ m. elim m [ inl own ↦ absurd (apart (sym own.0)) | inr none ↦ absurd none ]) b
+
       new_body : (u : ℕ) → IsBody start (before ++ (free size ∷ after)) u place → IsBody start new_list u place
       new_body u b = any_replaced (BodyHere u place) start before (free size ∷ []) (movable bytes 0 owner slot ∷ []) after sizes
           (λ m. elim m [ inl own ↦ absurd own | inr none ↦ absurd none ]) b
+
       other : t ≢ slot → ((IsSlot old t × (u32_at new t ≡ place)) ↔ IsBody start new_list t place)
       other apart = (
-          λ k. new_body t ((h.tied t place positive).0 (k.0, sym (others.same t k.0 apart) ∙ k.1)),
-          λ b. let k = (h.tied t place positive).1 (old_body t apart b) in (k.0, others.same t k.0 apart ∙ k.1),
-        )
+        λ k. new_body t ((h.tied t place positive).0 (k.0, sym (others.same t k.0 apart) ∙ k.1)),
+        λ b. let k = (h.tied t place positive).1 (old_body t apart b) in (k.0, others.same t k.0 apart ∙ k.1),
+      )
+
       mine : t ≡ slot → ((IsSlot old t × (u32_at new t ≡ place)) ↔ IsBody start new_list t place)
       mine same = (
-          λ k. let is : start + total before + 8 ≡ place = let e = k.1 in let f : u32_at new t ≡ at + 8 = ap (u32_at new) same ∙ now in omega arith in
-              AnyPlaced-right (BodyHere t place) start before (movable bytes 0 owner slot ∷ after) (inl (sym same, is)),
-          λ b. elim (AnyPlaced-split (BodyHere t place) start before (movable bytes 0 owner slot ∷ after) b) [
-            | inl front ↦ absurd (used (AnyPlaced-left (BodyHere t place) start before (free size ∷ after) front))
-            | inr rest ↦ elim rest [
-              | inl own ↦ let is = own.1 in (subst (λ (n : ℕ). IsSlot old n) (sym same) s, ap (u32_at new) same ∙ now ∙ (let e : at + 8 ≡ place = omega arith in e))
-              | inr back ↦ absurd (used (AnyPlaced-right (BodyHere t place) start before (free size ∷ after) (inr (subst (λ (n : ℕ). AnyPlaced (BodyHere t place) (start + total before + n) after) (let e : need (length bytes) ≡ size = omega arith in e) back))))
-            ]
-          ],
-        ) where
-          used : IsBody start (before ++ (free size ∷ after)) t place → ⊥
-          used b = let k = (h.tied t place positive).1 b in let e = k.1 in let z : u32_at old t ≡ 0 = ap (u32_at old) same ∙ empty in omega arith
+        λ k. let is : start + total before + 8 ≡ place = let e = k.1 in let f : u32_at new t ≡ at + 8 = ap (u32_at new) same ∙ now in omega arith in
+            AnyPlaced-right (BodyHere t place) start before (movable bytes 0 owner slot ∷ after) (inl (sym same, is)),
+        λ b. elim (AnyPlaced-split (BodyHere t place) start before (movable bytes 0 owner slot ∷ after) b) [
+          | inl front ↦ absurd (used (AnyPlaced-left (BodyHere t place) start before (free size ∷ after) front))
+          | inr rest ↦ elim rest [
+            | inl own ↦ let is = own.1 in (subst (λ (n : ℕ). IsSlot old n) (sym same) s, ap (u32_at new) same ∙ now ∙ (let e : at + 8 ≡ place = omega arith in e))
+            | inr back ↦ absurd (used (AnyPlaced-right (BodyHere t place) start before (free size ∷ after) (inr (subst (λ (n : ℕ). AnyPlaced (BodyHere t place) (start + total before + n) after) (let e : need (length bytes) ≡ size = omega arith in e) back))))
+          ]
+        ],
+      ) where
+        used : IsBody start (before ++ (free size ∷ after)) t place → ⊥
+        used b = let k = (h.tied t place positive).1 b in let e = k.1 in let z : u32_at old t ≡ 0 = ap (u32_at old) same ∙ empty in omega arith
 
 -- the maps where the middle chunks are one chunk of a name, or free chunks
 or_none : {A : Type 0} (x y : Option A) → x ≡ None → or_else x y ≡ y
@@ -206,19 +217,21 @@ claimed old new before after at size bytes owner slot h r s empty now others =
     } in
     let none : live_under start old_list slot ≡ None = empty_unheld old old_list slot h s empty in
     let front : live_under start before slot ≡ None = or_front _ _ (sym (live_under-append start before (free size ∷ after) slot) ∙ none) in
-    let at_is : start + total before + 8 ≡ at + 8 = let e = r.there in omega arith in
-    (heap, record {
-      frame = frame_of old new new_list r.head heap;
-      here = reads_live new new_list start slot heap starts ∙ live_mid start before (c ∷ []) after slot front ∙ ap (λ o. or_else o (live_under (start + total before + total (c ∷ [])) after slot)) (own_live (start + total before) bytes 0 owner slot []);
-      others = λ name apart. reads_live new new_list start name heap starts
-          ∙ live_replaced start before (free size ∷ []) (c ∷ []) after name sizes (other_live (start + total before) bytes 0 owner slot name [] apart)
-          ∙ sym (reads_live old old_list start name h refl);
-      place = reads_place new new_list start slot heap starts ∙ place_mid start before (c ∷ []) after slot front ∙ ap (λ o. or_else o (place_under (start + total before + total (c ∷ [])) after slot)) (own_place (start + total before) bytes 0 owner slot []) ∙ ap (λ (n : ℕ). some_place n) at_is;
-      places = λ name apart. reads_place new new_list start name heap starts
-          ∙ place_replaced start before (free size ∷ []) (c ∷ []) after name sizes (other_place (start + total before) bytes 0 owner slot name [] apart)
-          ∙ sym (reads_place old old_list start name h refl);
-      slots = others.same;
-    }) where
+    let at_is : start + total before + 8 ≡ at + 8 = let e = r.there in omega arith in (
+      heap,
+      record {
+        frame = frame_of old new new_list r.head heap;
+        here = reads_live new new_list start slot heap starts ∙ live_mid start before (c ∷ []) after slot front ∙ ap (λ o. or_else o (live_under (start + total before + total (c ∷ [])) after slot)) (own_live (start + total before) bytes 0 owner slot []);
+        others = λ name apart. reads_live new new_list start name heap starts
+            ∙ live_replaced start before (free size ∷ []) (c ∷ []) after name sizes (other_live (start + total before) bytes 0 owner slot name [] apart)
+            ∙ sym (reads_live old old_list start name h refl);
+        place = reads_place new new_list start slot heap starts ∙ place_mid start before (c ∷ []) after slot front ∙ ap (λ o. or_else o (place_under (start + total before + total (c ∷ [])) after slot)) (own_place (start + total before) bytes 0 owner slot []) ∙ ap (λ (n : ℕ). some_place n) at_is;
+        places = λ name apart. reads_place new new_list start name heap starts
+            ∙ place_replaced start before (free size ∷ []) (c ∷ []) after name sizes (other_place (start + total before) bytes 0 owner slot name [] apart)
+            ∙ sym (reads_place old old_list start name h refl);
+        slots = others.same;
+      },
+    ) where
       some_place : ℕ → Option ℕ
       some_place n = Some n
 
@@ -267,76 +280,93 @@ other_name_place name other at live (fixed bytes owner) run n apart = cond-false
 pub released : (old new : List ℕ) (before : List Chunk) (c : Chunk) (run after : List Chunk) (at size name : ℕ) (live : LiveChunk) → IsHeap old (before ++ ((c ∷ run) ++ after)) → Replaces old new before (c ∷ run) (free size ∷ []) after at
     → AllFree run → NamedHere name live at c → NotManagers c → ClearsSlot new c → OtherSlots old new name
     → IsHeap new (before ++ (free size ∷ after)) × ChangesName old new name None None
-released old new before c run after at size name live h r f own owned clear others =
-    (heap, record {
-      frame = frame_of old new new_list r.head heap;
-      here = reads_live new new_list start name heap starts ∙ live_mid start before (free size ∷ []) after name front ∙ back_new;
-      others = λ other apart. reads_live new new_list start other heap starts
-          ∙ live_replaced start before (c ∷ run) (free size ∷ []) after other sizes (sym (other_name name other (start + total before) live c run mine apart ∙ live_under-free (start + total before + size_of c) run other f))
-          ∙ sym (reads_live old old_list start other h refl);
-      place = reads_place new new_list start name heap starts ∙ place_mid start before (free size ∷ []) after name front ∙ live_placed (start + total before + (size + 0)) after name back_new;
-      places = λ other apart. reads_place new new_list start other heap starts
-          ∙ place_replaced start before (c ∷ run) (free size ∷ []) after other sizes (sym (other_name_place name other (start + total before) live c run mine apart ∙ place_under-free (start + total before + size_of c) run other f))
-          ∙ sym (reads_place old old_list start other h refl);
-      slots = others.same;
-    }) where
-      start : ℕ
-      start = area_start old
-      old_list : List Chunk
-      old_list = before ++ ((c ∷ run) ++ after)
-      new_list : List Chunk
-      new_list = before ++ (free size ∷ after)
-      there : at ≡ start + total before
-      there = r.there
-      mine : NamedHere name live (start + total before) c
-      mine = subst (λ (n : ℕ). NamedHere name live n c) there own
-      sizes : size + 0 ≡ size_of c + total run
-      sizes = replaced_total old new before (c ∷ run) (free size ∷ []) after at r
-      starts : area_start new ≡ start
-      starts = same_start old new r.head
-      once : (y : LiveChunk) → (AnyPlaced (NamedHere name y) start before → ⊥) × (AnyPlaced (NamedHere name y) (start + total before + size_of c) (run ++ after) → ⊥)
-      once y = named_once old before c (run ++ after) name live y h mine
-      front : live_under start before name ≡ None
-      front = unnamed start before name (λ y. (once y).0)
-      behind : start + total before + size_of c + total run ≡ start + total before + (size + 0)
-      behind = omega arith
-      back_new : live_under (start + total before + (size + 0)) after name ≡ None
-      back_new = unnamed (start + total before + (size + 0)) after name (λ y b. (once y).1 (AnyPlaced-right (NamedHere name y) (start + total before + size_of c) run after (subst (λ (n : ℕ). AnyPlaced (NamedHere name y) n after) (sym behind) b)))
-      to_new : (slot place : ℕ) → slot ≢ name → IsBody start old_list slot place → IsBody start new_list slot place
-      to_new slot place apart b = any_replaced (BodyHere slot place) start before (c ∷ run) (free size ∷ []) after sizes (λ m. elim m [
-        | inl here ↦ absurd (apart (body_name name slot place (start + total before) live c mine here))
-        | inr later ↦ absurd (any_free (BodyHere slot place) (λ at size b. b) (start + total before + size_of c) run f later)
-      ]) b
-      to_old : (slot place : ℕ) → IsBody start new_list slot place → IsBody start old_list slot place
-      to_old slot place b = any_replaced (BodyHere slot place) start before (free size ∷ []) (c ∷ run) after (sym sizes) (λ m. elim m [ inl here ↦ absurd here | inr none ↦ absurd none ]) b
-      not_name : (place : ℕ) → IsBody start new_list name place → ⊥
-      not_name place b = elim (AnyPlaced-split (BodyHere name place) start before (free size ∷ after) b) [
-        | inl left ↦ let n = bodies_named name place start before left in (once n.0).0 n.1
-        | inr rest ↦ elim rest [
-          | inl none ↦ none
-          | inr right ↦
-            let n = bodies_named name place (start + total before + size) after right in
-            let e : start + total before + size ≡ start + total before + size_of c + total run = omega arith in
-            (once n.0).1 (AnyPlaced-right (NamedHere name n.0) (start + total before + size_of c) run after (subst (λ (m : ℕ). AnyPlaced (NamedHere name n.0) m after) e n.1))
-        ]
-      ]
-      ties : (slot place : ℕ) → 0 < place → ((IsSlot old slot × (u32_at new slot ≡ place)) ↔ IsBody start new_list slot place)
-      ties slot place positive = elim (cases_eq slot name) [
-        | inl same ↦ (
-          λ k. absurd (cleared old new before c (run ++ after) name place live h mine clear (subst (λ (n : ℕ). IsSlot old n) same k.0) (ap (u32_at new) (sym same) ∙ k.1) positive),
-          λ b. absurd (not_name place (subst (λ (n : ℕ). IsBody start new_list n place) same b)),
-        )
-        | inr apart ↦ (
-          λ k. to_new slot place apart ((h.tied slot place positive).0 (k.0, sym (others.same slot k.0 apart) ∙ k.1)),
-          λ b. let k = (h.tied slot place positive).1 (to_old slot place b) in (k.0, others.same slot k.0 apart ∙ k.1),
-        )
-      ]
-      heap : IsHeap new new_list
-      heap = replaced_heap old new before (c ∷ run) (free size ∷ []) after at h r record {
-          ties = ties;
-          callers = (tt, tt);
-          directory = kept_directory old new before (c ∷ run) (free size ∷ []) after at h r (λ m. elim m [
-            | inl here ↦ absurd (not_managers (directory_of old) at c owned here)
-            | inr later ↦ absurd (any_free (ManagersHere (directory_of old)) (λ at size b. b) (at + size_of c) run f later)
-          ]);
-        }
+released old new before c run after at size name live h r f own owned clear others = (
+  heap,
+  record {
+    frame = frame_of old new new_list r.head heap;
+    here = reads_live new new_list start name heap starts ∙ live_mid start before (free size ∷ []) after name front ∙ back_new;
+    others = λ other apart. reads_live new new_list start other heap starts
+        ∙ live_replaced start before (c ∷ run) (free size ∷ []) after other sizes (sym (other_name name other (start + total before) live c run mine apart ∙ live_under-free (start + total before + size_of c) run other f))
+        ∙ sym (reads_live old old_list start other h refl);
+    place = reads_place new new_list start name heap starts ∙ place_mid start before (free size ∷ []) after name front ∙ live_placed (start + total before + (size + 0)) after name back_new;
+    places = λ other apart. reads_place new new_list start other heap starts
+        ∙ place_replaced start before (c ∷ run) (free size ∷ []) after other sizes (sym (other_name_place name other (start + total before) live c run mine apart ∙ place_under-free (start + total before + size_of c) run other f))
+        ∙ sym (reads_place old old_list start other h refl);
+    slots = others.same;
+  },
+) where
+  start : ℕ
+  start = area_start old
+
+  old_list : List Chunk
+  old_list = before ++ ((c ∷ run) ++ after)
+
+  new_list : List Chunk
+  new_list = before ++ (free size ∷ after)
+
+  there : at ≡ start + total before
+  there = r.there
+
+  mine : NamedHere name live (start + total before) c
+  mine = subst (λ (n : ℕ). NamedHere name live n c) there own
+
+  sizes : size + 0 ≡ size_of c + total run
+  sizes = replaced_total old new before (c ∷ run) (free size ∷ []) after at r
+
+  starts : area_start new ≡ start
+  starts = same_start old new r.head
+
+  once : (y : LiveChunk) → (AnyPlaced (NamedHere name y) start before → ⊥) × (AnyPlaced (NamedHere name y) (start + total before + size_of c) (run ++ after) → ⊥)
+  once y = named_once old before c (run ++ after) name live y h mine
+
+  front : live_under start before name ≡ None
+  front = unnamed start before name (λ y. (once y).0)
+
+  behind : start + total before + size_of c + total run ≡ start + total before + (size + 0)
+  behind = omega arith
+
+  back_new : live_under (start + total before + (size + 0)) after name ≡ None
+  back_new = unnamed (start + total before + (size + 0)) after name (λ y b. (once y).1 (AnyPlaced-right (NamedHere name y) (start + total before + size_of c) run after (subst (λ (n : ℕ). AnyPlaced (NamedHere name y) n after) (sym behind) b)))
+
+  to_new : (slot place : ℕ) → slot ≢ name → IsBody start old_list slot place → IsBody start new_list slot place
+  to_new slot place apart b = any_replaced (BodyHere slot place) start before (c ∷ run) (free size ∷ []) after sizes (λ m. elim m [
+    | inl here ↦ absurd (apart (body_name name slot place (start + total before) live c mine here))
+    | inr later ↦ absurd (any_free (BodyHere slot place) (λ at size b. b) (start + total before + size_of c) run f later)
+  ]) b
+
+  to_old : (slot place : ℕ) → IsBody start new_list slot place → IsBody start old_list slot place
+  to_old slot place b = any_replaced (BodyHere slot place) start before (free size ∷ []) (c ∷ run) after (sym sizes) (λ m. elim m [ inl here ↦ absurd here | inr none ↦ absurd none ]) b
+
+  not_name : (place : ℕ) → IsBody start new_list name place → ⊥
+  not_name place b = elim (AnyPlaced-split (BodyHere name place) start before (free size ∷ after) b) [
+    | inl left ↦ let n = bodies_named name place start before left in (once n.0).0 n.1
+    | inr rest ↦ elim rest [
+      | inl none ↦ none
+      | inr right ↦
+          let n = bodies_named name place (start + total before + size) after right in
+          let e : start + total before + size ≡ start + total before + size_of c + total run = omega arith in
+          (once n.0).1 (AnyPlaced-right (NamedHere name n.0) (start + total before + size_of c) run after (subst (λ (m : ℕ). AnyPlaced (NamedHere name n.0) m after) e n.1))
+    ]
+  ]
+
+  ties : (slot place : ℕ) → 0 < place → ((IsSlot old slot × (u32_at new slot ≡ place)) ↔ IsBody start new_list slot place)
+  ties slot place positive = elim (cases_eq slot name) [
+    | inl same ↦ (
+      λ k. absurd (cleared old new before c (run ++ after) name place live h mine clear (subst (λ (n : ℕ). IsSlot old n) same k.0) (ap (u32_at new) (sym same) ∙ k.1) positive),
+      λ b. absurd (not_name place (subst (λ (n : ℕ). IsBody start new_list n place) same b)),
+    )
+    | inr apart ↦ (
+      λ k. to_new slot place apart ((h.tied slot place positive).0 (k.0, sym (others.same slot k.0 apart) ∙ k.1)),
+      λ b. let k = (h.tied slot place positive).1 (to_old slot place b) in (k.0, others.same slot k.0 apart ∙ k.1),
+    )
+  ]
+
+  heap : IsHeap new new_list
+  heap = replaced_heap old new before (c ∷ run) (free size ∷ []) after at h r record {
+    ties = ties;
+    callers = (tt, tt);
+    directory = kept_directory old new before (c ∷ run) (free size ∷ []) after at h r (λ m. elim m [
+      | inl here ↦ absurd (not_managers (directory_of old) at c owned here)
+      | inr later ↦ absurd (any_free (ManagersHere (directory_of old)) (λ at size b. b) (at + size_of c) run f later)
+    ]);
+  }

@@ -81,10 +81,10 @@ with_offset name live start [] h = absurd h
 with_offset name live start (c ∷ cs) h = elim h [
   | inl own ↦ let header = takes_header name live start c own in record { at = start; behind = omega arith; within = omega arith; there = inl (refl, own); kind = elim (kinds name live start c own) [ inl b ↦ inl (inl b) | inr is ↦ inr is ] }
   | inr later ↦
-    let o = with_offset name live (start + size_of c) cs later in
-    let behind = o.behind in
-    let within = o.within in
-    record { at = o.at; behind = omega arith; within = omega arith; there = inr o.there; kind = elim o.kind [ inl b ↦ inl (inr b) | inr is ↦ inr is ] }
+      let o = with_offset name live (start + size_of c) cs later in
+      let behind = o.behind in
+      let within = o.within in
+      record { at = o.at; behind = omega arith; within = omega arith; there = inr o.there; kind = elim o.kind [ inl b ↦ inl (inr b) | inr is ↦ inr is ] }
 ]
 
 -- the slot of a body holds its place
@@ -98,11 +98,11 @@ apart image name at slot behind is = let high : name < table_end image = slot.in
 same_offset : (image : List ℕ) (cs : List Chunk) (name : ℕ) (x y : LiveChunk) → IsHeap image cs → (o : Offset name x (area_start image) cs) → (p : Offset name y (area_start image) cs) → o.at ≡ p.at
 same_offset image cs name x y h o p = elim o.kind [
   | inl b ↦
-    let s = slot_place image cs name (o.at + 8) h b in
-    elim p.kind [
-      | inl c ↦ let same : o.at + 8 ≡ p.at + 8 = sym s.1 ∙ (slot_place image cs name (p.at + 8) h c).1 in omega arith
-      | inr is ↦ absurd (apart image name p.at s.0 p.behind is)
-    ]
+      let s = slot_place image cs name (o.at + 8) h b in
+      elim p.kind [
+        | inl c ↦ let same : o.at + 8 ≡ p.at + 8 = sym s.1 ∙ (slot_place image cs name (p.at + 8) h c).1 in omega arith
+        | inr is ↦ absurd (apart image name p.at s.0 p.behind is)
+      ]
   | inr mine ↦ elim p.kind [
     | inl c ↦ absurd (apart image name o.at (slot_place image cs name (p.at + 8) h c).0 o.behind mine)
     | inr is ↦ omega arith
@@ -115,43 +115,48 @@ pub named_once : (image : List ℕ) (before : List Chunk) (c : Chunk) (after : L
 named_once image before c after name x y h own = (in_front, behind) where
   start : ℕ
   start = area_start image
+
   here : ℕ
   here = start + total before
+
   cs : List Chunk
   cs = before ++ c ∷ after
+
   mine : Offset name x start cs
   mine = record {
-      at = here;
-      behind = omega arith;
-      within = let e = total-append before (c ∷ after) in let header = takes_header name x here c own in omega arith;
-      there = AnyPlaced-right (At here (NamedHere name x)) start before (c ∷ after) (inl (refl, own));
-      kind = elim (kinds name x here c own) [ inl b ↦ inl (AnyPlaced-right (BodyHere name (here + 8)) start before (c ∷ after) (inl b)) | inr is ↦ inr is ];
-    }
+    at = here;
+    behind = omega arith;
+    within = let e = total-append before (c ∷ after) in let header = takes_header name x here c own in omega arith;
+    there = AnyPlaced-right (At here (NamedHere name x)) start before (c ∷ after) (inl (refl, own));
+    kind = elim (kinds name x here c own) [ inl b ↦ inl (AnyPlaced-right (BodyHere name (here + 8)) start before (c ∷ after) (inl b)) | inr is ↦ inr is ];
+  }
+
   in_front : AnyPlaced (NamedHere name y) start before → ⊥
   in_front other =
       let o = with_offset name y start before other in
       let whole : Offset name y start cs = record {
-          at = o.at;
-          behind = o.behind;
-          within = let e = total-append before (c ∷ after) in let w = o.within in omega arith;
-          there = AnyPlaced-left (At o.at (NamedHere name y)) start before (c ∷ after) o.there;
-          kind = elim o.kind [ inl b ↦ inl (AnyPlaced-left (BodyHere name (o.at + 8)) start before (c ∷ after) b) | inr is ↦ inr is ];
-        } in
+        at = o.at;
+        behind = o.behind;
+        within = let e = total-append before (c ∷ after) in let w = o.within in omega arith;
+        there = AnyPlaced-left (At o.at (NamedHere name y)) start before (c ∷ after) o.there;
+        kind = elim o.kind [ inl b ↦ inl (AnyPlaced-left (BodyHere name (o.at + 8)) start before (c ∷ after) b) | inr is ↦ inr is ];
+      } in
       let same = same_offset image cs name x y h mine whole in
       let w = o.within in
       omega arith
+
   behind : AnyPlaced (NamedHere name y) (here + size_of c) after → ⊥
   behind other =
       let o = with_offset name y (here + size_of c) after other in
       let low = o.behind in
       let header = takes_header name x here c own in
       let whole : Offset name y start cs = record {
-          at = o.at;
-          behind = omega arith;
-          within = let e = total-append before (c ∷ after) in let w = o.within in omega arith;
-          there = AnyPlaced-right (At o.at (NamedHere name y)) start before (c ∷ after) (inr o.there);
-          kind = elim o.kind [ inl b ↦ inl (AnyPlaced-right (BodyHere name (o.at + 8)) start before (c ∷ after) (inr b)) | inr is ↦ inr is ];
-        } in
+        at = o.at;
+        behind = omega arith;
+        within = let e = total-append before (c ∷ after) in let w = o.within in omega arith;
+        there = AnyPlaced-right (At o.at (NamedHere name y)) start before (c ∷ after) (inr o.there);
+        kind = elim o.kind [ inl b ↦ inl (AnyPlaced-right (BodyHere name (o.at + 8)) start before (c ∷ after) (inr b)) | inr is ↦ inr is ];
+      } in
       let same = same_offset image cs name x y h mine whole in
       omega arith
 
@@ -172,11 +177,12 @@ one_named image cs name x y h mine other =
 -- ---- the map that is read is the one that is held
 
 pub live_under-is : (image : List ℕ) (cs : List Chunk) (name : ℕ) (live : LiveChunk) → IsHeap image cs → ((live_under (area_start image) cs name ≡ Some live) ↔ AnyPlaced (NamedHere name live) (area_start image) cs)
-live_under-is image cs name live h =
-    (live_under-there (area_start image) cs name live,
-     λ there.
-     let found = live_under-some (area_start image) cs name live there in
-     found.1 ∙ ap some (one_named image cs name found.0 live h (live_under-there (area_start image) cs name found.0 found.1) there))
+live_under-is image cs name live h = (
+  live_under-there (area_start image) cs name live,
+  λ there.
+      let found = live_under-some (area_start image) cs name live there in
+      found.1 ∙ ap some (one_named image cs name found.0 live h (live_under-there (area_start image) cs name found.0 found.1) there),
+)
 
 -- what is held, by the chunks
 pub held-is : (image : List ℕ) (cs : List Chunk) (name : ℕ) → IsHeap image cs → held image name ≡ live_under (area_start image) cs name
@@ -198,6 +204,7 @@ pub holds_one : (image : List ℕ) (m n : ChunkMap) → Holds image m → Holds 
 holds_one image m n a b = λ i name. same name i where
   chunks : b.chunks ≡ a.chunks
   chunks = Tiles-unique image b.chunks a.chunks b.heap.tiles a.heap.tiles
+
   same : (name : ℕ) → m name ≡ n name
   same name = same_option (m name) (n name)
       (λ live is. (b.each name live).1 (subst (λ (cs : List Chunk). AnyPlaced (NamedHere name live) (area_start image) cs) (sym chunks) ((a.each name live).0 is)))
@@ -208,6 +215,7 @@ pub held-zero : (image : List ℕ) → HeapAccepted image → held image 0 ≡ N
 held-zero image h = nothing (held image 0) refl where
   m : Holds image (held image)
   m = heap_holds image h
+
   nothing : (r : Option LiveChunk) → held image 0 ≡ r → r ≡ None
   nothing None e = refl
   nothing (Some live) e =

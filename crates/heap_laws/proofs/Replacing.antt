@@ -146,9 +146,9 @@ kept_ties old new before mid others after at h r slots bodies slot place positiv
     let start : ℕ = area_start old in
     let sizes = replaced_total old new before mid others after at r in
     let there : AnyPlaced (BodyHere slot place) (start + total before) mid → AnyPlaced (BodyHere slot place) (start + total before) others =
-        λ b. subst (λ (n : ℕ). AnyPlaced (BodyHere slot place) n others) r.there ((bodies slot place).0 (subst (λ (n : ℕ). AnyPlaced (BodyHere slot place) n mid) (sym r.there) b)) in
+    λ b. subst (λ (n : ℕ). AnyPlaced (BodyHere slot place) n others) r.there ((bodies slot place).0 (subst (λ (n : ℕ). AnyPlaced (BodyHere slot place) n mid) (sym r.there) b)) in
     let back : AnyPlaced (BodyHere slot place) (start + total before) others → AnyPlaced (BodyHere slot place) (start + total before) mid =
-        λ b. subst (λ (n : ℕ). AnyPlaced (BodyHere slot place) n mid) r.there ((bodies slot place).1 (subst (λ (n : ℕ). AnyPlaced (BodyHere slot place) n others) (sym r.there) b)) in (
+    λ b. subst (λ (n : ℕ). AnyPlaced (BodyHere slot place) n mid) r.there ((bodies slot place).1 (subst (λ (n : ℕ). AnyPlaced (BodyHere slot place) n others) (sym r.there) b)) in (
       λ s. any_replaced (BodyHere slot place) start before mid others after sizes there ((h.tied slot place positive).0 (s.0, sym (slots.same slot s.0) ∙ s.1)),
       λ b. let s = (h.tied slot place positive).1 (any_replaced (BodyHere slot place) start before others mid after (sym sizes) back b) in (s.0, slots.same slot s.0 ∙ s.1),
     )

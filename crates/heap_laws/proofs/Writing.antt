@@ -73,6 +73,7 @@ area_same old new low high start end w apart inside =
       first : ((start ≡ 0) × (end ≡ 16) ⊎ ((table_end old ≤ start) × ((end ≤ low) ⊎ (high ≤ start)))) → (end ≤ low) ⊎ ((high ≤ start) × (end ≤ length old))
       first (inl head) = let e = head.1 in let there = w.there in inl (omega arith)
       first (inr rest) = elim rest.1 [ inl below ↦ inl below | inr above ↦ inr (above, inside) ]
+
       second : ((start ≡ 0) × (end ≡ 16) ⊎ ((table_end old ≤ start) × ((end ≤ low) ⊎ (high ≤ start)))) → ((w.slot ≡ low) ⊎ IsSlot old w.slot) → (end ≤ w.slot) ⊎ ((w.slot + 4 ≤ start) × (end ≤ length w.mid))
       second (inl head) (inl is) = let e = head.1 in let there = w.there in inl (omega arith)
       second (inl head) (inr s) = let e = head.1 in let low_slot = s.behind_head in inl (omega arith)

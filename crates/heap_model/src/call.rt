@@ -8,20 +8,49 @@ use crate::refusal::Refusal;
 /// offsets within a chunk count bytes.
 #[derive(Drop)]
 pub enum MemoryCall {
-    HandleNew { size: u32, owner: u8 },
-    PtrNew { size: u32, owner: u8 },
+    HandleNew {
+        size: u32,
+        owner: u8,
+    },
+    PtrNew {
+        size: u32,
+        owner: u8,
+    },
     Free(Name),
     Lock(Name),
     Unlock(Name),
     Size(Name),
     Owner(Name),
     Locks(Name),
-    Read { name: Name, at: u32, count: u32 },
-    Write { name: Name, at: u32, bytes: Bytes },
-    Set { name: Name, at: u32, count: u32, byte: u8 },
-    StrCopy { name: Name, at: u32, text: Bytes },
-    Resize { name: Name, size: u32 },
-    SetOwner { name: Name, owner: u8 },
+    Read {
+        name: Name,
+        at: u32,
+        count: u32,
+    },
+    Write {
+        name: Name,
+        at: u32,
+        bytes: Bytes,
+    },
+    Set {
+        name: Name,
+        at: u32,
+        count: u32,
+        byte: u8,
+    },
+    StrCopy {
+        name: Name,
+        at: u32,
+        text: Bytes,
+    },
+    Resize {
+        name: Name,
+        size: u32,
+    },
+    SetOwner {
+        name: Name,
+        owner: u8,
+    },
     Recover(Place),
     FreeByOwner(u8),
     FreeBytes,

@@ -7,7 +7,7 @@ use Rattle.heap_model.specs.Chunk.{Chunk, free, movable, fixed, need, size_of, t
 use Rattle.heap_model.specs.Slots.{IsSlot, area_start, table_end}
 use Rattle.heap_model.specs.Heap.{IsHeap, HeapAccepted}
 use Rattle.heap_model.specs.Reading.{chunks_of}
-use Rattle.heap_model.specs.Space.{AllFree}
+use Rattle.heap_model.specs.Space.{AllFree, NoRun}
 use Rattle.heap_model.specs.Placing.{Untouched, IsReserved, ChangesName}
 use Rattle.heap_laws.proofs.Frames.{u32_at-written, slice-same, slice-overwritten, length-u32_bytes}
 use Rattle.heap_laws.proofs.Chunks.{Spelled-size, Spelled-same, SpelledAll-split, SpelledAll-end}
@@ -15,7 +15,7 @@ use Rattle.heap_laws.proofs.Runs.{chunks_of-tiled}
 use Rattle.heap_laws.proofs.Accepted.{heap_of_read}
 use Rattle.heap_laws.proofs.Replacing.{SameHead, same_count, slot_there, Replaces, same_start, SameSlots}
 use Rattle.heap_laws.proofs.Writing.{WroteWithin, wrote_none, wrote_part, wrote_word, wrote_wider, wrote_then, wrote_apart, wrote_word_apart, WroteArea, area_replaces, area_slots}
-use Rattle.heap_laws.proofs.Freeing.{untouched, OtherSlots, claimed}
+use Rattle.heap_laws.proofs.Freeing.{free_sum, untouched, OtherSlots, claimed}
 use Rattle.chunk_format.specs.declared.header.Header.TheVariants as headers
 use Rattle.chunk_format.specs.Header.{header_of, HasHeader, live_words, h_offset_to}
 use Rattle.heap_place.specs.Search.{IsFreeRun, WroteRest}
@@ -136,6 +136,14 @@ run_facts image at size accepted r =
     let whole = m.whole in
     let sums = r.sums in
     (omega arith, omega arith, m.most)
+
+-- a run that has the size is one
+pub is_run : (image : List ℕ) (at run_size size : ℕ) → IsFreeRun image at run_size → size ≤ run_size → NoRun (chunks_of image) size → ⊥
+is_run image at run_size size r enough none =
+    let short = none r.before r.run r.after r.chunks r.all_free in
+    let sum = free_sum r.run r.all_free in
+    let sums = r.sums in
+    omega arith
 
 pub rest_length : (old new : List ℕ) (at size : ℕ) → WroteRest old new at size → at + size ≤ length old → size % 8 ≡ 0 → length new ≡ length old
 rest_length old new at size w inside whole = (rest_within old new at size at (at + size) w (omega arith) (omega arith) inside whole).len

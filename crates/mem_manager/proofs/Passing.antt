@@ -82,6 +82,7 @@ fixed_named at name header (fixed bytes owner) found e f = elim (cases_eq (at + 
 ] where
   g : fixed_by (headers.Fixed (length bytes) owner) at name ≡ Some found
   g = subst (λ (h : Header). fixed_by h at name ≡ Some found) e f
+
   one : Some (record { place = record { 0 = at + 8 }; length = length bytes; lock = fixed_lock; owner = owner }) ≡ Some found → found ≡ record { place = record { 0 = at + 8 }; length = length bytes; lock = fixed_lock; owner = owner }
   one s = cc
 

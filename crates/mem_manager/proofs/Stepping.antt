@@ -121,8 +121,16 @@ free_locked image name found h f positive other some below =
     let o = f.owner_is in
     let l = f.lock_is in
     record {
-      step = (inr (is_known (callers_map image name.0) f.live k, inr (not_of_known (callers_map image name.0) (λ live. live.owner ≡ 15) f.live k (λ e. other (o ∙ e)),
-        inl (of_known (callers_map image name.0) IsLocked f.live k (omega arith, omega arith), refl))), as_before image);
+      step = (
+        inr (
+          is_known (callers_map image name.0) f.live k,
+          inr (
+            not_of_known (callers_map image name.0) (λ live. live.owner ≡ 15) f.live k (λ e. other (o ∙ e)),
+            inl (of_known (callers_map image name.0) IsLocked f.live k (omega arith, omega arith), refl),
+          ),
+        ),
+        as_before image,
+      );
       accepted = h;
       still = still_same image;
       asks = tt;
@@ -132,8 +140,16 @@ pub freed : (old new : List ℕ) (name : Name) (found : Found) → HeapAccepted 
 freed old new name found h f positive other unlocked ch =
     let k = known old name.0 found h f positive in
     record {
-      step = ((is_known (callers_map old name.0) f.live k, (not_of_known (callers_map old name.0) (λ live. live.owner ≡ 15) f.live k (λ e. other (f.owner_is ∙ e)),
-        (not_of_known (callers_map old name.0) IsLocked f.live k (λ locked. locks f.live.lock f.lock_is locked), tt))), (tt, others_callers old new name.0 None None ch refl));
+      step = (
+        (
+          is_known (callers_map old name.0) f.live k,
+          (
+            not_of_known (callers_map old name.0) (λ live. live.owner ≡ 15) f.live k (λ e. other (f.owner_is ∙ e)),
+            (not_of_known (callers_map old name.0) IsLocked f.live k (λ locked. locks f.live.lock f.lock_is locked), tt),
+          ),
+        ),
+        (tt, others_callers old new name.0 None None ch refl),
+      );
       accepted = ch.frame.accepted;
       still = still_others old new name.0 None None ch (inr refl);
       asks = tt;

@@ -69,7 +69,12 @@ fn as_movable(header: Header, place: Place) -> Option<Found>
     ensures { result ≡ movable_by header place }
 {
     match header {
-        Header::Movable { length, lock, owner, .. } => Some(Found {
+        Header::Movable {
+            length,
+            lock,
+            owner,
+            ..
+        } => Some(Found {
             place,
             length,
             lock,

@@ -94,10 +94,37 @@ fn names_of_chunks_answer(rt: HostRuntime) -> Result<(), Fail> {
 #[test]
 fn other_names_are_refused(rt: HostRuntime) -> Result<(), Fail> {
     let mut heap = heap(rt.alloc(), &FIVE)?;
-    for name in [24, 28, 0, 15, 18, 32, 40, 64, 73, 88, 104, 128, 0xFFFF_FFFC, 0xFFFF_FFFF] {
-        assert_eq!(rt; heap.size(Name(name)), Err(Refusal::InvalidHandle), "{name}");
-        assert_eq!(rt; heap.owner(Name(name)), Err(Refusal::InvalidHandle), "{name}");
-        assert_eq!(rt; heap.free(Name(name)), Err(Refusal::InvalidHandle), "{name}");
+    for name in [
+        24,
+        28,
+        0,
+        15,
+        18,
+        32,
+        40,
+        64,
+        73,
+        88,
+        104,
+        128,
+        0xFFFF_FFFC,
+        0xFFFF_FFFF,
+    ] {
+        assert_eq!(rt;
+            heap.size(Name(name)),
+            Err(Refusal::InvalidHandle),
+            "{name}"
+        );
+        assert_eq!(rt;
+            heap.owner(Name(name)),
+            Err(Refusal::InvalidHandle),
+            "{name}"
+        );
+        assert_eq!(rt;
+            heap.free(Name(name)),
+            Err(Refusal::InvalidHandle),
+            "{name}"
+        );
     }
     Ok(())
 }
@@ -108,11 +135,23 @@ fn a_refused_call_leaves_every_byte(rt: HostRuntime) -> Result<(), Fail> {
     assert_eq!(rt; heap.free(Name(16)), Err(Refusal::OwnedByDatabase));
     assert_eq!(rt; heap.free(Name(20)), Err(Refusal::ChunkLocked));
     for owner in [0, 15, 16, 255] {
-        assert_eq!(rt; heap.handle_new(8, owner), Err(Refusal::InvalidOwner), "{owner}");
-        assert_eq!(rt; heap.handle_new(80, owner), Err(Refusal::InvalidOwner), "{owner}");
+        assert_eq!(rt;
+            heap.handle_new(8, owner),
+            Err(Refusal::InvalidOwner),
+            "{owner}"
+        );
+        assert_eq!(rt;
+            heap.handle_new(80, owner),
+            Err(Refusal::InvalidOwner),
+            "{owner}"
+        );
     }
     for size in [25, 16_777_208, 0xFFFF_FFFF] {
-        assert_eq!(rt; heap.handle_new(size, 1), Err(Refusal::NotEnoughSpace), "{size}");
+        assert_eq!(rt;
+            heap.handle_new(size, 1),
+            Err(Refusal::NotEnoughSpace),
+            "{size}"
+        );
     }
     let before = image(rt.alloc(), &FIVE)?;
     let after = heap.into_region();
@@ -141,7 +180,10 @@ fn slots_run_out_before_bytes(rt: HostRuntime) -> Result<(), Fail> {
 
 #[test]
 fn a_new_chunk_is_zero(rt: HostRuntime) -> Result<(), Fail> {
-    let mut heap = heap(rt.alloc(), &[(40, 0xFFFF_FFFF), (44, 0xFFFF_FFFF), (48, 0x1234_5678)])?;
+    let mut heap = heap(
+        rt.alloc(),
+        &[(40, 0xFFFF_FFFF), (44, 0xFFFF_FFFF), (48, 0x1234_5678)],
+    )?;
     assert_eq!(rt; heap.handle_new(5, 1), Ok(Name(16)));
     let after = heap.into_region();
     assert_eq!(rt; after.get_u32(16), 40);

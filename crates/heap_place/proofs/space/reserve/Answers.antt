@@ -1,4 +1,4 @@
-use Rattle.std.proofs.Common.{◌≤◌, arith}
+use Rattle.std.proofs.Common.{arith}
 use Rattle.heap_place.proofs.SpaceLaws.{run_facts, is_run}
 use Rattle.heap_place.proofs.space.reserve.Goals as goal
 
