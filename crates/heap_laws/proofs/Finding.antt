@@ -21,7 +21,7 @@ use Rattle.heap_laws.proofs.Meanings.{held-is, live_under-is}
 
 -- ---- among the chunks that are read
 
-read_heap : (image : List ℕ) → HeapAccepted image → IsHeap image (chunks_of image)
+pub read_heap : (image : List ℕ) → HeapAccepted image → IsHeap image (chunks_of image)
 read_heap image h = heap_of_read image h.0 h.1
 
 -- what is found is held

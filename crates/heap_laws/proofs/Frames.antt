@@ -1,6 +1,7 @@
 -- Frames: numbers and parts of two lists of bytes agree where the lists do, and what a write leaves.
 use Rattle.std.proofs.Common.{◌≡◌, ℕ, zero, suc, ◌+◌, ◌-◌, ◌^◌, ◌<◌, ◌≤◌, List, ◌++◌, length, get_or, slice_index, take, drop, replicate, refl, sym, ap, ◌∙◌, append_assoc, arith, length-append, length-take, length-drop}
-use Rattle.std.proofs.lemmas.List.{get_or-take, get_or-drop, get_or_append_left, get_or-append_right, length-take-le, drop_at, take_at, drop-drop, same_lists, get_or_default}
+use Rattle.std.proofs.lemmas.List.{get_or-take, get_or-drop, get_or_append_left, get_or-append_right, length-take-le, drop_at, take_at, drop-drop, drop-take, drop-append-le, take-take, same_lists, get_or_default}
+use Rattle.std.proofs.Math.Seq.{take-append-add}
 use Rattle.heap_model.specs.Bytes.{u16_at, u32_at, overwritten, u16_bytes, u32_bytes}
 use Rattle.byteorder.specs.Endian.{big_from, big_bytes}
 use Rattle.byteorder.specs.Numbers.{big_number-reads_back}
@@ -167,3 +168,48 @@ u32_at-zeros at m = big_from-zeros at 4 m
 pub u16_at-zeros : (at m : ℕ) → u16_at (replicate m 0) at ≡ 0
 unfolding u16_at
 u16_at-zeros at m = big_from-zeros at 2 m
+
+-- ---- a write within a part
+
+-- in parts behind each other: what stands in front, what is written, and the rest
+overwritten-parts : (old : List ℕ) (at : ℕ) (part : List ℕ) → overwritten old at part ≡ take at old ++ (part ++ drop (at + length part) old)
+unfolding overwritten
+overwritten-parts old at part = append_assoc (take at old) part (drop (at + length part) old)
+
+-- behind an offset
+overwritten-dropped : (old : List ℕ) (at k : ℕ) (part : List ℕ) → at + k ≤ length old → drop at (overwritten old (at + k) part) ≡ overwritten (drop at old) k part
+overwritten-dropped old at k part inside =
+    let front : at ≤ length (take (at + k) old) = simp length-take (omega arith) in
+    let there : at + (k + length part) ≡ at + k + length part = omega arith in
+    ap (drop at) (overwritten-parts old (at + k) part)
+    ∙ drop-append-le at (take (at + k) old) (part ++ drop (at + k + length part) old) front
+    ∙ ap (λ (x : List ℕ). x ++ (part ++ drop (at + k + length part) old)) (drop-take at k old)
+    ∙ ap (λ (x : List ℕ). take k (drop at old) ++ (part ++ x)) (ap (λ (n : ℕ). drop n old) (sym there) ∙ sym (drop-drop (k + length part) at old))
+    ∙ sym (overwritten-parts (drop at old) k part)
+
+-- in front of an offset
+overwritten-taken : (old : List ℕ) (k rest : ℕ) (part : List ℕ) → k + length part + rest ≤ length old → take (k + length part + rest) (overwritten old k part) ≡ overwritten (take (k + length part + rest) old) k part
+overwritten-taken old k rest part inside =
+    let n : ℕ = k + length part + rest in
+    let len : length (take k old) ≡ k = length-take-le k old (omega arith) in
+    let split : n ≡ length (take k old) + (length part + rest) = omega arith in
+    let least : k ≤ n = omega arith in
+    ap (take n) (overwritten-parts old k part)
+    ∙ ap (λ (m : ℕ). take m (take k old ++ (part ++ drop (k + length part) old))) split
+    ∙ take-append-add (take k old) (part ++ drop (k + length part) old) (length part + rest)
+    ∙ ap (λ (x : List ℕ). take k old ++ x) (take-append-add part (drop (k + length part) old) rest)
+    ∙ ap (λ (x : List ℕ). take k old ++ (part ++ x)) (sym (drop-take (k + length part) rest old))
+    ∙ ap (λ (x : List ℕ). x ++ (part ++ drop (k + length part) (take n old))) (sym (take-take k n old least))
+    ∙ sym (overwritten-parts (take n old) k part)
+
+-- within a part
+pub slice-overwritten-within : (old : List ℕ) (at k n : ℕ) (part : List ℕ) → k + length part ≤ n → at + n ≤ length old
+    → take (at + n - at) (drop at (overwritten old (at + k) part)) ≡ overwritten (take (at + n - at) (drop at old)) k part
+slice-overwritten-within old at k n part within inside =
+    let rest : ℕ = n - (k + length part) in
+    let size : at + n - at ≡ k + length part + rest = omega arith in
+    let left : length (drop at old) ≡ length old - at = length-drop at old in
+    ap (λ (m : ℕ). take m (drop at (overwritten old (at + k) part))) size
+    ∙ ap (take (k + length part + rest)) (overwritten-dropped old at k part (omega arith))
+    ∙ overwritten-taken (drop at old) k rest part (omega arith)
+    ∙ ap (λ (m : ℕ). overwritten (take m (drop at old)) k part) (sym size)

@@ -175,17 +175,17 @@ or_back None y e = e
 or_back (Some x) y e = absurd cc
 
 -- a list of chunks in which no chunk has the name
-unnamed : (at : ℕ) (cs : List Chunk) (name : ℕ) → ((live : LiveChunk) → AnyPlaced (NamedHere name live) at cs → ⊥) → live_under at cs name ≡ None
+pub unnamed : (at : ℕ) (cs : List Chunk) (name : ℕ) → ((live : LiveChunk) → AnyPlaced (NamedHere name live) at cs → ⊥) → live_under at cs name ≡ None
 unnamed at cs name none = nothing (live_under at cs name) refl where
   nothing : (r : Option LiveChunk) → live_under at cs name ≡ r → r ≡ None
   nothing None e = refl
   nothing (Some live) e = absurd (none live (live_under-there at cs name live e))
 
 -- what is read under a name of chunks, one of which alone has it
-live_mid : (at : ℕ) (before : List Chunk) (mid after : List Chunk) (name : ℕ) → live_under at before name ≡ None → live_under at (before ++ (mid ++ after)) name ≡ or_else (live_under (at + total before) mid name) (live_under (at + total before + total mid) after name)
+pub live_mid : (at : ℕ) (before : List Chunk) (mid after : List Chunk) (name : ℕ) → live_under at before name ≡ None → live_under at (before ++ (mid ++ after)) name ≡ or_else (live_under (at + total before) mid name) (live_under (at + total before + total mid) after name)
 live_mid at before mid after name none = live_under-append at before (mid ++ after) name ∙ or_none _ _ none ∙ live_under-append (at + total before) mid after name
 
-place_mid : (at : ℕ) (before : List Chunk) (mid after : List Chunk) (name : ℕ) → live_under at before name ≡ None → place_under at (before ++ (mid ++ after)) name ≡ or_else (place_under (at + total before) mid name) (place_under (at + total before + total mid) after name)
+pub place_mid : (at : ℕ) (before : List Chunk) (mid after : List Chunk) (name : ℕ) → live_under at before name ≡ None → place_under at (before ++ (mid ++ after)) name ≡ or_else (place_under (at + total before) mid name) (place_under (at + total before + total mid) after name)
 place_mid at before mid after name none = place_under-append at before (mid ++ after) name ∙ or_none _ _ (live_placed at before name none) ∙ place_under-append (at + total before) mid after name
 
 own_live : (at : ℕ) (bytes : List ℕ) (lock owner slot : ℕ) (cs : List Chunk) → live_under at (movable bytes lock owner slot ∷ cs) slot ≡ Some (record { bytes = bytes; lock = lock; owner = owner })
@@ -262,17 +262,17 @@ cleared old new before (movable bytes lock owner own) rest name place live h n c
 cleared old new before (fixed bytes owner) rest name place live h n clear s e positive =
     let high : name < table_end old = s.in_table in let is = n.0 in omega arith
 
-not_managers : (slot at : ℕ) (c : Chunk) → NotManagers c → ManagersHere slot at c → ⊥
+pub not_managers : (slot at : ℕ) (c : Chunk) → NotManagers c → ManagersHere slot at c → ⊥
 not_managers slot at (free size) n m = m
 not_managers slot at (movable bytes lock owner own) n m = n m.1
 not_managers slot at (fixed bytes owner) n m = m
 
-other_name : (name other at : ℕ) (live : LiveChunk) (c : Chunk) (run : List Chunk) → NamedHere name live at c → other ≢ name → live_under at (c ∷ run) other ≡ live_under (at + size_of c) run other
+pub other_name : (name other at : ℕ) (live : LiveChunk) (c : Chunk) (run : List Chunk) → NamedHere name live at c → other ≢ name → live_under at (c ∷ run) other ≡ live_under (at + size_of c) run other
 other_name name other at live (free size) run n apart = refl
 other_name name other at live (movable bytes lock owner slot) run n apart = other_live at bytes lock owner slot other run (λ e. apart (e ∙ n.0))
 other_name name other at live (fixed bytes owner) run n apart = cond-false ((at + 8) == other) _ _ (let e : at + 8 ≢ other = λ f. apart (sym f ∙ n.0) in grind (arith, nat_tests))
 
-other_name_place : (name other at : ℕ) (live : LiveChunk) (c : Chunk) (run : List Chunk) → NamedHere name live at c → other ≢ name → place_under at (c ∷ run) other ≡ place_under (at + size_of c) run other
+pub other_name_place : (name other at : ℕ) (live : LiveChunk) (c : Chunk) (run : List Chunk) → NamedHere name live at c → other ≢ name → place_under at (c ∷ run) other ≡ place_under (at + size_of c) run other
 other_name_place name other at live (free size) run n apart = refl
 other_name_place name other at live (movable bytes lock owner slot) run n apart = other_place at bytes lock owner slot other run (λ e. apart (e ∙ n.0))
 other_name_place name other at live (fixed bytes owner) run n apart = cond-false ((at + 8) == other) _ _ (let e : at + 8 ≢ other = λ f. apart (sym f ∙ n.0) in grind (arith, nat_tests))

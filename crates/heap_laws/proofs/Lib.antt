@@ -13,3 +13,4 @@ pub mod Lives
 pub mod Freeing
 pub mod Writing
 pub mod Finding
+pub mod Altering

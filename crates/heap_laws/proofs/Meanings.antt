@@ -160,10 +160,11 @@ named_once image before c after name x y h own = (in_front, behind) where
       let same = same_offset image cs name x y h mine whole in
       omega arith
 
-same_live : (name : ℕ) (x y : LiveChunk) (at : ℕ) (c : Chunk) → NamedHere name x at c → NamedHere name y at c → x ≡ y
-same_live name x y at (free size) h k = absurd h
-same_live name x y at (movable bytes lock owner slot) h k = sym h.1 ∙ k.1
-same_live name x y at (fixed bytes owner) h k = sym h.1 ∙ k.1
+-- a chunk is one live one
+pub same_live : (m n : ℕ) (x y : LiveChunk) (at : ℕ) (c : Chunk) → NamedHere m x at c → NamedHere n y at c → x ≡ y
+same_live m n x y at (free size) h k = absurd h
+same_live m n x y at (movable bytes lock owner slot) h k = sym h.1 ∙ k.1
+same_live m n x y at (fixed bytes owner) h k = sym h.1 ∙ k.1
 
 pub one_named : (image : List ℕ) (cs : List Chunk) (name : ℕ) (x y : LiveChunk) → IsHeap image cs → AnyPlaced (NamedHere name x) (area_start image) cs → AnyPlaced (NamedHere name y) (area_start image) cs → x ≡ y
 one_named image cs name x y h mine other =
@@ -172,7 +173,7 @@ one_named image cs name x y h mine other =
     let p = with_offset name y start cs other in
     let there = subst (λ (n : ℕ). AnyPlaced (At n (NamedHere name x)) start cs) (same_offset image cs name x y h o p) o.there in
     let one = one_at (NamedHere name x) (NamedHere name y) p.at start cs (SpelledAll-takes image start cs (length image) h.tiles.area) there p.there in
-    same_live name x y p.at one.0 one.1 one.2
+    same_live name name x y p.at one.0 one.1 one.2
 
 -- ---- the map that is read is the one that is held
 

@@ -1,3 +1,4 @@
 pub mod SearchLaws
 pub mod SpaceLaws
 pub mod ReleaseLaws
+pub mod AlterLaws

@@ -20,7 +20,8 @@ use Rattle.chunk_format.specs.declared.header.Header.{Header}
 use Rattle.chunk_format.specs.declared.header.Header.TheVariants as headers
 use Rattle.chunk_format.specs.Header.{header_of, size_by, HasHeader}
 use Rattle.chunk_format.proofs.HeaderLaws.{size_by-header_of}
-use Rattle.heap_place.specs.Search.{IsCallersChunk, size_if_free, free_size_at, Emptied}
+use Rattle.heap_laws.proofs.Runs.{chunks_of-tiled}
+use Rattle.heap_place.specs.Search.{IsCallersChunk, GivesBack, Joins, free_first, behind_free_first, size_if_free, free_size_at, Emptied}
 use Rattle.heap_place.proofs.SpaceLaws.{heap_in_parts, Middle, middle_of, has_free, table_kept}
 
 -- ---- the free chunk behind
@@ -32,12 +33,14 @@ record Behind (image : List ℕ) (at : ℕ) (after : List Chunk) : Type 0 where
   pub parts : after ≡ run ++ rest
   pub all_free : AllFree run
   pub sums : free_size_at image at ≡ total run
+  pub first : free_first after ≡ total run
+  pub rest_is : rest ≡ behind_free_first after
 
 behind : (image : List ℕ) (at : ℕ) (after : List Chunk) → SpelledAll image at after (length image) → Behind image at after
-behind image at [] s = record { run = []; rest = []; parts = refl; all_free = tt; sums = ap size_if_free (chunk_at-none image at (λ c spelled. let size = Spelled-size image at c spelled in let least = size.0 in let inside = size.1 in omega arith)) }
-behind image at (free size ∷ after) s = record { run = free size ∷ []; rest = after; parts = refl; all_free = tt; sums = let here : free_size_at image at ≡ size = ap size_if_free (chunk_at-spelled image at (free size) s.0) in omega arith }
-behind image at (movable bytes lock owner slot ∷ after) s = record { run = []; rest = movable bytes lock owner slot ∷ after; parts = refl; all_free = tt; sums = ap size_if_free (chunk_at-spelled image at (movable bytes lock owner slot) s.0) }
-behind image at (fixed bytes owner ∷ after) s = record { run = []; rest = fixed bytes owner ∷ after; parts = refl; all_free = tt; sums = ap size_if_free (chunk_at-spelled image at (fixed bytes owner) s.0) }
+behind image at [] s = record { run = []; rest = []; parts = refl; all_free = tt; sums = ap size_if_free (chunk_at-none image at (λ c spelled. let size = Spelled-size image at c spelled in let least = size.0 in let inside = size.1 in omega arith)); first = refl; rest_is = refl }
+behind image at (free size ∷ after) s = record { run = free size ∷ []; rest = after; parts = refl; all_free = tt; sums = let here : free_size_at image at ≡ size = ap size_if_free (chunk_at-spelled image at (free size) s.0) in omega arith; first = omega arith; rest_is = refl }
+behind image at (movable bytes lock owner slot ∷ after) s = record { run = []; rest = movable bytes lock owner slot ∷ after; parts = refl; all_free = tt; sums = ap size_if_free (chunk_at-spelled image at (movable bytes lock owner slot) s.0); first = refl; rest_is = refl }
+behind image at (fixed bytes owner ∷ after) s = record { run = []; rest = fixed bytes owner ∷ after; parts = refl; all_free = tt; sums = ap size_if_free (chunk_at-spelled image at (fixed bytes owner) s.0); first = refl; rest_is = refl }
 
 -- a chunk that is found at an offset, and the free chunk behind it
 pub record Giving (image : List ℕ) (at : ℕ) (chunk : Chunk) : Type 0 where
@@ -50,13 +53,28 @@ pub record Giving (image : List ℕ) (at : ℕ) (chunk : Chunk) : Type 0 where
   pub spelled : Spelled image at chunk
   pub sums : free_size_at image (at + size_of chunk) ≡ total run
 
-pub giving : (image : List ℕ) (at name : ℕ) (live : LiveChunk) (chunk : Chunk) → HeapAccepted image → Finds image name live chunk at → Giving image at chunk
-giving image at name live chunk accepted f =
+-- the parts of one that is found among others
+pub record GivenParts (image : List ℕ) (at : ℕ) (chunk : Chunk) (before after : List Chunk) : Type 0 where
+  pub parts : Giving image at chunk
+  pub in_front : parts.before ≡ before
+  pub first : free_first after ≡ total parts.run
+  pub rest_is : parts.rest ≡ behind_free_first after
+
+pub giving_parts : (image : List ℕ) (at name : ℕ) (live : LiveChunk) (chunk : Chunk) → HeapAccepted image → (f : Finds image name live chunk at) → GivenParts image at chunk f.before f.after
+giving_parts image at name live chunk accepted f =
     let first = middle_of image f.before (chunk ∷ []) f.after at (heap_in_parts image (f.before ++ chunk ∷ f.after) accepted f.chunks) f.there in
     let b = behind image (at + size_of chunk) f.after (subst (λ (n : ℕ). SpelledAll image n f.after (length image)) (let e : at + (size_of chunk + 0) ≡ at + size_of chunk = omega arith in e) first.behind) in
     let heap : IsHeap image (f.before ++ ((chunk ∷ b.run) ++ b.rest)) = heap_in_parts image (f.before ++ chunk ∷ (b.run ++ b.rest)) accepted (subst (λ (xs : List Chunk). chunks_of image ≡ f.before ++ chunk ∷ xs) b.parts f.chunks) in
     let whole = middle_of image f.before (chunk ∷ b.run) b.rest at heap f.there in
-    record { before = f.before; run = b.run; rest = b.rest; heap = heap; all_free = b.all_free; middle = whole; spelled = first.spelled.0; sums = b.sums }
+    record {
+      parts = record { before = f.before; run = b.run; rest = b.rest; heap = heap; all_free = b.all_free; middle = whole; spelled = first.spelled.0; sums = b.sums };
+      in_front = refl;
+      first = b.first;
+      rest_is = b.rest_is;
+    }
+
+pub giving : (image : List ℕ) (at name : ℕ) (live : LiveChunk) (chunk : Chunk) → HeapAccepted image → Finds image name live chunk at → Giving image at chunk
+giving image at name live chunk accepted f = (giving_parts image at name live chunk accepted f).parts
 
 -- ---- what is read, and how much becomes free
 
@@ -97,7 +115,7 @@ callers image at name live chunk accepted own f = subst NotManagers same (owned 
   owned (fixed bytes owner) n = tt
 
 -- the slot of a movable chunk
-own_slot : (image : List ℕ) (at slot : ℕ) (bytes : List ℕ) (lock owner : ℕ) → Giving image at (movable bytes lock owner slot) → IsSlot image slot
+pub own_slot : (image : List ℕ) (at slot : ℕ) (bytes : List ℕ) (lock owner : ℕ) → Giving image at (movable bytes lock owner slot) → IsSlot image slot
 own_slot image at slot bytes lock owner g =
     let here : BodyHere slot (area_start image + total g.before + 8) (area_start image + total g.before) (movable bytes lock owner slot) = (refl, refl) in
     ((g.heap.tied slot (area_start image + total g.before + 8) (omega arith)).1 (AnyPlaced-mid (BodyHere slot (area_start image + total g.before + 8)) (area_start image) g.before (movable bytes lock owner slot) (g.run ++ g.rest) here)).0
@@ -166,14 +184,17 @@ given old mid new at all name live (fixed bytes owner) accepted g named sums is 
       beyond : (t : ℕ) → IsSlot old t → at ≡ t → ⊥
       beyond t ts e = let high : t < table_end old = ts.in_table in let there = g.middle.there in omega arith
 
-pub gave_back : (old mid new : List ℕ) (at all name : ℕ) (live : LiveChunk) (chunk : Chunk) → HeapAccepted old → IsCallersChunk old (at + 8) → Finds old name live chunk at → all ≡ size_of chunk + free_size_at old (at + size_of chunk)
-    → mid ≡ overwritten old at (u32_bytes (2 ^ 31 + all)) → HasHeader mid at (headers.Free all) → Emptied mid (header_of chunk) new → ChangesName old new name None None
+pub gave_back : (old mid new : List ℕ) (at all name : ℕ) (live : LiveChunk) (chunk : Chunk) → HeapAccepted old → IsCallersChunk old (at + 8) → (f : Finds old name live chunk at) → all ≡ size_of chunk + free_size_at old (at + size_of chunk)
+    → mid ≡ overwritten old at (u32_bytes (2 ^ 31 + all)) → HasHeader mid at (headers.Free all) → Emptied mid (header_of chunk) new → (size_of chunk + free_first f.after ≡ all) × (chunks_of new ≡ f.before ++ free all ∷ behind_free_first f.after) × ChangesName old new name None None
 gave_back old mid new at all name live chunk accepted own f sums is header emptied =
-    let g = giving old at name live chunk accepted f in
+    let p = giving_parts old at name live chunk accepted f in
+    let g = p.parts in
     let behind_it = g.sums in
+    let first = p.first in
     let w = given old mid new at all name live chunk accepted g f.named (omega arith) is header emptied in
     let replaces : Replaces old new g.before (chunk ∷ g.run) (free all ∷ []) g.rest at = area_replaces old new g.before (chunk ∷ g.run) (free all ∷ []) g.rest at g.middle.there g.middle.inside w.area (w.spelled, omega arith) in
-    (released old new g.before chunk g.run g.rest at all name live g.heap replaces g.all_free f.named (callers old at name live chunk accepted own f) w.clears w.others).1
+    let r = released old new g.before chunk g.run g.rest at all name live g.heap replaces g.all_free f.named (callers old at name live chunk accepted own f) w.clears w.others in
+    (omega arith, subst (λ (rest : List Chunk). chunks_of new ≡ f.before ++ free all ∷ rest) p.rest_is (subst (λ (front : List Chunk). chunks_of new ≡ front ++ free all ∷ g.rest) p.in_front (chunks_of-tiled new (g.before ++ free all ∷ g.rest) r.0.tiles)), r.1)
 
 -- nothing is emptied for a header that isn't a movable chunk's
 pub not_emptied : (mid : List ℕ) (header : Header) → ((count lock owner slot : ℕ) → header ≡ headers.Movable count lock owner slot → ⊥) → Emptied mid header mid
@@ -209,9 +230,18 @@ own_slot_kept old mid at all count lock owner slot accepted own read is =
     slot_kept old mid at all own.name own.live own.chunk count lock owner slot accepted f (found_header old at own.name own.live own.chunk (headers.Movable count lock owner slot) accepted f read) is
 
 pub gave_back_read : (old mid new : List ℕ) (at size more : ℕ) (header : Header) → HeapAccepted old → IsCallersChunk old (at + 8) → Some header ≡ option_map header_of (chunk_at old at) → size ≡ size_by header → more ≡ free_size_at old (at + size)
-    → mid ≡ overwritten old at (u32_bytes (2 ^ 31 + (size + more))) → HasHeader mid at (headers.Free (size + more)) → Emptied mid header new → (name : ℕ) (live : LiveChunk) (chunk : Chunk) → Finds old name live chunk at → ChangesName old new name None None
-gave_back_read old mid new at size more header accepted own read size_is more_is is found emptied name live chunk f =
-    let same = found_header old at name live chunk header accepted f read in
-    let sizes : size ≡ size_of chunk = size_is ∙ ap size_by same ∙ size_by-header_of chunk in
-    let mores : more ≡ free_size_at old (at + size_of chunk) = more_is ∙ ap (λ (n : ℕ). free_size_at old (at + n)) sizes in
-    gave_back old mid new at (size + more) name live chunk accepted own f (omega arith) is found (subst (λ (h : Header). Emptied mid h new) same emptied)
+    → mid ≡ overwritten old at (u32_bytes (2 ^ 31 + (size + more))) → HasHeader mid at (headers.Free (size + more)) → Emptied mid header new → GivesBack old new at × Joins old new at (size + more)
+gave_back_read old mid new at size more header accepted own read size_is more_is is found emptied = (λ name live chunk f. (all name live chunk f).2, λ before chunk after parts there. let j = all own.name own.live chunk (own_parts before chunk after parts there) in (sym j.0, j.1)) where
+  all : (name : ℕ) (live : LiveChunk) (chunk : Chunk) → (f : Finds old name live chunk at) → (size_of chunk + free_first f.after ≡ size + more) × (chunks_of new ≡ f.before ++ free (size + more) ∷ behind_free_first f.after) × ChangesName old new name None None
+  all name live chunk f =
+      let same = found_header old at name live chunk header accepted f read in
+      let sizes : size ≡ size_of chunk = size_is ∙ ap size_by same ∙ size_by-header_of chunk in
+      let mores : more ≡ free_size_at old (at + size_of chunk) = more_is ∙ ap (λ (n : ℕ). free_size_at old (at + n)) sizes in
+      gave_back old mid new at (size + more) name live chunk accepted own f (omega arith) is found (subst (λ (h : Header). Emptied mid h new) same emptied)
+
+  own_parts : (before : List Chunk) (chunk : Chunk) (after : List Chunk) → chunks_of old ≡ before ++ chunk ∷ after → at ≡ area_start old + total before → Finds old own.name own.live chunk at
+  own_parts before chunk after parts there =
+      let m = middle_of old before (chunk ∷ []) after at (heap_in_parts old (before ++ chunk ∷ after) accepted parts) there in
+      record { before = before; after = after; chunks = parts; there = there; named = subst (λ (c : Chunk). NamedHere own.name own.live at c) (one (sym (found_there old at own.name own.live own.chunk accepted (own_found old at own)) ∙ chunk_at-spelled old at chunk m.spelled.0)) (own_found old at own).named } where
+        one : Some own.chunk ≡ Some chunk → own.chunk ≡ chunk
+        one e = cc

@@ -165,7 +165,7 @@ slot_facts image slot accepted s =
     let fits = accepted.1.tiles.head.a_chunk_fits in
     (omega arith, whole, omega arith, s.behind_head, accepted.1.tiles.head.most, omega arith)
 
-header_movable : (count lock owner slot : ℕ) (c : Chunk) → headers.Movable count lock owner slot ≡ header_of c → (bytes : List ℕ) × ((c ≡ movable bytes lock owner slot) × (length bytes ≡ count))
+pub header_movable : (count lock owner slot : ℕ) (c : Chunk) → headers.Movable count lock owner slot ≡ header_of c → (bytes : List ℕ) × ((c ≡ movable bytes lock owner slot) × (length bytes ≡ count))
 header_movable count lock owner slot (free n) e = absurd cc
 header_movable count lock owner slot (fixed bytes v) e = absurd cc
 header_movable count lock owner slot (movable bytes l v s) e =
@@ -201,7 +201,7 @@ zeroed h new at count lock owner slot found len first second body =
       s.4,
     )
 
-live_words_length : (count lock owner h : ℕ) → length (live_words count lock owner h) ≡ 8
+pub live_words_length : (count lock owner h : ℕ) → length (live_words count lock owner h) ≡ 8
 live_words_length count lock owner h =
     let a = length-u32_bytes ((need count - 8 - count) * 2 ^ 24 + need count) in
     let b = length-u32_bytes (lock * 2 ^ 28 + owner * 2 ^ 24 + h) in

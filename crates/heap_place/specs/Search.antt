@@ -1,7 +1,7 @@
 -- Runs of neighbouring free chunks, and the search for one.
 use Rattle.std.specs.Prelude.{◌≡◌, ◌≢◌, ◌<◌, ◌≤◌, ◌+◌, ◌-◌, ◌^◌, ◌++◌, ◌⊎◌, ℕ, List, [], ◌∷◌, length, Option, Some, None}
 use Rattle.heap_model.specs.Bytes.{u32_bytes, overwritten}
-use Rattle.heap_model.specs.Chunk.{Chunk, free, movable, fixed, total, SpelledAll}
+use Rattle.heap_model.specs.Chunk.{Chunk, free, movable, fixed, size_of, total, SpelledAll}
 use Rattle.heap_model.specs.Slots.{area_start}
 use Rattle.heap_model.specs.Meaning.{LiveChunk}
 use Rattle.heap_model.specs.Placing.{Finds, ChangesName}
@@ -65,6 +65,27 @@ pub record IsCallersChunk (image : List ℕ) (place : ℕ) : Type 0 where
 -- whatever chunk was found at an offset, its name now stands for nothing
 abbrev pub GivesBack : List ℕ → List ℕ → ℕ → Type 0
 GivesBack old new at = (name : ℕ) (live : LiveChunk) (chunk : Chunk) → Finds old name live chunk at → ChangesName old new name None None
+
+-- the size of the chunk with which a list begins, if it is free
+abbrev pub free_first : List Chunk → ℕ
+free_first [] = 0
+free_first (free size ∷ chunks) = size
+free_first (movable bytes lock owner slot ∷ chunks) = 0
+free_first (fixed bytes owner ∷ chunks) = 0
+
+-- the chunks behind it
+abbrev pub behind_free_first : List Chunk → List Chunk
+behind_free_first [] = []
+behind_free_first (free size ∷ chunks) = chunks
+behind_free_first (movable bytes lock owner slot ∷ chunks) = movable bytes lock owner slot ∷ chunks
+behind_free_first (fixed bytes owner ∷ chunks) = fixed bytes owner ∷ chunks
+
+-- whatever chunk stood at an offset, a free one of this size now stands there, joined with the free
+-- chunk behind it
+abbrev pub Joins : List ℕ → List ℕ → ℕ → ℕ → Type 0
+Joins old new at size =
+    (before : List Chunk) (chunk : Chunk) (after : List Chunk) → chunks_of old ≡ before ++ chunk ∷ after → at ≡ area_start old + total before
+    → (size ≡ size_of chunk + free_first after) × (chunks_of new ≡ before ++ free size ∷ behind_free_first after)
 
 -- the size of the free chunk that is read at an offset
 abbrev pub size_if_free : Option Chunk → ℕ

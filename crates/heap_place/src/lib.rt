@@ -6,6 +6,7 @@
 //! front when a run of free chunks is looked for, since headers have no links back.
 #![tactic(auto)]
 
+mod alter;
 mod search;
 mod space;
 

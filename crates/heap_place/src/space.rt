@@ -1,16 +1,18 @@
 //! The type that owns a heap's region.
 
 ghost use Rattle.std.specs.Prelude.{◌≡◌, ◌≤◌, ◌<◌, ◌+◌, ◌-◌, ◌%◌, ◌^◌, ℕ, length, replicate, IfSome, IfNone, Some, None};
-ghost use Rattle.heap_model.specs.Bytes.{u32_at};
-ghost use Rattle.heap_model.specs.Chunk.{Chunk, need};
+ghost use Rattle.heap_model.specs.Bytes.{u32_at, overwritten};
+ghost use Rattle.heap_model.specs.Chunk.{Chunk, need, fixed_lock};
 ghost use Rattle.heap_model.specs.Slots.{IsSlot};
 ghost use Rattle.heap_model.specs.Heap.{HeapAccepted};
 ghost use Rattle.heap_model.specs.Meaning.{LiveChunk};
-ghost use Rattle.heap_model.specs.Reading.{chunks_of};
+ghost use Rattle.heap_model.specs.Reading.{chunks_of, held};
 ghost use Rattle.heap_model.specs.Space.{NoRun};
 ghost use Rattle.heap_model.specs.Placing.{Untouched, IsReserved, ChangesName, Finds};
-ghost use Rattle.heap_place.specs.Search.{IsFreeRun, IsCallersChunk, GivesBack, WroteRest, free_size_at};
+ghost use Rattle.heap_place.specs.Search.{IsFreeRun, IsCallersChunk, GivesBack, Joins, WroteRest, free_size_at};
+ghost use Rattle.heap_place.specs.Alter.{Alters, IsMovableThere, HasBytes};
 
+use crate::alter::{relock_at, reown_at};
 use crate::search::{FreeRun, find_run};
 use chunk_format::Header;
 use heap_model::{Name, Place};
@@ -84,14 +86,71 @@ impl Space {
         claim_movable(&mut self.region, place.0 - 8, slot, count, owner);
     }
 
-    /// Makes the live chunk at a place free, and joins it with the free chunk behind it, if one is
-    /// there. Its slot is emptied.
-    pub fn give_back(&mut self, place: Place)
+    /// Makes the free chunk at a place a fixed one of `count` zeros.
+    pub fn claim_fixed(&mut self, place: Place, count: u32, owner: u8)
+        requires accepted { HeapAccepted self.old.bytes }
+        requires reserved { IsReserved self.old.bytes (need count) place.0 }
+        requires some_owner { 0 < owner }
+        requires most_owner { owner < 15 }
+        ensures made { ChangesName self.old.bytes self.new.bytes place.0 (Some (record { bytes = replicate count 0; lock = fixed_lock; owner = owner })) (Some place.0) }
+        ensures unheld { held self.old.bytes place.0 ≡ None }
+    {
+        claim_fixed_at(&mut self.region, place.0 - 8, count, owner);
+    }
+
+    /// Makes the live chunk at a place free, joins it with the free chunk behind it, if one is there,
+    /// and answers the size of what became free, in bytes. The slot of a movable chunk is emptied.
+    pub fn give_back(&mut self, place: Place) -> u32
         requires accepted { HeapAccepted self.old.bytes }
         requires live { IsCallersChunk self.old.bytes place.0 }
-        ensures { GivesBack self.old.bytes self.new.bytes (place.0 - 8) }
+        ensures gone { GivesBack self.old.bytes self.new.bytes (place.0 - 8) }
+        ensures joined { Joins self.old.bytes self.new.bytes (place.0 - 8) result }
     {
-        release(&mut self.region, place.0 - 8);
+        release(&mut self.region, place.0 - 8)
+    }
+
+    /// Gives the movable chunk at a place another lock count.
+    pub fn relock(&mut self, place: Place, lock: u8)
+        requires accepted { HeapAccepted self.old.bytes }
+        requires live { IsCallersChunk self.old.bytes place.0 }
+        requires movable { IsMovableThere self.old.bytes place.0 }
+        requires lock { lock < fixed_lock }
+        ensures { Alters self.old.bytes self.new.bytes place.0 (λ live. record live { lock = lock }) }
+    {
+        relock_at(&mut self.region, place, lock);
+    }
+
+    /// Gives the live chunk at a place to another owner.
+    pub fn reown(&mut self, place: Place, owner: u8)
+        requires accepted { HeapAccepted self.old.bytes }
+        requires live { IsCallersChunk self.old.bytes place.0 }
+        requires some_owner { 0 < owner }
+        requires most_owner { owner < 15 }
+        ensures { Alters self.old.bytes self.new.bytes place.0 (λ live. record live { owner = owner }) }
+    {
+        reown_at(&mut self.region, place, owner);
+    }
+
+    /// Writes bytes over those of the live chunk at a place, from `at` within its body on.
+    pub fn write(&mut self, place: Place, at: u32, bytes: &[u8])
+        requires accepted { HeapAccepted self.old.bytes }
+        requires live { IsCallersChunk self.old.bytes place.0 }
+        requires within { HasBytes self.old.bytes place.0 (at + length bytes.now) }
+        ensures { Alters self.old.bytes self.new.bytes place.0 (λ live. record live { bytes = overwritten live.bytes at bytes.now }) }
+    {
+        self.region.write(place.0 as usize + at as usize, bytes);
+    }
+
+    /// Makes each of `count` bytes of the live chunk at a place the byte `byte`, from `at` within its
+    /// body on.
+    pub fn fill(&mut self, place: Place, at: u32, count: u32, byte: u8)
+        requires accepted { HeapAccepted self.old.bytes }
+        requires live { IsCallersChunk self.old.bytes place.0 }
+        requires within { HasBytes self.old.bytes place.0 (at + count) }
+        ensures { Alters self.old.bytes self.new.bytes place.0 (λ live. record live { bytes = overwritten live.bytes at (replicate count byte) }) }
+    {
+        self.region
+            .fill(place.0 as usize + at as usize, count as usize, byte);
     }
 }
 
@@ -162,24 +221,41 @@ fn claim_movable(region: &mut Region, at: u32, slot: Name, count: u32, owner: u8
     master_table::set(region, slot, Place(at + 8));
 }
 
+/// Makes the free chunk at `at` a fixed one of zeros.
+fn claim_fixed_at(region: &mut Region, at: u32, count: u32, owner: u8)
+    requires accepted { HeapAccepted region.old.bytes }
+    requires reserved { IsReserved region.old.bytes (need count) (at + 8) }
+    requires some_owner { 0 < owner }
+    requires most_owner { owner < 15 }
+    ensures made { ChangesName region.old.bytes region.new.bytes (at + 8) (Some (record { bytes = replicate count 0; lock = fixed_lock; owner = owner })) (Some (at + 8)) }
+    ensures unheld { held region.old.bytes (at + 8) ≡ None }
+{
+    let header = Header::Fixed {
+        length: count,
+        owner,
+    };
+    header.write(region, at);
+    region.fill(at as usize + 8, count as usize, 0);
+}
+
 /// Makes the live chunk at `at` free, with the free chunk behind it.
-fn release(region: &mut Region, at: u32)
+fn release(region: &mut Region, at: u32) -> u32
     requires accepted { HeapAccepted region.old.bytes }
     requires live { IsCallersChunk region.old.bytes (at + 8) }
-    ensures { GivesBack region.old.bytes region.new.bytes at }
+    ensures gone { GivesBack region.old.bytes region.new.bytes at }
+    ensures joined { Joins region.old.bytes region.new.bytes at result }
 {
     let header = match Header::read(region, at) {
         Some(header) => header,
         None => unreachable!(),
     };
     let size = header.size();
-    let joined = Header::Free {
-        size: size + free_size(region, at + size),
-    };
-    joined.write(region, at);
+    let joined = size + free_size(region, at + size);
+    Header::Free { size: joined }.write(region, at);
     if let Header::Movable { slot, .. } = header {
         master_table::clear(region, Name(slot));
     }
+    joined
 }
 
 /// The size of the free chunk at `at`, or 0 where none stands there.

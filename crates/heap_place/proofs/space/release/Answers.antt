@@ -32,12 +32,22 @@ clear-requires-clause-slot c =
     (own_slot_kept c.args.region.now.bytes c.write.new.region.bytes c.args.at (c.size-size.result + c.free_size.result) c.in-Movable.length c.in-Movable.lock c.in-Movable.owner c.in-Movable.slot c.requires.accepted c.requires.live
     (sym (c.in-Some.is ∙ ap (λ h. Some h) c.in-Movable.is) ∙ c.read.ensures.is) (ap (λ (m : Memory). m.bytes) c.write.ensures.after)).1
 
-pub returns-in-Movable : goal.returns-in-Movable
-returns-in-Movable c =
-    gave_back_read c.args.region.now.bytes c.write.new.region.bytes c.clear.new.region.bytes c.args.at c.size-size.result c.free_size.result c.in-Some.header c.requires.accepted c.requires.live (sym c.in-Some.is ∙ c.read.ensures.is) c.size-size.ensures c.free_size.ensures
-    (ap (λ (m : Memory). m.bytes) c.write.ensures.after) c.write.ensures.spelled (subst (λ (h : Header). Emptied c.write.new.region.bytes h c.clear.new.region.bytes) (sym c.in-Movable.is) (ap (λ (m : Memory). m.bytes) c.clear.ensures.after))
+pub returns-in-Movable-clause-gone : goal.returns-in-Movable-clause-gone
+returns-in-Movable-clause-gone c =
+    (gave_back_read c.args.region.now.bytes c.write.new.region.bytes c.clear.new.region.bytes c.args.at c.size-size.result c.free_size.result c.in-Some.header c.requires.accepted c.requires.live (sym c.in-Some.is ∙ c.read.ensures.is) c.size-size.ensures c.free_size.ensures
+    (ap (λ (m : Memory). m.bytes) c.write.ensures.after) c.write.ensures.spelled (subst (λ (h : Header). Emptied c.write.new.region.bytes h c.clear.new.region.bytes) (sym c.in-Movable.is) (ap (λ (m : Memory). m.bytes) c.clear.ensures.after))).0
 
-pub returns-in_default : goal.returns-in_default
-returns-in_default c =
-    gave_back_read c.args.region.now.bytes c.write.new.region.bytes c.write.new.region.bytes c.args.at c.size-size.result c.free_size.result c.in-Some.header c.requires.accepted c.requires.live (sym c.in-Some.is ∙ c.read.ensures.is) c.size-size.ensures c.free_size.ensures
-    (ap (λ (m : Memory). m.bytes) c.write.ensures.after) c.write.ensures.spelled (not_emptied c.write.new.region.bytes c.in-Some.header c.in_default.not-Movable)
+pub returns-in-Movable-clause-joined : goal.returns-in-Movable-clause-joined
+returns-in-Movable-clause-joined c =
+    (gave_back_read c.args.region.now.bytes c.write.new.region.bytes c.clear.new.region.bytes c.args.at c.size-size.result c.free_size.result c.in-Some.header c.requires.accepted c.requires.live (sym c.in-Some.is ∙ c.read.ensures.is) c.size-size.ensures c.free_size.ensures
+    (ap (λ (m : Memory). m.bytes) c.write.ensures.after) c.write.ensures.spelled (subst (λ (h : Header). Emptied c.write.new.region.bytes h c.clear.new.region.bytes) (sym c.in-Movable.is) (ap (λ (m : Memory). m.bytes) c.clear.ensures.after))).1
+
+pub returns-in_default-clause-gone : goal.returns-in_default-clause-gone
+returns-in_default-clause-gone c =
+    (gave_back_read c.args.region.now.bytes c.write.new.region.bytes c.write.new.region.bytes c.args.at c.size-size.result c.free_size.result c.in-Some.header c.requires.accepted c.requires.live (sym c.in-Some.is ∙ c.read.ensures.is) c.size-size.ensures c.free_size.ensures
+    (ap (λ (m : Memory). m.bytes) c.write.ensures.after) c.write.ensures.spelled (not_emptied c.write.new.region.bytes c.in-Some.header c.in_default.not-Movable)).0
+
+pub returns-in_default-clause-joined : goal.returns-in_default-clause-joined
+returns-in_default-clause-joined c =
+    (gave_back_read c.args.region.now.bytes c.write.new.region.bytes c.write.new.region.bytes c.args.at c.size-size.result c.free_size.result c.in-Some.header c.requires.accepted c.requires.live (sym c.in-Some.is ∙ c.read.ensures.is) c.size-size.ensures c.free_size.ensures
+    (ap (λ (m : Memory). m.bytes) c.write.ensures.after) c.write.ensures.spelled (not_emptied c.write.new.region.bytes c.in-Some.header c.in_default.not-Movable)).1
