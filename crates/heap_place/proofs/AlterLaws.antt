@@ -1,6 +1,6 @@
 -- A live chunk of an accepted heap gets another header, or other bytes; a free one is claimed for a
 -- fixed one.
-use Rattle.std.proofs.Common.{◌≡◌, ◌≢◌, ℕ, ◌+◌, ◌-◌, ◌*◌, ◌%◌, ◌^◌, ◌<◌, ◌≤◌, List, [], ◌∷◌, ◌++◌, length, take, drop, replicate, Some, None, refl, sym, ap, subst, ◌∙◌, arith, inl, inr}
+use Rattle.std.proofs.Common.{◌≡◌, ◌≢◌, ℕ, ◌+◌, ◌-◌, ◌*◌, ◌%◌, ◌^◌, ◌<◌, ◌≤◌, List, [], ◌∷◌, ◌++◌, length, take, drop, replicate, Some, None, refl, sym, ap, subst, ◌∙◌, arith, inl, inr, length-append}
 use Rattle.std.proofs.lemmas.List.{length-replicate, take_all, drop_all, append-nil}
 use Rattle.std.specs.Option.{option_map}
 use Rattle.heap_model.specs.Bytes.{u32_at, overwritten}
@@ -10,6 +10,7 @@ use Rattle.heap_model.specs.Heap.{IsHeap, HeapAccepted}
 use Rattle.heap_model.specs.Meaning.{LiveChunk, NamedHere}
 use Rattle.heap_model.specs.Reading.{chunk_at, held}
 use Rattle.heap_model.specs.Placing.{IsReserved, ChangesName, Finds}
+use Rattle.heap_laws.proofs.Frames.{overwritten-behind}
 use Rattle.heap_laws.proofs.Chunks.{Spelled-size}
 use Rattle.heap_laws.proofs.Replacing.{SameSlots}
 use Rattle.heap_laws.proofs.Writing.{WroteWithin, wrote_none, wrote_part, wrote_wider, wrote_then, wrote_word_apart, WroteArea, area_replaces}
@@ -232,3 +233,13 @@ fixed_claimed old mid new at count owner h r some most mid_is header new_is =
     let area : WroteArea old new at (at + (need count + 0)) = subst (λ (n : ℕ). WroteArea old new at (at + n)) (sym size) record { mid = new; slot = at; area = both; word = wrote_none new at (at + 4); is_slot = inl refl; there = omega arith; fits = omega arith } in
     claimed_fixed old new r.before r.after at (need count) (replicate count 0) owner heap (area_replaces old new r.before (free (need count) ∷ []) (fixed (replicate count 0) owner ∷ []) r.after at (omega arith) (omega arith) area (spelled, omega arith))
     (record { same = λ slot s. let high : slot < table_end old = s.in_table in let whole : slot % 4 ≡ 0 = s.whole in wrote_word_apart old new at (at + need count) slot both (inl (omega arith)) }) some most
+
+-- ---- bytes and a zero byte behind them
+
+pub ended_there : (old mid new : List ℕ) (place at : ℕ) (part : List ℕ) → HeapAccepted old → IsCallersChunk old place → HasBytes old place (at + length part + 1) → mid ≡ overwritten old (place + at) part → new ≡ overwritten mid (place + at + length part) (0 ∷ [])
+    → Alters old new place (λ live. record live { bytes = overwritten live.bytes at (part ++ 0 ∷ []) })
+ended_there old mid new place at part h own has mid_is new_is =
+    let inside = bytes_inside old place (at + length part + 1) h own has in
+    let more : length (part ++ 0 ∷ []) ≡ length part + 1 = length-append part (0 ∷ []) in
+    written_there old new place at (part ++ 0 ∷ []) h own (λ name live chunk f. let within = has name live chunk f in omega arith)
+    (new_is ∙ ap (λ (x : List ℕ). overwritten x (place + at + length part) (0 ∷ [])) mid_is ∙ overwritten-behind old (place + at) part (0 ∷ []) (place + at + length part) refl (omega arith))

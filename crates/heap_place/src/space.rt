@@ -1,6 +1,6 @@
 //! The type that owns a heap's region.
 
-ghost use Rattle.std.specs.Prelude.{◌≡◌, ◌≤◌, ◌<◌, ◌+◌, ◌-◌, ◌%◌, ◌^◌, ℕ, length, replicate, IfSome, IfNone, Some, None};
+ghost use Rattle.std.specs.Prelude.{◌≡◌, ◌≤◌, ◌<◌, ◌+◌, ◌-◌, ◌%◌, ◌^◌, ◌++◌, ◌∷◌, [], ℕ, length, replicate, IfSome, IfNone, Some, None};
 ghost use Rattle.heap_model.specs.Bytes.{u32_at, overwritten};
 ghost use Rattle.heap_model.specs.Chunk.{Chunk, need, fixed_lock};
 ghost use Rattle.heap_model.specs.Slots.{IsSlot};
@@ -139,6 +139,19 @@ impl Space {
         ensures { Alters self.old.bytes self.new.bytes place.0 (λ live. record live { bytes = overwritten live.bytes at bytes.now }) }
     {
         self.region.write(place.0 as usize + at as usize, bytes);
+    }
+
+    /// Writes bytes and then one zero byte over those of the live chunk at a place, from `at` within its
+    /// body on.
+    pub fn write_ended(&mut self, place: Place, at: u32, bytes: &[u8])
+        requires accepted { HeapAccepted self.old.bytes }
+        requires live { IsCallersChunk self.old.bytes place.0 }
+        requires within { HasBytes self.old.bytes place.0 (at + length bytes.now + 1) }
+        ensures { Alters self.old.bytes self.new.bytes place.0 (λ live. record live { bytes = overwritten live.bytes at (bytes.now ++ 0 ∷ []) }) }
+    {
+        let start = place.0 as usize + at as usize;
+        self.region.write(start, bytes);
+        self.region.fill(start + bytes.len(), 1, 0);
     }
 
     /// Makes each of `count` bytes of the live chunk at a place the byte `byte`, from `at` within its

@@ -1,13 +1,14 @@
 -- What a look-up knows, and what walks over the chunks have passed.
 use Rattle.std.specs.Prelude.{◌≡◌, ◌≢◌, ◌<◌, ◌≤◌, ◌+◌, ◌-◌, ◌*◌, ◌++◌, ◌==◌, if◌then◌else◌, ℕ, List, [], ◌∷◌, length, sum_by, Option, Some, None}
-use Rattle.heap_model.specs.Bytes.{u32_at}
+use Rattle.heap_model.specs.Maps.{callers_map}
+use Rattle.heap_model.specs.Space.{place_of}
 use Rattle.heap_model.specs.Chunk.{Chunk, fixed_lock, free_size, SpelledAll}
 use Rattle.heap_model.specs.Slots.{slot_count, area_start}
 use Rattle.heap_model.specs.Heap.{HeapAccepted}
 use Rattle.heap_model.specs.Placed.{EveryPlaced}
 use Rattle.heap_model.specs.Meaning.{LiveChunk}
 use Rattle.heap_model.specs.Placing.{Finds, NotFixedAs}
-use Rattle.master_table.specs.Table.{UsedBelow}
+use Rattle.master_table.specs.Table.{UsedBelow, HoldsPlace}
 use Rattle.heap_model.specs.declared.names.Place.{Place}
 use Rattle.chunk_format.specs.declared.header.Header.{Header}
 use Rattle.chunk_format.specs.declared.header.Header.TheVariants as headers
@@ -64,3 +65,13 @@ abbrev pub free_by : Header → ℕ
 free_by (headers.Free size) = size
 free_by (headers.Movable length lock owner slot) = 0
 free_by (headers.Fixed length owner) = 0
+
+-- a name's chunk is a caller's, and has its body at this place
+pub record IsThere (image : List ℕ) (place name : ℕ) : Type 0 where
+  pub live : LiveChunk
+  pub known : callers_map image name ≡ Some live
+  pub there : place_of image name ≡ Some place
+
+-- no caller's movable chunk has its body at this place
+abbrev pub NoSlotHolds : List ℕ → ℕ → Type 0
+NoSlotHolds image place = (name : ℕ) → HoldsPlace image name place → callers_map image name ≡ None

@@ -8,15 +8,23 @@ ghost use Rattle.heap_model.specs.declared.call.Reply.{Reply};
 ghost use Rattle.heap_check.specs.Faults.{IsFirstFault};
 ghost use Rattle.mem_manager.specs.Lookup.{NoSlotBelow};
 
-use crate::lookup::{FIXED_LOCK, find};
+use crate::bounds::{before_zero, ends_beyond, reaches_beyond};
+use crate::lookup::{FIXED_LOCK, find, name_at};
+use crate::owned::free_owned;
 use crate::walks;
 use chunk_format::chunk_size;
 use heap_check::{HeapFault, check_heap};
-use heap_model::{Name, Refusal};
+use heap_model::{Name, Place, Refusal};
 use heap_place::Space;
 use master_table::{free_slot, number_of, slot_count, slot_of};
 use raw_region::Region;
 use std::marker::Model;
+
+/// The owner of a database's chunks.
+const DATABASE: u8 = 15;
+
+/// The most locks that a movable chunk can have.
+const MOST_LOCKS: u8 = 14;
 
 /// A region that is an accepted heap.
 #[derive(Drop)]
@@ -35,6 +43,13 @@ impl Model for Heap {
     ghost view = { λ heap. heap.space };
 
     ghost invariant = { λ heap. IsManaged heap.space.bytes heap.lowest };
+}
+
+/// Where the body of a chunk is that was locked, and its lock count now.
+#[derive(Clone, Copy, Debug, PartialEq, Eq)]
+pub struct Locked {
+    pub place: Place,
+    pub count: u8,
 }
 
 /// A region that is no accepted heap, unchanged, and what is wrong first.
@@ -97,6 +112,158 @@ impl Heap {
         walks::free_bytes(self.space.region())
     }
 
+    /// The lock count of a chunk, up to 14; that of a fixed chunk is 15.
+    pub fn locks(&self, name: Name) -> Result<u8, Refusal>
+        ensures { Does self.now.bytes (MemoryCall.Locks name) (reply_of (λ count. Reply.Number count) result) self.now.bytes }
+    {
+        match find(self.space.region(), name) {
+            Some(found) => Ok(found.lock),
+            None => Err(Refusal::InvalidHandle),
+        }
+    }
+
+    /// `count` bytes of a chunk, from `at` within it on, as they lie in the image.
+    pub fn read(&self, name: Name, at: u32, count: u32) -> Result<&[u8], Refusal>
+        ensures { Does self.now.bytes (MemoryCall.Read name at count) (reply_of (λ bytes. Reply.Data bytes.now) result) self.now.bytes }
+    {
+        let found = match find(self.space.region(), name) {
+            Some(found) => found,
+            None => return Err(Refusal::InvalidHandle),
+        };
+        if reaches_beyond(at, count as usize, found.length) {
+            return Err(Refusal::OutOfBounds);
+        }
+        let start = found.place.0 as usize + at as usize;
+        Ok(self.space.region().slice(start, count as usize))
+    }
+
+    /// The name of the caller's chunk whose body is at a place. Bytes of a body that look like a header
+    /// name nothing.
+    pub fn recover(&self, place: Place) -> Result<Name, Refusal>
+        ensures { Does self.now.bytes (MemoryCall.Recover place) (reply_of (λ name. Reply.Named name) result) self.now.bytes }
+    {
+        match name_at(self.space.region(), place) {
+            Some(name) => Ok(name),
+            None => Err(Refusal::InvalidHandle),
+        }
+    }
+
+    /// Locks a movable chunk once more, up to 14 times: while its lock count is not 0 it keeps its
+    /// place, which is answered with the new count.
+    pub fn lock(&mut self, name: Name) -> Result<Locked, Refusal>
+        ensures { Does self.old.bytes (MemoryCall.Lock name) (reply_of (λ locked. Reply.Locked locked.place locked.count) result) self.new.bytes }
+    {
+        let found = match find(self.space.region(), name) {
+            Some(found) => found,
+            None => return Err(Refusal::InvalidHandle),
+        };
+        if found.lock == FIXED_LOCK {
+            return Err(Refusal::ChunkFixed);
+        }
+        if found.lock == MOST_LOCKS {
+            return Err(Refusal::LockOverflow);
+        }
+        let count = found.lock + 1;
+        self.space.relock(found.place, count);
+        Ok(Locked {
+            place: found.place,
+            count,
+        })
+    }
+
+    /// Takes one lock off a movable chunk, and answers how many are left.
+    pub fn unlock(&mut self, name: Name) -> Result<u8, Refusal>
+        ensures { Does self.old.bytes (MemoryCall.Unlock name) (reply_of (λ count. Reply.Number count) result) self.new.bytes }
+    {
+        let found = match find(self.space.region(), name) {
+            Some(found) => found,
+            None => return Err(Refusal::InvalidHandle),
+        };
+        if found.lock == FIXED_LOCK {
+            return Err(Refusal::ChunkFixed);
+        }
+        if found.lock == 0 {
+            return Err(Refusal::ChunkNotLocked);
+        }
+        let count = found.lock - 1;
+        self.space.relock(found.place, count);
+        Ok(count)
+    }
+
+    /// Writes bytes over those of a locked or fixed chunk, from `at` within it on.
+    pub fn write(&mut self, name: Name, at: u32, bytes: &[u8]) -> Result<(), Refusal>
+        ensures { Does self.old.bytes (MemoryCall.Write name at bytes.now) (reply_of (λ done. Reply.Done) result) self.new.bytes }
+    {
+        let found = match find(self.space.region(), name) {
+            Some(found) => found,
+            None => return Err(Refusal::InvalidHandle),
+        };
+        if found.lock == 0 {
+            return Err(Refusal::ChunkNotLocked);
+        }
+        if reaches_beyond(at, bytes.len(), found.length) {
+            return Err(Refusal::OutOfBounds);
+        }
+        self.space.write(found.place, at, bytes);
+        Ok(())
+    }
+
+    /// Makes each of `count` bytes of a locked or fixed chunk the byte `byte`, from `at` within it on.
+    pub fn set(&mut self, name: Name, at: u32, count: u32, byte: u8) -> Result<(), Refusal>
+        ensures { Does self.old.bytes (MemoryCall.Set name at count byte) (reply_of (λ done. Reply.Done) result) self.new.bytes }
+    {
+        let found = match find(self.space.region(), name) {
+            Some(found) => found,
+            None => return Err(Refusal::InvalidHandle),
+        };
+        if found.lock == 0 {
+            return Err(Refusal::ChunkNotLocked);
+        }
+        if reaches_beyond(at, count as usize, found.length) {
+            return Err(Refusal::OutOfBounds);
+        }
+        self.space.fill(found.place, at, count, byte);
+        Ok(())
+    }
+
+    /// Writes the bytes of `text` in front of its first zero byte, all if it has none, and then one zero
+    /// byte, over those of a locked or fixed chunk, from `at` within it on.
+    pub fn str_copy(&mut self, name: Name, at: u32, text: &[u8]) -> Result<(), Refusal>
+        ensures { Does self.old.bytes (MemoryCall.StrCopy name at text.now) (reply_of (λ done. Reply.Done) result) self.new.bytes }
+    {
+        let found = match find(self.space.region(), name) {
+            Some(found) => found,
+            None => return Err(Refusal::InvalidHandle),
+        };
+        if found.lock == 0 {
+            return Err(Refusal::ChunkNotLocked);
+        }
+        let part = before_zero(text);
+        if ends_beyond(at, part.len(), found.length) {
+            return Err(Refusal::OutOfBounds);
+        }
+        self.space.write_ended(found.place, at, part);
+        Ok(())
+    }
+
+    /// Gives a chunk that is a caller's to another owner, 1 to 14.
+    pub fn set_owner(&mut self, name: Name, owner: u8) -> Result<(), Refusal>
+        ensures { Does self.old.bytes (MemoryCall.SetOwner name owner) (reply_of (λ done. Reply.Done) result) self.new.bytes }
+    {
+        let found = match find(self.space.region(), name) {
+            Some(found) => found,
+            None => return Err(Refusal::InvalidHandle),
+        };
+        if found.owner == DATABASE {
+            return Err(Refusal::OwnedByDatabase);
+        }
+        if owner == 0 || owner > 14 {
+            return Err(Refusal::InvalidOwner);
+        }
+        self.space.reown(found.place, owner);
+        Ok(())
+    }
+
     /// Frees a chunk that is a caller's and has no lock; a fixed one may be freed.
     pub fn free(&mut self, name: Name) -> Result<(), Refusal>
         ensures { Does self.old.bytes (MemoryCall.Free name) (reply_of (λ done. Reply.Done) result) self.new.bytes }
@@ -105,7 +272,7 @@ impl Heap {
             Some(found) => found,
             None => return Err(Refusal::InvalidHandle),
         };
-        if found.owner == 15 {
+        if found.owner == DATABASE {
             return Err(Refusal::OwnedByDatabase);
         }
         if found.lock > 0 && found.lock < FIXED_LOCK {
@@ -141,6 +308,39 @@ impl Heap {
         self.space.claim(place, name, size, owner);
         self.lowest = number;
         Ok(name)
+    }
+
+    /// Makes a fixed chunk of `size` zeros. Refused where no run of neighbouring free chunks has the
+    /// room.
+    pub fn ptr_new(&mut self, size: u32, owner: u8) -> Result<Name, Refusal>
+        ensures { Does self.old.bytes (MemoryCall.PtrNew size owner) (reply_of (λ name. Reply.Named name) result) self.new.bytes }
+    {
+        let region = self.space.region();
+        if owner == 0 || owner > 14 {
+            return Err(Refusal::InvalidOwner);
+        }
+        let needed = match chunk_size(size) {
+            Some(needed) => needed,
+            None => return Err(Refusal::NotEnoughSpace),
+        };
+        let place = match self.space.place(needed) {
+            Some(place) => place,
+            None => return Err(Refusal::NotEnoughSpace),
+        };
+        self.space.claim_fixed(place, size, owner);
+        Ok(Name(place.0))
+    }
+
+    /// Frees all chunks of an owner, 1 to 14, locked and fixed ones too, and answers how many there were.
+    pub fn free_by_owner(&mut self, owner: u8) -> Result<u32, Refusal>
+        ensures { Does self.old.bytes (MemoryCall.FreeByOwner owner) (reply_of (λ count. Reply.Number count) result) self.new.bytes }
+    {
+        let region = self.space.region();
+        if owner == 0 || owner > 14 {
+            return Err(Refusal::InvalidOwner);
+        }
+        self.lowest = 0;
+        Ok(free_owned(&mut self.space, owner))
     }
 }
 

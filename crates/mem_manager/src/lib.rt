@@ -6,8 +6,10 @@
 //! that is locked or fixed, and still live, has moved.
 #![tactic(auto)]
 
+mod bounds;
 mod heap;
 mod lookup;
+mod owned;
 mod walks;
 
-pub use heap::{Heap, NotAHeap};
+pub use heap::{Heap, Locked, NotAHeap};

@@ -3,9 +3,10 @@
 ghost use Rattle.std.specs.Prelude.{◌≡◌, ◌≤◌, ◌-◌, ℕ, IfSome, IfNone, MatchOption, None};
 ghost use Rattle.heap_model.specs.Heap.{HeapAccepted};
 ghost use Rattle.heap_model.specs.Maps.{callers_map};
+ghost use Rattle.heap_model.specs.MemorySteps.{IsNowhere};
 ghost use Rattle.heap_model.specs.Reading.{held};
 ghost use Rattle.master_table.specs.Table.{HoldsPlace};
-ghost use Rattle.mem_manager.specs.Lookup.{IsFound, movable_by};
+ghost use Rattle.mem_manager.specs.Lookup.{IsFound, IsThere, NoSlotHolds, movable_by};
 
 use crate::walks::find_fixed;
 use chunk_format::Header;
@@ -80,6 +81,42 @@ fn as_movable(header: Header, place: Place) -> Option<Found>
             lock,
             owner,
         }),
+        _ => None,
+    }
+}
+
+/// The name of the caller's chunk whose body is at a place. The header that seems to stand in front of
+/// it is believed only where the slot that it names holds the place; a fixed chunk is looked for among
+/// all chunks.
+pub(crate) fn name_at(region: &Region, place: Place) -> Option<Name>
+    requires accepted { HeapAccepted region.now.bytes }
+    ensures some { IfSome result (λ name. IsThere region.now.bytes place.0 name.0) }
+    ensures none { IfNone result (IsNowhere region.now.bytes (callers_map region.now.bytes) place.0) }
+{
+    match slot_at(region, place) {
+        Some(name) => Some(name),
+        None => match find_fixed(region, Name(place.0)) {
+            Some(_) => Some(Name(place.0)),
+            None => None,
+        },
+    }
+}
+
+/// The slot of the caller's movable chunk whose body is at a place.
+fn slot_at(region: &Region, place: Place) -> Option<Name>
+    requires accepted { HeapAccepted region.now.bytes }
+    ensures some { IfSome result (λ name. IsThere region.now.bytes place.0 name.0) }
+    ensures none { IfNone result (NoSlotHolds region.now.bytes place.0) }
+{
+    if place.0 < 8 {
+        return None;
+    }
+    match Header::read(region, place.0 - 8) {
+        Some(Header::Movable { owner, slot, .. })
+            if owner > 0 && resolve(region, Name(slot)) == Some(place) =>
+        {
+            Some(Name(slot))
+        }
         _ => None,
     }
 }
