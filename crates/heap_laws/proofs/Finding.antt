@@ -17,7 +17,7 @@ use Rattle.heap_laws.proofs.Chunks.{SpelledAll-split}
 use Rattle.heap_laws.proofs.Placed.{PlacedParts, AnyPlaced-parts, AnyPlaced-mid, EveryPlaced-split}
 use Rattle.heap_laws.proofs.Accepted.{heap_of_read}
 use Rattle.heap_laws.proofs.Shapes.{chunk_at-spelled}
-use Rattle.heap_laws.proofs.Meanings.{held-is, live_under-is}
+use Rattle.heap_laws.proofs.Meanings.{held-is, live_under-is, same_live}
 
 -- ---- among the chunks that are read
 
@@ -77,6 +77,15 @@ pub in_slot : (image : List ℕ) (slot place : ℕ) → HeapAccepted image → I
 in_slot image slot place h s e positive =
     let p = AnyPlaced-parts (BodyHere slot place) (area_start image) (chunks_of image) (((read_heap image h).tied slot place positive).0 (s, e)) in
     body_in image slot place p.before p.chunk p.after p.parts p.holds
+
+-- what is found at an offset is one live chunk
+pub finds_one : (image : List ℕ) (m n : ℕ) (x y : LiveChunk) (c d : Chunk) (at : ℕ) → HeapAccepted image → Finds image m x c at → Finds image n y d at → x ≡ y
+finds_one image m n x y c d at h f g = same_live m n x y at d (subst (λ (e : Chunk). NamedHere m x at e) same f.named) g.named where
+  one : Some c ≡ Some d → c ≡ d
+  one e = cc
+
+  same : c ≡ d
+  same = one (sym (finds_read image m x c at h f) ∙ finds_read image n y d at h g)
 
 -- ---- what nothing stands for
 

@@ -213,3 +213,17 @@ slice-overwritten-within old at k n part within inside =
     ∙ ap (take (k + length part + rest)) (overwritten-dropped old at k part (omega arith))
     ∙ overwritten-taken (drop at old) k rest part (omega arith)
     ∙ ap (λ (m : ℕ). overwritten (take m (drop at old)) k part) (sym size)
+
+-- a part of a part
+pub slice-of_slice : (xs : List ℕ) (from size at count : ℕ) → at + count ≤ size → take (at + count - at) (drop at (take (from + size - from) (drop from xs))) ≡ take (from + at + count - (from + at)) (drop (from + at) xs)
+slice-of_slice xs from size at count within =
+    let whole : from + size - from ≡ at + (size - at) = omega arith in
+    let part : at + count - at ≡ count = omega arith in
+    let there : from + at + count - (from + at) ≡ count = omega arith in
+    let least : count ≤ size - at = omega arith in
+    ap (λ (n : ℕ). take n (drop at (take (from + size - from) (drop from xs)))) part
+    ∙ ap (λ (n : ℕ). take count (drop at (take n (drop from xs)))) whole
+    ∙ ap (take count) (drop-take at (size - at) (drop from xs))
+    ∙ take-take count (size - at) (drop at (drop from xs)) least
+    ∙ ap (take count) (drop-drop at from xs)
+    ∙ ap (λ (n : ℕ). take n (drop (from + at) xs)) (sym there)

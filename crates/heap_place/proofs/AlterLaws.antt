@@ -14,8 +14,7 @@ use Rattle.heap_laws.proofs.Frames.{overwritten-behind}
 use Rattle.heap_laws.proofs.Chunks.{Spelled-size}
 use Rattle.heap_laws.proofs.Replacing.{SameSlots}
 use Rattle.heap_laws.proofs.Writing.{WroteWithin, wrote_none, wrote_part, wrote_wider, wrote_then, wrote_word_apart, WroteArea, area_replaces}
-use Rattle.heap_laws.proofs.Meanings.{same_live}
-use Rattle.heap_laws.proofs.Finding.{finds_spelled}
+use Rattle.heap_laws.proofs.Finding.{finds_spelled, finds_one}
 use Rattle.heap_laws.proofs.Altering.{overwritten_body, body_written, movable_relabelled, fixed_relabelled, claimed_fixed}
 use Rattle.chunk_format.specs.declared.header.Header.{Header}
 use Rattle.chunk_format.specs.declared.header.Header.TheVariants as headers
@@ -94,15 +93,7 @@ relocks old new name at lock live (fixed bytes owner) h f owned was is header = 
 
 -- a chunk that is found at the place of a caller's is that one
 owned_there : (image : List ℕ) (place name : ℕ) (live : LiveChunk) (chunk : Chunk) → HeapAccepted image → IsCallersChunk image place → Finds image name live chunk (place - 8) → live.owner ≢ 0
-owned_there image place name live chunk h own f = subst (λ (x : LiveChunk). x.owner ≢ 0) same own.owned where
-  one : Some own.chunk ≡ Some chunk → own.chunk ≡ chunk
-  one e = cc
-
-  chunk_same : own.chunk ≡ chunk
-  chunk_same = one (sym (found_there image (place - 8) own.name own.live own.chunk h own.found) ∙ found_there image (place - 8) name live chunk h f)
-
-  same : own.live ≡ live
-  same = same_live own.name name own.live live (place - 8) chunk (subst (λ (c : Chunk). NamedHere own.name own.live (place - 8) c) chunk_same own.found.named) f.named
+owned_there image place name live chunk h own f = subst (λ (x : LiveChunk). x.owner ≢ 0) (finds_one image own.name name own.live live own.chunk chunk (place - 8) h own.found f) own.owned
 
 pub relocked_there : (old new : List ℕ) (place lock : ℕ) (header : Header) → HeapAccepted old → IsCallersChunk old place → IsMovableThere old place → Some header ≡ option_map header_of (chunk_at old (place - 8)) → new ≡ overwritten old (place - 8) (header_bytes (place - 8) (relocked_header header lock))
     → HasHeader new (place - 8) (relocked_header header lock) → Alters old new place (λ live. record live { lock = lock })

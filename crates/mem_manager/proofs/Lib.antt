@@ -1,2 +1,6 @@
 pub mod Passing
 pub mod Stepping
+pub mod Altering
+pub mod Texts
+pub mod Recovering
+pub mod Owning

@@ -22,6 +22,7 @@ use Rattle.chunk_format.specs.declared.header.Header.TheVariants as headers
 use Rattle.chunk_format.specs.Header.{header_of, size_by, HasHeader}
 use Rattle.heap_laws.proofs.Finding.{InSlot, in_slot, finds_held, finds_read, none_held, callers_none, callers_managers, callers_some}
 use Rattle.heap_model.specs.Maps.{callers_map}
+use Rattle.heap_laws.proofs.Altering.{finds_callers}
 use Rattle.master_table.specs.Table.{HoldsPlace, HoldsNothing}
 use Rattle.std.specs.Option.{option_map}
 use Rattle.heap_model.specs.declared.names.Place.{Place}
@@ -86,28 +87,42 @@ fixed_named at name header (fixed bytes owner) found e f = elim (cases_eq (at + 
   one : Some (record { place = record { 0 = at + 8 }; length = length bytes; lock = fixed_lock; owner = owner }) ≡ Some found → found ≡ record { place = record { 0 = at + 8 }; length = length bytes; lock = fixed_lock; owner = owner }
   one s = cc
 
+fixed_finds : (image : List ℕ) (P : List Chunk → Type 0) (at name : ℕ) (header : Header) (found : Found) → HeapAccepted image → Passed image P at → (has : HasHeader image at header) → (is : fixed_by header at name ≡ Some found)
+    → Finds image name (record { bytes = (fixed_named at name header has.chunk found has.header_is is).0; lock = fixed_lock; owner = (fixed_named at name header has.chunk found has.header_is is).1 }) (fixed (fixed_named at name header has.chunk found has.header_is is).0 (fixed_named at name header has.chunk found has.header_is is).1) at
+fixed_finds image P at name header found h p has is =
+    let n = fixed_named at name header has.chunk found has.header_is is in
+    let parts = passed_parts image P at header h p has in
+    let there = passed_at image P at p in
+    record {
+      before = p.front;
+      after = parts.0;
+      chunks = subst (λ (c : Chunk). chunks_of image ≡ p.front ++ c ∷ parts.0) n.2 parts.1;
+      there = omega arith;
+      named = (let e = n.4 in omega arith, refl);
+    }
+
 pub fixed_found : (image : List ℕ) (P : List Chunk → Type 0) (at name : ℕ) (header : Header) (found : Found) → HeapAccepted image → Passed image P at → HasHeader image at header → fixed_by header at name ≡ Some found → IsFound image name found
 fixed_found image P at name header found h p has f =
     let n = fixed_named at name header has.chunk found has.header_is f in
-    let parts = passed_parts image P at header h p has in
-    let there = passed_at image P at p in
     let live : LiveChunk = record { bytes = n.0; lock = fixed_lock; owner = n.1 } in
     let place : at + 8 - 8 ≡ at = omega arith in
     subst (λ (x : Found). IsFound image name x) (sym n.3) record {
       live = live;
       chunk = fixed n.0 n.1;
-      finds = record {
-        before = p.front;
-        after = parts.0;
-        chunks = subst (λ (c : Chunk). chunks_of image ≡ p.front ++ c ∷ parts.0) n.2 parts.1;
-        there = omega arith;
-        named = (let e = n.4 in omega arith, refl);
-      };
+      finds = subst (λ (k : ℕ). Finds image name live (fixed n.0 n.1) k) (sym place) (fixed_finds image P at name header found h p has f);
       behind_header = omega arith;
       count = refl;
       lock_is = refl;
       owner_is = refl;
     }
+
+-- it is a caller's
+pub fixed_callers : (image : List ℕ) (P : List Chunk → Type 0) (at name : ℕ) (header : Header) (found : Found) → HeapAccepted image → Passed image P at → HasHeader image at header → fixed_by header at name ≡ Some found → 1 ≤ found.owner
+fixed_callers image P at name header found h p has f =
+    let n = fixed_named at name header has.chunk found has.header_is f in
+    let some : 0 < n.1 = (finds_callers image name _ (fixed n.0 n.1) at h (fixed_finds image P at name header found h p has f)).0 in
+    let is : found.owner ≡ n.1 = ap (λ (x : Found). x.owner) n.3 in
+    omega arith
 
 not_fixed : (at name : ℕ) (c : Chunk) → fixed_by (header_of c) at name ≡ None → NotFixedAs name at c
 not_fixed at name (free size) f = tt
@@ -154,7 +169,7 @@ free_passed image count at header p has =
 
 -- ---- by a slot
 
-slot_header : (image : List ℕ) (name place : ℕ) → HeapAccepted image → (s : InSlot image name place) → option_map header_of (chunk_at image (place - 8)) ≡ Some (headers.Movable (length s.live.bytes) s.live.lock s.live.owner s.named)
+pub slot_header : (image : List ℕ) (name place : ℕ) → HeapAccepted image → (s : InSlot image name place) → option_map header_of (chunk_at image (place - 8)) ≡ Some (headers.Movable (length s.live.bytes) s.live.lock s.live.owner s.named)
 slot_header image name place h s = ap (option_map header_of) (finds_read image name s.live (movable s.live.bytes s.live.lock s.live.owner s.named) (place - 8) h s.finds)
 
 -- what is read at the place that a slot holds is its chunk

@@ -16,7 +16,7 @@ use Rattle.heap_model.specs.Placing.{Untouched, SameFrame, IsReserved, ChangesNa
 use Rattle.heap_model.specs.Refusals.{Check, NoneHolds, FirstBrings}
 use Rattle.heap_model.specs.MemorySteps.{Does, Of, IsNoCaller, IsLocked, AsBefore, checks}
 use Rattle.heap_model.specs.declared.names.Name.{Name}
-use Rattle.heap_model.specs.declared.call.MemoryCall.TheVariants.{HandleNew, Free, Size, Owner, FreeBytes}
+use Rattle.heap_model.specs.declared.call.MemoryCall.TheVariants.{HandleNew, PtrNew, Free, Size, Owner, FreeBytes}
 use Rattle.heap_model.specs.declared.call.Reply.TheVariants.{Refused, Done, Number, Named}
 use Rattle.heap_model.specs.declared.refusal.Refusal.TheVariants.{InvalidHandle, OwnedByDatabase, ChunkLocked, InvalidOwner, NotEnoughSpace}
 use Rattle.heap_laws.proofs.Deciding.{cond-true, cond-false}
@@ -37,21 +37,21 @@ pub known : (image : List ℕ) (name : ℕ) (found : Found) → HeapAccepted ima
 known image name found h f positive =
     callers_some image name f.live (finds_held image name f.live f.chunk (found.place.0 - 8) h f.finds) (let e = f.owner_is in λ none. let n : f.live.owner ≡ 0 = none in omega arith)
 
-of_known : (map : Option LiveChunk) (P : LiveChunk → Type 0) (live : LiveChunk) → map ≡ Some live → P live → Of map P
+pub of_known : (map : Option LiveChunk) (P : LiveChunk → Type 0) (live : LiveChunk) → map ≡ Some live → P live → Of map P
 of_known map P live e p = subst (λ (x : Option LiveChunk). Of x P) (sym e) p
 
-not_of_known : (map : Option LiveChunk) (P : LiveChunk → Type 0) (live : LiveChunk) → map ≡ Some live → (P live → ⊥) → Of map P → ⊥
+pub not_of_known : (map : Option LiveChunk) (P : LiveChunk → Type 0) (live : LiveChunk) → map ≡ Some live → (P live → ⊥) → Of map P → ⊥
 not_of_known map P live e none of = none (subst (λ (x : Option LiveChunk). Of x P) e of)
 
-is_known : (map : Option LiveChunk) (live : LiveChunk) → map ≡ Some live → map ≡ None → ⊥
+pub is_known : (map : Option LiveChunk) (live : LiveChunk) → map ≡ Some live → map ≡ None → ⊥
 is_known map live e none = let n = sym e ∙ none in absurd cc
 
 -- ---- calls that leave the image as it is
 
-still_same : (image : List ℕ) → Still image image
+pub still_same : (image : List ℕ) → Still image image
 still_same image = λ name live held_there locked there. refl
 
-as_before : (image : List ℕ) → AsBefore image image
+pub as_before : (image : List ℕ) → AsBefore image image
 as_before image = record { map = λ name. refl; free = refl; slots = refl }
 
 pub size_known : (image : List ℕ) (name : Name) (found : Found) → HeapAccepted image → IsFound image name.0 found → 1 ≤ found.owner → Does image (Size name) (Number found.length) image
@@ -83,7 +83,7 @@ owner_unknown image name h none = record { step = (inl (none, refl), as_before i
 -- ---- one name is changed
 
 -- a name that stands for nothing, or for a caller's chunk, afterwards
-others_callers : (old new : List ℕ) (name : ℕ) (now : Option LiveChunk) (there : Option ℕ) → ChangesName old new name now there → not_owned 0 now ≡ now → (n : ℕ) → callers_map new n ≡ updated (callers_map old) name now n
+pub others_callers : (old new : List ℕ) (name : ℕ) (now : Option LiveChunk) (there : Option ℕ) → ChangesName old new name now there → not_owned 0 now ≡ now → (n : ℕ) → callers_map new n ≡ updated (callers_map old) name now n
 others_callers old new name now there ch callers n = elim (cases_eq n name) [
   | inl same ↦ ap (λ (k : ℕ). callers_map new k) same ∙ ap (not_owned 0) ch.here ∙ callers ∙ sym (cond-true (n == name) _ _ (eq-eqb n name same))
   | inr apart ↦ ap (not_owned 0) (ch.others n apart) ∙ sym (cond-false (n == name) _ _ (grind (arith, nat_tests)))
@@ -236,3 +236,19 @@ used_below old new number name now there first is ch = record {
 
 pub callers_owner : (owner : ℕ) → owner ≢ 0 → owner ≤ 14 → IsNoCaller owner → ⊥
 callers_owner owner some most none = elim none [ inl zero_owner ↦ some zero_owner | inr high ↦ absurd (omega arith) ]
+
+-- ---- a new fixed chunk
+
+pub ptr_no_run : (image : List ℕ) (size owner : ℕ) → HeapAccepted image → (IsNoCaller owner → ⊥) → NoRun (chunks_of image) (need size) → Does image (PtrNew size owner) (Refused NotEnoughSpace) image
+ptr_no_run image size owner h caller none = record { step = (inr (caller, inl (none, refl)), as_before image); accepted = h; still = still_same image; asks = tt }
+
+pub ptr_made : (old new : List ℕ) (size owner : ℕ) (name : Name) (there : Option ℕ) → HeapAccepted old → (IsNoCaller owner → ⊥) → (NoRun (chunks_of old) (need size) → ⊥) → held old name.0 ≡ None
+    → ChangesName old new name.0 (Some (record { bytes = replicate size 0; lock = fixed_lock; owner = owner })) there → Does old (PtrNew size owner) (Named name) new
+ptr_made old new size owner name there h caller run empty ch = record {
+  step = ((caller, (run, tt)), (empty, others_callers old new name.0 (Some (record { bytes = replicate size 0; lock = fixed_lock; owner = owner })) there ch callers));
+  accepted = ch.frame.accepted;
+  still = still_others old new name.0 (Some (record { bytes = replicate size 0; lock = fixed_lock; owner = owner })) there ch (inl empty);
+  asks = tt;
+} where
+  callers : not_owned 0 (Some (record { bytes = replicate size 0; lock = fixed_lock; owner = owner })) ≡ Some (record { bytes = replicate size 0; lock = fixed_lock; owner = owner })
+  callers = let some : owner ≢ 0 = λ none. caller (inl none) in cond-false (owner == 0) _ _ (grind (arith, nat_tests))

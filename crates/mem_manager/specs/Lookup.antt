@@ -1,5 +1,5 @@
 -- What a look-up knows, and what walks over the chunks have passed.
-use Rattle.std.specs.Prelude.{◌≡◌, ◌≢◌, ◌<◌, ◌≤◌, ◌+◌, ◌-◌, ◌*◌, ◌++◌, ◌==◌, if◌then◌else◌, ℕ, List, [], ◌∷◌, length, sum_by, Option, Some, None}
+use Rattle.std.specs.Prelude.{◌≡◌, ◌≢◌, ◌<◌, ◌≤◌, ◌+◌, ◌-◌, ◌*◌, ◌++◌, ◌==◌, if◌then◌else◌, nat_lt, ℕ, List, [], ◌∷◌, length, sum_by, Option, Some, None}
 use Rattle.heap_model.specs.Maps.{callers_map}
 use Rattle.heap_model.specs.Space.{place_of}
 use Rattle.heap_model.specs.Chunk.{Chunk, fixed_lock, free_size, SpelledAll}
@@ -9,6 +9,7 @@ use Rattle.heap_model.specs.Placed.{EveryPlaced}
 use Rattle.heap_model.specs.Meaning.{LiveChunk}
 use Rattle.heap_model.specs.Placing.{Finds, NotFixedAs}
 use Rattle.master_table.specs.Table.{UsedBelow, HoldsPlace}
+use Rattle.heap_model.specs.declared.names.Name.{Name}
 use Rattle.heap_model.specs.declared.names.Place.{Place}
 use Rattle.chunk_format.specs.declared.header.Header.{Header}
 use Rattle.chunk_format.specs.declared.header.Header.TheVariants as headers
@@ -75,3 +76,9 @@ pub record IsThere (image : List ℕ) (place name : ℕ) : Type 0 where
 -- no caller's movable chunk has its body at this place
 abbrev pub NoSlotHolds : List ℕ → ℕ → Type 0
 NoSlotHolds image place = (name : ℕ) → HoldsPlace image name place → callers_map image name ≡ None
+
+-- the slot that a header names, if it is a caller's movable chunk's
+abbrev pub callers_slot_by : Header → Option Name
+callers_slot_by (headers.Free size) = None
+callers_slot_by (headers.Movable length lock owner slot) = if nat_lt 0 owner then Some (record { 0 = slot }) else None
+callers_slot_by (headers.Fixed length owner) = None

@@ -315,7 +315,7 @@ impl Heap {
     pub fn ptr_new(&mut self, size: u32, owner: u8) -> Result<Name, Refusal>
         ensures { Does self.old.bytes (MemoryCall.PtrNew size owner) (reply_of (λ name. Reply.Named name) result) self.new.bytes }
     {
-        let region = self.space.region();
+        let space = &mut self.space;
         if owner == 0 || owner > 14 {
             return Err(Refusal::InvalidOwner);
         }
@@ -323,11 +323,11 @@ impl Heap {
             Some(needed) => needed,
             None => return Err(Refusal::NotEnoughSpace),
         };
-        let place = match self.space.place(needed) {
+        let place = match space.place(needed) {
             Some(place) => place,
             None => return Err(Refusal::NotEnoughSpace),
         };
-        self.space.claim_fixed(place, size, owner);
+        space.claim_fixed(place, size, owner);
         Ok(Name(place.0))
     }
 
@@ -335,12 +335,13 @@ impl Heap {
     pub fn free_by_owner(&mut self, owner: u8) -> Result<u32, Refusal>
         ensures { Does self.old.bytes (MemoryCall.FreeByOwner owner) (reply_of (λ count. Reply.Number count) result) self.new.bytes }
     {
-        let region = self.space.region();
+        let space = &mut self.space;
         if owner == 0 || owner > 14 {
             return Err(Refusal::InvalidOwner);
         }
+        let count = free_owned(space, owner);
         self.lowest = 0;
-        Ok(free_owned(&mut self.space, owner))
+        Ok(count)
     }
 }
 

@@ -6,7 +6,7 @@ ghost use Rattle.heap_model.specs.Maps.{callers_map};
 ghost use Rattle.heap_model.specs.MemorySteps.{IsNowhere};
 ghost use Rattle.heap_model.specs.Reading.{held};
 ghost use Rattle.master_table.specs.Table.{HoldsPlace};
-ghost use Rattle.mem_manager.specs.Lookup.{IsFound, IsThere, NoSlotHolds, movable_by};
+ghost use Rattle.mem_manager.specs.Lookup.{IsFound, IsThere, NoSlotHolds, callers_slot_by, movable_by};
 
 use crate::walks::find_fixed;
 use chunk_format::Header;
@@ -111,12 +111,27 @@ fn slot_at(region: &Region, place: Place) -> Option<Name>
     if place.0 < 8 {
         return None;
     }
-    match Header::read(region, place.0 - 8) {
-        Some(Header::Movable { owner, slot, .. })
-            if owner > 0 && resolve(region, Name(slot)) == Some(place) =>
-        {
-            Some(Name(slot))
-        }
+    let header = match Header::read(region, place.0 - 8) {
+        Some(header) => header,
+        None => return None,
+    };
+    let slot = match callers_slot(header) {
+        Some(slot) => slot,
+        None => return None,
+    };
+    match resolve(region, slot) {
+        Some(held) if held.0 == place.0 => Some(slot),
+        _ => None,
+    }
+}
+
+/// The slot that a header names, if it is a caller's movable chunk's.
+#[inline]
+fn callers_slot(header: Header) -> Option<Name>
+    ensures { result ≡ callers_slot_by header }
+{
+    match header {
+        Header::Movable { owner, slot, .. } if owner > 0 => Some(Name(slot)),
         _ => None,
     }
 }

@@ -16,6 +16,8 @@ use raw_region::Region;
 pub(crate) fn find_fixed(region: &Region, name: Name) -> Option<Found>
     requires accepted { HeapAccepted region.now.bytes }
     ensures found { IfSome result (IsFound region.now.bytes name.0) }
+    ensures there { IfSome result (λ found. found.place.0 ≡ name.0) }
+    ensures callers { IfSome result (λ found. 1 ≤ found.owner) }
     ensures none { IfNone result (NoneFixedAs region.now.bytes name.0 (chunks_of region.now.bytes)) }
 {
     let end = region.len() as u32;

@@ -1,0 +1,12 @@
+use Rattle.std.proofs.Common.{◌≡◌, ◌≢◌, ◌≤◌, ◌<◌, ◌+◌, ◌-◌, length, replicate, refl, sym, subst, ◌∙◌, inl, inr, arith}
+use Rattle.heap_model.specs.Memory.{Memory}
+use Rattle.heap_model.specs.Heap.{HeapAccepted}
+use Rattle.heap_model.specs.MemorySteps.{Does}
+use Rattle.mem_manager.specs.Lookup.{IsFound}
+use Rattle.mem_manager.proofs.Altering.{locks_known}
+use Rattle.mem_manager.proofs.heap.Heap.locks.Goals as goal
+
+pub returns-in-Some : goal.returns-in-Some
+returns-in-Some c =
+    locks_known c.args.self.now.bytes c.args.name c.in-Some.found (subst (λ (m : Memory). HeapAccepted m.bytes) c.self.view_is c.self.invariant.accepted)
+    (subst (λ (m : Memory). IsFound m.bytes c.args.name.0 c.in-Some.found) (c.region.ensures ∙ c.self.view_is) c.in-Some.ensures.found) c.in-Some.ensures.callers

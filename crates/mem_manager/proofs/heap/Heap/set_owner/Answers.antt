@@ -1,0 +1,34 @@
+use Rattle.std.proofs.Common.{◌≡◌, ◌≢◌, ◌≤◌, ◌<◌, ◌+◌, ◌-◌, ◌++◌, [], ◌∷◌, length, replicate, refl, sym, ap, subst, ◌∙◌, inl, inr, arith}
+use Rattle.heap_model.specs.Memory.{Memory}
+use Rattle.heap_model.specs.Heap.{HeapAccepted}
+use Rattle.heap_model.specs.MemorySteps.{Does, text_of}
+use Rattle.heap_model.specs.declared.call.MemoryCall.TheVariants.{SetOwner}
+use Rattle.heap_model.specs.declared.call.Reply.TheVariants.{Done}
+use Rattle.heap_model.specs.MemorySteps.{IsNoCaller}
+use Rattle.mem_manager.specs.Lookup.{IsFound}
+use Rattle.mem_manager.proofs.Stepping.{callers_owner}
+use Rattle.mem_manager.proofs.Altering.{set_owner_database, set_owner_no_caller, used_altered, reowned_done}
+use Rattle.mem_manager.proofs.heap.Heap.set_owner.Goals as goal
+use Rattle.mem_manager.proofs.heap.Heap.set_owner.Goals.{then-owner-eq0-via-then-owner-eq0, then-owner-eq0-via-else-owner-eq0+then-owner-gt14}
+
+pub returns-then-found-eq-DATABASE : goal.returns-then-found-eq-DATABASE
+returns-then-found-eq-DATABASE c =
+    set_owner_database c.args.self.now.bytes c.args.name c.args.owner c.in-Some.found (subst (λ (m : Memory). HeapAccepted m.bytes) c.self.view_is c.self.invariant.accepted)
+    (subst (λ (m : Memory). IsFound m.bytes c.args.name.0 c.in-Some.found) (c.region.ensures ∙ c.self.view_is) c.in-Some.ensures.found) c.if-found-eq-DATABASE.true
+
+pub returns-then-owner-eq0 : goal.returns-then-owner-eq0
+returns-then-owner-eq0 c =
+    set_owner_no_caller c.args.self.now.bytes c.args.name c.args.owner c.in-Some.found (subst (λ (m : Memory). HeapAccepted m.bytes) c.self.view_is c.self.invariant.accepted)
+    (subst (λ (m : Memory). IsFound m.bytes c.args.name.0 c.in-Some.found) (c.region.ensures ∙ c.self.view_is) c.in-Some.ensures.found) c.in-Some.ensures.callers c.if-found-eq-DATABASE.false
+    (elim c.then-owner-eq0.branch [ then-owner-eq0-via-then-owner-eq0 w ↦ inl w.if-owner-eq0.true | then-owner-eq0-via-else-owner-eq0+then-owner-gt14 w ↦ inr w.if-owner-gt14.true ])
+
+pub invariant_of-self : goal.invariant_of-self
+invariant_of-self c =
+    let f = subst (λ (m : Memory). IsFound m.bytes c.args.name.0 c.in-Some.found) c.region.ensures c.in-Some.ensures.found in
+    used_altered c.self.inside.space.bytes c.reown.new.self.bytes c.self.inside.lowest c.args.name.0 _ _ c.self.invariant (c.reown.ensures c.args.name.0 f.live f.chunk f.finds)
+
+pub returns : goal.returns
+returns c =
+    let f = subst (λ (m : Memory). IsFound m.bytes c.args.name.0 c.in-Some.found) c.region.ensures c.in-Some.ensures.found in
+    subst (λ (m : Memory). Does m.bytes (SetOwner c.args.name c.args.owner) Done c.reown.new.self.bytes) c.self.view_is
+    (reowned_done c.self.inside.space.bytes c.reown.new.self.bytes c.args.name c.in-Some.found c.args.owner c.self.invariant.accepted f c.in-Some.ensures.callers c.if-found-eq-DATABASE.false (callers_owner c.args.owner c.if-owner-eq0.false (let most = c.if-owner-gt14.false in omega arith)) (c.reown.ensures c.args.name.0 f.live f.chunk f.finds))
