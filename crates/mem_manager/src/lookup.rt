@@ -17,6 +17,9 @@ use raw_region::Region;
 /// The lock of a fixed chunk.
 pub(crate) const FIXED_LOCK: u8 = 15;
 
+/// The owner of a database's chunks.
+pub(crate) const DATABASE: u8 = 15;
+
 /// A live chunk: where its body is, how many bytes it has, its lock (15 if it is fixed) and owner.
 #[derive(Clone, Copy)]
 pub(crate) struct Found {

@@ -1,0 +1,109 @@
+//! Calls that make chunks and free them.
+
+ghost use Rattle.std.specs.Prelude.{◌≡◌, ◌≤◌, ◌<◌, ℕ, length};
+ghost use Rattle.heap_model.specs.MemorySteps.{Does, reply_of};
+ghost use Rattle.heap_model.specs.declared.call.MemoryCall.{MemoryCall};
+ghost use Rattle.heap_model.specs.declared.call.Reply.{Reply};
+ghost use Rattle.mem_manager.specs.Lookup.{NoSlotBelow};
+
+use crate::heap::Heap;
+use crate::lookup::{DATABASE, FIXED_LOCK, find};
+use crate::owned::free_owned;
+use chunk_format::chunk_size;
+use heap_model::{Name, Refusal};
+use master_table::{free_slot, number_of, slot_count, slot_of};
+use raw_region::Region;
+
+impl Heap {
+    /// Makes a movable chunk of `size` zeros, without a lock. Refused where no slot is free, or no run
+    /// of neighbouring free chunks has the room.
+    pub fn handle_new(&mut self, size: u32, owner: u8) -> Result<Name, Refusal>
+        ensures { Does self.old.bytes (MemoryCall.HandleNew size owner) (reply_of (λ name. Reply.Named name) result) self.new.bytes }
+    {
+        let region = self.space.region();
+        if owner == 0 || owner > 14 {
+            return Err(Refusal::InvalidOwner);
+        }
+        let number = match free_slot(region, self.lowest) {
+            Some(number) => number,
+            None => return Err(Refusal::NotEnoughSpace),
+        };
+        let needed = match chunk_size(size) {
+            Some(needed) => needed,
+            None => return Err(Refusal::NotEnoughSpace),
+        };
+        let place = match self.space.place(needed) {
+            Some(place) => place,
+            None => return Err(Refusal::NotEnoughSpace),
+        };
+        let name = Name(slot_of(number));
+        self.space.claim(place, name, size, owner);
+        self.lowest = number;
+        Ok(name)
+    }
+
+    /// Makes a fixed chunk of `size` zeros. Refused where no run of neighbouring free chunks has the
+    /// room.
+    pub fn ptr_new(&mut self, size: u32, owner: u8) -> Result<Name, Refusal>
+        ensures { Does self.old.bytes (MemoryCall.PtrNew size owner) (reply_of (λ name. Reply.Named name) result) self.new.bytes }
+    {
+        let space = &mut self.space;
+        if owner == 0 || owner > 14 {
+            return Err(Refusal::InvalidOwner);
+        }
+        let needed = match chunk_size(size) {
+            Some(needed) => needed,
+            None => return Err(Refusal::NotEnoughSpace),
+        };
+        let place = match space.place(needed) {
+            Some(place) => place,
+            None => return Err(Refusal::NotEnoughSpace),
+        };
+        space.claim_fixed(place, size, owner);
+        Ok(Name(place.0))
+    }
+
+    /// Frees a chunk that is a caller's and has no lock; a fixed one may be freed.
+    pub fn free(&mut self, name: Name) -> Result<(), Refusal>
+        ensures { Does self.old.bytes (MemoryCall.Free name) (reply_of (λ done. Reply.Done) result) self.new.bytes }
+    {
+        let found = match find(self.space.region(), name) {
+            Some(found) => found,
+            None => return Err(Refusal::InvalidHandle),
+        };
+        if found.owner == DATABASE {
+            return Err(Refusal::OwnedByDatabase);
+        }
+        if found.lock > 0 && found.lock < FIXED_LOCK {
+            return Err(Refusal::ChunkLocked);
+        }
+        self.lowest = lowest_without(self.space.region(), self.lowest, name);
+        self.space.give_back(found.place);
+        Ok(())
+    }
+
+    /// Frees all chunks of an owner, 1 to 14, locked and fixed ones too, and answers how many there were.
+    pub fn free_by_owner(&mut self, owner: u8) -> Result<u32, Refusal>
+        ensures { Does self.old.bytes (MemoryCall.FreeByOwner owner) (reply_of (λ count. Reply.Number count) result) self.new.bytes }
+    {
+        let space = &mut self.space;
+        if owner == 0 || owner > 14 {
+            return Err(Refusal::InvalidOwner);
+        }
+        let count = free_owned(space, owner);
+        self.lowest = 0;
+        Ok(count)
+    }
+}
+
+/// A number below which every slot stays in use when the slot of a name is emptied.
+fn lowest_without(region: &Region, lowest: u16, name: Name) -> u16
+    requires { 10 ≤ length region.now.bytes }
+    ensures below { result ≤ lowest }
+    ensures apart { NoSlotBelow region.now.bytes name.0 result }
+{
+    match number_of(name.0, slot_count(region)) {
+        Some(number) if number < lowest => number,
+        _ => lowest,
+    }
+}
