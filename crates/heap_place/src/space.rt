@@ -46,7 +46,8 @@ impl Space {
     pub fn into_region(self) -> Region
         ensures { result ≡ self }
     {
-        self.region
+        let Space { region } = self;
+        region
     }
 
     /// The region, to read.
@@ -248,7 +249,8 @@ fn claim_fixed_at(region: &mut Region, at: u32, count: u32, owner: u8)
         owner,
     };
     header.write(region, at);
-    region.fill(at as usize + 8, count as usize, 0);
+    let body = at as usize + 8;
+    region.fill(body, count as usize, 0);
 }
 
 /// Makes the live chunk at `at` free, with the free chunk behind it.

@@ -234,9 +234,6 @@ used_below old new number name now there first is ch = record {
       first.used k (omega arith) in_old (sym (ch.slots (16 + 4 * k) (slot_of_number old k in_old) other) ∙ empty);
 }
 
-pub callers_owner : (owner : ℕ) → owner ≢ 0 → owner ≤ 14 → IsNoCaller owner → ⊥
-callers_owner owner some most none = elim none [ inl zero_owner ↦ some zero_owner | inr high ↦ absurd (omega arith) ]
-
 -- ---- a new fixed chunk
 
 pub ptr_no_run : (image : List ℕ) (size owner : ℕ) → HeapAccepted image → (IsNoCaller owner → ⊥) → NoRun (chunks_of image) (need size) → Does image (PtrNew size owner) (Refused NotEnoughSpace) image

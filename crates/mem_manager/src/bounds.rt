@@ -1,9 +1,17 @@
-//! Ranges of bytes within a body, and texts that end at a zero byte.
+//! Arguments of calls: owners, ranges of bytes within a body, and texts that end at a zero byte.
 
 ghost use Rattle.std.specs.Prelude.{◌≡◌, ◌<◌, ◌+◌, ◌↔◌, ◌==◌, IsTrue, not, length};
 ghost use Rattle.std.specs.List.{take_while};
+ghost use Rattle.heap_model.specs.MemorySteps.{IsNoCaller};
 
 use memchr::memchr;
+
+/// Whether an owner is none that a caller may give: those are 1 to 14.
+pub(crate) fn is_no_caller(owner: u8) -> bool
+    ensures { IsTrue result ↔ IsNoCaller owner }
+{
+    owner == 0 || owner > 14
+}
 
 /// Whether `count` bytes from `at` on reach beyond the end of a body of `length` bytes.
 pub(crate) fn reaches_beyond(at: u32, count: usize, length: u32) -> bool

@@ -5,7 +5,7 @@ ghost use Rattle.heap_model.specs.MemorySteps.{Does, reply_of};
 ghost use Rattle.heap_model.specs.declared.call.MemoryCall.{MemoryCall};
 ghost use Rattle.heap_model.specs.declared.call.Reply.{Reply};
 
-use crate::bounds::{before_zero, ends_beyond, reaches_beyond};
+use crate::bounds::{before_zero, ends_beyond, is_no_caller, reaches_beyond};
 use crate::heap::{Heap, Locked};
 use crate::lookup::{DATABASE, FIXED_LOCK, find};
 use heap_model::{Name, Refusal};
@@ -41,18 +41,18 @@ impl Heap {
     pub fn unlock(&mut self, name: Name) -> Result<u8, Refusal>
         ensures { Does self.old.bytes (MemoryCall.Unlock name) (reply_of (λ count. Reply.Number count) result) self.new.bytes }
     {
-        let found = match find(self.space.region(), name) {
+        let locked = match find(self.space.region(), name) {
             Some(found) => found,
             None => return Err(Refusal::InvalidHandle),
         };
-        if found.lock == FIXED_LOCK {
+        if locked.lock == FIXED_LOCK {
             return Err(Refusal::ChunkFixed);
         }
-        if found.lock == 0 {
+        if locked.lock == 0 {
             return Err(Refusal::ChunkNotLocked);
         }
-        let count = found.lock - 1;
-        self.space.relock(found.place, count);
+        let count = locked.lock - 1;
+        self.space.relock(locked.place, count);
         Ok(count)
     }
 
@@ -123,7 +123,7 @@ impl Heap {
         if found.owner == DATABASE {
             return Err(Refusal::OwnedByDatabase);
         }
-        if owner == 0 || owner > 14 {
+        if is_no_caller(owner) {
             return Err(Refusal::InvalidOwner);
         }
         self.space.reown(found.place, owner);

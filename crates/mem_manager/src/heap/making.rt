@@ -6,6 +6,7 @@ ghost use Rattle.heap_model.specs.declared.call.MemoryCall.{MemoryCall};
 ghost use Rattle.heap_model.specs.declared.call.Reply.{Reply};
 ghost use Rattle.mem_manager.specs.Lookup.{NoSlotBelow};
 
+use crate::bounds::is_no_caller;
 use crate::heap::Heap;
 use crate::lookup::{DATABASE, FIXED_LOCK, find};
 use crate::owned::free_owned;
@@ -21,7 +22,7 @@ impl Heap {
         ensures { Does self.old.bytes (MemoryCall.HandleNew size owner) (reply_of (λ name. Reply.Named name) result) self.new.bytes }
     {
         let region = self.space.region();
-        if owner == 0 || owner > 14 {
+        if is_no_caller(owner) {
             return Err(Refusal::InvalidOwner);
         }
         let number = match free_slot(region, self.lowest) {
@@ -48,7 +49,7 @@ impl Heap {
         ensures { Does self.old.bytes (MemoryCall.PtrNew size owner) (reply_of (λ name. Reply.Named name) result) self.new.bytes }
     {
         let space = &mut self.space;
-        if owner == 0 || owner > 14 {
+        if is_no_caller(owner) {
             return Err(Refusal::InvalidOwner);
         }
         let needed = match chunk_size(size) {
@@ -87,7 +88,7 @@ impl Heap {
         ensures { Does self.old.bytes (MemoryCall.FreeByOwner owner) (reply_of (λ count. Reply.Number count) result) self.new.bytes }
     {
         let space = &mut self.space;
-        if owner == 0 || owner > 14 {
+        if is_no_caller(owner) {
             return Err(Refusal::InvalidOwner);
         }
         let count = free_owned(space, owner);

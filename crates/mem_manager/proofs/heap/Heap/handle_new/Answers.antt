@@ -9,30 +9,27 @@ use Rattle.heap_model.specs.declared.call.MemoryCall.TheVariants.{HandleNew}
 use Rattle.heap_model.specs.declared.call.Reply.TheVariants.{Refused, Named}
 use Rattle.heap_model.specs.declared.refusal.Refusal.TheVariants.{NotEnoughSpace}
 use Rattle.master_table.specs.Table.{IsFirstEmpty}
-use Rattle.mem_manager.proofs.Stepping.{new_no_caller, new_no_run, no_run_so_big, callers_owner, then_changes, slot_unheld, new_made}
+use Rattle.mem_manager.proofs.Stepping.{new_no_caller, new_no_run, no_run_so_big, then_changes, slot_unheld, new_made}
+use Rattle.mem_manager.proofs.Altering.{not_both}
 use Rattle.mem_manager.proofs.heap.Heap.handle_new.Goals as goal
-use Rattle.mem_manager.proofs.heap.Heap.handle_new.Goals.{then-owner-eq0-via-then-owner-eq0, then-owner-eq0-via-else-owner-eq0+then-owner-gt14}
 
-pub returns-then-owner-eq0 : goal.returns-then-owner-eq0
-returns-then-owner-eq0 c =
+pub returns-then-is_no_caller : goal.returns-then-is_no_caller
+returns-then-is_no_caller c =
     new_no_caller c.args.self.now.bytes c.args.size c.args.owner (subst (λ (m : Memory). HeapAccepted m.bytes) c.self.view_is c.self.invariant.accepted)
-    (elim c.then-owner-eq0.branch [
-      | then-owner-eq0-via-then-owner-eq0 w ↦ inl w.if-owner-eq0.true
-      | then-owner-eq0-via-else-owner-eq0+then-owner-gt14 w ↦ inr w.if-owner-gt14.true
-    ])
+    (c.is_no_caller.ensures.0 c.if-is_no_caller.true)
 
 pub returns-in-None-chunk_size : goal.returns-in-None-chunk_size
 returns-in-None-chunk_size c =
     let h = subst (λ (m : Memory). HeapAccepted m.bytes) c.self.view_is c.self.invariant.accepted in
     let big = c.in-None-chunk_size.ensures in
-    new_no_run c.args.self.now.bytes c.args.size c.args.owner h (callers_owner c.args.owner c.if-owner-eq0.false c.if-owner-gt14.false) (no_run_so_big c.args.self.now.bytes (need c.args.size) h (omega arith))
+    new_no_run c.args.self.now.bytes c.args.size c.args.owner h (λ none. not_both c.is_no_caller.result c.if-is_no_caller.false (c.is_no_caller.ensures.1 none)) (no_run_so_big c.args.self.now.bytes (need c.args.size) h (omega arith))
 
 pub returns : goal.returns
 returns c =
     let old = c.self.inside.space.bytes in
     let first = subst (λ (m : Memory). IsFirstEmpty m.bytes c.in-Some.number) c.region-region.ensures c.in-Some.ensures.some in
     subst (λ (m : Memory). Does m.bytes (HandleNew c.args.size c.args.owner) (Named (record { 0 = c.slot_of.result })) c.claim.new.self.bytes) c.self.view_is
-    (new_made old c.claim.new.self.bytes c.args.size c.args.owner (record { 0 = c.slot_of.result }) (Some c.in-Some-place.place.0) c.self.invariant.accepted (callers_owner c.args.owner c.if-owner-eq0.false c.if-owner-gt14.false)
+    (new_made old c.claim.new.self.bytes c.args.size c.args.owner (record { 0 = c.slot_of.result }) (Some c.in-Some-place.place.0) c.self.invariant.accepted (λ none. not_both c.is_no_caller.result c.if-is_no_caller.false (c.is_no_caller.ensures.1 none))
     (λ none. some_slot c.in-Some.number (c.in-Some.ensures.none.1 (ap (λ (m : Memory). free_slots m.bytes) c.region-region.ensures ∙ none)))
     (λ none. c.in-Some-place.ensures.some (subst (λ (n : ℕ). NoRun (chunks_of old) n) (sym c.in-Some-chunk_size.ensures.1) none))
     (ap (held old) c.slot_of.ensures ∙ slot_unheld old c.in-Some.number c.self.invariant.accepted first)
