@@ -3,4 +3,6 @@
 #![tactic(auto)]
 
 #[cfg(test)]
+mod locks;
+#[cfg(test)]
 mod tests;

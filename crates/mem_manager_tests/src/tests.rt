@@ -21,7 +21,7 @@ fn image(alloc: Global, words: &[(usize, u32)]) -> Result<Region, Fail> {
 }
 
 /// The same as a heap.
-fn heap(alloc: Global, words: &[(usize, u32)]) -> Result<Heap, Fail> {
+pub(crate) fn heap(alloc: Global, words: &[(usize, u32)]) -> Result<Heap, Fail> {
     match Heap::adopt(image(alloc, words)?) {
         Ok(heap) => Ok(heap),
         Err(_) => Err("no heap")?,
@@ -30,7 +30,7 @@ fn heap(alloc: Global, words: &[(usize, u32)]) -> Result<Heap, Fail> {
 
 /// Five chunks behind each other: one of a database's under the slot at 16, one with two locks under
 /// the slot at 20, a fixed one at 72, one of the manager's under the slot at 24, and 32 free bytes.
-const FIVE: [(usize, u32); 12] = [
+pub(crate) const FIVE: [(usize, u32); 12] = [
     (16, 40),
     (20, 56),
     (24, 88),
