@@ -1,20 +1,19 @@
 -- A live chunk is altered where it stands, and a free chunk is claimed for a fixed one.
 use Rattle.std.proofs.Common.{◌≡◌, ◌≢◌, ℕ, ◌+◌, ◌-◌, ◌*◌, ◌%◌, ◌^◌, ◌<◌, ◌≤◌, List, [], ◌∷◌, ◌++◌, length, Option, Some, None, refl, sym, ap, subst, ◌∙◌, arith, inl, inr}
 use Rattle.std.specs.Prelude.{◌↔◌, ◌==◌, slice_range}
-use Rattle.std.proofs.lemmas.Bool.{cases_eq, eq-eqb}
-use Rattle.std.proofs.lemmas.Bool.Decides.{nat_tests}
-use Rattle.heap_model.specs.Bytes.{u32_at, overwritten}
+use Rattle.std.proofs.lemmas.Bool.{eq-eqb}
+use Rattle.heap_model.specs.Bytes.{overwritten}
 use Rattle.heap_model.specs.Chunk.{Chunk, free, movable, fixed, fixed_lock, need, size_of, total, IsLive, Spelled}
-use Rattle.heap_model.specs.Slots.{IsSlot, table_end, area_start}
-use Rattle.heap_model.specs.Heap.{BodyHere, IsBody, IsCallersIfFixed, ManagersHere, directory_of, IsHeap, HeapAccepted}
+use Rattle.heap_model.specs.Slots.{table_end, area_start}
+use Rattle.heap_model.specs.Heap.{BodyHere, IsCallersIfFixed, directory_of, IsHeap, HeapAccepted}
 use Rattle.heap_model.specs.Placed.{AnyPlaced}
 use Rattle.heap_model.specs.Meaning.{LiveChunk, NamedHere}
-use Rattle.heap_model.specs.Reading.{chunks_of, held, live_under}
+use Rattle.heap_model.specs.Reading.{held, live_under}
 use Rattle.heap_model.specs.Space.{place_under, place_of}
 use Rattle.heap_model.specs.Placing.{ChangesName, Finds}
-use Rattle.heap_laws.proofs.Deciding.{cond-true, cond-false}
+use Rattle.heap_laws.proofs.Deciding.{cond-true}
 use Rattle.heap_laws.proofs.Replacing.{same_start, Replaces, replaced_total, replaced_heap, SameSlots, kept_ties, kept_directory}
-use Rattle.heap_laws.proofs.Lives.{or_else, live_under-append, live_replaced, place_replaced}
+use Rattle.heap_laws.proofs.Lives.{or_else, live_replaced, place_replaced}
 use Rattle.heap_laws.proofs.Meanings.{named_once}
 use Rattle.heap_laws.proofs.Freeing.{reads_live, reads_place, frame_of, unnamed, live_mid, place_mid, other_name, other_name_place, NotManagers, not_managers}
 use Rattle.heap_laws.proofs.Finding.{read_heap, finds_spelled}

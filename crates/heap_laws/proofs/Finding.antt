@@ -1,10 +1,10 @@
 -- What a name stands for, found among the chunks.
-use Rattle.std.proofs.Common.{◌≡◌, ◌≢◌, ℕ, ◌+◌, ◌-◌, ◌<◌, ◌≤◌, Bool, List, [], ◌∷◌, ◌++◌, length, Option, Some, None, refl, sym, ap, subst, ◌∙◌, arith, inl, inr}
+use Rattle.std.proofs.Common.{◌≡◌, ◌≢◌, ℕ, ◌+◌, ◌-◌, ◌<◌, ◌≤◌, List, ◌∷◌, ◌++◌, length, Option, Some, None, refl, sym, ap, subst, ◌∙◌, arith}
 use Rattle.std.proofs.lemmas.Bool.{eq-eqb}
 use Rattle.std.proofs.lemmas.Bool.Decides.{nat_tests}
 use Rattle.std.specs.Prelude.{◌==◌}
 use Rattle.heap_model.specs.Bytes.{u32_at}
-use Rattle.heap_model.specs.Chunk.{Chunk, free, movable, fixed, size_of, total, Spelled, SpelledAll}
+use Rattle.heap_model.specs.Chunk.{Chunk, free, movable, fixed, total, Spelled, SpelledAll}
 use Rattle.heap_model.specs.Slots.{IsSlot, area_start}
 use Rattle.heap_model.specs.Heap.{BodyHere, IsHeap, HeapAccepted}
 use Rattle.heap_model.specs.Placed.{EveryPlaced, AnyPlaced}
@@ -14,7 +14,7 @@ use Rattle.heap_model.specs.Maps.{not_owned, callers_map}
 use Rattle.heap_model.specs.Placing.{Finds, NotFixedAs}
 use Rattle.heap_laws.proofs.Deciding.{cond-true, cond-false}
 use Rattle.heap_laws.proofs.Chunks.{SpelledAll-split}
-use Rattle.heap_laws.proofs.Placed.{PlacedParts, AnyPlaced-parts, AnyPlaced-mid, EveryPlaced-split}
+use Rattle.heap_laws.proofs.Placed.{AnyPlaced-parts, AnyPlaced-mid, EveryPlaced-split}
 use Rattle.heap_laws.proofs.Accepted.{heap_of_read}
 use Rattle.heap_laws.proofs.Shapes.{chunk_at-spelled}
 use Rattle.heap_laws.proofs.Meanings.{held-is, live_under-is, same_live}

@@ -1,26 +1,24 @@
 -- Free chunks are split and joined, claimed for live ones, and live ones given back.
-use Rattle.std.proofs.Common.{◌≡◌, ◌≢◌, ℕ, zero, suc, ◌+◌, ◌-◌, ◌*◌, ◌/◌, ◌%◌, ◌^◌, ◌<◌, ◌≤◌, Bool, true, false, cond, List, [], ◌∷◌, ◌++◌, length, Option, Some, None, refl, sym, ap, subst, ◌∙◌, append_assoc, arith, inl, inr}
-use Rattle.std.specs.Prelude.{◌⊎◌, ◌↔◌, ◌==◌, sum_by}
+use Rattle.std.proofs.Common.{◌≡◌, ◌≢◌, ℕ, ◌+◌, ◌<◌, List, [], ◌∷◌, ◌++◌, length, Option, Some, None, refl, sym, ap, subst, ◌∙◌, arith, inl, inr}
+use Rattle.std.specs.Prelude.{◌↔◌, ◌==◌, sum_by}
 use Rattle.std.proofs.lemmas.Bool.{cases_eq, eq-eqb}
 use Rattle.std.proofs.lemmas.Bool.Decides.{nat_tests}
 use Rattle.std.proofs.lemmas.List.Sums.{sum_by-append, sum_by-cons}
 use Rattle.heap_model.specs.Bytes.{u32_at}
-use Rattle.heap_model.specs.Chunk.{Chunk, free, movable, fixed, fixed_lock, need, size_of, total, free_size, SpelledAll}
-use Rattle.heap_model.specs.Slots.{IsSlot, slot_count, table_end, area_start}
-use Rattle.heap_model.specs.Heap.{BodyHere, IsBody, Tied, IsCallersIfFixed, ManagersHere, directory_of, IsHeap, HeapAccepted}
+use Rattle.heap_model.specs.Chunk.{Chunk, free, movable, fixed, need, size_of, total, free_size}
+use Rattle.heap_model.specs.Slots.{IsSlot, table_end, area_start}
+use Rattle.heap_model.specs.Heap.{BodyHere, IsBody, IsCallersIfFixed, ManagersHere, directory_of, IsHeap}
 use Rattle.heap_model.specs.Placed.{EveryPlaced, AnyPlaced}
 use Rattle.heap_model.specs.Meaning.{LiveChunk, NamedHere}
-use Rattle.heap_model.specs.Reading.{chunks_of, held, live_under}
-use Rattle.heap_model.specs.Space.{AllFree, NoRun, free_total, place_under, place_of}
+use Rattle.heap_model.specs.Reading.{held, live_under}
+use Rattle.heap_model.specs.Space.{AllFree, free_total, place_under, place_of}
 use Rattle.heap_model.specs.Placing.{SameFrame, Untouched, ChangesName}
 use Rattle.heap_laws.proofs.Deciding.{cond-true, cond-false}
-use Rattle.heap_laws.proofs.Frames.{SameBetween}
-use Rattle.heap_laws.proofs.Chunks.{total-append}
 use Rattle.heap_laws.proofs.Placed.{AnyPlaced-left, AnyPlaced-right, AnyPlaced-split}
 use Rattle.heap_laws.proofs.Runs.{chunks_of-tiled}
-use Rattle.heap_laws.proofs.Replacing.{SameHead, same_count, same_start, Replaces, replaced_total, Retied, replaced_heap, any_replaced, SameSlots, kept_ties, kept_directory}
+use Rattle.heap_laws.proofs.Replacing.{SameHead, same_count, same_start, Replaces, replaced_total, replaced_heap, any_replaced, SameSlots, kept_ties, kept_directory}
 use Rattle.heap_laws.proofs.Lives.{or_else, live_under-append, place_under-append, live_replaced, place_replaced, live_under-free, place_under-free, live_placed}
-use Rattle.heap_laws.proofs.Meanings.{held-is, empty_unheld, live_under-there, IsThere, live_under-some, named_once}
+use Rattle.heap_laws.proofs.Meanings.{held-is, empty_unheld, live_under-there, named_once}
 
 -- ---- free chunks
 

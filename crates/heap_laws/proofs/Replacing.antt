@@ -1,14 +1,13 @@
 -- Chunks in the middle of an accepted heap are replaced by others of the same size.
-use Rattle.std.proofs.Common.{◌≡◌, ◌≢◌, ℕ, ◌+◌, ◌-◌, ◌*◌, ◌/◌, ◌%◌, ◌^◌, ◌<◌, ◌≤◌, List, [], ◌∷◌, ◌++◌, length, refl, sym, ap, subst, ◌∙◌, arith, inl, inr}
+use Rattle.std.proofs.Common.{◌≡◌, ◌≢◌, ℕ, ◌+◌, ◌*◌, ◌/◌, ◌<◌, List, ◌++◌, length, sym, ap, subst, ◌∙◌, arith, inl, inr}
 use Rattle.std.specs.Prelude.{◌⊎◌, ◌↔◌}
-use Rattle.std.proofs.lemmas.Bool.{cases_eq}
-use Rattle.heap_model.specs.Bytes.{u16_at, u32_at}
+use Rattle.heap_model.specs.Bytes.{u32_at}
 use Rattle.heap_model.specs.Chunk.{Chunk, total, SpelledAll}
 use Rattle.heap_model.specs.Slots.{IsSlot, slot_count, table_end, head_end, area_start}
-use Rattle.heap_model.specs.Heap.{IsHead, Tiles, BodyHere, IsBody, Tied, IsCallersIfFixed, ManagersHere, directory_of, HasDirectory, IsHeap}
+use Rattle.heap_model.specs.Heap.{IsHead, BodyHere, IsBody, IsCallersIfFixed, ManagersHere, directory_of, IsHeap}
 use Rattle.heap_model.specs.Placed.{EveryPlaced, AnyPlaced}
-use Rattle.heap_laws.proofs.Frames.{SameBetween, SameBetween-within, u16_at-same, u32_at-same}
-use Rattle.heap_laws.proofs.Chunks.{total-append, SpelledAll-append, SpelledAll-split, SpelledAll-end, SpelledAll-same}
+use Rattle.heap_laws.proofs.Frames.{SameBetween, u16_at-same, u32_at-same}
+use Rattle.heap_laws.proofs.Chunks.{SpelledAll-append, SpelledAll-split, SpelledAll-end, SpelledAll-same}
 use Rattle.heap_laws.proofs.Placed.{EveryPlaced-append, EveryPlaced-split, AnyPlaced-left, AnyPlaced-right, AnyPlaced-split}
 
 -- ---- the head

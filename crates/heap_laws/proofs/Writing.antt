@@ -1,12 +1,12 @@
 -- What a write within some bytes leaves as it was.
-use Rattle.std.proofs.Common.{◌≡◌, ◌≢◌, ℕ, ◌+◌, ◌-◌, ◌*◌, ◌/◌, ◌%◌, ◌<◌, ◌≤◌, List, length, refl, sym, ap, subst, ◌∙◌, arith, inl, inr}
+use Rattle.std.proofs.Common.{◌≡◌, ◌≢◌, ℕ, ◌+◌, ◌%◌, ◌<◌, ◌≤◌, List, length, refl, sym, subst, ◌∙◌, arith, inl, inr}
 use Rattle.std.proofs.lemmas.Bool.{cases_lt}
 use Rattle.std.specs.Prelude.{◌⊎◌}
 use Rattle.heap_model.specs.Bytes.{u32_at, u32_bytes, overwritten}
 use Rattle.heap_model.specs.Chunk.{Chunk, total, SpelledAll}
 use Rattle.heap_model.specs.Slots.{IsSlot, table_end, area_start}
-use Rattle.heap_laws.proofs.Frames.{SameBetween, SameBetween-within, SameBetween-then, length-overwritten, overwritten-below, overwritten-above, u32_at-same, length-u32_bytes, u32_at-written}
-use Rattle.heap_laws.proofs.Replacing.{SameHead, Replaces, SameSlots}
+use Rattle.heap_laws.proofs.Frames.{SameBetween, SameBetween-within, SameBetween-then, length-overwritten, overwritten-below, overwritten-above, u32_at-same, length-u32_bytes}
+use Rattle.heap_laws.proofs.Replacing.{Replaces}
 
 -- only bytes from one offset up to another were written
 pub record WroteWithin (old new : List ℕ) (low high : ℕ) : Type 0 where

@@ -1,18 +1,17 @@
 -- A live chunk of an accepted heap gets another header, or other bytes; a free one is claimed for a
 -- fixed one.
-use Rattle.std.proofs.Common.{◌≡◌, ◌≢◌, ℕ, ◌+◌, ◌-◌, ◌*◌, ◌%◌, ◌^◌, ◌<◌, ◌≤◌, List, [], ◌∷◌, ◌++◌, length, take, drop, replicate, Some, None, refl, sym, ap, subst, ◌∙◌, arith, inl, inr, length-append}
-use Rattle.std.proofs.lemmas.List.{length-replicate, take_all, drop_all, append-nil}
+use Rattle.std.proofs.Common.{◌≡◌, ◌≢◌, ℕ, ◌+◌, ◌-◌, ◌%◌, ◌<◌, ◌≤◌, List, [], ◌∷◌, ◌++◌, length, replicate, Some, None, refl, sym, ap, subst, ◌∙◌, arith, inl, inr, length-append}
+use Rattle.std.proofs.lemmas.List.{length-replicate, drop_all, append-nil}
 use Rattle.std.specs.Option.{option_map}
-use Rattle.heap_model.specs.Bytes.{u32_at, overwritten}
-use Rattle.heap_model.specs.Chunk.{Chunk, free, movable, fixed, fixed_lock, need, size_of, total, IsLive, Spelled}
-use Rattle.heap_model.specs.Slots.{IsSlot, area_start, table_end}
-use Rattle.heap_model.specs.Heap.{IsHeap, HeapAccepted}
-use Rattle.heap_model.specs.Meaning.{LiveChunk, NamedHere}
+use Rattle.heap_model.specs.Bytes.{overwritten}
+use Rattle.heap_model.specs.Chunk.{Chunk, free, movable, fixed, fixed_lock, need, IsLive, Spelled}
+use Rattle.heap_model.specs.Slots.{IsSlot, table_end}
+use Rattle.heap_model.specs.Heap.{HeapAccepted}
+use Rattle.heap_model.specs.Meaning.{LiveChunk}
 use Rattle.heap_model.specs.Reading.{chunk_at, held}
 use Rattle.heap_model.specs.Placing.{IsReserved, ChangesName, Finds}
 use Rattle.heap_laws.proofs.Frames.{overwritten-behind}
 use Rattle.heap_laws.proofs.Chunks.{Spelled-size}
-use Rattle.heap_laws.proofs.Replacing.{SameSlots}
 use Rattle.heap_laws.proofs.Writing.{WroteWithin, wrote_none, wrote_part, wrote_wider, wrote_then, wrote_word_apart, WroteArea, area_replaces}
 use Rattle.heap_laws.proofs.Finding.{finds_spelled, finds_one}
 use Rattle.heap_laws.proofs.Altering.{overwritten_body, body_written, movable_relabelled, fixed_relabelled, claimed_fixed}
