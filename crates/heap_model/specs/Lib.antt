@@ -13,3 +13,5 @@ pub mod Placing
 pub mod Numbers
 pub mod Refusals
 pub mod MemorySteps
+pub mod Calls
+pub mod Counted

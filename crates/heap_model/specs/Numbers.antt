@@ -1,5 +1,5 @@
--- The numbers of refusals.
-use Rattle.std.specs.Prelude.{ℕ}
+-- The numbers and the names of refusals.
+use Rattle.std.specs.Prelude.{ℕ, List, codes}
 use Rattle.heap_model.specs.declared.refusal.Refusal.{Refusal}
 use Rattle.heap_model.specs.declared.refusal.Refusal.TheVariants.{InvalidHandle, OwnedByDatabase, ChunkLocked, ChunkNotLocked, LockOverflow, ChunkFixed, InvalidOwner, NotEnoughSpace, OutOfBounds, OutOfMemory}
 
@@ -14,3 +14,15 @@ number_of InvalidOwner = 7
 number_of NotEnoughSpace = 8
 number_of OutOfBounds = 9
 number_of OutOfMemory = 26
+
+abbrev pub name_of : Refusal → List ℕ
+name_of InvalidHandle = codes "InvalidHandle"
+name_of OwnedByDatabase = codes "OwnedByDatabase"
+name_of ChunkLocked = codes "ChunkLocked"
+name_of ChunkNotLocked = codes "ChunkNotLocked"
+name_of LockOverflow = codes "LockOverflow"
+name_of ChunkFixed = codes "ChunkFixed"
+name_of InvalidOwner = codes "InvalidOwner"
+name_of NotEnoughSpace = codes "NotEnoughSpace"
+name_of OutOfBounds = codes "OutOfBounds"
+name_of OutOfMemory = codes "OutOfMemory"

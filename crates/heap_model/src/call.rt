@@ -58,6 +58,12 @@ pub enum MemoryCall {
     Compact,
 }
 
+/// A call of any manager.
+#[derive(Drop)]
+pub enum Call {
+    Memory(MemoryCall),
+}
+
 /// What a call answers: a refusal, or a value of its own.
 #[derive(Drop)]
 pub enum Reply {

@@ -18,6 +18,8 @@
 //! | `Space` | free chunks and free slots: how much there is, and where |
 //! | `Refusals` | checks in order, and the refusal that the first one brings |
 //! | `MemorySteps` | what each call of the memory manager answers and does |
+//! | `Calls` | the step of a call, whichever manager it is of |
+//! | `Counted` | what contracts see of a writer whose faults are counted |
 //!
 //! Offsets count bytes from the image's start, and numbers are big-endian. The fields of a chunk's
 //! header are those of the Palm OS Programmer's Companion ("Memory Architecture"); the image
@@ -26,10 +28,14 @@
 
 mod bytes;
 mod call;
+mod counted;
 mod names;
 mod refusal;
+mod tally;
 
 pub use bytes::Bytes;
-pub use call::{MemoryCall, Reply};
+pub use call::{Call, MemoryCall, Reply};
+pub use counted::Counted;
 pub use names::{Name, Place};
 pub use refusal::Refusal;
+pub use tally::Tally;

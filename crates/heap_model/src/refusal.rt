@@ -1,7 +1,7 @@
 //! Why a call was refused.
 
 ghost use Rattle.std.specs.Prelude.{◌≡◌};
-ghost use Rattle.heap_model.specs.Numbers.{number_of};
+ghost use Rattle.heap_model.specs.Numbers.{number_of, name_of};
 
 /// Why a call was refused. A refused call leaves what the heap means as it was. The numbers are this
 /// project's own, whatever a device answers.
@@ -34,17 +34,32 @@ impl Refusal {
     pub fn number(self) -> u8
         ensures { result ≡ number_of self }
     {
+        self.number_and_name().0
+    }
+
+    /// The name of the refusal.
+    pub fn name(self) -> &'static str
+        ensures { result.now ≡ name_of self }
+    {
+        self.number_and_name().1
+    }
+
+    /// The table of numbers and names.
+    fn number_and_name(self) -> (u8, &'static str)
+        ensures number { result.0 ≡ number_of self }
+        ensures name { result.1.now ≡ name_of self }
+    {
         match self {
-            Refusal::InvalidHandle => 1,
-            Refusal::OwnedByDatabase => 2,
-            Refusal::ChunkLocked => 3,
-            Refusal::ChunkNotLocked => 4,
-            Refusal::LockOverflow => 5,
-            Refusal::ChunkFixed => 6,
-            Refusal::InvalidOwner => 7,
-            Refusal::NotEnoughSpace => 8,
-            Refusal::OutOfBounds => 9,
-            Refusal::OutOfMemory => 26,
+            Refusal::InvalidHandle => (1, "InvalidHandle"),
+            Refusal::OwnedByDatabase => (2, "OwnedByDatabase"),
+            Refusal::ChunkLocked => (3, "ChunkLocked"),
+            Refusal::ChunkNotLocked => (4, "ChunkNotLocked"),
+            Refusal::LockOverflow => (5, "LockOverflow"),
+            Refusal::ChunkFixed => (6, "ChunkFixed"),
+            Refusal::InvalidOwner => (7, "InvalidOwner"),
+            Refusal::NotEnoughSpace => (8, "NotEnoughSpace"),
+            Refusal::OutOfBounds => (9, "OutOfBounds"),
+            Refusal::OutOfMemory => (26, "OutOfMemory"),
         }
     }
 }

@@ -1,0 +1,35 @@
+-- What contracts see of a writer whose faults are counted.
+use Rattle.std.specs.Prelude.{◌≡◌, ℕ, ◌≤◌, ◌<◌, ◌==◌, Bool, true, false, ◌&&◌, not, cond, List, length, take, refl, Option, Result, Ok, Err}
+use Rattle.std.specs.Coded.{Coded, code_by, coded×, coded_ℕ}
+use Rattle.std.specs.Io.KnownBytes.{Appends}
+
+-- a writer, and how many of its writes of one byte or more failed or took 0 bytes
+pub record Writing (W : Type 0) : Type 0 where
+  pub writer : W
+  pub faults : ℕ
+
+module _ {W : Type 0} where
+  abbrev pub writing : W → ℕ → Writing W
+  writing writer faults = record { writer = writer; faults = faults }
+
+  abbrev pub writing_code : Coded W → Coded (Writing W)
+  writing_code code = code_by (W × ℕ) (coded× code coded_ℕ) (λ w. (w.writer, w.faults)) (λ pair. writing pair.0 pair.1) (λ _. refl)
+
+-- a write of one byte or more failed, or took 0 bytes
+abbrev pub is_write_fault : {E : Type 0} → Result ℕ E → List ℕ → Bool
+is_write_fault (Ok n) bytes = (n == 0) && not (length bytes == 0)
+is_write_fault (Err error) bytes = not (length bytes == 0)
+
+-- how many faults a write is
+abbrev pub faults_of : {E : Type 0} → Result ℕ E → List ℕ → ℕ
+faults_of result bytes = cond (is_write_fault result bytes) 1 0
+
+-- known bytes grow by a front of others
+abbrev pub AppendsFront : Option (List ℕ) → Option (List ℕ) → List ℕ → Type 0
+AppendsFront old new bytes = (n : ℕ) × (n ≤ length bytes) × Appends old new (take n bytes)
+
+-- A text goes to a writer. All of it was written and no write failed; or a front of it was, and a
+-- write failed.
+abbrev pub Writes : {W : Type 0} → (W → Option (List ℕ)) → Writing W → Writing W → List ℕ → Bool → Type 0
+Writes contents old new text true = Appends (contents old.writer) (contents new.writer) text × (new.faults ≡ old.faults)
+Writes contents old new text false = AppendsFront (contents old.writer) (contents new.writer) text × (old.faults < new.faults)

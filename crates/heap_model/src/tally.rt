@@ -1,0 +1,33 @@
+//! A count that contracts alone see.
+
+ghost use Rattle.std.specs.Prelude.{◌≡◌, ◌+◌, ℕ};
+ghost use Rattle.std.specs.Borrow.{ftrue};
+
+use std::marker::{Model, PhantomData};
+
+/// A count that takes no memory. It starts at 0, and only `add` changes it.
+#[derive(Drop)]
+pub struct Tally {
+    marker: PhantomData<u8>,
+    pub ghost total: { ℕ },
+}
+
+impl Model for Tally {
+    ghost also_owns = { λ _. ftrue };
+}
+
+impl Tally {
+    /// A count of nothing.
+    pub fn new() -> Tally
+        ensures { result.total ≡ 0 }
+    {
+        Tally {
+            marker: PhantomData,
+        }
+    }
+
+    /// Counts so many more.
+    pub fn add(&mut self, _amount: usize)
+        ensures { self.new.total ≡ self.old.total + _amount }
+    {}
+}
