@@ -1,0 +1,79 @@
+//! Lines in pieces.
+
+ghost use Rattle.std.specs.Prelude.{◌≤◌, is_ok, length};
+ghost use Rattle.hex.specs.Hex.{encode_lower};
+ghost use Rattle.heap_model.specs.Counted.{Writes};
+ghost use Rattle.palm_text.specs.Pieces.{piece_text, text_of};
+
+use crate::output::{WriteFault, put_all};
+use heap_model::Counted;
+use itoa::Buffer;
+use std::io::Write;
+
+/// How many bytes are printed in hex at a time.
+const TURN: usize = 32;
+
+/// A piece of a line.
+#[derive(Clone, Copy)]
+pub enum Piece<'a> {
+    /// These bytes.
+    Text(&'a [u8]),
+    /// A number in decimal.
+    Number(u32),
+    /// Two hex digits in lower case for each byte; nothing where there is none.
+    Hex(&'a [u8]),
+}
+
+/// Writes pieces, one behind another.
+pub fn put_pieces<W: Write>(out: &mut Counted<W>, pieces: &[Piece]) -> Result<(), WriteFault>
+    ensures { Writes W.contents out.old out.new (text_of pieces.now) (is_ok result) }
+{
+    for piece in pieces {
+        match put_piece(out, piece) {
+            Ok(()) => {}
+            Err(fault) => return Err(fault),
+        }
+    }
+    Ok(())
+}
+
+fn put_piece<W: Write>(out: &mut Counted<W>, piece: &Piece) -> Result<(), WriteFault>
+    ensures { Writes W.contents out.old out.new (piece_text piece.now) (is_ok result) }
+{
+    match piece {
+        Piece::Text(text) => put_all(out, text),
+        Piece::Number(number) => {
+            let mut buffer = Buffer::new();
+            put_all(out, buffer.format(*number).as_bytes())
+        }
+        Piece::Hex(bytes) => put_hex(out, bytes),
+    }
+}
+
+/// Writes bytes in hex, in turns, which take no memory.
+fn put_hex<W: Write>(out: &mut Counted<W>, bytes: &[u8]) -> Result<(), WriteFault>
+    ensures { Writes W.contents out.old out.new (encode_lower bytes.now) (is_ok result) }
+{
+    let mut rest = bytes;
+    while !rest.is_empty() {
+        let (turn, behind) = rest.split_at(rest.len().min(TURN));
+        match put_hex_turn(out, turn) {
+            Ok(()) => {}
+            Err(fault) => return Err(fault),
+        }
+        rest = behind;
+    }
+    Ok(())
+}
+
+fn put_hex_turn<W: Write>(out: &mut Counted<W>, bytes: &[u8]) -> Result<(), WriteFault>
+    requires { length bytes.now ≤ TURN }
+    ensures { Writes W.contents out.old out.new (encode_lower bytes.now) (is_ok result) }
+{
+    let mut buffer = [0; 2 * TURN];
+    let digits = &mut buffer[..2 * bytes.len()];
+    match hex::encode_to_slice(bytes, digits) {
+        Ok(()) => put_all(out, digits),
+        Err(_) => unreachable!(),
+    }
+}
