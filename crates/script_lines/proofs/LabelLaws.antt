@@ -1,0 +1,15 @@
+-- Laws on the labels of lines.
+use Rattle.std.proofs.Common.{ℕ, List, [], ◌∷◌, ◌++◌, refl, arith}
+use Rattle.std.specs.Prelude.{◌≡◌, max}
+use Rattle.std.proofs.lemmas.List.Recursion.{max_bounds}
+use Rattle.script_lines.specs.declared.line.Line.{Line}
+use Rattle.script_lines.specs.Labels.{label_end, label_count, HasLabelsBelow}
+
+-- each label of the lines is below how many they have
+pub below_count : (lines : List Line) (count : ℕ) → count ≡ label_count lines → HasLabelsBelow count lines
+below_count lines count h = λ i d within. rw h (max_bounds label_count label_end refl (λ _ _. refl) lines i d within)
+
+-- one line more
+pub label_count-push : (lines : List Line) (line : Line) → label_count (lines ++ line ∷ []) ≡ max (label_count lines) (label_end line)
+label_count-push [] line = omega arith
+label_count-push (first ∷ lines) line = omega (arith, label_count-push lines line)

@@ -1,0 +1,6 @@
+pub mod LabelLaws
+pub mod WordLaws
+pub mod LineLaws
+pub mod NumberingLaws
+pub mod NumberLaws
+pub mod ReadingLaws

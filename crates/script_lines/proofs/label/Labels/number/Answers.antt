@@ -1,0 +1,20 @@
+use Rattle.std.proofs.Common.{◌≡◌, ◌+◌, None, sym, ◌∙◌, refl}
+use Rattle.std.specs.BTreeMap.{btree_map_len}
+use Rattle.std.proofs.lemmas.Map.Text.{btree_map_updates_str}
+use Rattle.script_lines.specs.Numbering.{with_next}
+use Rattle.script_lines.specs.Views.{numbering}
+use Rattle.script_lines.proofs.NumberingLaws.{same_numbering, with_label_absent}
+use Rattle.script_lines.proofs.label.Labels.number.Goals as goal
+
+-- the map has the new label's number besides what it had
+pub returns-in-Ok-insert-clause-labels : goal.returns-in-Ok-insert-clause-labels
+returns-in-Ok-insert-clause-labels c =
+    let old = numbering c.args.self.now in
+    let word = c.args.word.now in
+    let next : c.in-Ok.number ≡ old.count = c.in-Ok.ensures.1 ∙ c.len.ensures.len in
+    let none : c.in-Ok-insert.field-0 ≡ None = c.in-Ok-insert.ensures.old ∙ sym c.in_default.ensures.value in
+    let more : btree_map_len c.insert.new.self ≡ old.count + 1 = rw none at c.in-Ok-insert.ensures.len in
+    same_numbering (numbering (record { numbers = c.insert.new.self })) (with_next old word)
+    (λ other. btree_map_updates_str word c.args.self.now.numbers c.insert.new.self _ c.in-Ok-insert.ensures.updates other ∙ rw next refl)
+    more
+    ∙ sym (with_label_absent old word (sym c.in_default.ensures.value))

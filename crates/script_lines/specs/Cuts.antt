@@ -1,0 +1,24 @@
+-- How a text is cut: its first line and the rest, its first word and the rest.
+use Rattle.std.specs.Prelude.{◌≡◌, ◌<◌, ◌≤◌, ◌+◌, ℕ, List, [], ◌∷◌, length, Bool, true, Ok, Err}
+use Rattle.std.specs.Str.Lines.{lines}
+use Rattle.script_lines.specs.Words.{is_blank, words_of, with_word}
+use Rattle.script_lines.specs.declared.text.LineCut.{LineCut}
+use Rattle.script_lines.specs.declared.text.WordCut.{WordCut}
+use Rattle.script_lines.specs.declared.text.WordCut.TheVariants.{Absent, Broken, Word}
+
+-- the first line of a text, and the rest
+pub record CutsLine (text : List ℕ) (cut : LineCut) : Type 0 where
+  pub first : lines text ≡ cut.line.now ∷ lines cut.rest.now
+  pub shorter : length cut.rest.now < length text
+  pub within : length cut.line.now + length cut.rest.now ≤ length text
+
+-- whether a quoted word may end in front of a text
+abbrev pub ends_word : List ℕ → Bool
+ends_word [] = true
+ends_word (b ∷ bs) = is_blank b
+
+-- the first word of a text, and the rest
+abbrev pub CutsWord : List ℕ → WordCut → Type 0
+CutsWord text Absent = words_of text ≡ Ok []
+CutsWord text Broken = (words_of text ≡ Err 1) × (0 < length text)
+CutsWord text (Word word rest) = (words_of text ≡ with_word word.now (words_of rest.now)) × (length rest.now < length text)

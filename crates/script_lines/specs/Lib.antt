@@ -1,0 +1,9 @@
+pub mod Labels
+pub mod Words
+pub mod Cuts
+pub mod Numbering
+pub mod Spellings
+pub mod Kinds
+pub mod Commands
+pub mod Views
+pub mod Reading

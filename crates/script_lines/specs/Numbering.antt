@@ -1,0 +1,23 @@
+-- The numbers of labels, in the order in which the labels first appear.
+use Rattle.std.specs.Prelude.{ℕ, ◌+◌, List, Option, None, Some, is_some, unwrap_or, if◌then◌else◌}
+use Rattle.std.specs.Str.{bytes_eq}
+
+-- the labels that have appeared: the number of each, and how many they are
+pub record Numbering : Type 0 where
+  pub number : List ℕ → Option ℕ
+  pub count : ℕ
+
+abbrev pub no_labels : Numbering
+no_labels = record { number = λ word. None; count = 0 }
+
+-- the number of a label: the one that it has, or else the next
+abbrev pub label_number : Numbering → List ℕ → ℕ
+label_number labels word = unwrap_or (labels.number word) labels.count
+
+-- the labels with one that hadn't appeared, which takes the next number
+abbrev pub with_next : Numbering → List ℕ → Numbering
+with_next labels word = record { number = λ other. if bytes_eq word other then Some labels.count else labels.number other; count = labels.count + 1 }
+
+-- the labels, after one has appeared, for the first time or again
+abbrev pub with_label : Numbering → List ℕ → Numbering
+with_label labels word = if is_some (labels.number word) then labels else with_next labels word

@@ -1,0 +1,91 @@
+-- How a script is read from its text: what its lines are, or which is the first faulty one.
+use Rattle.std.specs.Prelude.{◌==◌, ◌≤◌, ℕ, ◌+◌, if◌then◌else◌, List, [], ◌∷◌, ◌++◌, length, Option, Some, None, Result, Ok, Err}
+use Rattle.std.specs.Option.{option_map_or, option_to_list}
+use Rattle.std.specs.Result.{result_unwrap_or}
+use Rattle.std.specs.Str.Lines.{lines}
+use Rattle.script_lines.specs.declared.fault.LineFault.{LineFault}
+use Rattle.script_lines.specs.declared.fault.ScriptFault.{ScriptFault}
+use Rattle.script_lines.specs.declared.fault.ScriptFault.TheVariants.{UnknownCommand, WrongCount, BadWord}
+use Rattle.script_lines.specs.declared.line.Line.{Line}
+use Rattle.script_lines.specs.declared.command.Verb.{Verb}
+use Rattle.script_lines.specs.declared.value.Kind.{Kind}
+use Rattle.script_lines.specs.Numbering.{Numbering, no_labels}
+use Rattle.script_lines.specs.Words.{is_passed_over, words_of}
+use Rattle.script_lines.specs.Kinds.{Reading, read_words}
+use Rattle.script_lines.specs.Commands.{kinds_of, line_of, verb_of}
+
+-- what a line is: none, where it is passed over; and the labels that have appeared up to its end
+pub record LineRead : Type 0 where
+  pub line : Option Line
+  pub labels : Numbering
+
+abbrev pub line_read : Option Line → Numbering → LineRead
+line_read line labels = record { line = line; labels = labels }
+
+-- nothing of a line yet
+abbrev pub none_read : Numbering → Reading
+none_read labels = record { values = []; bytes = []; labels = labels }
+
+-- the line of a command and what its words stand for
+abbrev pub made_line : Verb → Result Reading ScriptFault → Result LineRead ScriptFault
+made_line verb (Err fault) = Err fault
+made_line verb (Ok reading) =
+    option_map_or (λ line. Ok (line_read (Some line) reading.labels))
+    (line_of verb reading.values reading.bytes)
+    (Err WrongCount)
+
+-- the line of a command and the words behind it, of which there are as many as the command takes
+abbrev pub read_command : Numbering → Verb → List (List ℕ) → Result LineRead ScriptFault
+read_command labels verb words =
+    if length (kinds_of verb) == length words then
+    made_line verb (read_words 2 (none_read labels) (kinds_of verb) words)
+    else Err WrongCount
+
+-- the line of some words, the first of which is a command's
+abbrev pub line_of_words : Numbering → List (List ℕ) → Result LineRead ScriptFault
+line_of_words labels [] = Ok (line_read None labels)
+line_of_words labels (word ∷ words) =
+    option_map_or (λ verb. read_command labels verb words) (verb_of word) (Err UnknownCommand)
+
+-- the same, where there may be a broken word, which is the line's first fault
+abbrev pub line_unless_broken : Numbering → Result (List (List ℕ)) ℕ → Result LineRead ScriptFault
+line_unless_broken labels (Ok words) = line_of_words labels words
+line_unless_broken labels (Err number) = Err (BadWord number)
+
+-- the line of a text, or its fault
+abbrev pub read_line : Numbering → List ℕ → Result LineRead ScriptFault
+read_line labels text =
+    if is_passed_over text then Ok (line_read None labels)
+    else line_unless_broken labels (words_of text)
+
+-- the fault of the line of this number, or what comes of the line
+abbrev pub unless_faulty : ℕ → Result LineRead ScriptFault → (LineRead → Result (List Line) LineFault) → Result (List Line) LineFault
+unless_faulty number (Err fault) go_on = Err (record { line = number; fault = fault })
+unless_faulty number (Ok read) go_on = go_on read
+
+-- the lines of some texts behind those of others, the first of them line `number` of the script
+abbrev pub read_lines : ℕ → Numbering → List Line → List (List ℕ) → Result (List Line) LineFault
+read_lines number labels front [] = Ok front
+read_lines number labels front (text ∷ texts) =
+    unless_faulty number (read_line labels text)
+    (λ read. read_lines (number + 1) read.labels (front ++ option_to_list read.line) texts)
+
+-- the lines of a script, or its first faulty line; lines are counted from 1, all of them
+abbrev pub read_script : List ℕ → Result (List Line) LineFault
+read_script text = read_lines 1 no_labels [] (lines text)
+
+-- whether a script has a line of this number
+abbrev pub HasLine : List ℕ → ℕ → Type 0
+HasLine text number = (1 ≤ number) × (number ≤ length (lines text))
+
+-- the words of a text that has no broken one
+abbrev pub words_in : List ℕ → List (List ℕ)
+words_in text = result_unwrap_or (words_of text) []
+
+-- what the words of a text behind a command stand for
+abbrev pub read_behind : Numbering → List Kind → List ℕ → Result Reading ScriptFault
+read_behind labels kinds text = read_words 2 (none_read labels) kinds (words_in text)
+
+-- the line of a first word and the text behind it
+abbrev pub line_behind : Numbering → List ℕ → List ℕ → Result LineRead ScriptFault
+line_behind labels word text = line_of_words labels (word ∷ words_in text)

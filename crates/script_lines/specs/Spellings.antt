@@ -1,0 +1,74 @@
+-- How the words of each kind are spelled, and what they stand for.
+use Rattle.std.specs.Prelude.{ℕ, ◌+◌, ◌-◌, ◌*◌, ◌==◌, ◌&&◌, ◌||◌, not, nat_lt, nat_le, Bool, false, if◌then◌else◌, List, [], ◌∷◌, length, take, drop, codes, slice_index, Option, Some, None}
+use Rattle.std.specs.List.{list_all}
+use Rattle.std.specs.Result.{result_ok}
+use Rattle.std.specs.Char.{is_ascii_alphabetic, is_ascii_digit}
+use Rattle.std.specs.Str.{bytes_eq}
+use Rattle.hex.specs.Hex.{decode_of}
+
+-- a letter, a digit or `_`
+abbrev pub is_label_byte : ℕ → Bool
+is_label_byte b = is_ascii_alphabetic b || is_ascii_digit b || b == 95
+
+-- a label: a letter, then letters, digits or `_`, at most 31 characters
+abbrev pub is_label : List ℕ → Bool
+is_label [] = false
+is_label (b ∷ bs) = is_ascii_alphabetic b && nat_lt (length bs) 31 && list_all is_label_byte bs
+
+-- what a digit stands for, and 16 for a byte that is none
+abbrev pub digit_value : ℕ → ℕ
+digit_value b =
+    if nat_le 48 b && nat_le b 57 then b - 48
+    else if nat_le 97 b && nat_le b 102 then b - 87
+    else if nat_le 65 b && nat_le b 70 then b - 55
+    else 16
+
+-- the number that digits of a base spell behind others, which spell `front`
+abbrev pub number_behind : ℕ → ℕ → List ℕ → Option ℕ
+number_behind base front [] = Some front
+number_behind base front (digit ∷ digits) =
+    if nat_lt (digit_value digit) base then number_behind base (front * base + digit_value digit) digits else None
+
+-- the number that one to `most` digits of a base spell
+abbrev pub number_in : ℕ → ℕ → List ℕ → Option ℕ
+number_in base most digits = if nat_lt 0 (length digits) && nat_le (length digits) most then number_behind base 0 digits else None
+
+-- a number, if it is below a limit
+abbrev pub below : ℕ → Option ℕ → Option ℕ
+below limit None = None
+below limit (Some number) = if nat_lt number limit then Some number else None
+
+-- a number: one to ten decimal digits, or `0x` and one to eight hex digits
+abbrev pub spelled_number : List ℕ → Option ℕ
+spelled_number word = if bytes_eq (take 2 word) (codes "0x") then number_in 16 8 (drop 2 word) else number_in 10 10 word
+
+-- a number below a limit
+abbrev pub number_below : ℕ → List ℕ → Option ℕ
+number_below limit word = below limit (spelled_number word)
+
+-- the bytes of an even number of hex digits, two for each
+abbrev pub hex_bytes : List ℕ → Option (List ℕ)
+hex_bytes digits = result_ok (decode_of digits)
+
+-- bytes: hex digits, at least two, or `-` for none
+abbrev pub spelled_bytes : List ℕ → Option (List ℕ)
+spelled_bytes word = if bytes_eq word (codes "-") then Some [] else if length word == 0 then None else hex_bytes word
+
+-- what may stand between quotes
+abbrev pub is_printable : ℕ → Bool
+is_printable b = nat_le 32 b && nat_le b 126 && not (b == 34)
+
+-- what stands between the first byte of a word and its last
+abbrev pub inside : List ℕ → List ℕ
+inside word = take (length word - 2) (drop 1 word)
+
+-- whether a word begins and ends with a quote
+abbrev pub is_quoted : List ℕ → Bool
+is_quoted word = nat_le 2 (length word) && slice_index word 0 == 34 && slice_index word (length word - 1) == 34
+
+-- text: in quotes, or `x:` and hex digits, of which there may be none
+abbrev pub spelled_text : List ℕ → Option (List ℕ)
+spelled_text word =
+    if bytes_eq (take 2 word) (codes "x:") then hex_bytes (drop 2 word)
+    else if is_quoted word && list_all is_printable (inside word) then Some (inside word)
+    else None

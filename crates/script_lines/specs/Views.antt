@@ -1,0 +1,25 @@
+-- What the program's values say: a table of labels, and the values of a line's words.
+use Rattle.std.specs.Prelude.{◌≡◌, Bool, true, false, Option, Some, None}
+use Rattle.std.specs.BTreeMap.{get_by, btree_map_len}
+use Rattle.std.specs.Cmp.Lexicographic.{slice_cmp}
+use Rattle.std.specs.Ordering.{nat_cmp}
+use Rattle.script_lines.specs.declared.label.Labels.{Labels}
+use Rattle.script_lines.specs.declared.value.Values.{Values}
+use Rattle.script_lines.specs.Numbering.{Numbering}
+use Rattle.script_lines.specs.Kinds.{Reading}
+
+-- the numbers that a table of labels has
+abbrev pub numbering : Labels → Numbering
+numbering labels = record {
+  number = λ word. get_by (λ key. slice_cmp nat_cmp word key.now) labels.numbers;
+  count = btree_map_len labels.numbers;
+}
+
+-- what the values of a line's words say, with the labels
+abbrev pub reading_of : Values → Labels → Reading
+reading_of values labels = record { values = values.values.items; bytes = values.bytes; labels = numbering labels }
+
+-- what came of a word that was to be added: a reading, if the word is of its kind
+abbrev pub Adds : Option Reading → Bool → Reading → Type 0
+Adds None is_of_kind new = is_of_kind ≡ false
+Adds (Some after) is_of_kind new = (is_of_kind ≡ true) × (new ≡ after)

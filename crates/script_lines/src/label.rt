@@ -1,0 +1,46 @@
+//! The labels of a script, numbered in the order in which they first appear.
+
+ghost use Rattle.std.specs.Prelude.{◌≡◌, IfOk, OnOk};
+ghost use Rattle.script_lines.specs.Numbering.{no_labels, label_number, with_label};
+ghost use Rattle.script_lines.specs.Views.{numbering};
+
+use crate::line::ChunkLabel;
+use std::alloc::{AllocError, Global};
+use std::collections::BTreeMap;
+
+/// The labels that have appeared, each with its number.
+#[derive(Drop)]
+pub(crate) struct Labels<'a> {
+    numbers: BTreeMap<&'a [u8], u32>,
+}
+
+impl<'a> Labels<'a> {
+    /// No labels.
+    pub fn new(alloc: Global) -> Labels<'a>
+        ensures { numbering result ≡ no_labels }
+    {
+        Labels {
+            numbers: BTreeMap::new(alloc),
+        }
+    }
+
+    /// The label that a word spells. A label that hasn't appeared takes the next number; beyond
+    /// `u32::MAX` labels there is none.
+    pub fn number(&mut self, word: &'a [u8]) -> Result<ChunkLabel, AllocError>
+        ensures number { IfOk result (λ label.
+            label.0 ≡ label_number (numbering self.old) word.now) }
+        ensures labels { OnOk result
+            (numbering self.new ≡ with_label (numbering self.old) word.now) }
+    {
+        if let Some(number) = self.numbers.get(&word) {
+            return Ok(ChunkLabel(*number));
+        }
+        let Ok(number) = u32::try_from(self.numbers.len()) else {
+            return Err(AllocError);
+        };
+        match self.numbers.insert(word, number) {
+            Ok(_) => Ok(ChunkLabel(number)),
+            Err(_) => Err(AllocError),
+        }
+    }
+}

@@ -1,0 +1,153 @@
+//! A line of a script, and scripts as lists of lines.
+
+ghost use Rattle.std.specs.Prelude.{◌≡◌, ◌++◌, ◌∷◌, [], OnOk, IfSome};
+ghost use Rattle.script_lines.specs.Labels.{HasLabelsBelow, label_count, label_end};
+
+use heap_model::Bytes;
+use std::alloc::{AllocError, Global};
+use std::marker::Model;
+
+/// A label of a script by its number: labels are numbered from 0 in the order in which they first
+/// appear.
+#[derive(Clone, Copy, Debug, PartialEq, Eq)]
+pub struct ChunkLabel(pub u32);
+
+/// A line of a script: one call, on the chunk that its label stands for.
+#[derive(Drop)]
+pub enum Line {
+    /// Has the label stand for a name.
+    Bind {
+        label: ChunkLabel,
+        name: u32,
+    },
+    New {
+        label: ChunkLabel,
+        size: u32,
+        owner: u8,
+    },
+    PtrNew {
+        label: ChunkLabel,
+        size: u32,
+        owner: u8,
+    },
+    Free(ChunkLabel),
+    SetOwner {
+        label: ChunkLabel,
+        owner: u8,
+    },
+    Lock(ChunkLabel),
+    Unlock(ChunkLabel),
+    Size(ChunkLabel),
+    Owner(ChunkLabel),
+    Locks(ChunkLabel),
+    Read {
+        label: ChunkLabel,
+        at: u32,
+        count: u32,
+    },
+    Write {
+        label: ChunkLabel,
+        at: u32,
+        bytes: Bytes,
+    },
+    Set {
+        label: ChunkLabel,
+        at: u32,
+        count: u32,
+        byte: u8,
+    },
+    StrCopy {
+        label: ChunkLabel,
+        at: u32,
+        text: Bytes,
+    },
+    FreeByOwner(u8),
+    FreeBytes,
+}
+
+/// The lines of a script, in order. Contracts see them as a list.
+#[derive(Drop)]
+pub struct Script {
+    lines: Vec<Line>,
+    chunk_labels: u32,
+}
+
+impl Line {
+    /// One more than the number of the line's label, and 0 where it has none.
+    fn label_end(&self) -> Option<u32>
+        ensures { IfSome result (λ end. end ≡ label_end self.now) }
+    {
+        match self {
+            Line::FreeByOwner(_) | Line::FreeBytes => Some(0),
+            Line::Bind { label, .. }
+            | Line::New { label, .. }
+            | Line::PtrNew { label, .. }
+            | Line::Free(label)
+            | Line::SetOwner { label, .. }
+            | Line::Lock(label)
+            | Line::Unlock(label)
+            | Line::Size(label)
+            | Line::Owner(label)
+            | Line::Locks(label)
+            | Line::Read { label, .. }
+            | Line::Write { label, .. }
+            | Line::Set { label, .. }
+            | Line::StrCopy { label, .. } => label.0.checked_add(1),
+        }
+    }
+}
+
+impl Model for Script {
+    ghost use Rattle.std.specs.Prelude.{◌≡◌, List};
+    ghost use Rattle.script_lines.specs.declared.line.Line.{Line};
+    ghost use Rattle.script_lines.specs.Labels.{label_count};
+
+    ghost Value = { List Line };
+
+    ghost view = { λ script. script.lines.items };
+
+    ghost invariant = { λ script. script.chunk_labels ≡ label_count script.lines.items };
+}
+
+impl Script {
+    /// The script of no lines.
+    pub(crate) fn new(alloc: Global) -> Script
+        ensures { result ≡ [] }
+    {
+        Script {
+            lines: Vec::new(alloc),
+            chunk_labels: 0,
+        }
+    }
+
+    /// Puts a line behind the others. There is no script with the label `u32::MAX`.
+    pub(crate) fn push(&mut self, line: Line) -> Result<(), AllocError>
+        ensures ok { OnOk result (self.new ≡ self.old ++ (line ∷ [])) }
+    {
+        let Some(end) = line.label_end() else {
+            return Err(AllocError);
+        };
+        match self.lines.push(line) {
+            Ok(()) => {
+                self.chunk_labels = self.chunk_labels.max(end);
+                Ok(())
+            }
+            Err(_) => Err(AllocError),
+        }
+    }
+
+    /// The lines, in order.
+    pub fn lines(&self) -> &[Line]
+        ensures { result.now ≡ self.now }
+    {
+        &self.lines
+    }
+
+    /// How many labels there are, which is one more than the greatest label of a line.
+    pub fn chunk_labels(&self) -> u32
+        ensures count { result ≡ label_count self.now }
+        ensures below { HasLabelsBelow result self.now }
+    {
+        self.chunk_labels
+    }
+}

@@ -1,0 +1,179 @@
+//! How the words of each kind are spelled, and what they stand for.
+
+ghost use Rattle.std.specs.Prelude.{◌≡◌, ◌<◌, ◌≤◌, ◌^◌, IfOk, false, true, MatchOption};
+ghost use Rattle.std.specs.List.{list_all};
+ghost use Rattle.script_lines.specs.Spellings as spellings;
+ghost use Rattle.script_lines.specs.Spellings.{below, number_behind, number_below, hex_bytes};
+ghost use Rattle.script_lines.specs.Spellings.{is_quoted, spelled_bytes, spelled_text};
+
+use heap_model::Bytes;
+use std::alloc::{AllocError, Global};
+
+/// The longest label.
+const MAX_LABEL: usize = 31;
+
+/// Whether a word spells a label.
+pub(crate) fn is_label(word: &[u8]) -> bool
+    ensures { result ≡ spellings.is_label word.now }
+{
+    match word.split_first() {
+        None => false,
+        Some((first, more)) => first.is_ascii_alphabetic()
+            && more.len() < MAX_LABEL
+            && are_label_bytes(more),
+    }
+}
+
+/// Whether a byte may stand in a label behind its first.
+fn is_label_byte(byte: u8) -> bool
+    ensures { result ≡ spellings.is_label_byte byte }
+{
+    byte.is_ascii_alphabetic() || byte.is_ascii_digit() || byte == b'_'
+}
+
+/// Whether all of these may.
+fn are_label_bytes(bytes: &[u8]) -> bool
+    ensures { result ≡ list_all spellings.is_label_byte bytes.now }
+{
+    for byte in bytes {
+        if !is_label_byte(*byte) {
+            return false;
+        }
+    }
+    true
+}
+
+/// The value of a digit, 16 for what is none.
+fn digit_value(byte: u8) -> u64
+    ensures { result ≡ spellings.digit_value byte }
+{
+    match byte {
+        b'0'..=b'9' => (byte - b'0') as u64,
+        b'a'..=b'f' => (byte - b'a') as u64 + 10,
+        b'A'..=b'F' => (byte - b'A') as u64 + 10,
+        _ => 16,
+    }
+}
+
+/// The number that digits of a base spell, if each is a digit and it is below 2^32.
+fn number_in(base: u64, digits: &[u8]) -> Option<u32>
+    requires least { 0 < base }
+    requires most { base ≤ 16 }
+    ensures { result ≡ below (2 ^ 32) (number_behind base 0 digits.now) }
+{
+    let mut number: u64 = 0;
+    for digit in digits {
+        let value = digit_value(*digit);
+        if number > u32::MAX as u64 {
+            return None;
+        }
+        if value >= base {
+            return None;
+        }
+        number = number * base + value;
+    }
+    u32::try_from(number).ok()
+}
+
+/// The number that a word spells.
+pub(crate) fn number_of(word: &[u8]) -> Option<u32>
+    ensures { result ≡ number_below (2 ^ 32) word.now }
+{
+    if let Some(digits) = word.strip_prefix(b"0x") {
+        if digits.is_empty() || digits.len() > 8 {
+            return None;
+        }
+        return number_in(16, digits);
+    }
+    if word.is_empty() || word.len() > 10 {
+        return None;
+    }
+    number_in(10, word)
+}
+
+/// The number below 2^8 that a word spells.
+pub(crate) fn byte_of(word: &[u8]) -> Option<u8>
+    ensures { result ≡ number_below (2 ^ 8) word.now }
+{
+    u8::try_from(number_of(word)?).ok()
+}
+
+/// The bytes that hex digits spell, if there is an even number of them.
+fn decode(alloc: Global, digits: &[u8]) -> Result<Option<Bytes>, AllocError>
+    ensures { IfOk result (λ bytes. bytes ≡ hex_bytes digits.now) }
+{
+    match hex::decode(alloc, digits) {
+        Ok(bytes) => Ok(Some(Bytes::of(bytes))),
+        Err(hex::FromHexError::OutOfMemory) => Err(AllocError),
+        Err(_) => Ok(None),
+    }
+}
+
+/// The bytes that a word spells.
+pub(crate) fn bytes_of(alloc: Global, word: &[u8]) -> Result<Option<Bytes>, AllocError>
+    ensures { IfOk result (λ bytes. bytes ≡ spelled_bytes word.now) }
+{
+    if word == b"-".as_slice() {
+        return Ok(Some(Bytes::of(Vec::new(alloc))));
+    }
+    if word.is_empty() {
+        return Ok(None);
+    }
+    decode(alloc, word)
+}
+
+/// Whether a byte may stand in quotes.
+fn is_printable(byte: u8) -> bool
+    ensures { result ≡ spellings.is_printable byte }
+{
+    byte >= b' ' && byte <= b'~' && byte != b'"'
+}
+
+/// Whether all of these may.
+fn are_printable(bytes: &[u8]) -> bool
+    ensures { result ≡ list_all spellings.is_printable bytes.now }
+{
+    for byte in bytes {
+        if !is_printable(*byte) {
+            return false;
+        }
+    }
+    true
+}
+
+/// A copy of some bytes.
+fn copied(alloc: Global, bytes: &[u8]) -> Result<Bytes, AllocError>
+    ensures { IfOk result (λ copy. copy ≡ bytes.now) }
+{
+    let copy = Vec::from_slice(alloc, bytes)?;
+    Ok(Bytes::of(copy))
+}
+
+/// The bytes between the quotes of a word.
+fn inside_quotes(word: &[u8]) -> Option<&[u8]>
+    ensures { MatchOption result (is_quoted word.now ≡ false)
+        (λ inside. (is_quoted word.now ≡ true) × (inside.now ≡ spellings.inside word.now)) }
+{
+    match word {
+        [b'"', inside @ .., b'"'] => Some(inside),
+        _ => None,
+    }
+}
+
+/// The text that a word spells.
+pub(crate) fn text_of(alloc: Global, word: &[u8]) -> Result<Option<Bytes>, AllocError>
+    ensures { IfOk result (λ text. text ≡ spelled_text word.now) }
+{
+    if let Some(digits) = word.strip_prefix(b"x:") {
+        return decode(alloc, digits);
+    }
+    match inside_quotes(word) {
+        Some(inside) => {
+            if !are_printable(inside) {
+                return Ok(None);
+            }
+            Ok(Some(copied(alloc, inside)?))
+        }
+        None => Ok(None),
+    }
+}
