@@ -1,0 +1,75 @@
+//! One call of any manager.
+
+ghost use Rattle.std.specs.Prelude.{◌≡◌, IfOk, IsTrue};
+ghost use Rattle.heap_model.specs.Calls.{DoesCall};
+ghost use Rattle.heap_model.specs.MemorySteps.{Does};
+ghost use Rattle.heap_model.specs.declared.call.Call.{Call};
+ghost use Rattle.palm_script.specs.Calls.{is_there};
+
+use crate::memory::Memory;
+use crate::replies::{done, locked, named, number, small_number};
+use heap_model::{Bytes, Call, MemoryCall, Name, Refusal, Reply};
+use mem_manager::Heap;
+use std::alloc::{AllocError, Global};
+
+/// Does one call and answers its reply. Memory is taken for the bytes that `read` answers alone;
+/// where it is refused, so is the call.
+pub fn do_call(alloc: Global, heap: &mut Heap, call: &Call) -> Reply
+    requires { IsTrue (is_there call.now) }
+    ensures { DoesCall heap.old.bytes call.now result heap.new.bytes }
+{
+    match call {
+        Call::Memory(call) => memory_call(alloc, heap, call),
+    }
+}
+
+fn memory_call(alloc: Global, heap: &mut Heap, call: &MemoryCall) -> Reply
+    requires { IsTrue (is_there (Call.Memory call.now)) }
+    ensures { Does heap.old.bytes call.now result heap.new.bytes }
+{
+    match call {
+        MemoryCall::HandleNew { size, owner } => named(heap.handle_new(*size, *owner)),
+        MemoryCall::PtrNew { size, owner } => named(heap.ptr_new(*size, *owner)),
+        MemoryCall::Free(name) => done(heap.free(*name)),
+        MemoryCall::Lock(name) => locked(heap.lock(*name)),
+        MemoryCall::Unlock(name) => small_number(heap.unlock(*name)),
+        MemoryCall::Size(name) => number(heap.size(*name)),
+        MemoryCall::Owner(name) => small_number(heap.owner(*name)),
+        MemoryCall::Locks(name) => small_number(heap.locks(*name)),
+        MemoryCall::Read { name, at, count } => read(&alloc, heap, *name, *at, *count),
+        MemoryCall::Write { name, at, bytes } => done(heap.write(*name, *at, bytes.as_slice())),
+        MemoryCall::Set {
+            name,
+            at,
+            count,
+            byte,
+        } => done(heap.set(*name, *at, *count, *byte)),
+        MemoryCall::StrCopy { name, at, text } => done(heap.str_copy(*name, *at, text.as_slice())),
+        MemoryCall::SetOwner { name, owner } => done(heap.set_owner(*name, *owner)),
+        MemoryCall::Recover(place) => named(heap.recover(*place)),
+        MemoryCall::FreeByOwner(owner) => number(heap.free_by_owner(*owner)),
+        MemoryCall::FreeBytes => Reply::Number(heap.free_bytes()),
+        MemoryCall::Resize { .. } | MemoryCall::LargestStretch | MemoryCall::Compact => {
+            unreachable!()
+        }
+    }
+}
+
+/// The bytes of a chunk, copied.
+pub(crate) fn read<M: Memory>(memory: &M, heap: &Heap, name: Name, at: u32, count: u32) -> Reply
+    ensures { Does heap.now.bytes (MemoryCall.Read name at count) result heap.now.bytes }
+{
+    match heap.read(name, at, count) {
+        Ok(bytes) => match copied(memory, bytes) {
+            Ok(bytes) => Reply::Data(bytes),
+            Err(_) => Reply::Refused(Refusal::OutOfMemory),
+        },
+        Err(refusal) => Reply::Refused(refusal),
+    }
+}
+
+fn copied<M: Memory>(memory: &M, bytes: &[u8]) -> Result<Bytes, AllocError>
+    ensures { IfOk result (λ copy. copy ≡ bytes.now) }
+{
+    Ok(Bytes::of(Vec::from_slice(memory.grant()?, bytes)?))
+}

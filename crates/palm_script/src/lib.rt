@@ -1,0 +1,28 @@
+//! Scripts of manager calls.
+//!
+//! `do_call` does one call and answers its reply. `run` does the calls of a script, line by line,
+//! and prints a reply line for each; `parse` reads the script. `specs/Lines.antt` says what lines
+//! do, bind and print: start there.
+//!
+//! | module | does |
+//! |---|---|
+//! | `calls` | one call of each kind |
+//! | `bindings` | what labels stand for |
+//! | `lines` | one line: its call, what it binds, its reply line |
+//! | `replies` | what a manager answers, as a reply; and reply lines |
+//! | `runs` | the lines of a script |
+//! | `memory` | where memory comes from |
+#![tactic(auto)]
+
+mod bindings;
+mod calls;
+mod lines;
+mod memory;
+mod replies;
+mod runs;
+#[cfg(test)]
+mod tests;
+
+pub use calls::do_call;
+pub use runs::{RunFault, run};
+pub use script_lines::{ChunkLabel, Line, LineFault, Script, ScriptFault, parse};

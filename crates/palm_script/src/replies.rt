@@ -1,0 +1,147 @@
+//! Replies, and the lines that they are printed as.
+
+ghost use Rattle.std.specs.Prelude.{◌≡◌, ◌++◌, codes, decimal, is_ok};
+ghost use Rattle.heap_model.specs.Counted.{Writes};
+ghost use Rattle.heap_model.specs.MemorySteps.{reply_of};
+ghost use Rattle.heap_model.specs.Numbers.{number_of, name_of};
+ghost use Rattle.heap_model.specs.declared.call.Reply.{Reply};
+ghost use Rattle.palm_script.specs.Lines.{hex_text, is_silent, reply_line, reply_text, values_text};
+
+use heap_model::{Counted, Name, Refusal, Reply};
+use mem_manager::Locked;
+use palm_text::{Piece, WriteFault, put_pieces};
+use script_lines::Line;
+use std::io::Write;
+
+// ---- what a manager answers, as a reply
+
+pub(crate) fn done(answer: Result<(), Refusal>) -> Reply
+    ensures { result ≡ reply_of (λ done. Reply.Done) answer }
+{
+    match answer {
+        Ok(()) => Reply::Done,
+        Err(refusal) => Reply::Refused(refusal),
+    }
+}
+
+pub(crate) fn number(answer: Result<u32, Refusal>) -> Reply
+    ensures { result ≡ reply_of (λ number. Reply.Number number) answer }
+{
+    match answer {
+        Ok(number) => Reply::Number(number),
+        Err(refusal) => Reply::Refused(refusal),
+    }
+}
+
+pub(crate) fn small_number(answer: Result<u8, Refusal>) -> Reply
+    ensures { result ≡ reply_of (λ number. Reply.Number number) answer }
+{
+    match answer {
+        Ok(number) => Reply::Number(u32::from(number)),
+        Err(refusal) => Reply::Refused(refusal),
+    }
+}
+
+pub(crate) fn named(answer: Result<Name, Refusal>) -> Reply
+    ensures { result ≡ reply_of (λ name. Reply.Named name) answer }
+{
+    match answer {
+        Ok(name) => Reply::Named(name),
+        Err(refusal) => Reply::Refused(refusal),
+    }
+}
+
+pub(crate) fn locked(answer: Result<Locked, Refusal>) -> Reply
+    ensures { result ≡ reply_of (λ locked. Reply.Locked locked.place locked.count) answer }
+{
+    match answer {
+        Ok(Locked { place, count }) => Reply::Locked { place, count },
+        Err(refusal) => Reply::Refused(refusal),
+    }
+}
+
+// ---- reply lines
+
+/// Prints the reply line of a line.
+pub(crate) fn put_reply<W: Write>(
+    out: &mut Counted<W>,
+    line: &Line,
+    reply: &Reply,
+) -> Result<(), WriteFault>
+    ensures { Writes W.contents out.old out.new (reply_line line.now reply.now) (is_ok result) }
+{
+    match reply {
+        Reply::Refused(refusal) => put_refusal(out, *refusal),
+        _ if says_nothing(line) => put_pieces(out, &[Piece::Text(b"ok\n")]),
+        _ => put_values(out, reply),
+    }
+}
+
+fn says_nothing(line: &Line) -> bool
+    ensures { result ≡ is_silent line.now }
+{
+    matches!(line, Line::Bind { .. })
+}
+
+/// Prints `refused` with the number and the name of a refusal.
+pub(crate) fn put_refusal<W: Write>(
+    out: &mut Counted<W>,
+    refusal: Refusal,
+) -> Result<(), WriteFault>
+    ensures { Writes W.contents out.old out.new (codes "refused " ++ decimal (number_of refusal)
+        ++ codes " " ++ name_of refusal ++ codes "\n") (is_ok result) }
+{
+    put_pieces(
+        out,
+        &[
+            Piece::Text(b"refused "),
+            Piece::Number(u32::from(refusal.number())),
+            Piece::Text(b" "),
+            Piece::Text(refusal.name().as_bytes()),
+            Piece::Text(b"\n"),
+        ],
+    )
+}
+
+/// Prints `ok` with the values of a reply that is no refusal.
+fn put_values<W: Write>(out: &mut Counted<W>, reply: &Reply) -> Result<(), WriteFault>
+    ensures { Writes W.contents out.old out.new
+        (codes "ok" ++ values_text reply.now ++ codes "\n") (is_ok result) }
+{
+    match reply {
+        Reply::Number(number) => put_number(out, *number),
+        Reply::Locked { count, .. } => put_number(out, u32::from(*count)),
+        Reply::Data(bytes) => put_bytes(out, bytes.as_slice()),
+        Reply::Refused(_) | Reply::Done | Reply::Named(_) => {
+            put_pieces(out, &[Piece::Text(b"ok\n")])
+        }
+    }
+}
+
+fn put_number<W: Write>(out: &mut Counted<W>, number: u32) -> Result<(), WriteFault>
+    ensures { Writes W.contents out.old out.new
+        (codes "ok" ++ (codes " " ++ decimal number) ++ codes "\n") (is_ok result) }
+{
+    put_pieces(
+        out,
+        &[
+            Piece::Text(b"ok "),
+            Piece::Number(number),
+            Piece::Text(b"\n"),
+        ],
+    )
+}
+
+/// Prints `ok` and bytes in hex, which takes no memory.
+pub(crate) fn put_bytes<W: Write>(out: &mut Counted<W>, bytes: &[u8]) -> Result<(), WriteFault>
+    ensures { Writes W.contents out.old out.new
+        (codes "ok" ++ (codes " " ++ hex_text bytes.now) ++ codes "\n") (is_ok result) }
+{
+    if bytes.is_empty() {
+        return put_pieces(out, &[Piece::Text(b"ok -\n")]);
+    }
+    put_pieces(
+        out,
+        &[Piece::Text(b"ok "), Piece::Hex(bytes), Piece::Text(b"\n")],
+    )
+}

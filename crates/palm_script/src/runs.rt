@@ -1,0 +1,84 @@
+//! The lines of a script, one behind another.
+
+ghost use Rattle.std.specs.Prelude.{◌≡◌, [], Err, IfOk, OnOk, replicate};
+ghost use Rattle.palm_script.specs.Lines.{BreaksOff, RunsThrough, no_name};
+
+use crate::lines::do_line;
+use crate::memory::Memory;
+use heap_model::{Bytes, Counted, Name};
+use mem_manager::Heap;
+use script_lines::Script;
+use std::alloc::{AllocError, Global};
+use std::io::Write;
+use thiserror::Error;
+
+/// Why a run ended early.
+#[derive(Clone, Copy, Debug, PartialEq, Eq, Error)]
+pub enum RunFault {
+    /// Memory was refused, and nothing was run.
+    #[error("OutOfMemory")]
+    OutOfMemory,
+    /// A write failed, and no line behind that one was run.
+    #[error("Write")]
+    Write,
+}
+
+/// Runs the lines of a script, and prints the reply line of each. A line that is refused doesn't
+/// end the run.
+///
+/// `inputs` are the files that lines import, and the answer lists the files that they export. No
+/// line does either yet, so the answer is empty. Memory is taken before the first line alone.
+pub fn run<W: Write>(
+    alloc: Global,
+    heap: &mut Heap,
+    script: &Script,
+    _inputs: &[Bytes],
+    out: &mut Counted<W>,
+) -> Result<Vec<Bytes>, RunFault>
+    ensures files { IfOk result (λ files. files.items ≡ []) }
+    ensures ok { OnOk result (RunsThrough W.contents script.now
+        heap.old.bytes out.old heap.new.bytes out.new) }
+    ensures write { result ≡ Err RunFault.Write → BreaksOff W.contents script.now
+        heap.old.bytes out.old heap.new.bytes out.new }
+    ensures memory { result ≡ Err RunFault.OutOfMemory
+        → (heap.new ≡ heap.old) × (out.new ≡ out.old) }
+{
+    match run_from(&alloc, heap, script, out) {
+        Ok(()) => Ok(Vec::new(alloc)),
+        Err(fault) => Err(fault),
+    }
+}
+
+/// `run`, from any memory.
+pub(crate) fn run_from<M: Memory, W: Write>(
+    memory: &M,
+    heap: &mut Heap,
+    script: &Script,
+    out: &mut Counted<W>,
+) -> Result<(), RunFault>
+    ensures ok { OnOk result (RunsThrough W.contents script.now
+        heap.old.bytes out.old heap.new.bytes out.new) }
+    ensures write { result ≡ Err RunFault.Write → BreaksOff W.contents script.now
+        heap.old.bytes out.old heap.new.bytes out.new }
+    ensures memory { result ≡ Err RunFault.OutOfMemory
+        → (heap.new ≡ heap.old) × (out.new ≡ out.old) }
+{
+    let Ok(mut names) = unbound_names(memory, script.chunk_labels()) else {
+        return Err(RunFault::OutOfMemory);
+    };
+    let names = names.as_mut_slice();
+    for line in script.lines() {
+        match do_line(heap, names, line, out) {
+            Ok(()) => {}
+            Err(_) => return Err(RunFault::Write),
+        }
+    }
+    Ok(())
+}
+
+/// A table of so many labels, none of them bound.
+fn unbound_names<M: Memory>(memory: &M, count: u32) -> Result<Vec<Name>, AllocError>
+    ensures { IfOk result (λ names. names.items ≡ replicate count no_name) }
+{
+    vec![in memory.grant()?; Name(0); count as usize]
+}
