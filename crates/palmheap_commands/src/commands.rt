@@ -1,4 +1,4 @@
-//! The commands: one function each, over bytes and writers.
+//! The commands `new` and `check`, over bytes and writers.
 
 ghost use Rattle.std.specs.Prelude.{◌≡◌, ◌≢◌, ◌⊎◌, codes, IfOk, string_bytes};
 ghost use Rattle.std.specs.Io.KnownBytes.{Appends, Keeps};
@@ -114,7 +114,7 @@ fn say_bad<V: Write, F: Display + Drop>(
 }
 
 /// The line for a fault.
-fn bad_text<F: Display + Drop>(alloc: Global, fault: F) -> Result<String, AllocError>
+pub(crate) fn bad_text<F: Display + Drop>(alloc: Global, fault: F) -> Result<String, AllocError>
     ensures { IfOk result (λ line. IsBadLine (string_bytes line)) }
 {
     let text = format!(in alloc; "{fault}")?;

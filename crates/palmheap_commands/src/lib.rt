@@ -6,7 +6,8 @@
 //!
 //! | module | does |
 //! |---|---|
-//! | `commands` | one function for each command |
+//! | `commands` | the commands `new` and `check` |
+//! | `run` | the command `run`: a script, run on an image |
 //! | `input` | reads a file to its end, within the limit |
 //! | `output` | writes all of some bytes to a writer, or answers that a write failed |
 //! | `output_file` | a file that takes the place of another as a whole |
@@ -17,6 +18,7 @@ mod commands;
 mod input;
 mod output;
 mod output_file;
+mod run;
 mod status;
 #[cfg(test)]
 mod tests;
@@ -24,4 +26,5 @@ mod tests;
 pub use commands::{cmd_check, cmd_new};
 pub use input::{INPUT_LIMIT, InputFault, read_input};
 pub use output_file::OutputFile;
+pub use run::cmd_run;
 pub use status::Status;

@@ -6,3 +6,4 @@ mod fakes;
 mod files;
 mod images;
 mod reading;
+mod runs;

@@ -10,6 +10,11 @@ pub fn blank() -> &'static str {
     "50484931 00000080 0004 0000 00000000 00*16 80000060 00*92"
 }
 
+/// The blank image of 128 bytes with one slot.
+pub fn one_slot() -> &'static str {
+    "50484931 00000080 0001 0000 00000000 00*8 80000068 00*100"
+}
+
 /// The blank image without its last byte.
 pub fn cut_off() -> &'static str {
     "50484931 00000080 0004 0000 00000000 00*16 80000060 00*91"

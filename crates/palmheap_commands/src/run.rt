@@ -1,0 +1,131 @@
+//! The command `run`: a script, run on an image.
+
+ghost use Rattle.std.specs.Prelude.{◌≡◌, ◌≢◌, ◌⊎◌, Err, IfOk, IfErr, IsOkAnd, OnOk, [], string_bytes};
+ghost use Rattle.std.specs.Io.KnownBytes.{Appends, Keeps};
+ghost use Rattle.heap_model.specs.Counted.{AppendsFront};
+ghost use Rattle.palmheap_commands.specs.Runs.{IsFaultLine, Prints, PrintsFront};
+ghost use Rattle.palmheap_commands.specs.Runs.{RunBreaksOff, RunsScript, WritesRefusal};
+
+use crate::commands::bad_text;
+use crate::output::put;
+use crate::status::Status;
+use heap_model::{Bytes, Counted};
+use mem_manager::Heap;
+use palm_script::{LineFault, RunFault, Script, ScriptFault, parse, run};
+use palm_text::put_all;
+use raw_region::Region;
+use std::alloc::{AllocError, Global};
+use std::io::Write;
+
+/// Runs a script on an image: prints the reply lines to `out`, and then writes the image to
+/// `image_out`. The files that the script exports go to `files`.
+///
+/// A refused image or script prints why, the image before the script, and then nothing is run or
+/// written. After a write that fails nothing more is written.
+pub fn cmd_run<W: Write, V: Write>(
+    alloc: Global,
+    image: &[u8],
+    script: &[u8],
+    inputs: &[Bytes],
+    image_out: &mut W,
+    files: &mut Vec<Bytes>,
+    out: &mut Counted<V>,
+) -> Status
+    ensures done { result ≡ Status.Done → RunsScript image.now script.now
+        (V.contents out.old.writer) (V.contents out.new.writer)
+        (W.contents image_out.old) (W.contents image_out.new) }
+    ensures no_file { result ≡ Status.Done → files.new.items ≡ [] }
+    ensures refused { result ≡ Status.Refused
+        → WritesRefusal image.now script.now
+        (V.contents out.old.writer) (V.contents out.new.writer) }
+    ensures no_image { result ≡ Status.Refused
+        → Keeps (W.contents image_out.old) (W.contents image_out.new) }
+    ensures no_memory { result ≡ Status.NoMemory
+        → Keeps (W.contents image_out.old) (W.contents image_out.new) }
+    ensures no_memory_text { result ≡ Status.NoMemory
+        → Keeps (V.contents out.old.writer) (V.contents out.new.writer) }
+    ensures write_fault { result ≡ Status.WriteFault → RunBreaksOff image.now script.now
+        (V.contents out.old.writer) (V.contents out.new.writer)
+        (W.contents image_out.old) (W.contents image_out.new) }
+    ensures good_words { result ≢ Status.BadWords }
+    ensures reads_nothing { result ≢ Status.ReadFault }
+{
+    let Ok(region) = Region::from_bytes(alloc, image) else {
+        return Status::NoMemory;
+    };
+    let mut heap = match Heap::adopt(region) {
+        Ok(heap) => heap,
+        Err(error) => return refuse(bad_text(alloc, error.fault), out),
+    };
+    let script = match parse(alloc, script) {
+        Ok(script) => script,
+        Err(fault) if fault.fault == ScriptFault::OutOfMemory => return Status::NoMemory,
+        Err(fault) => return refuse(fault_text(alloc, fault), out),
+    };
+    match print_replies(alloc, &mut heap, &script, inputs, out) {
+        Ok(exported) => *files = exported,
+        Err(status) => return status,
+    }
+    let region = heap.into_region();
+    match put(image_out, region.slice(0, region.len())) {
+        Ok(()) => Status::Done,
+        Err(_) => Status::WriteFault,
+    }
+}
+
+/// Runs a script, and prints its reply lines.
+fn print_replies<V: Write>(
+    alloc: Global,
+    heap: &mut Heap,
+    script: &Script,
+    inputs: &[Bytes],
+    out: &mut Counted<V>,
+) -> Result<Vec<Bytes>, Status>
+    ensures ok { OnOk result (Prints script.now heap.old.bytes heap.new.bytes
+        (V.contents out.old.writer) (V.contents out.new.writer)) }
+    ensures files { IfOk result (λ files. files.items ≡ []) }
+    ensures faults { IfErr result (λ status.
+        (status ≡ Status.WriteFault) ⊎ (status ≡ Status.NoMemory)) }
+    ensures write { result ≡ Err Status.WriteFault → PrintsFront script.now heap.old.bytes
+        (V.contents out.old.writer) (V.contents out.new.writer) }
+    ensures memory { result ≡ Err Status.NoMemory
+        → Keeps (V.contents out.old.writer) (V.contents out.new.writer) }
+{
+    match run(alloc, heap, script, inputs, out) {
+        Ok(files) => match out.flush() {
+            Ok(()) => Ok(files),
+            Err(_) => Err(Status::WriteFault),
+        },
+        Err(RunFault::OutOfMemory) => Err(Status::NoMemory),
+        Err(RunFault::Write) => Err(Status::WriteFault),
+    }
+}
+
+/// Prints the line that says what is refused.
+fn refuse<V: Write>(line: Result<String, AllocError>, out: &mut Counted<V>) -> Status
+    ensures status { (result ≡ Status.Refused) ⊎ (result ≡ Status.WriteFault)
+        ⊎ (result ≡ Status.NoMemory) }
+    ensures refused { result ≡ Status.Refused → IsOkAnd line (λ line.
+        Appends (V.contents out.old.writer) (V.contents out.new.writer) (string_bytes line)) }
+    ensures fault { result ≡ Status.WriteFault → IsOkAnd line (λ line.
+        AppendsFront (V.contents out.old.writer) (V.contents out.new.writer) (string_bytes line)) }
+    ensures no_memory { result ≡ Status.NoMemory
+        → Keeps (V.contents out.old.writer) (V.contents out.new.writer) }
+{
+    let Ok(line) = line else {
+        return Status::NoMemory;
+    };
+    let put = put_all(out, line.as_bytes());
+    if put.is_err() || out.flush().is_err() {
+        return Status::WriteFault;
+    }
+    Status::Refused
+}
+
+/// The line for a refused script.
+fn fault_text(alloc: Global, fault: LineFault) -> Result<String, AllocError>
+    ensures { IfOk result (λ line. IsFaultLine fault (string_bytes line)) }
+{
+    let text = format!(in alloc; "{}", fault.fault)?;
+    format!(in alloc; "line {} {text}\n", fault.line)
+}

@@ -1,0 +1,313 @@
+//! Scripts that are run on images: what they print, and what they leave.
+
+use super::fakes::{Narrow, Unflushed, WhenFull};
+use super::images::{blank, bytes_of, long_chunk, one_chunk, one_slot};
+use crate::run::cmd_run;
+use crate::status::Status;
+use heap_model::Counted;
+use std::alloc::Global;
+use std::io::ErrorKind;
+use std::process::Abort;
+use std::test::Fail;
+
+/// What a run answered, printed and wrote.
+#[derive(Drop)]
+struct Ran {
+    status: Status,
+    printed: Vec<u8>,
+    image: Vec<u8>,
+}
+
+fn run_on(alloc: Global, image: &[u8], script: &str) -> Ran {
+    let (mut image_out, mut files) = (Vec::new(alloc), Vec::new(alloc));
+    let mut out = Counted::new(Vec::new(alloc));
+    let script = script.as_bytes();
+    let status = cmd_run(
+        alloc,
+        image,
+        script,
+        &[],
+        &mut image_out,
+        &mut files,
+        &mut out,
+    );
+    Ran {
+        status,
+        printed: out.into_inner(),
+        image: image_out,
+    }
+}
+
+/// Runs lines, and compares what each prints: a text has a line and its reply, with `=` between.
+fn check_replies(rt: &impl Abort, alloc: Global, image: &str, text: &str) -> Result<(), Fail> {
+    let image = bytes_of(alloc, image)?;
+    let (mut script, mut replies) = (String::new(alloc), String::new(alloc));
+    for row in text.lines() {
+        let (line, reply) = row.trim().split_once(" = ").ok_or("no reply")?;
+        script.push_str(line)?;
+        script.push_str("\n")?;
+        replies.push_str(reply)?;
+        replies.push_str("\n")?;
+    }
+    let ran = run_on(alloc, image.as_slice(), script.as_str());
+    assert_eq!(rt; ran.status, Status::Done, "{text}");
+    assert_eq!(rt; ran.printed.as_slice(), replies.as_bytes(), "{text}");
+    Ok(())
+}
+
+#[test]
+fn labels_are_bound(rt: HostRuntime) -> Result<(), Fail> {
+    check_replies(
+        &rt,
+        rt.alloc(),
+        one_chunk(),
+        "bind a 16 = ok
+        size a = ok 10
+        owner a = ok 1
+        bind a 20 = refused 1 InvalidHandle
+        size a = ok 10
+        size b = refused 1 InvalidHandle
+        new a 65 1 = refused 8 NotEnoughSpace
+        owner a = ok 1
+        free a = ok
+        owner a = refused 1 InvalidHandle",
+    )
+}
+
+#[test]
+fn locks_are_counted(rt: HostRuntime) -> Result<(), Fail> {
+    check_replies(
+        &rt,
+        rt.alloc(),
+        blank(),
+        "new a 8 1 = ok
+        lock a = ok 1
+        lock a = ok 2
+        lock a = ok 3
+        lock a = ok 4
+        lock a = ok 5
+        lock a = ok 6
+        lock a = ok 7
+        lock a = ok 8
+        lock a = ok 9
+        lock a = ok 10
+        lock a = ok 11
+        lock a = ok 12
+        lock a = ok 13
+        lock a = ok 14
+        lock a = refused 5 LockOverflow
+        free a = refused 3 ChunkLocked",
+    )
+}
+
+#[test]
+fn chunks_of_no_bytes_are_chunks(rt: HostRuntime) -> Result<(), Fail> {
+    check_replies(
+        &rt,
+        rt.alloc(),
+        blank(),
+        "new z 0 1 = ok
+        size z = ok 0
+        read z 0 0 = ok -
+        write z 0 41 = refused 4 ChunkNotLocked
+        lock z = ok 1
+        write z 0 41 = refused 9 OutOfBounds
+        freebytes = ok 88",
+    )
+}
+
+#[test]
+fn bytes_are_written_within_bounds(rt: HostRuntime) -> Result<(), Fail> {
+    check_replies(&rt, rt.alloc(), blank(), BYTES)
+}
+
+/// Bytes of a locked chunk.
+const BYTES: &str = "new a 10 1 = ok
+    lock a = ok 1
+    write a 9 41 = ok
+    write a 9 4142 = refused 9 OutOfBounds
+    read a 0 10 = ok 00000000000000000041
+    strcopy a 8 \"x\" = ok
+    strcopy a 9 \"x\" = refused 9 OutOfBounds
+    read a 8 2 = ok 7800";
+
+#[test]
+fn fixed_chunks_need_no_slot(rt: HostRuntime) -> Result<(), Fail> {
+    check_replies(
+        &rt,
+        rt.alloc(),
+        one_slot(),
+        "new a 0 1 = ok
+        new b 0 1 = refused 8 NotEnoughSpace
+        ptrnew p 0 1 = ok
+        lock p = refused 6 ChunkFixed
+        locks p = ok 15
+        freebytes = ok 88",
+    )
+}
+
+#[test]
+fn chunks_are_freed_by_their_owner(rt: HostRuntime) -> Result<(), Fail> {
+    check_replies(
+        &rt,
+        rt.alloc(),
+        blank(),
+        "new a 8 3 = ok
+        lock a = ok 1
+        ptrnew p 8 3 = ok
+        new b 8 4 = ok
+        freeowner 3 = ok 2
+        freebytes = ok 80
+        setowner b 15 = refused 7 InvalidOwner
+        lock b = ok 1
+        set b 2 3 0x41 = ok
+        read b 0 8 = ok 0000414141000000
+        unlock b = ok 0
+        unlock b = refused 4 ChunkNotLocked
+        setowner b 3 = ok
+        freeowner 3 = ok 1
+        freebytes = ok 96",
+    )
+}
+
+#[test]
+fn the_image_is_written_behind_the_replies(rt: HostRuntime) -> Result<(), Fail> {
+    let alloc = rt.alloc();
+    let image = bytes_of(alloc, blank())?;
+    let ran = run_on(alloc, image.as_slice(), "new a 10 1\n");
+    assert_eq!(rt; ran.status, Status::Done);
+    assert_eq!(rt;
+        ran.image.as_slice(),
+        bytes_of(alloc, one_chunk())?.as_slice()
+    );
+    Ok(())
+}
+
+#[test]
+fn no_line_leaves_every_byte(rt: HostRuntime) -> Result<(), Fail> {
+    let alloc = rt.alloc();
+    let image = bytes_of(alloc, one_chunk())?;
+    for script in ["", "\n", "# a line that is passed over\n"] {
+        let ran = run_on(alloc, image.as_slice(), script);
+        assert_eq!(rt; ran.status, Status::Done, "{script}");
+        assert!(rt; ran.printed.is_empty(), "{script}");
+        assert_eq!(rt; ran.image.as_slice(), image.as_slice(), "{script}");
+    }
+    Ok(())
+}
+
+#[test]
+fn a_refused_image_or_script_is_not_run(rt: HostRuntime) -> Result<(), Fail> {
+    let alloc = rt.alloc();
+    for (image, script, line) in [
+        (blank(), "new a 8", "line 1 WrongCount\n"),
+        (blank(), "frob", "line 1 UnknownCommand\n"),
+        (blank(), "read a 0 x", "line 1 BadWord 4\n"),
+        (
+            blank(),
+            "new a 8 1\n\nnew b 8 256\nfrob\n",
+            "line 3 BadWord 4\n",
+        ),
+        (long_chunk(), "new a 8 1\n", "bad BadChunk 32\n"),
+        (long_chunk(), "frob", "bad BadChunk 32\n"),
+    ] {
+        let image = bytes_of(alloc, image)?;
+        let ran = run_on(alloc, image.as_slice(), script);
+        assert_eq!(rt; ran.status, Status::Refused, "{line}");
+        assert_eq!(rt; ran.printed.as_slice(), line.as_bytes());
+        assert!(rt; ran.image.is_empty(), "{line}");
+    }
+    Ok(())
+}
+
+/// A script, and what it prints on a blank image.
+const SCRIPT: &str = "new a 10 1\nlock a\nwrite a 9 41\nwrite a 9 4142\nread a 0 10\n";
+
+const REPLIES: &str = "ok\nok 1\nok\nrefused 9 OutOfBounds\nok 00000000000000000041\n";
+
+#[test]
+fn nothing_follows_a_reply_that_is_not_taken(rt: HostRuntime) -> Result<(), Fail> {
+    let alloc = rt.alloc();
+    let image = bytes_of(alloc, blank())?;
+    for when_full in [
+        WhenFull::TakesNothing,
+        WhenFull::Fails(ErrorKind::Interrupted),
+    ] {
+        for room in 0..REPLIES.len() {
+            let (mut image_out, mut files) = (Vec::new(alloc), Vec::new(alloc));
+            let mut out = Counted::new(Narrow::new(alloc, room, 3, when_full));
+            let script = SCRIPT.as_bytes();
+            let image = image.as_slice();
+            let status = cmd_run(
+                alloc,
+                image,
+                script,
+                &[],
+                &mut image_out,
+                &mut files,
+                &mut out,
+            );
+            assert_eq!(rt; status, Status::WriteFault, "room for {room}");
+            let narrow = out.into_inner();
+            let wanted = &REPLIES.as_bytes()[..room];
+            assert_eq!(rt; narrow.taken.as_slice(), wanted, "room for {room}");
+            assert_eq!(rt; narrow.refused, 1, "room for {room}");
+            assert!(rt; image_out.is_empty(), "room for {room}");
+        }
+    }
+    Ok(())
+}
+
+#[test]
+fn no_image_follows_replies_that_are_not_flushed(rt: HostRuntime) -> Result<(), Fail> {
+    let alloc = rt.alloc();
+    let image = bytes_of(alloc, blank())?;
+    for script in [SCRIPT, "frob"] {
+        let (mut image_out, mut files) = (Vec::new(alloc), Vec::new(alloc));
+        let mut out = Counted::new(Unflushed(Vec::new(alloc)));
+        let script = script.as_bytes();
+        let image = image.as_slice();
+        let status = cmd_run(
+            alloc,
+            image,
+            script,
+            &[],
+            &mut image_out,
+            &mut files,
+            &mut out,
+        );
+        assert_eq!(rt; status, Status::WriteFault);
+        assert!(rt; image_out.is_empty());
+    }
+    Ok(())
+}
+
+#[test]
+fn an_image_that_is_not_taken_is_a_fault(rt: HostRuntime) -> Result<(), Fail> {
+    let alloc = rt.alloc();
+    let image = bytes_of(alloc, blank())?;
+    for room in [0, 1, 127] {
+        let mut image_out = Narrow::new(alloc, room, 50, WhenFull::TakesNothing);
+        let mut files = Vec::new(alloc);
+        let mut out = Counted::new(Vec::new(alloc));
+        let script = SCRIPT.as_bytes();
+        let image = image.as_slice();
+        let status = cmd_run(
+            alloc,
+            image,
+            script,
+            &[],
+            &mut image_out,
+            &mut files,
+            &mut out,
+        );
+        assert_eq!(rt; status, Status::WriteFault, "room for {room}");
+        assert_eq!(rt; image_out.taken.len(), room);
+        assert_eq!(rt;
+            out.into_inner().as_slice(),
+            REPLIES.as_bytes(),
+            "room for {room}"
+        );
+    }
+    Ok(())
+}
