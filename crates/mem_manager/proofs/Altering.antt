@@ -1,29 +1,28 @@
 -- The steps of calls that ask of one chunk, or change it where it stands.
-use Rattle.std.proofs.Common.{◌≡◌, ◌≢◌, ℕ, zero, suc, ◌+◌, ◌-◌, ◌*◌, ◌<◌, ◌≤◌, List, [], ◌∷◌, ◌++◌, length, replicate, Bool, true, false, Option, Some, None, refl, sym, ap, subst, ◌∙◌, arith, inl, inr}
-use Rattle.std.proofs.lemmas.Bool.{cases_eq, eq-eqb}
+use Rattle.std.proofs.Common.{◌≡◌, ◌≢◌, ℕ, ◌+◌, ◌-◌, ◌*◌, ◌<◌, ◌≤◌, List, [], ◌∷◌, length, replicate, Bool, true, false, Option, Some, None, refl, sym, ap, subst, ◌∙◌, arith, inl, inr}
+use Rattle.std.proofs.lemmas.Bool.{cases_eq}
 use Rattle.std.proofs.lemmas.Bool.Decides.{nat_tests}
-use Rattle.std.specs.Prelude.{◌==◌, IsSome, slice_range}
+use Rattle.std.specs.Prelude.{◌==◌, slice_range}
 use Rattle.std.specs.Bool.{OnTrue}
-use Rattle.heap_model.specs.Bytes.{u32_at, overwritten}
-use Rattle.heap_model.specs.Chunk.{Chunk, free, movable, fixed, fixed_lock, need, IsLive, Spelled}
+use Rattle.heap_model.specs.Bytes.{overwritten}
+use Rattle.heap_model.specs.Chunk.{Chunk, free, movable, fixed, fixed_lock, IsLive, Spelled}
 use Rattle.heap_model.specs.Slots.{IsSlot, slot_count}
 use Rattle.heap_model.specs.Heap.{HeapAccepted}
 use Rattle.heap_model.specs.Meaning.{LiveChunk, ChunkMap, NamedHere}
 use Rattle.heap_model.specs.Reading.{chunks_of, held}
 use Rattle.heap_model.specs.Maps.{callers_map, not_owned, updated, changed, changed_at}
 use Rattle.heap_model.specs.Space.{Still, place_of}
-use Rattle.heap_model.specs.Placing.{ChangesName, Finds}
+use Rattle.heap_model.specs.Placing.{ChangesName}
 use Rattle.heap_model.specs.Refusals.{Check, ◌brings◌, NoneHolds, FirstBrings}
-use Rattle.heap_model.specs.MemorySteps.{Does, MemoryStep, Of, IsNoCaller, ReachesBeyond, text_of, checks, unknown, where_it, only_asks}
+use Rattle.heap_model.specs.MemorySteps.{Does, MemoryStep, IsNoCaller, ReachesBeyond, text_of, unknown, where_it, only_asks}
 use Rattle.heap_model.specs.declared.names.Name.{Name}
-use Rattle.heap_model.specs.declared.names.Place.{Place}
 use Rattle.heap_model.specs.declared.call.MemoryCall.{MemoryCall}
 use Rattle.heap_model.specs.declared.call.MemoryCall.TheVariants.{Lock, Unlock, Locks, Read, Write, Set, StrCopy, SetOwner}
 use Rattle.heap_model.specs.declared.call.Reply.{Reply}
 use Rattle.heap_model.specs.declared.call.Reply.TheVariants.{Refused, Done, Number, Locked, Data}
 use Rattle.heap_model.specs.declared.refusal.Refusal.{Refusal}
 use Rattle.heap_model.specs.declared.refusal.Refusal.TheVariants.{InvalidHandle, OwnedByDatabase, ChunkNotLocked, LockOverflow, ChunkFixed, InvalidOwner, OutOfBounds}
-use Rattle.heap_laws.proofs.Deciding.{cond-true, cond-false}
+use Rattle.heap_laws.proofs.Deciding.{cond-false}
 use Rattle.heap_laws.proofs.Meanings.{held-is, empty_unheld}
 use Rattle.heap_laws.proofs.Slots.{slot_of_number}
 use Rattle.heap_laws.proofs.Accepted.{heap_of_read}

@@ -1,17 +1,14 @@
 -- Walks over the chunks of an accepted heap, and what look-ups find.
-use Rattle.std.proofs.Common.{◌≡◌, ◌≢◌, ℕ, ◌+◌, ◌-◌, ◌*◌, ◌/◌, ◌<◌, ◌≤◌, Bool, List, [], ◌∷◌, ◌++◌, length, Option, Some, None, MatchOption, refl, sym, ap, subst, ◌∙◌, append_assoc, arith, inl, inr}
+use Rattle.std.proofs.Common.{◌≡◌, ℕ, ◌+◌, ◌-◌, ◌<◌, ◌≤◌, List, [], ◌∷◌, ◌++◌, length, Option, Some, None, MatchOption, refl, sym, ap, subst, ◌∙◌, append_assoc, arith, inl, inr}
 use Rattle.std.proofs.lemmas.Bool.{cases_eq, eq-eqb}
 use Rattle.std.proofs.lemmas.Bool.Decides.{nat_tests}
 use Rattle.std.proofs.lemmas.List.Sums.{sum_by-append, sum_by-cons}
 use Rattle.std.specs.Prelude.{◌==◌, sum_by, IfNone}
-use Rattle.heap_model.specs.Bytes.{u32_at}
-use Rattle.heap_model.specs.Chunk.{Chunk, free, movable, fixed, fixed_lock, need, size_of, total, free_size, Spelled, SpelledAll}
-use Rattle.heap_model.specs.Slots.{IsSlot, area_start}
+use Rattle.heap_model.specs.Chunk.{Chunk, free, movable, fixed, fixed_lock, size_of, total, free_size, Spelled, SpelledAll}
+use Rattle.heap_model.specs.Slots.{area_start}
 use Rattle.heap_model.specs.Heap.{HeapAccepted}
-use Rattle.heap_model.specs.Placed.{EveryPlaced}
-use Rattle.heap_model.specs.Meaning.{LiveChunk, NamedHere}
+use Rattle.heap_model.specs.Meaning.{LiveChunk}
 use Rattle.heap_model.specs.Reading.{chunk_at, chunks_of, held}
-use Rattle.heap_model.specs.Space.{free_total}
 use Rattle.heap_model.specs.Placing.{Finds, NotFixedAs}
 use Rattle.heap_laws.proofs.Deciding.{cond-true, cond-false}
 use Rattle.heap_laws.proofs.Chunks.{Spelled-size, SpelledAll-end, SpelledAll-push}
@@ -20,7 +17,7 @@ use Rattle.heap_laws.proofs.Runs.{chunk_there, chunks_after, chunks_of-tiled}
 use Rattle.chunk_format.specs.declared.header.Header.{Header}
 use Rattle.chunk_format.specs.declared.header.Header.TheVariants as headers
 use Rattle.chunk_format.specs.Header.{header_of, size_by, HasHeader}
-use Rattle.heap_laws.proofs.Finding.{InSlot, in_slot, finds_held, finds_read, none_held, callers_none, callers_managers, callers_some}
+use Rattle.heap_laws.proofs.Finding.{InSlot, in_slot, finds_held, finds_read, none_held, callers_managers}
 use Rattle.heap_model.specs.Maps.{callers_map}
 use Rattle.heap_laws.proofs.Altering.{finds_callers}
 use Rattle.master_table.specs.Table.{HoldsPlace, HoldsNothing}

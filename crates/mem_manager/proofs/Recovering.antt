@@ -1,15 +1,14 @@
 -- Which name has its chunk at a place.
-use Rattle.std.proofs.Common.{◌≡◌, ◌≢◌, ℕ, zero, suc, ◌+◌, ◌-◌, ◌<◌, ◌≤◌, Bool, true, false, cond, List, ◌∷◌, ◌++◌, length, Option, Some, None, MatchOption, IfSome, IfNone, refl, sym, ap, subst, ◌∙◌, arith, inl, inr}
+use Rattle.std.proofs.Common.{◌≡◌, ℕ, ◌+◌, ◌-◌, ◌<◌, ◌≤◌, Bool, true, false, cond, List, ◌∷◌, ◌++◌, length, Option, Some, None, refl, sym, ap, subst, ◌∙◌, arith, inl, inr}
 use Rattle.std.proofs.lemmas.Bool.{cases_eq}
 use Rattle.std.proofs.lemmas.Bool.Decides.{nat_tests}
 use Rattle.std.specs.Prelude.{◌==◌, nat_lt}
 use Rattle.std.specs.Option.{option_map}
-use Rattle.heap_model.specs.Bytes.{u32_at}
 use Rattle.heap_model.specs.Chunk.{Chunk, free, movable, fixed, total}
 use Rattle.heap_model.specs.Slots.{area_start}
 use Rattle.heap_model.specs.Heap.{BodyHere, IsHeap, HeapAccepted}
 use Rattle.heap_model.specs.Placed.{EveryPlaced}
-use Rattle.heap_model.specs.Meaning.{LiveChunk, NamedHere}
+use Rattle.heap_model.specs.Meaning.{LiveChunk}
 use Rattle.heap_model.specs.Reading.{chunk_at, chunks_of, held}
 use Rattle.heap_model.specs.Maps.{callers_map, not_owned}
 use Rattle.heap_model.specs.Space.{place_of}
@@ -22,12 +21,12 @@ use Rattle.heap_model.specs.declared.names.Name.{Name}
 use Rattle.heap_model.specs.declared.names.Place.{Place}
 use Rattle.heap_laws.proofs.Deciding.{none_some, cond-true, cond-false}
 use Rattle.heap_laws.proofs.Placed.{AnyPlaced-mid, EveryPlaced-split}
-use Rattle.heap_laws.proofs.Finding.{InSlot, in_slot, finds_held, finds_read, held_finds, read_heap, callers_some, callers_managers}
-use Rattle.heap_laws.proofs.Altering.{finds_place, finds_callers}
+use Rattle.heap_laws.proofs.Finding.{InSlot, in_slot, finds_held, held_finds, read_heap, callers_some, callers_managers}
+use Rattle.heap_laws.proofs.Altering.{finds_place}
 use Rattle.chunk_format.specs.declared.header.Header.{Header}
 use Rattle.chunk_format.specs.declared.header.Header.TheVariants as headers
 use Rattle.chunk_format.specs.Header.{header_of}
-use Rattle.master_table.specs.Table.{HoldsPlace, HoldsNothing}
+use Rattle.master_table.specs.Table.{HoldsPlace}
 use Rattle.mem_manager.specs.declared.lookup.Found.{Found}
 use Rattle.mem_manager.specs.Lookup.{IsFound, IsThere, NoSlotHolds, NoneFixedAs, callers_slot_by}
 use Rattle.mem_manager.proofs.Passing.{slot_header}

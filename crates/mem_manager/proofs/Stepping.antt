@@ -1,22 +1,19 @@
 -- The steps of the abstract store: what each call of the manager has done, where it ends.
-use Rattle.std.proofs.Common.{◌≡◌, ◌≢◌, ℕ, zero, suc, ◌+◌, ◌-◌, ◌*◌, ◌/◌, ◌%◌, ◌<◌, ◌≤◌, List, [], ◌∷◌, ◌++◌, length, replicate, Option, Some, None, IfSome, refl, sym, ap, subst, ◌∙◌, arith, inl, inr}
+use Rattle.std.proofs.Common.{◌≡◌, ◌≢◌, ℕ, ◌+◌, ◌-◌, ◌*◌, ◌<◌, ◌≤◌, List, ◌++◌, length, replicate, Option, Some, None, refl, sym, ap, subst, ◌∙◌, arith, inl, inr}
 use Rattle.std.proofs.lemmas.Bool.{cases_eq, eq-eqb}
 use Rattle.std.proofs.lemmas.Bool.Decides.{nat_tests}
-use Rattle.std.proofs.lemmas.List.Sums.{sum_by-append}
-use Rattle.std.specs.Prelude.{◌==◌, ◌⊎◌, sum_by, IsSome}
-use Rattle.heap_model.specs.Bytes.{u32_at}
-use Rattle.heap_model.specs.Chunk.{Chunk, free, movable, fixed, fixed_lock, need, total, free_size}
+use Rattle.std.specs.Prelude.{◌==◌, ◌⊎◌, IsSome}
+use Rattle.heap_model.specs.Chunk.{Chunk, fixed_lock, need}
 use Rattle.heap_model.specs.Slots.{IsSlot, slot_count, area_start, table_end}
 use Rattle.heap_model.specs.Heap.{IsHeap, HeapAccepted}
 use Rattle.heap_model.specs.Meaning.{LiveChunk}
 use Rattle.heap_model.specs.Reading.{chunks_of, held}
-use Rattle.heap_model.specs.Maps.{callers_map, not_owned, updated, gone, made}
-use Rattle.heap_model.specs.Space.{AllFree, NoRun, free_slots, Still, place_of}
-use Rattle.heap_model.specs.Placing.{Untouched, SameFrame, IsReserved, ChangesName, Finds}
-use Rattle.heap_model.specs.Refusals.{Check, NoneHolds, FirstBrings}
-use Rattle.heap_model.specs.MemorySteps.{Does, Of, IsNoCaller, IsLocked, AsBefore, checks}
+use Rattle.heap_model.specs.Maps.{callers_map, not_owned, updated}
+use Rattle.heap_model.specs.Space.{NoRun, free_slots, Still}
+use Rattle.heap_model.specs.Placing.{Untouched, ChangesName}
+use Rattle.heap_model.specs.MemorySteps.{Does, Of, IsNoCaller, IsLocked, AsBefore}
 use Rattle.heap_model.specs.declared.names.Name.{Name}
-use Rattle.heap_model.specs.declared.call.MemoryCall.TheVariants.{HandleNew, PtrNew, Free, Size, Owner, FreeBytes}
+use Rattle.heap_model.specs.declared.call.MemoryCall.TheVariants.{HandleNew, PtrNew, Free, Size, Owner}
 use Rattle.heap_model.specs.declared.call.Reply.TheVariants.{Refused, Done, Number, Named}
 use Rattle.heap_model.specs.declared.refusal.Refusal.TheVariants.{InvalidHandle, OwnedByDatabase, ChunkLocked, InvalidOwner, NotEnoughSpace}
 use Rattle.heap_laws.proofs.Deciding.{cond-true, cond-false}
@@ -26,7 +23,7 @@ use Rattle.heap_laws.proofs.Slots.{slot_of_number}
 use Rattle.heap_laws.proofs.Chunks.{total-append, SpelledAll-end}
 use Rattle.heap_laws.proofs.Accepted.{heap_of_read}
 use Rattle.mem_manager.proofs.Passing.{free_within}
-use Rattle.heap_laws.proofs.Finding.{finds_held, callers_none, callers_some}
+use Rattle.heap_laws.proofs.Finding.{finds_held, callers_some}
 use Rattle.mem_manager.specs.declared.lookup.Found.{Found}
 use Rattle.mem_manager.specs.Lookup.{IsFound, IsManaged, NoSlotBelow}
 

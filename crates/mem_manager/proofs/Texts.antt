@@ -1,9 +1,9 @@
 -- Texts that end at a zero byte.
-use Rattle.std.proofs.Common.{◌≡◌, ℕ, ◌<◌, ◌≤◌, Bool, true, false, not, List, length, take, get_or, refl, sym, ap, ◌∙◌, arith}
+use Rattle.std.proofs.Common.{◌≡◌, ℕ, Bool, true, false, not, List, length, take, refl, sym, ap, ◌∙◌, arith}
 use Rattle.std.proofs.lemmas.List.{take_all}
 use Rattle.std.proofs.lemmas.List.Sums.{prefix_len_is}
 use Rattle.std.specs.Prelude.{◌==◌, slice_index}
-use Rattle.std.specs.List.{take_while, prefix_len}
+use Rattle.std.specs.List.{take_while}
 use Rattle.memchr.specs.Find.{Nowhere, NoneBefore, Passes, is_byte}
 
 -- a byte that is not zero passes

@@ -1,5 +1,5 @@
 -- What a look-up knows, and what walks over the chunks have passed.
-use Rattle.std.specs.Prelude.{◌≡◌, ◌≢◌, ◌<◌, ◌≤◌, ◌+◌, ◌-◌, ◌*◌, ◌++◌, ◌==◌, if◌then◌else◌, nat_lt, ℕ, List, [], ◌∷◌, length, sum_by, Option, Some, None}
+use Rattle.std.specs.Prelude.{◌≡◌, ◌≢◌, ◌<◌, ◌≤◌, ◌+◌, ◌-◌, ◌*◌, ◌==◌, if◌then◌else◌, nat_lt, ℕ, List, length, sum_by, Option, Some, None}
 use Rattle.heap_model.specs.Maps.{callers_map}
 use Rattle.heap_model.specs.Space.{place_of}
 use Rattle.heap_model.specs.Chunk.{Chunk, fixed_lock, free_size, SpelledAll}

@@ -1,7 +1,7 @@
 -- What freeing all chunks of an owner leaves.
 use Rattle.std.specs.Prelude.{◌≡◌, ◌≤◌, ◌+◌, ◌*◌, ◌==◌, ℕ, Bool, false, List, length, count_by, Some}
 use Rattle.heap_model.specs.Chunk.{Chunk}
-use Rattle.heap_model.specs.Slots.{slot_count, area_start}
+use Rattle.heap_model.specs.Slots.{slot_count}
 use Rattle.heap_model.specs.Heap.{HeapAccepted}
 use Rattle.heap_model.specs.Meaning.{LiveChunk}
 use Rattle.heap_model.specs.Maps.{without_owner}

@@ -1,4 +1,3 @@
-use Rattle.std.proofs.Common.{◌≡◌}
 use Rattle.mem_manager.proofs.Texts.{before_first, without_zero}
 use Rattle.mem_manager.proofs.bounds.before_zero.Goals as goal
 

@@ -1,4 +1,4 @@
-use Rattle.std.proofs.Common.{◌≡◌, ◌≤◌, arith}
+use Rattle.std.proofs.Common.{arith}
 use Rattle.mem_manager.proofs.Passing.{found_managers}
 use Rattle.mem_manager.proofs.lookup.find.Goals as goal
 

@@ -1,4 +1,4 @@
-use Rattle.std.proofs.Common.{◌≡◌, ◌≤◌, MatchOption, Option, subst, None}
+use Rattle.std.proofs.Common.{MatchOption, Option, subst}
 use Rattle.heap_model.specs.declared.names.Place.{Place}
 use Rattle.master_table.specs.Table.{HoldsPlace, HoldsNothing}
 use Rattle.mem_manager.proofs.Passing.{slot_behind, unheld}

@@ -1,4 +1,4 @@
-use Rattle.std.proofs.Common.{◌≡◌, ◌-◌, ℕ, MatchOption, Option, sym, subst, ◌∙◌}
+use Rattle.std.proofs.Common.{MatchOption, Option, sym, subst, ◌∙◌}
 use Rattle.mem_manager.specs.declared.lookup.Found.{Found}
 use Rattle.mem_manager.specs.Lookup.{IsFound}
 use Rattle.mem_manager.proofs.Passing.{slot_found, slot_unread}

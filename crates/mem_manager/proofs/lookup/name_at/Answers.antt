@@ -1,4 +1,3 @@
-use Rattle.std.proofs.Common.{◌≡◌, ◌≤◌}
 use Rattle.mem_manager.proofs.Recovering.{fixed_there, nowhere}
 use Rattle.mem_manager.proofs.lookup.name_at.Goals as goal
 

@@ -1,4 +1,4 @@
-use Rattle.std.proofs.Common.{◌≡◌, ◌-◌, ◌<◌, sym, subst, ◌∙◌, arith}
+use Rattle.std.proofs.Common.{◌≡◌, sym, subst, ◌∙◌, arith}
 use Rattle.heap_model.specs.Bytes.{u32_at}
 use Rattle.master_table.specs.Table.{HoldsPlace}
 use Rattle.mem_manager.proofs.Passing.{slot_unread}

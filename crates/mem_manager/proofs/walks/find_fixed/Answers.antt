@@ -1,4 +1,4 @@
-use Rattle.std.proofs.Common.{◌≡◌, ◌≤◌, ◌+◌, sym, subst, ◌∙◌, arith}
+use Rattle.std.proofs.Common.{◌+◌, sym, subst, ◌∙◌, arith}
 use Rattle.mem_manager.specs.Lookup.{Passed, NoneFixedAs}
 use Rattle.mem_manager.proofs.Passing.{passed_there, passed_all, fixed_found, fixed_callers, fixed_passed}
 use Rattle.mem_manager.proofs.walks.find_fixed.Goals as goal

@@ -1,4 +1,4 @@
-use Rattle.std.proofs.Common.{◌≡◌, ◌≤◌, ◌<◌, ◌+◌, sym, subst, ◌∙◌, arith}
+use Rattle.std.proofs.Common.{◌+◌, sym, subst, arith}
 use Rattle.mem_manager.specs.Lookup.{Passed, AreFree, free_by}
 use Rattle.mem_manager.proofs.Passing.{passed_there, passed_size, passed_all, free_fits, free_fits_by, free_passed}
 use Rattle.mem_manager.proofs.walks.free_bytes.Goals as goal

@@ -1,10 +1,10 @@
-use Rattle.std.proofs.Common.{◌≡◌, ◌≢◌, ◌≤◌, ◌<◌, ◌-◌, subst, ◌∙◌, arith}
+use Rattle.std.proofs.Common.{subst, ◌∙◌, arith}
 use Rattle.heap_model.specs.Memory.{Memory}
 use Rattle.heap_model.specs.Heap.{HeapAccepted}
 use Rattle.heap_model.specs.MemorySteps.{Does}
 use Rattle.heap_model.specs.declared.call.MemoryCall.TheVariants.{Free}
 use Rattle.heap_model.specs.declared.call.Reply.TheVariants.{Done}
-use Rattle.mem_manager.specs.Lookup.{IsFound, IsManaged, NoSlotBelow}
+use Rattle.mem_manager.specs.Lookup.{IsFound, NoSlotBelow}
 use Rattle.mem_manager.proofs.Stepping.{free_database, free_locked, freed, used_still}
 use Rattle.mem_manager.proofs.heap.Heap.free.Goals as goal
 use Rattle.mem_manager.proofs.heap.Heap.free.Goals.{else-found-gt0-via-then-found-gt0+else-found-lt-FIXED_LOCK, else-found-gt0-via-else-found-gt0}

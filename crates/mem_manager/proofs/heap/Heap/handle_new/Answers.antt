@@ -1,13 +1,12 @@
-use Rattle.std.proofs.Common.{ℕ, ◌≡◌, ◌≢◌, ◌≤◌, ◌<◌, ◌+◌, ◌*◌, ap, sym, subst, ◌∙◌, Option, None, Some, arith, inl, inr}
+use Rattle.std.proofs.Common.{ℕ, ◌≡◌, ap, sym, subst, ◌∙◌, None, Some, arith}
 use Rattle.heap_model.specs.Memory.{Memory}
 use Rattle.heap_model.specs.Chunk.{need}
 use Rattle.heap_model.specs.Heap.{HeapAccepted}
 use Rattle.heap_model.specs.Space.{NoRun, free_slots}
 use Rattle.heap_model.specs.Reading.{chunks_of, held}
-use Rattle.heap_model.specs.MemorySteps.{Does, IsNoCaller}
+use Rattle.heap_model.specs.MemorySteps.{Does}
 use Rattle.heap_model.specs.declared.call.MemoryCall.TheVariants.{HandleNew}
-use Rattle.heap_model.specs.declared.call.Reply.TheVariants.{Refused, Named}
-use Rattle.heap_model.specs.declared.refusal.Refusal.TheVariants.{NotEnoughSpace}
+use Rattle.heap_model.specs.declared.call.Reply.TheVariants.{Named}
 use Rattle.master_table.specs.Table.{IsFirstEmpty}
 use Rattle.mem_manager.proofs.Stepping.{new_no_caller, new_no_run, no_run_so_big, then_changes, slot_unheld, new_made}
 use Rattle.mem_manager.proofs.Altering.{not_both}

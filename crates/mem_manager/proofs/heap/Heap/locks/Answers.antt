@@ -1,7 +1,6 @@
-use Rattle.std.proofs.Common.{◌≡◌, ◌≢◌, ◌≤◌, ◌<◌, ◌+◌, ◌-◌, length, replicate, refl, sym, subst, ◌∙◌, inl, inr, arith}
+use Rattle.std.proofs.Common.{subst, ◌∙◌}
 use Rattle.heap_model.specs.Memory.{Memory}
 use Rattle.heap_model.specs.Heap.{HeapAccepted}
-use Rattle.heap_model.specs.MemorySteps.{Does}
 use Rattle.mem_manager.specs.Lookup.{IsFound}
 use Rattle.mem_manager.proofs.Altering.{locks_known}
 use Rattle.mem_manager.proofs.heap.Heap.locks.Goals as goal

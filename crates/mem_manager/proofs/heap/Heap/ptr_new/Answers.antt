@@ -1,9 +1,6 @@
-use Rattle.std.proofs.Common.{ℕ, ◌≡◌, ◌≢◌, ◌≤◌, ◌<◌, ◌+◌, ◌*◌, ap, sym, subst, ◌∙◌, Option, None, Some, arith, inl, inr}
+use Rattle.std.proofs.Common.{subst, arith}
 use Rattle.heap_model.specs.Memory.{Memory}
 use Rattle.heap_model.specs.Chunk.{need}
-use Rattle.heap_model.specs.Heap.{HeapAccepted}
-use Rattle.heap_model.specs.Space.{NoRun}
-use Rattle.heap_model.specs.Reading.{chunks_of, held}
 use Rattle.heap_model.specs.MemorySteps.{Does}
 use Rattle.heap_model.specs.declared.call.MemoryCall.TheVariants.{PtrNew}
 use Rattle.heap_model.specs.declared.call.Reply.TheVariants.{Refused}

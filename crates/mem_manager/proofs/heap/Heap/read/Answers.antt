@@ -1,9 +1,6 @@
-use Rattle.std.proofs.Common.{◌≡◌, ◌≢◌, ◌≤◌, ◌<◌, ◌+◌, ◌-◌, ◌++◌, [], ◌∷◌, length, replicate, refl, sym, ap, subst, ◌∙◌, inl, inr, arith}
+use Rattle.std.proofs.Common.{◌≡◌, ◌<◌, ◌+◌, length, ap, subst, ◌∙◌, arith}
 use Rattle.heap_model.specs.Memory.{Memory}
 use Rattle.heap_model.specs.Heap.{HeapAccepted}
-use Rattle.heap_model.specs.MemorySteps.{Does, text_of}
-use Rattle.heap_model.specs.declared.call.MemoryCall.TheVariants.{Read}
-use Rattle.heap_model.specs.declared.call.Reply.TheVariants.{Data}
 use Rattle.std.specs.Prelude.{slice_range}
 use Rattle.mem_manager.specs.Lookup.{IsFound}
 use Rattle.mem_manager.proofs.Altering.{not_both, read_beyond, read_known, body_there}

@@ -1,10 +1,9 @@
-use Rattle.std.proofs.Common.{◌≡◌, ◌≢◌, ◌≤◌, ◌<◌, ◌+◌, ◌-◌, ◌++◌, [], ◌∷◌, length, replicate, refl, sym, ap, subst, ◌∙◌, inl, inr, arith}
+use Rattle.std.proofs.Common.{subst, ◌∙◌}
 use Rattle.heap_model.specs.Memory.{Memory}
 use Rattle.heap_model.specs.Heap.{HeapAccepted}
-use Rattle.heap_model.specs.MemorySteps.{Does, text_of}
+use Rattle.heap_model.specs.MemorySteps.{Does}
 use Rattle.heap_model.specs.declared.call.MemoryCall.TheVariants.{SetOwner}
 use Rattle.heap_model.specs.declared.call.Reply.TheVariants.{Done}
-use Rattle.heap_model.specs.MemorySteps.{IsNoCaller}
 use Rattle.mem_manager.specs.Lookup.{IsFound}
 use Rattle.mem_manager.proofs.Altering.{not_both, set_owner_database, set_owner_no_caller, used_altered, reowned_done}
 use Rattle.mem_manager.proofs.heap.Heap.set_owner.Goals as goal

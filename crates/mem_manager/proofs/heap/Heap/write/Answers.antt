@@ -1,7 +1,7 @@
-use Rattle.std.proofs.Common.{◌≡◌, ◌≢◌, ◌≤◌, ◌<◌, ◌+◌, ◌-◌, ◌++◌, [], ◌∷◌, length, replicate, refl, sym, ap, subst, ◌∙◌, inl, inr, arith}
+use Rattle.std.proofs.Common.{◌<◌, ◌+◌, length, subst, ◌∙◌, arith}
 use Rattle.heap_model.specs.Memory.{Memory}
 use Rattle.heap_model.specs.Heap.{HeapAccepted}
-use Rattle.heap_model.specs.MemorySteps.{Does, text_of}
+use Rattle.heap_model.specs.MemorySteps.{Does}
 use Rattle.heap_model.specs.declared.call.MemoryCall.TheVariants.{Write}
 use Rattle.heap_model.specs.declared.call.Reply.TheVariants.{Refused, Done}
 use Rattle.heap_model.specs.declared.refusal.Refusal.TheVariants.{ChunkNotLocked, OutOfBounds}
