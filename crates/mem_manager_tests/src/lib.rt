@@ -3,6 +3,12 @@
 #![tactic(auto)]
 
 #[cfg(test)]
+mod beside;
+#[cfg(test)]
+mod lists;
+#[cfg(test)]
 mod locks;
+#[cfg(test)]
+mod seen;
 #[cfg(test)]
 mod tests;

@@ -9,7 +9,7 @@ use std::alloc::Global;
 use std::test::*;
 
 /// A blank image in which words are changed: each by its offset.
-fn image(alloc: Global, words: &[(usize, u32)]) -> Result<Region, Fail> {
+pub(crate) fn image(alloc: Global, words: &[(usize, u32)]) -> Result<Region, Fail> {
     let mut region = blank(alloc, 128, 4)?;
     for (at, word) in words {
         if *at > region.len() || region.len() - *at < 4 {
