@@ -19,11 +19,19 @@ pub record Reading : Type 0 where
 
 -- the same with a value more
 abbrev pub with_value : Reading → Value → Reading
-with_value reading value = record { values = reading.values ++ value ∷ []; bytes = reading.bytes; labels = reading.labels }
+with_value reading value = record {
+  values = reading.values ++ value ∷ [];
+  bytes = reading.bytes;
+  labels = reading.labels;
+}
 
 -- the same with its bytes
 abbrev pub with_bytes : Reading → List ℕ → Reading
-with_bytes reading bytes = record { values = reading.values; bytes = bytes; labels = reading.labels }
+with_bytes reading bytes = record {
+  values = reading.values;
+  bytes = bytes;
+  labels = reading.labels;
+}
 
 -- the same with a label more
 abbrev pub with_chunk : Reading → List ℕ → Reading
@@ -36,8 +44,10 @@ with_chunk reading word = record {
 -- the same with a word more, if that is of its kind
 abbrev pub read_word : Reading → Kind → List ℕ → Option Reading
 read_word reading Chunk word = if is_label word then Some (with_chunk reading word) else None
-read_word reading Byte word = option_map (λ byte. with_value reading (ByteValue byte)) (number_below (2 ^ 8) word)
-read_word reading Number word = option_map (λ number. with_value reading (NumberValue number)) (number_below (2 ^ 32) word)
+read_word reading Byte word =
+    option_map (λ byte. with_value reading (ByteValue byte)) (number_below (2 ^ 8) word)
+read_word reading Number word =
+    option_map (λ number. with_value reading (NumberValue number)) (number_below (2 ^ 32) word)
 read_word reading Bytes word = option_map (with_bytes reading) (spelled_bytes word)
 read_word reading Text word = option_map (with_bytes reading) (spelled_text word)
 
@@ -47,4 +57,6 @@ abbrev pub read_words : ℕ → Reading → List Kind → List (List ℕ) → Re
 read_words number reading [] words = Ok reading
 read_words number reading (kind ∷ kinds) [] = Err WrongCount
 read_words number reading (kind ∷ kinds) (word ∷ words) =
-    option_map_or (λ after. read_words (number + 1) after kinds words) (read_word reading kind word) (Err (BadWord number))
+    option_map_or (λ after. read_words (number + 1) after kinds words)
+    (read_word reading kind word)
+    (Err (BadWord number))

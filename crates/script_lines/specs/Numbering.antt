@@ -16,7 +16,10 @@ label_number labels word = unwrap_or (labels.number word) labels.count
 
 -- the labels with one that hadn't appeared, which takes the next number
 abbrev pub with_next : Numbering → List ℕ → Numbering
-with_next labels word = record { number = λ other. if bytes_eq word other then Some labels.count else labels.number other; count = labels.count + 1 }
+with_next labels word = record {
+  number = λ other. if bytes_eq word other then Some labels.count else labels.number other;
+  count = labels.count + 1;
+}
 
 -- the labels, after one has appeared, for the first time or again
 abbrev pub with_label : Numbering → List ℕ → Numbering

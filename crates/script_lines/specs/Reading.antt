@@ -59,7 +59,8 @@ read_line labels text =
     else line_unless_broken labels (words_of text)
 
 -- the fault of the line of this number, or what comes of the line
-abbrev pub unless_faulty : ℕ → Result LineRead ScriptFault → (LineRead → Result (List Line) LineFault) → Result (List Line) LineFault
+abbrev pub unless_faulty : ℕ → Result LineRead ScriptFault → (LineRead → Result (List Line) LineFault)
+    → Result (List Line) LineFault
 unless_faulty number (Err fault) go_on = Err (record { line = number; fault = fault })
 unless_faulty number (Ok read) go_on = go_on read
 

@@ -27,11 +27,15 @@ digit_value b =
 abbrev pub number_behind : ℕ → ℕ → List ℕ → Option ℕ
 number_behind base front [] = Some front
 number_behind base front (digit ∷ digits) =
-    if nat_lt (digit_value digit) base then number_behind base (front * base + digit_value digit) digits else None
+    if nat_lt (digit_value digit) base then
+    number_behind base (front * base + digit_value digit) digits
+    else None
 
 -- the number that one to `most` digits of a base spell
 abbrev pub number_in : ℕ → ℕ → List ℕ → Option ℕ
-number_in base most digits = if nat_lt 0 (length digits) && nat_le (length digits) most then number_behind base 0 digits else None
+number_in base most digits =
+    if nat_lt 0 (length digits) && nat_le (length digits) most then number_behind base 0 digits
+    else None
 
 -- a number, if it is below a limit
 abbrev pub below : ℕ → Option ℕ → Option ℕ

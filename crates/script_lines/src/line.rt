@@ -65,13 +65,6 @@ pub enum Line {
     FreeBytes,
 }
 
-/// The lines of a script, in order. Contracts see them as a list.
-#[derive(Drop)]
-pub struct Script {
-    lines: Vec<Line>,
-    chunk_labels: u32,
-}
-
 impl Line {
     /// One more than the number of the line's label, and 0 where it has none.
     fn label_end(&self) -> Option<u32>
@@ -95,6 +88,13 @@ impl Line {
             | Line::StrCopy { label, .. } => label.0.checked_add(1),
         }
     }
+}
+
+/// The lines of a script, in order. Contracts see them as a list.
+#[derive(Drop)]
+pub struct Script {
+    lines: Vec<Line>,
+    chunk_labels: u32,
 }
 
 impl Model for Script {
