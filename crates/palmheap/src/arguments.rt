@@ -7,11 +7,23 @@ use std::alloc::{AllocError, Global};
 /// What the words ask for.
 #[derive(Clone, Copy, Debug, PartialEq, Eq)]
 pub enum Request<'a> {
-    New { size: u32, slots: u16, out: &'a str },
-    Check { image: &'a str },
+    New {
+        size: u32,
+        slots: u16,
+        out: &'a str,
+    },
+    Check {
+        image: &'a str,
+    },
+    Run {
+        image: &'a str,
+        script: &'a str,
+        out: &'a str,
+    },
 }
 
-const ABOUT: &str = "Makes and checks heap images: the memory of a Palm OS device, kept in a file";
+const ABOUT: &str = "\
+Makes, checks and changes heap images: the memory of a Palm OS device, kept in a file";
 
 const IMAGES: &str = "\
 A heap image is a file of 64 to 16777208 bytes, a multiple of 8. A header of 16 bytes is
@@ -20,7 +32,8 @@ themselves, which fill the rest: free ones, movable ones and fixed ones.
 
 Exit status:
   0  done
-  1  the image was refused; standard output says why: 'bad' and the first fault in it
+  1  the image or the script was refused; standard output says why: 'bad' and the first fault
+     in the image, or 'line', the number of the first faulty line and what is wrong in it
   2  the words were refused, or there is no image of that SIZE with that many SLOTS
   3  a file could not be read or written, or is longer than 16777216 bytes
   4  there was not enough memory
@@ -28,6 +41,20 @@ On 3 and 4 standard error says what failed: 'fault read', 'fault write' or 'faul
 
 const NEW_SLOTS: &str = "How many slots its table has, 1 to 65535: the most chunks that can be \
 movable at a time. A slot takes 4 bytes";
+
+const SCRIPTS: &str = "\
+A script is a text of lines. Each is a call of the memory manager, and prints 'ok' with what the
+call answers, or 'refused' with the number and the name of the refusal. A chunk goes by a label,
+which 'new', 'ptrnew' and 'bind' give it: a letter, then letters, digits or '_'.
+
+  bind A NAME         new A SIZE OWNER    ptrnew A SIZE OWNER
+  free A              setowner A OWNER    size A, owner A, locks A
+  lock A, unlock A    read A AT COUNT     write A AT HEX
+  set A AT COUNT BYTE                     strcopy A AT \"TEXT\"
+  freeowner OWNER     freebytes
+
+Numbers are decimal, or hex behind '0x'. HEX is hex digits, or '-' for no byte. A line that is
+empty or starts with '#' is passed over.";
 
 /// What the words of a command line ask for. The first word is the program's own name.
 ///
@@ -53,6 +80,11 @@ fn requested<'a>(matches: &ArgMatches<'a>) -> Option<Request<'a>> {
         ("check", given) => Some(Request::Check {
             image: given.get_str("IMAGE")?,
         }),
+        ("run", given) => Some(Request::Run {
+            image: given.get_str("IMAGE")?,
+            script: given.get_str("SCRIPT")?,
+            out: given.get_str("OUT")?,
+        }),
         _ => None,
     }
 }
@@ -66,7 +98,8 @@ fn palmheap<'a>(alloc: Global) -> Result<Command<'a>, AllocError> {
             .after_help(IMAGES)
             .subcommand_required(true)
             .subcommand(new(alloc)?)?
-            .subcommand(check(alloc)?)?,
+            .subcommand(check(alloc)?)?
+            .subcommand(run(alloc)?)?,
     )
 }
 
@@ -99,6 +132,26 @@ fn check<'a>(alloc: Global) -> Result<Command<'a>, AllocError> {
         Command::new(alloc, "check")
             .about("Checks an image, and prints what is in it or the first fault")
             .arg(image)?,
+    )
+}
+
+fn run<'a>(alloc: Global) -> Result<Command<'a>, AllocError> {
+    let image = Arg::new(alloc, "IMAGE")
+        .required(true)
+        .help("File with the image");
+    let script = Arg::new(alloc, "SCRIPT")
+        .required(true)
+        .help("File with the script");
+    let out = Arg::new(alloc, "OUT").required(true).help(
+        "File for the changed image. One that is there is replaced, once the image is whole",
+    );
+    Ok(
+        Command::new(alloc, "run")
+            .about("Runs a script on an image, and prints what each line answers")
+            .after_help(SCRIPTS)
+            .arg(image)?
+            .arg(script)?
+            .arg(out)?,
     )
 }
 

@@ -1,4 +1,4 @@
-//! The program `palmheap`, which makes and checks heap images.
+//! The program `palmheap`, which makes, checks and changes heap images.
 //!
 //! `main` alone meets the system: it takes the words, reads the input files, prints, and has the
 //! output file put in place. What a command does stands in the crate `palmheap_commands`, whose
@@ -10,7 +10,8 @@ mod arguments;
 
 use arguments::Request;
 use clap::error::ErrorKind;
-use palmheap_commands::{InputFault, OutputFile, Status, cmd_check, cmd_new, read_input};
+use heap_model::Counted;
+use palmheap_commands::{InputFault, OutputFile, Status, cmd_check, cmd_new, cmd_run, read_input};
 use std::fs::File;
 use std::process::ExitCode;
 use std::rt::{Env, Files};
@@ -33,6 +34,7 @@ fn run<R: Env + Files + Print + Eprint + AllocGlobal>(rt: &R) -> Status {
     match arguments::parse(rt.alloc(), words.as_slice()) {
         Ok(Request::New { size, slots, out }) => new(rt, size, slots, out),
         Ok(Request::Check { image }) => check(rt, image),
+        Ok(Request::Run { image, script, out }) => run_script(rt, image, script, out),
         Err(error) => answer(rt, &error),
     }
 }
@@ -82,6 +84,39 @@ fn check<R: Files + Print + AllocGlobal>(rt: &R, path: &str) -> Status {
         Ok(image) => cmd_check(rt.alloc(), image.as_slice(), &mut io::writer(rt)),
         Err(fault) => Status::from(fault),
     }
+}
+
+/// Runs `run`. Both files are read before the image is looked at.
+fn run_script<R: Files + Print + AllocGlobal>(
+    rt: &R,
+    image: &str,
+    script: &str,
+    path: &str,
+) -> Status {
+    let image = match read_file(rt, image) {
+        Ok(image) => image,
+        Err(fault) => return Status::from(fault),
+    };
+    let script = match read_file(rt, script) {
+        Ok(script) => script,
+        Err(fault) => return Status::from(fault),
+    };
+    let Ok(mut image_out) = OutputFile::new(rt, path) else {
+        return Status::NoMemory;
+    };
+    let mut out = Counted::new(io::writer(rt));
+    let mut files = Vec::new(rt.alloc());
+    let status = cmd_run(
+        rt.alloc(),
+        image.as_slice(),
+        script.as_slice(),
+        &[],
+        &mut image_out,
+        &mut files,
+        &mut out,
+    );
+    image_out.close();
+    status
 }
 
 /// All of a file.

@@ -34,6 +34,14 @@ fn words_ask_for_a_command(rt: HostRuntime) -> Result<(), Fail> {
             },
         ),
         ("palmheap check a.img", Request::Check { image: "a.img" }),
+        (
+            "palmheap run a.img calls.txt b.img",
+            Request::Run {
+                image: "a.img",
+                script: "calls.txt",
+                out: "b.img",
+            },
+        ),
     ] {
         let words = words_of(alloc, line)?;
         let asked = parse(alloc, words.as_slice()).ok().ok_or("refused")?;
@@ -72,6 +80,10 @@ fn words_are_refused(rt: HostRuntime) -> Result<(), Fail> {
             "error: invalid value '65536' for '<SLOTS>': 65536 is not in 0..=65535\n",
         ),
         (
+            "palmheap run a.img calls.txt",
+            "error: the following required arguments were not provided:\n  <OUT>\n",
+        ),
+        (
             "palmheap check",
             "error: the following required arguments were not provided:\n  <IMAGE>\n",
         ),
@@ -101,6 +113,11 @@ fn words_ask_for_help(rt: HostRuntime) -> Result<(), Fail> {
             "Usage: palmheap new <SIZE> <SLOTS> <OUT>",
         ),
         ("palmheap check -h", "Usage: palmheap check <IMAGE>"),
+        (
+            "palmheap run --help",
+            "Usage: palmheap run <IMAGE> <SCRIPT> <OUT>",
+        ),
+        ("palmheap run --help", "strcopy A AT \"TEXT\""),
     ] {
         let words = words_of(alloc, line)?;
         let error = parse(alloc, words.as_slice()).err().ok_or("no help")?;
