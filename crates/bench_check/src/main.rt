@@ -3,15 +3,13 @@
 //! With no words it prints a line that says so. docs/MEASUREMENTS.md has what was measured by it.
 #![tactic(auto)]
 
-mod times;
-
+use bench_times::Times;
 use heap_check::{HeapFault, Summary, check_heap};
 use raw_region::Region;
 use std::process::ExitCode;
 use std::rt::Clock;
 use std::time::Instant;
 use std::{env, fs, io};
-use times::Times;
 
 fn main(rt: HostRuntime) -> io::Result<ExitCode> {
     let mut words = env::args(&rt)?.skip(1);
@@ -57,7 +55,7 @@ fn print_answer(rt: &impl Print, answer: Result<Summary, HeapFault>) -> io::Resu
 
 fn print_times(rt: &impl Print, times: Times) -> io::Result<()> {
     if let (Some(best), Some(median)) = (times.best(), times.into_median()) {
-        println!(rt; "check best {best} median {median}")?;
+        println!(rt; "check best {} median {}", best / 1000, median / 1000)?;
     }
     Ok(())
 }

@@ -1,0 +1,134 @@
+//! Times the calls of the memory manager. `bench_memory SIZE SLOTS PASSES ROUNDS` makes a heap of SIZE
+//! bytes with SLOTS slots, and a chunk under each slot. It frees and makes chunks, and then does the
+//! calls whose time doesn't depend on the heap, PASSES times at each handle. For each kind of call it
+//! prints the calls of a round, and the best and the median processor time of a round in nanoseconds.
+//!
+//! The last line has the sum of all replies, and that of the words of the heap at the end. With no
+//! words it alone is printed, of a small heap. bench/memory_calls.c does the same calls in plain C, and
+//! docs/MEASUREMENTS.md has what was measured.
+#![tactic(auto)]
+
+mod load;
+mod numbers;
+mod sum;
+mod work;
+
+use anyhow::{Result, bail};
+use bench_times::Times;
+use chunk_format::blank;
+use load::{Call, Load};
+use mem_manager::Heap;
+use std::env;
+use std::rt::CpuClock;
+use std::time::Duration;
+use work::Work;
+
+/// The calls whose time doesn't depend on the heap, by what is printed of them.
+const CALLS: [(&str, Call); 5] = [
+    ("lock_and_unlock", Call::LockAndUnlock),
+    ("size", Call::Size),
+    ("owner", Call::Owner),
+    ("locks", Call::Locks),
+    ("read", Call::Read),
+];
+
+/// What is printed of the calls that free and make chunks.
+const AT_THE_END: (&str, &str) = ("free_at_the_end", "handle_new_at_the_end");
+
+const ANYWHERE: (&str, &str) = ("free_anywhere", "handle_new_anywhere");
+
+fn main(rt: HostRuntime) -> Result<()> {
+    let words = env::args(&rt)?.skip(1).collect::<Vec<_>>(rt.alloc())?;
+    let Some(work) = Work::of_words(&words) else {
+        bail!("usage: bench_memory [SIZE SLOTS PASSES ROUNDS]");
+    };
+    let mut load = blank_load(&rt, work)?;
+    fill(&rt, &mut load, work)?;
+    move_chunks(&rt, &mut load, work, AT_THE_END, work.moved())?;
+    move_chunks(&rt, &mut load, work, ANYWHERE, work.slots)?;
+    load.shuffle(work.slots);
+    load.find_wide()?;
+    for (name, call) in CALLS {
+        repeat(&rt, &mut load, work, name, call)?;
+    }
+    load.lock_wide();
+    repeat(&rt, &mut load, work, "write", Call::Write)?;
+    let (replies, words) = load.into_sums();
+    println!(rt; "replies {} words {}", replies.0, words.0)?;
+    Ok(())
+}
+
+/// A load on a blank heap.
+fn blank_load(rt: &impl AllocGlobal, work: Work) -> Result<Load> {
+    match Heap::adopt(blank(rt.alloc(), work.size, work.slots)?) {
+        Ok(heap) => Ok(Load::new(rt.alloc(), heap)),
+        Err(error) => bail!("{}", error.fault),
+    }
+}
+
+/// Makes a chunk under each slot.
+fn fill(rt: &(impl CpuClock + Print + AllocGlobal), load: &mut Load, work: Work) -> Result<()> {
+    let mut times = Times::new(rt.alloc());
+    let start = rt.thread_cpu_time()?;
+    load.make(work.slots)?;
+    times.add(since(rt, start)?)?;
+    print_times(rt, work, "handle_new_filling", work.slots as u128, times)
+}
+
+/// Frees chunks and makes as many, in each round. Those freed are taken from the last handles, so
+/// many of them.
+fn move_chunks(
+    rt: &(impl CpuClock + Print + AllocGlobal),
+    load: &mut Load,
+    work: Work,
+    (free, make): (&str, &str),
+    among: u16,
+) -> Result<()> {
+    let (mut freed, mut made) = (Times::new(rt.alloc()), Times::new(rt.alloc()));
+    for _ in 0..work.rounds {
+        load.shuffle(among);
+        let start = rt.thread_cpu_time()?;
+        load.free(work.moved());
+        freed.add(since(rt, start)?)?;
+        let start = rt.thread_cpu_time()?;
+        load.make(work.moved())?;
+        made.add(since(rt, start)?)?;
+    }
+    let calls = work.moved() as u128;
+    print_times(rt, work, free, calls, freed)?;
+    print_times(rt, work, make, calls, made)
+}
+
+/// Does calls of one kind in each round.
+fn repeat(
+    rt: &(impl CpuClock + Print + AllocGlobal),
+    load: &mut Load,
+    work: Work,
+    name: &str,
+    call: Call,
+) -> Result<()> {
+    let mut times = Times::new(rt.alloc());
+    for _ in 0..work.rounds {
+        let start = rt.thread_cpu_time()?;
+        load.repeat(call, work.passes);
+        times.add(since(rt, start)?)?;
+    }
+    let calls = load.calls(call).saturating_mul(work.passes as u128);
+    print_times(rt, work, name, calls, times)
+}
+
+/// The processor time that was used since it was so much.
+fn since(rt: &impl CpuClock, start: Duration) -> Result<Duration> {
+    Ok(rt.thread_cpu_time()?.saturating_sub(start))
+}
+
+fn print_times(rt: &impl Print, work: Work, name: &str, calls: u128, times: Times) -> Result<()> {
+    if let (true, Some(best), Some(median)) = (
+        work.prints_times,
+        times.best(),
+        times.into_median(),
+    ) {
+        println!(rt; "{name} calls {calls} best {best} median {median}")?;
+    }
+    Ok(())
+}

@@ -1,0 +1,47 @@
+//! How much is done.
+
+/// How many chunks are freed and made again in a round, at most.
+const MOST_MOVED: u16 = 2000;
+
+/// What a run does, by its words.
+#[derive(Clone, Copy)]
+pub(crate) struct Work {
+    /// The bytes and the slots of the heap.
+    pub(crate) size: u32,
+    pub(crate) slots: u16,
+    /// How often each handle is used in a round.
+    pub(crate) passes: u32,
+    /// How many rounds of each kind of call there are.
+    pub(crate) rounds: u16,
+    pub(crate) prints_times: bool,
+}
+
+impl Work {
+    /// The work of a run by its words, if they are numbers. With no words it is little.
+    pub(crate) fn of_words(words: &[String]) -> Option<Work> {
+        if words.is_empty() {
+            return Some(Work {
+                size: 4096,
+                slots: 64,
+                passes: 2,
+                rounds: 2,
+                prints_times: false,
+            });
+        }
+        if words.len() != 4 {
+            return None;
+        }
+        Some(Work {
+            size: words[0].parse().ok()?,
+            slots: words[1].parse().ok()?,
+            passes: words[2].parse().ok()?,
+            rounds: words[3].parse().ok()?,
+            prints_times: true,
+        })
+    }
+
+    /// How many chunks are freed and made again in a round.
+    pub(crate) fn moved(self) -> u16 {
+        MOST_MOVED.min(self.slots / 4)
+    }
+}
