@@ -30,11 +30,11 @@ pub(crate) fn find_run(region: &Region, size: u32) -> Option<FreeRun>
     let mut at = area_start(slot_count(region));
     let mut run_size = 0;
     while at < end {
-        let header = match Header::read(region, at) {
-            Some(header) => header,
+        let (header, taken) = match Header::read_with_size(region, at) {
+            Some(both) => both,
             None => unreachable!(),
         };
-        at += header.size();
+        at += taken;
         run_size = run_with(run_size, header);
         if run_size >= size {
             return Some(FreeRun {

@@ -30,6 +30,7 @@ pub(crate) struct Found {
 }
 
 /// The caller's chunk that a name stands for. The manager's own are no caller's.
+#[inline]
 pub(crate) fn find(region: &Region, name: Name) -> Option<Found>
     requires accepted { HeapAccepted region.now.bytes }
     ensures found { IfSome result (IsFound region.now.bytes name.0) }

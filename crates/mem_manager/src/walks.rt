@@ -13,6 +13,7 @@ use master_table::slot_count;
 use raw_region::Region;
 
 /// The fixed chunk that a name stands for: the name is the offset of its body.
+#[inline(never)]
 pub(crate) fn find_fixed(region: &Region, name: Name) -> Option<Found>
     requires accepted { HeapAccepted region.now.bytes }
     ensures found { IfSome result (IsFound region.now.bytes name.0) }
@@ -23,14 +24,14 @@ pub(crate) fn find_fixed(region: &Region, name: Name) -> Option<Found>
     let end = region.len() as u32;
     let mut at = area_start(slot_count(region));
     while at < end {
-        let header = match Header::read(region, at) {
-            Some(header) => header,
+        let (header, taken) = match Header::read_with_size(region, at) {
+            Some(both) => both,
             None => unreachable!(),
         };
         if let Some(found) = fixed_as(header, at, name) {
             return Some(found);
         }
-        at += header.size();
+        at += taken;
     }
     None
 }
@@ -44,12 +45,12 @@ pub(crate) fn free_bytes(region: &Region) -> u32
     let mut at = area_start(slot_count(region));
     let mut count = 0;
     while at < end {
-        let header = match Header::read(region, at) {
-            Some(header) => header,
+        let (header, taken) = match Header::read_with_size(region, at) {
+            Some(both) => both,
             None => unreachable!(),
         };
         count += size_if_free(header);
-        at += header.size();
+        at += taken;
     }
     count
 }

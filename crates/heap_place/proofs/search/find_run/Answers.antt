@@ -21,30 +21,31 @@ pub run_with-run_size-requires : goal.run_with-run_size-requires
 run_with-run_size-requires c =
     let most = c.requires.accepted.1.tiles.head.most in
     let fits = search_fits c.args.region.now.bytes c.args.size c.loop-at.at c.loop-at.run_size c.loop-at.invariant in
-    let size = search_size c.args.region.now.bytes c.args.size c.loop-at.at c.loop-at.run_size c.in-Some.header c.loop-at.invariant c.in-Some.ensures.found in
+    let size = search_size c.args.region.now.bytes c.args.size c.loop-at.at c.loop-at.run_size c.in-Some.both.0 c.loop-at.invariant c.in-Some.ensures.found in
     let inside = size.1 in
     omega arith
 
 pub overflow_sub-result : goal.overflow_sub-result
 overflow_sub-result c =
-    let size = search_size c.args.region.now.bytes c.args.size c.loop-at.at c.loop-at.run_size c.in-Some.header c.loop-at.invariant c.in-Some.ensures.found in
+    let size = search_size c.args.region.now.bytes c.args.size c.loop-at.at c.loop-at.run_size c.in-Some.both.0 c.loop-at.invariant c.in-Some.ensures.found in
     let within = size.2 in
+    let taken = c.in-Some.ensures.size in
     omega arith
 
 pub returns-then-run_size-size-clause-run : goal.returns-then-run_size-size-clause-run
 returns-then-run_size-size-clause-run c =
     let image = c.args.region.now.bytes in
-    let found = search_found image c.args.size c.loop-at.at c.loop-at.run_size c.in-Some.header c.requires.accepted c.loop-at.invariant c.in-Some.ensures.found in
-    subst (λ n. IsFreeRun image (c.loop-at.at + n - c.run_with-run_size.result) c.run_with-run_size.result) (sym c.size-at.ensures)
-    (subst (λ n. IsFreeRun image (c.loop-at.at + size_by c.in-Some.header - n) n) (sym c.run_with-run_size.ensures) found)
+    let found = search_found image c.args.size c.loop-at.at c.loop-at.run_size c.in-Some.both.0 c.requires.accepted c.loop-at.invariant c.in-Some.ensures.found in
+    subst (λ n. IsFreeRun image (c.loop-at.at + n - c.run_with-run_size.result) c.run_with-run_size.result) (sym c.in-Some.ensures.size)
+    (subst (λ n. IsFreeRun image (c.loop-at.at + size_by c.in-Some.both.0 - n) n) (sym c.run_with-run_size.ensures) found)
 
 pub loop-at-preserved : goal.loop-at-preserved
 loop-at-preserved c =
     let image = c.args.region.now.bytes in
     let small = c.if-run_size-size.false in
-    let more = search_more image c.args.size c.loop-at.at c.loop-at.run_size c.in-Some.header c.loop-at.invariant c.in-Some.ensures.found (subst (λ n. n < c.args.size) c.run_with-run_size.ensures small) in
-    subst (λ n. Searched image c.args.size (c.loop-at.at + n) c.run_with-run_size.result) (sym c.size-at.ensures)
-    (subst (λ n. Searched image c.args.size (c.loop-at.at + size_by c.in-Some.header) n) (sym c.run_with-run_size.ensures) more)
+    let more = search_more image c.args.size c.loop-at.at c.loop-at.run_size c.in-Some.both.0 c.loop-at.invariant c.in-Some.ensures.found (subst (λ n. n < c.args.size) c.run_with-run_size.ensures small) in
+    subst (λ n. Searched image c.args.size (c.loop-at.at + n) c.run_with-run_size.result) (sym c.in-Some.ensures.size)
+    (subst (λ n. Searched image c.args.size (c.loop-at.at + size_by c.in-Some.both.0) n) (sym c.run_with-run_size.ensures) more)
 
 pub returns-clause-none : goal.returns-clause-none
 returns-clause-none c = search_none c.args.region.now.bytes c.args.size c.loop-at.at c.loop-at.run_size c.requires.accepted c.requires.some_size c.loop-at.invariant (omega arith)

@@ -12,16 +12,16 @@ pub overflow_add-count : goal.overflow_add-count
 overflow_add-count c =
     let most = c.requires.accepted.1.tiles.head.most in
     let fits = free_fits c.args.region.now.bytes c.loop-at.count c.loop-at.at c.loop-at.invariant in
-    let size = passed_size c.args.region.now.bytes c.loop-at.at c.in-Some.header c.in-Some.ensures.found in
+    let size = passed_size c.args.region.now.bytes c.loop-at.at c.in-Some.both.0 c.in-Some.ensures.found in
     let inside = size.1 in
-    let within = free_fits_by c.in-Some.header in
+    let within = free_fits_by c.in-Some.both.0 in
     omega arith
 
 pub loop-at-preserved : goal.loop-at-preserved
 loop-at-preserved c =
-    subst (λ n. Passed c.args.region.now.bytes (AreFree (c.loop-at.count + n)) (c.loop-at.at + c.size-at.result)) (sym c.size_if_free-count.ensures)
-    (subst (λ n. Passed c.args.region.now.bytes (AreFree (c.loop-at.count + free_by c.in-Some.header)) (c.loop-at.at + n)) (sym c.size-at.ensures)
-    (free_passed c.args.region.now.bytes c.loop-at.count c.loop-at.at c.in-Some.header c.loop-at.invariant c.in-Some.ensures.found))
+    subst (λ n. Passed c.args.region.now.bytes (AreFree (c.loop-at.count + n)) (c.loop-at.at + c.in-Some.both.1)) (sym c.size_if_free-count.ensures)
+    (subst (λ n. Passed c.args.region.now.bytes (AreFree (c.loop-at.count + free_by c.in-Some.both.0)) (c.loop-at.at + n)) (sym c.in-Some.ensures.size)
+    (free_passed c.args.region.now.bytes c.loop-at.count c.loop-at.at c.in-Some.both.0 c.loop-at.invariant c.in-Some.ensures.found))
 
 pub returns : goal.returns
 returns c = sym (passed_all c.args.region.now.bytes (AreFree c.loop-at.count) c.loop-at.at c.requires.accepted c.loop-at.invariant (omega arith))
