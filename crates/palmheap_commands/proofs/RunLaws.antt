@@ -1,6 +1,6 @@
 -- What `run` printed and wrote.
-use Rattle.std.proofs.Common.{◌≡◌, ℕ, ◌+◌, ◌≤◌, List, [], ◌++◌, length, take, get_or, Option, Some, Result, Ok, Err, refl, sym, ap, ◌∙◌, subst, arith, length-append, true, inl, inr, Global}
-use Rattle.std.specs.Prelude.{IfOk, IsOkAnd, string_bytes, ◌⊎◌, slice_get}
+use Rattle.std.proofs.Common.{◌≡◌, ℕ, ◌+◌, ◌≤◌, List, ◌++◌, length, take, Option, Result, Ok, Err, refl, sym, subst, arith, length-append, inl, inr, Global}
+use Rattle.std.specs.Prelude.{IfOk, IsOkAnd, string_bytes}
 use Rattle.std.proofs.Math.Seq.{take-append-add}
 use Rattle.std.proofs.lemmas.Grind.{common_steps}
 use Rattle.std.proofs.lemmas.Option.{slice_get_within, get_or_from_slice_get}

@@ -1,5 +1,5 @@
 -- What `run` prints and writes.
-use Rattle.std.specs.Prelude.{◌≡◌, ◌⊎◌, ◌++◌, ◌<◌, ℕ, List, Option, codes, decimal, take, Result, Ok, Err}
+use Rattle.std.specs.Prelude.{◌≡◌, ◌⊎◌, ◌++◌, ℕ, List, Option, codes, decimal, take, Ok, Err}
 use Rattle.std.specs.Io.KnownBytes.{Appends, Keeps}
 use Rattle.heap_model.specs.Counted.{AppendsFront}
 use Rattle.heap_model.specs.Heap.{HeapAccepted}

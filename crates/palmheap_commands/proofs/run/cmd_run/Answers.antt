@@ -1,4 +1,4 @@
-use Rattle.std.proofs.Common.{◌≡◌, Err, inl, rules, List}
+use Rattle.std.proofs.Common.{◌≡◌, Err, inl, rules}
 use Rattle.std.proofs.KnownBytes.{Keeps-refl}
 use Rattle.script_lines.specs.Reading.{read_script}
 use Rattle.palmheap_commands.proofs.RunLaws.{image_refused, image_refused_front, script_refused_front}
