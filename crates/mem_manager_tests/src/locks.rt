@@ -52,6 +52,14 @@ fn a_body_of_no_bytes(rt: HostRuntime) -> Result<(), Fail> {
     Ok(())
 }
 
+/// Whether the chunk under the slot at 16 begins with `count` bytes that are these.
+fn reads(heap: &Heap, count: u32, bytes: &[u8]) -> bool {
+    match heap.read(Name(16), 0, count) {
+        Ok(found) => found == bytes,
+        Err(_) => false,
+    }
+}
+
 #[test]
 fn writes_end_at_the_length(rt: HostRuntime) -> Result<(), Fail> {
     let mut heap = heap(rt.alloc(), &[])?;
@@ -66,24 +74,28 @@ fn writes_end_at_the_length(rt: HostRuntime) -> Result<(), Fail> {
     );
     assert_eq!(rt; heap.write(name, 9, b"A"), Ok(()));
     assert_eq!(rt; heap.write(name, 9, b"AB"), Err(Refusal::OutOfBounds));
-    assert_eq!(rt;
-        heap.read(name, 0, 10),
-        Ok([0, 0, 0, 0, 0, 0, 0, 0, 0, 0x41].as_slice())
-    );
+    assert_eq!(rt; reads(&heap, 10, &[0, 0, 0, 0, 0, 0, 0, 0, 0, 0x41]), true);
     assert_eq!(rt; heap.str_copy(name, 8, b"x"), Ok(()));
     assert_eq!(rt; heap.str_copy(name, 9, b"x"), Err(Refusal::OutOfBounds));
-    assert_eq!(rt; heap.read(name, 8, 2), Ok([0x78, 0].as_slice()));
+    assert_eq!(rt; reads(&heap, 10, b"\0\0\0\0\0\0\0\0x\0"), true);
     assert_eq!(rt; heap.str_copy(name, 0, b"ab\0cd"), Ok(()));
-    assert_eq!(rt;
-        heap.read(name, 0, 6),
-        Ok([0x61, 0x62, 0, 0, 0, 0].as_slice())
-    );
+    assert_eq!(rt; reads(&heap, 6, b"ab\0\0\0\0"), true);
     assert_eq!(rt; heap.set(name, 2, 3, 0x41), Ok(()));
     assert_eq!(rt; heap.set(name, 8, 3, 0x41), Err(Refusal::OutOfBounds));
-    assert_eq!(rt;
-        heap.read(name, 1, 5),
-        Ok([0x62, 0x41, 0x41, 0x41, 0].as_slice())
-    );
+    assert_eq!(rt; reads(&heap, 6, b"abAAA\0"), true);
+    let after = heap.into_region();
+    assert_eq!(rt; after.get_u32(36), 0x11FF_FFF8);
+    assert_eq!(rt; after.slice(48, 8), [0x78, 0, 0, 0, 0, 0, 0, 0].as_slice());
+    Ok(())
+}
+
+/// Sums of offset and count that end just behind the chunk, and ones that 32 bits can't hold.
+#[test]
+fn ranges_beyond_the_end_are_refused(rt: HostRuntime) -> Result<(), Fail> {
+    let mut heap = heap(rt.alloc(), &[])?;
+    let name = Name(16);
+    assert_eq!(rt; heap.handle_new(10, 1), Ok(name));
+    assert_eq!(rt; heap.lock(name).is_ok(), true);
     for (at, count) in [
         (11, 0),
         (10, 1),
@@ -103,9 +115,6 @@ fn writes_end_at_the_length(rt: HostRuntime) -> Result<(), Fail> {
             "{at} {count}"
         );
     }
-    let after = heap.into_region();
-    assert_eq!(rt; after.get_u32(36), 0x11FF_FFF8);
-    assert_eq!(rt; after.slice(48, 8), [0x78, 0, 0, 0, 0, 0, 0, 0].as_slice());
     Ok(())
 }
 
@@ -210,11 +219,9 @@ fn a_place_gives_its_name_back(rt: HostRuntime) -> Result<(), Fail> {
     let Ok(locked) = heap.lock(Name(16)) else {
         return Err("no lock")?;
     };
+    assert_eq!(rt; locked.place, Place(40));
     assert_eq!(rt; heap.recover(locked.place), Ok(Name(16)));
-    assert_eq!(rt;
-        heap.recover(Place(locked.place.0 + 8)),
-        Err(Refusal::InvalidHandle)
-    );
+    assert_eq!(rt; heap.recover(Place(48)), Err(Refusal::InvalidHandle));
     assert_eq!(rt; heap.ptr_new(16, 2), Ok(Name(64)));
     assert_eq!(rt; heap.recover(Place(64)), Ok(Name(64)));
     for place in [0, 7, 8, 16, 39, 41, 63, 72, 96, 128, 0xFFFF_FFFF] {
