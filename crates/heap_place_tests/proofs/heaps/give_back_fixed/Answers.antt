@@ -7,4 +7,4 @@ use Rattle.heap_place_tests.proofs.heaps.give_back_fixed.Goals as goal
 pub returns-in-Some : goal.returns-in-Some
 returns-in-Some c =
     let own = subst (λ (m : Memory). IsCallersChunk m.bytes c.in-Some.place.0) c.region.ensures c.in-Some.ensures in
-    gave_accepted c.args.space.now.bytes c.give_back.new.self.bytes c.in-Some.place.0 own c.give_back.ensures
+    gave_accepted c.args.space.now.bytes c.give_back.new.self.bytes c.in-Some.place.0 own c.give_back.ensures.gone
