@@ -1,6 +1,6 @@
 //! Calls that ask of a heap and leave it as it is.
 
-ghost use Rattle.std.specs.Prelude.{◌≡◌, ◌≤◌, ◌<◌, ℕ, length};
+ghost use Rattle.std.specs.Prelude.{◌≡◌, ◌≢◌, ◌≤◌, ◌<◌, ℕ, Err, length};
 ghost use Rattle.heap_model.specs.MemorySteps.{Does, reply_of};
 ghost use Rattle.heap_model.specs.declared.call.MemoryCall.{MemoryCall};
 ghost use Rattle.heap_model.specs.declared.call.Reply.{Reply};
@@ -44,7 +44,8 @@ impl Heap {
 
     /// `count` bytes of a chunk, from `at` within it on, as they lie in the image.
     pub fn read(&self, name: Name, at: u32, count: u32) -> Result<&[u8], Refusal>
-        ensures { Does self.now.bytes (MemoryCall.Read name at count) (reply_of (λ bytes. Reply.Data bytes.now) result) self.now.bytes }
+        ensures does { Does self.now.bytes (MemoryCall.Read name at count) (reply_of (λ bytes. Reply.Data bytes.now) result) self.now.bytes }
+        ensures takes_no_memory { result ≢ Err Refusal.OutOfMemory }
     {
         let found = match find(self.space.region(), name) {
             Some(found) => found,
