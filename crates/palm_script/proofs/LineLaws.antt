@@ -2,11 +2,10 @@
 use Rattle.std.proofs.Common.{◌≡◌, ℕ, ◌+◌, ◌<◌, List, [], ◌∷◌, ◌++◌, length, take, get_or, refl, sym, ap, ◌∙◌, subst, append_assoc, append-nil, add-one, take-suc, Option, Some, true, false}
 use Rattle.std.proofs.lemmas.Option.{slice_get-get_or}
 use Rattle.std.proofs.KnownBytes.{Appends-trans}
-use Rattle.heap_model.specs.Calls.{DoesCall}
 use Rattle.heap_model.specs.Counted.{Writing, Writes}
 use Rattle.heap_model.specs.declared.call.Reply.{Reply}
 use Rattle.script_lines.specs.declared.line.Line.{Line}
-use Rattle.palm_script.specs.Lines.{Bindings, BreaksOff, DoesLine, Lines, bound_after, call_of, reply_line, unbound}
+use Rattle.palm_script.specs.Lines.{Bindings, BreaksOff, DoesLine, LineStep, Lines, bound_after, reply_line, unbound}
 
 -- ---- the lines up to one of them
 
@@ -14,13 +13,13 @@ pub take_one : (lines : List Line) (i : ℕ) (d : Line) → i < length lines →
 take_one lines i d within = rw add-one (take-suc lines i d within)
 
 pub one_more : (old : List ℕ) (names : Bindings) (lines : List Line) (text mid : List ℕ) (names_mid : Bindings) (line : Line) (reply : Reply) (new : List ℕ)
-    → Lines old names lines text mid names_mid → DoesCall mid (call_of names_mid line) reply new
+    → Lines old names lines text mid names_mid → LineStep mid names_mid line reply new
     → Lines old names (lines ++ (line ∷ [])) (text ++ reply_line line reply) new (bound_after names_mid line reply)
 one_more old names [] text mid names_mid line reply new (no_text, same, unchanged) step = (
   reply,
   new,
   [],
-  subst (λ (i : List ℕ). DoesCall i (call_of names line) reply new) same (subst (λ (n : Bindings). DoesCall mid (call_of n line) reply new) unchanged step),
+  subst (λ (i : List ℕ). LineStep i names line reply new) same (subst (λ (n : Bindings). LineStep mid n line reply new) unchanged step),
   ap (λ t. t ++ reply_line line reply) no_text ∙ sym (append-nil (reply_line line reply)),
   (refl, refl, ap (λ (n : Bindings). bound_after n line reply) unchanged),
 )
@@ -34,7 +33,7 @@ one_more old names (first ∷ lines) text mid names_mid line reply new (answer, 
 )
 
 pub one_further : (old : List ℕ) (names : Bindings) (lines : List Line) (i : ℕ) (line : Line) (text mid : List ℕ) (names_mid : Bindings) (reply : Reply) (new : List ℕ) (names_new : Bindings)
-    → i < length lines → line ≡ get_or lines i line → Lines old names (take i lines) text mid names_mid → DoesCall mid (call_of names_mid line) reply new → names_new ≡ bound_after names_mid line reply
+    → i < length lines → line ≡ get_or lines i line → Lines old names (take i lines) text mid names_mid → LineStep mid names_mid line reply new → names_new ≡ bound_after names_mid line reply
     → Lines old names (take (i + 1) lines) (text ++ reply_line line reply) new names_new
 one_further old names lines i line text mid names_mid reply new names_new within here ran step binds =
     let to_here : take (i + 1) lines ≡ take i lines ++ (line ∷ []) = take_one lines i line within ∙ ap (λ l. take i lines ++ (l ∷ [])) (sym here) in

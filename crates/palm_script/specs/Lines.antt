@@ -1,5 +1,5 @@
 -- What the lines of a script do, bind and print.
-use Rattle.std.specs.Prelude.{◌≡◌, ◌<◌, ◌++◌, ◌==◌, ℕ, Bool, List, [], ◌∷◌, Option, Some, take, get_or, slice_get, if◌then◌else◌, codes, decimal, true, false, ◌≤◌, length}
+use Rattle.std.specs.Prelude.{◌≡◌, ◌≢◌, ◌<◌, ◌++◌, ◌==◌, ℕ, Bool, List, [], ◌∷◌, Option, Some, take, get_or, slice_get, if◌then◌else◌, codes, decimal, true, false, ◌≤◌, length}
 use Rattle.std.specs.Io.KnownBytes.{Appends}
 use Rattle.hex.specs.Hex.{encode_lower}
 use Rattle.heap_model.specs.Calls.{DoesCall}
@@ -11,6 +11,7 @@ use Rattle.heap_model.specs.declared.call.Call.TheVariants.{Memory}
 use Rattle.heap_model.specs.declared.call.MemoryCall.TheVariants.{HandleNew, PtrNew as PtrNewCall, Free as FreeCall, Lock as LockCall, Unlock as UnlockCall, Size as SizeCall, Owner as OwnerCall, Locks as LocksCall, Read as ReadCall, Write as WriteCall, Set as SetCall, StrCopy as StrCopyCall, SetOwner as SetOwnerCall, FreeByOwner as FreeByOwnerCall, FreeBytes as FreeBytesCall}
 use Rattle.heap_model.specs.declared.call.Reply.{Reply}
 use Rattle.heap_model.specs.declared.call.Reply.TheVariants.{Refused, Number, Named, Locked, Data}
+use Rattle.heap_model.specs.declared.refusal.Refusal.TheVariants.{OutOfMemory}
 use Rattle.script_lines.specs.declared.line.Line.{Line}
 use Rattle.script_lines.specs.declared.line.Line.TheVariants.{Bind, New, PtrNew, Free, SetOwner, Lock, Unlock, Size, Owner, Locks, Read, Write, Set, StrCopy, FreeByOwner, FreeBytes}
 
@@ -106,20 +107,25 @@ reply_line line reply = reply_text (is_silent line) reply
 
 -- ---- the run of lines
 
+-- The call of a line does its step. A line takes no memory, so it is never refused for want of it.
+pub record LineStep (old : List ℕ) (names : Bindings) (line : Line) (reply : Reply) (new : List ℕ) : Type 0 where
+  pub does : DoesCall old (call_of names line) reply new
+  pub takes_no_memory : reply ≢ Refused OutOfMemory
+
 -- The lines in their order, from an image and the names that labels stand for: each is one call, its
 -- reply line comes behind the text of those before it, and what it binds is bound for those behind it.
 abbrev pub Lines : List ℕ → Bindings → List Line → List ℕ → List ℕ → Bindings → Type 0
 Lines old names [] text new after = (text ≡ []) × (new ≡ old) × (after ≡ names)
 Lines old names (line ∷ lines) text new after =
     (reply : Reply) × (mid : List ℕ) × (rest : List ℕ)
-    × DoesCall old (call_of names line) reply mid
+    × LineStep old names line reply mid
     × (text ≡ reply_line line reply ++ rest)
     × Lines mid (bound_after names line reply) lines rest new after
 
 -- One line: its call is done, what it binds is bound, and its reply line goes to a writer.
 pub record DoesLine {W : Type 0} (contents : W → Option (List ℕ)) (line : Line) (old : List ℕ) (names : Bindings) (out : Writing W) (new : List ℕ) (names_after : Bindings) (out_after : Writing W) (ok : Bool) : Type 0 where
   pub reply : Reply
-  pub step : DoesCall old (call_of names line) reply new
+  pub step : LineStep old names line reply new
   pub binds : names_after ≡ bound_after names line reply
   pub written : Writes contents out out_after (reply_line line reply) ok
 
@@ -141,7 +147,7 @@ pub record BreaksOff {W : Type 0} (contents : W → Option (List ℕ)) (lines : 
   pub line : Line
   pub found : slice_get lines count ≡ Some line
   pub reply : Reply
-  pub step : DoesCall mid (call_of names line) reply new
+  pub step : LineStep mid names line reply new
   pub written : ℕ
   pub within : written ≤ length (reply_line line reply)
   pub front : Appends (contents out.writer) (contents out_after.writer) (text ++ take written (reply_line line reply))

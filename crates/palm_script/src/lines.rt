@@ -2,8 +2,7 @@
 
 ghost use Rattle.std.specs.Prelude.{◌≡◌, ◌≤◌, true, false, is_ok, length};
 ghost use Rattle.script_lines.specs.Labels.{label_end};
-ghost use Rattle.heap_model.specs.Calls.{DoesCall};
-ghost use Rattle.palm_script.specs.Lines.{call_of, is_read, table, DoesLine};
+ghost use Rattle.palm_script.specs.Lines.{is_read, table, DoesLine, LineStep};
 
 use crate::bindings::{bind_line, name_of};
 use crate::replies::{
@@ -37,7 +36,7 @@ pub(crate) fn do_line<W: Write>(
 /// What the manager answers to a line that isn't a `read`.
 fn reply_to(heap: &mut Heap, names: &[Name], line: &Line) -> Reply
     requires { is_read line.now ≡ false }
-    ensures { DoesCall heap.old.bytes (call_of (table names.now) line.now) result heap.new.bytes }
+    ensures { LineStep heap.old.bytes (table names.now) line.now result heap.new.bytes }
 {
     match line {
         Line::Bind { name, .. } => number(heap.size(Name(*name))),
