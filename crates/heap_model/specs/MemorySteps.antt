@@ -164,6 +164,7 @@ MemoryStep old map call reply new = NoneHolds (checks old map call) × (Answers 
 
 -- From an accepted heap the call does a step to an accepted heap that moves nothing locked.
 pub record Does (old : List ℕ) (call : MemoryCall) (reply : Reply) (new : List ℕ) : Type 0 where
+  pub before : HeapAccepted old
   pub step : MemoryStep old (callers_map old) call reply new
   pub accepted : HeapAccepted new
   pub still : Still old new

@@ -41,7 +41,7 @@ asks_same true x = refl
 asks_same false x = tt
 
 pub unchanged : (image : List ℕ) (call : MemoryCall) (reply : Reply) → HeapAccepted image → MemoryStep image (callers_map image) call reply image → Does image call reply image
-unchanged image call reply h step = record { step = step; accepted = h; still = still_same image; asks = asks_same (only_asks call) image }
+unchanged image call reply h step = record { before = h; step = step; accepted = h; still = still_same image; asks = asks_same (only_asks call) image }
 
 -- ---- which check brings the refusal
 
@@ -163,6 +163,7 @@ locked old new name found count h f positive loose few is ch =
     let owner = f.owner_is in
     let a = altered old new name.0 found (λ live. record live { lock = live.lock + 1 }) h f positive (subst (λ (n : ℕ). ChangesName old new name.0 (Some (record f.live { lock = n })) (Some found.place.0)) count_is ch) (λ e. let none : f.live.owner ≡ 0 = e in omega arith) in
     record {
+      before = h;
       step = (
         passes (callers_map old) name.0 f.live (λ live. live.lock ≡ fixed_lock) (λ live. live.lock ≡ 14) ChunkFixed LockOverflow k (λ e. loose (l ∙ e)) (λ e. few (l ∙ e)),
         ((of_known (callers_map old name.0) (λ live. count ≡ live.lock + 1) f.live k count_is, ch.place), a.map),
@@ -181,6 +182,7 @@ unlocked old new name found count h f positive loose some is ch =
     let owner = f.owner_is in
     let a = altered old new name.0 found (λ live. record live { lock = live.lock - 1 }) h f positive (subst (λ (n : ℕ). ChangesName old new name.0 (Some (record f.live { lock = n })) (Some found.place.0)) count_is ch) (λ e. let none : f.live.owner ≡ 0 = e in omega arith) in
     record {
+      before = h;
       step = (
         passes (callers_map old) name.0 f.live (λ live. live.lock ≡ fixed_lock) (λ live. live.lock ≡ 0) ChunkFixed ChunkNotLocked k (λ e. loose (l ∙ e)) (λ e. some (l ∙ e)),
         (of_known (callers_map old name.0) (λ live. count ≡ live.lock - 1) f.live k count_is, a.map),
@@ -205,19 +207,19 @@ pub wrote : (old new : List ℕ) (name : Name) (found : Found) (at : ℕ) (bytes
     → ChangesName old new name.0 (Some (record f.live { bytes = overwritten f.live.bytes at bytes })) (Some found.place.0) → Does old (Write name at bytes) Done new
 wrote old new name found at bytes h f positive some inside ch =
     let a = written old new name found at bytes h f positive ch in
-    record { step = (may_write old name found at (length bytes) h f positive some inside, (tt, a.map)); accepted = a.accepted; still = a.still; asks = tt }
+    record { before = h; step = (may_write old name found at (length bytes) h f positive some inside, (tt, a.map)); accepted = a.accepted; still = a.still; asks = tt }
 
 pub filled : (old new : List ℕ) (name : Name) (found : Found) (at count byte : ℕ) → HeapAccepted old → (f : IsFound old name.0 found) → 1 ≤ found.owner → found.lock ≢ 0 → (found.length < at + count → ⊥)
     → ChangesName old new name.0 (Some (record f.live { bytes = overwritten f.live.bytes at (replicate count byte) })) (Some found.place.0) → Does old (Set name at count byte) Done new
 filled old new name found at count byte h f positive some inside ch =
     let a = written old new name found at (replicate count byte) h f positive ch in
-    record { step = (may_write old name found at count h f positive some inside, (tt, a.map)); accepted = a.accepted; still = a.still; asks = tt }
+    record { before = h; step = (may_write old name found at count h f positive some inside, (tt, a.map)); accepted = a.accepted; still = a.still; asks = tt }
 
 pub text_copied : (old new : List ℕ) (name : Name) (found : Found) (at : ℕ) (text bytes : List ℕ) → HeapAccepted old → (f : IsFound old name.0 found) → 1 ≤ found.owner → found.lock ≢ 0 → bytes ≡ text_of text → (found.length < at + length bytes → ⊥)
     → ChangesName old new name.0 (Some (record f.live { bytes = overwritten f.live.bytes at bytes })) (Some found.place.0) → Does old (StrCopy name at text) Done new
 text_copied old new name found at text bytes h f positive some is inside ch =
     let a = written old new name found at (text_of text) h f positive (subst (λ (b : List ℕ). ChangesName old new name.0 (Some (record f.live { bytes = overwritten f.live.bytes at b })) (Some found.place.0)) is ch) in
-    record { step = (may_write old name found at (length (text_of text)) h f positive some (subst (λ (b : List ℕ). found.length < at + length b → ⊥) is inside), (tt, a.map)); accepted = a.accepted; still = a.still; asks = tt }
+    record { before = h; step = (may_write old name found at (length (text_of text)) h f positive some (subst (λ (b : List ℕ). found.length < at + length b → ⊥) is inside), (tt, a.map)); accepted = a.accepted; still = a.still; asks = tt }
 
 pub reowned_done : (old new : List ℕ) (name : Name) (found : Found) (owner : ℕ) → HeapAccepted old → (f : IsFound old name.0 found) → 1 ≤ found.owner → found.owner ≢ 15 → (IsNoCaller owner → ⊥)
     → ChangesName old new name.0 (Some (record f.live { owner = owner })) (Some found.place.0) → Does old (SetOwner name owner) Done new
@@ -225,6 +227,7 @@ reowned_done old new name found owner h f positive other caller ch =
     let k = known old name.0 found h f positive in
     let a = altered old new name.0 found (λ live. record live { owner = owner }) h f positive ch (λ e. caller (inl e)) in
     record {
+      before = h;
       step = ((is_known (callers_map old name.0) f.live k, (not_of_known (callers_map old name.0) (λ live. live.owner ≡ 15) f.live k (λ e. other (f.owner_is ∙ e)), (caller, tt))), (tt, a.map));
       accepted = a.accepted;
       still = a.still;

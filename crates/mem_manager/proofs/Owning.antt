@@ -255,8 +255,9 @@ freed_map old new owner count name f =
 
 -- ---- the step
 
-pub owner_freed : (old new : List ℕ) (owner count : ℕ) → (IsNoCaller owner → ⊥) → FreedOwned old new owner count → Does old (FreeByOwner owner) (Number count) new
-owner_freed old new owner count caller f = record {
+pub owner_freed : (old new : List ℕ) (owner count : ℕ) → HeapAccepted old → (IsNoCaller owner → ⊥) → FreedOwned old new owner count → Does old (FreeByOwner owner) (Number count) new
+owner_freed old new owner count h caller f = record {
+  before = h;
   step = ((caller, tt), (f.counted, λ name. freed_map old new owner count name f));
   accepted = f.frees.accepted;
   still = λ name live held_there locked is_there. places name (held new name) refl is_there;

@@ -55,6 +55,7 @@ pub size_known : (image : List ℕ) (name : Name) (found : Found) → HeapAccept
 size_known image name found h f positive =
     let k = known image name.0 found h f positive in
     record {
+      before = h;
       step = ((is_known (callers_map image name.0) f.live k, tt), (of_known (callers_map image name.0) (λ live. found.length ≡ length live.bytes) f.live k f.count, λ n. refl));
       accepted = h;
       still = still_same image;
@@ -62,12 +63,13 @@ size_known image name found h f positive =
     }
 
 pub size_unknown : (image : List ℕ) (name : Name) → HeapAccepted image → callers_map image name.0 ≡ None → Does image (Size name) (Refused InvalidHandle) image
-size_unknown image name h none = record { step = (inl (none, refl), as_before image); accepted = h; still = still_same image; asks = refl }
+size_unknown image name h none = record { before = h; step = (inl (none, refl), as_before image); accepted = h; still = still_same image; asks = refl }
 
 pub owner_known : (image : List ℕ) (name : Name) (found : Found) → HeapAccepted image → IsFound image name.0 found → 1 ≤ found.owner → Does image (Owner name) (Number found.owner) image
 owner_known image name found h f positive =
     let k = known image name.0 found h f positive in
     record {
+      before = h;
       step = ((is_known (callers_map image name.0) f.live k, tt), (of_known (callers_map image name.0) (λ live. found.owner ≡ live.owner) f.live k f.owner_is, λ n. refl));
       accepted = h;
       still = still_same image;
@@ -75,7 +77,7 @@ owner_known image name found h f positive =
     }
 
 pub owner_unknown : (image : List ℕ) (name : Name) → HeapAccepted image → callers_map image name.0 ≡ None → Does image (Owner name) (Refused InvalidHandle) image
-owner_unknown image name h none = record { step = (inl (none, refl), as_before image); accepted = h; still = still_same image; asks = refl }
+owner_unknown image name h none = record { before = h; step = (inl (none, refl), as_before image); accepted = h; still = still_same image; asks = refl }
 
 -- ---- one name is changed
 
@@ -100,12 +102,13 @@ still_others old new name now there ch gone_or_made n live held_there locked is_
 -- ---- free
 
 pub free_unknown : (image : List ℕ) (name : Name) → HeapAccepted image → callers_map image name.0 ≡ None → Does image (Free name) (Refused InvalidHandle) image
-free_unknown image name h none = record { step = (inl (none, refl), as_before image); accepted = h; still = still_same image; asks = tt }
+free_unknown image name h none = record { before = h; step = (inl (none, refl), as_before image); accepted = h; still = still_same image; asks = tt }
 
 pub free_database : (image : List ℕ) (name : Name) (found : Found) → HeapAccepted image → IsFound image name.0 found → found.owner ≡ 15 → Does image (Free name) (Refused OwnedByDatabase) image
 free_database image name found h f is =
     let k = known image name.0 found h f (omega arith) in
     record {
+      before = h;
       step = (inr (is_known (callers_map image name.0) f.live k, inl (of_known (callers_map image name.0) (λ live. live.owner ≡ 15) f.live k (sym f.owner_is ∙ is), refl)), as_before image);
       accepted = h;
       still = still_same image;
@@ -118,6 +121,7 @@ free_locked image name found h f positive other some below =
     let o = f.owner_is in
     let l = f.lock_is in
     record {
+      before = h;
       step = (
         inr (
           is_known (callers_map image name.0) f.live k,
@@ -137,6 +141,7 @@ pub freed : (old new : List ℕ) (name : Name) (found : Found) → HeapAccepted 
 freed old new name found h f positive other unlocked ch =
     let k = known old name.0 found h f positive in
     record {
+      before = h;
       step = (
         (
           is_known (callers_map old name.0) f.live k,
@@ -167,13 +172,13 @@ used_still old new lowest number name m below apart ch = record {
 -- ---- a new handle
 
 pub new_no_caller : (image : List ℕ) (size owner : ℕ) → HeapAccepted image → IsNoCaller owner → Does image (HandleNew size owner) (Refused InvalidOwner) image
-new_no_caller image size owner h none = record { step = (inl (none, refl), as_before image); accepted = h; still = still_same image; asks = tt }
+new_no_caller image size owner h none = record { before = h; step = (inl (none, refl), as_before image); accepted = h; still = still_same image; asks = tt }
 
 pub new_no_slot : (image : List ℕ) (size owner : ℕ) → HeapAccepted image → (IsNoCaller owner → ⊥) → free_slots image ≡ 0 → Does image (HandleNew size owner) (Refused NotEnoughSpace) image
-new_no_slot image size owner h caller none = record { step = (inr (caller, inl (inl none, refl)), as_before image); accepted = h; still = still_same image; asks = tt }
+new_no_slot image size owner h caller none = record { before = h; step = (inr (caller, inl (inl none, refl)), as_before image); accepted = h; still = still_same image; asks = tt }
 
 pub new_no_run : (image : List ℕ) (size owner : ℕ) → HeapAccepted image → (IsNoCaller owner → ⊥) → NoRun (chunks_of image) (need size) → Does image (HandleNew size owner) (Refused NotEnoughSpace) image
-new_no_run image size owner h caller none = record { step = (inr (caller, inl (inr none, refl)), as_before image); accepted = h; still = still_same image; asks = tt }
+new_no_run image size owner h caller none = record { before = h; step = (inr (caller, inl (inr none, refl)), as_before image); accepted = h; still = still_same image; asks = tt }
 
 -- all chunks together have no more bytes than a heap
 pub no_run_so_big : (image : List ℕ) (size : ℕ) → HeapAccepted image → 16777208 < size → NoRun (chunks_of image) size
@@ -205,6 +210,7 @@ then_changes old mid new name now there u ch = record {
 pub new_made : (old new : List ℕ) (size owner : ℕ) (name : Name) (there : Option ℕ) → HeapAccepted old → (IsNoCaller owner → ⊥) → (free_slots old ≡ 0 → ⊥) → (NoRun (chunks_of old) (need size) → ⊥) → held old name.0 ≡ None
     → ChangesName old new name.0 (Some (record { bytes = replicate size 0; lock = 0; owner = owner })) there → Does old (HandleNew size owner) (Named name) new
 new_made old new size owner name there h caller slots run empty ch = record {
+  before = h;
   step = ((caller, (λ short. elim short [ inl none ↦ slots none | inr none ↦ run none ], tt)), (empty, others_callers old new name.0 (Some (record { bytes = replicate size 0; lock = 0; owner = owner })) there ch callers));
   accepted = ch.frame.accepted;
   still = still_others old new name.0 (Some (record { bytes = replicate size 0; lock = 0; owner = owner })) there ch (inl empty);
@@ -234,11 +240,12 @@ used_below old new number name now there first is ch = record {
 -- ---- a new fixed chunk
 
 pub ptr_no_run : (image : List ℕ) (size owner : ℕ) → HeapAccepted image → (IsNoCaller owner → ⊥) → NoRun (chunks_of image) (need size) → Does image (PtrNew size owner) (Refused NotEnoughSpace) image
-ptr_no_run image size owner h caller none = record { step = (inr (caller, inl (none, refl)), as_before image); accepted = h; still = still_same image; asks = tt }
+ptr_no_run image size owner h caller none = record { before = h; step = (inr (caller, inl (none, refl)), as_before image); accepted = h; still = still_same image; asks = tt }
 
 pub ptr_made : (old new : List ℕ) (size owner : ℕ) (name : Name) (there : Option ℕ) → HeapAccepted old → (IsNoCaller owner → ⊥) → (NoRun (chunks_of old) (need size) → ⊥) → held old name.0 ≡ None
     → ChangesName old new name.0 (Some (record { bytes = replicate size 0; lock = fixed_lock; owner = owner })) there → Does old (PtrNew size owner) (Named name) new
 ptr_made old new size owner name there h caller run empty ch = record {
+  before = h;
   step = ((caller, (run, tt)), (empty, others_callers old new name.0 (Some (record { bytes = replicate size 0; lock = fixed_lock; owner = owner })) there ch callers));
   accepted = ch.frame.accepted;
   still = still_others old new name.0 (Some (record { bytes = replicate size 0; lock = fixed_lock; owner = owner })) there ch (inl empty);
