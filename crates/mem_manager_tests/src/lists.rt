@@ -88,7 +88,45 @@ impl Random {
         answered: &[Name],
     ) -> Result<MemoryCall, Fail> {
         let name = self.name(chunks, answered);
-        let call = match self.below(32) {
+        match self.below(32) {
+            0..=6 => self.call_on_bytes(alloc, name),
+            7..=8 => Ok(MemoryCall::Recover(self.place(chunks))),
+            _ => Ok(self.call_on_chunk(name)),
+        }
+    }
+
+    /// A call that reads or writes bytes of a chunk.
+    fn call_on_bytes(&mut self, alloc: Global, name: Name) -> Result<MemoryCall, Fail> {
+        let at = self.offset();
+        let call = match self.below(7) {
+            0..=1 => MemoryCall::Read {
+                name,
+                at,
+                count: self.offset(),
+            },
+            2..=3 => MemoryCall::Write {
+                name,
+                at,
+                bytes: self.bytes(alloc)?,
+            },
+            4 => MemoryCall::Set {
+                name,
+                at,
+                count: self.offset(),
+                byte: self.below(256) as u8,
+            },
+            _ => MemoryCall::StrCopy {
+                name,
+                at,
+                text: self.bytes(alloc)?,
+            },
+        };
+        Ok(call)
+    }
+
+    /// A call that makes or frees chunks, or changes or asks for what stands in a header.
+    fn call_on_chunk(&mut self, name: Name) -> MemoryCall {
+        match self.below(23) {
             0..=5 => MemoryCall::HandleNew {
                 size: self.below(71),
                 owner: self.owner(),
@@ -103,36 +141,13 @@ impl Random {
             17 => MemoryCall::Size(name),
             18 => MemoryCall::Owner(name),
             19 => MemoryCall::Locks(name),
-            20..=21 => MemoryCall::Read {
-                name,
-                at: self.offset(),
-                count: self.offset(),
-            },
-            22..=23 => MemoryCall::Write {
-                name,
-                at: self.offset(),
-                bytes: self.bytes(alloc)?,
-            },
-            24 => MemoryCall::Set {
-                name,
-                at: self.offset(),
-                count: self.offset(),
-                byte: self.below(256) as u8,
-            },
-            25..=26 => MemoryCall::StrCopy {
-                name,
-                at: self.offset(),
-                text: self.bytes(alloc)?,
-            },
-            27 => MemoryCall::SetOwner {
+            20 => MemoryCall::SetOwner {
                 name,
                 owner: self.owner(),
             },
-            28..=29 => MemoryCall::Recover(self.place(chunks)),
-            30 => MemoryCall::FreeBytes,
+            21 => MemoryCall::FreeBytes,
             _ => MemoryCall::FreeByOwner(self.owner()),
-        };
-        Ok(call)
+        }
     }
 }
 
