@@ -1,17 +1,14 @@
 -- What each call of the memory manager answers and does: one row a call in each of four tables.
-use Rattle.std.specs.Prelude.{◌≡◌, ◌≢◌, ◌<◌, ◌≤◌, ◌+◌, ◌-◌, ◌++◌, ◌⊎◌, ◌==◌, ℕ, Bool, true, false, List, [], ◌∷◌, length, not, slice_range, replicate, count_by, sum_by, Option, Some, None, Result, Ok, Err}
+use Rattle.std.specs.Prelude.{◌≡◌, ◌<◌, ◌+◌, ◌-◌, ◌++◌, ◌⊎◌, ◌==◌, ℕ, Bool, true, false, List, [], ◌∷◌, length, not, slice_range, replicate, count_by, Option, Some, None, Result, Ok, Err}
 use Rattle.std.specs.Bool.{OnTrue}
 use Rattle.std.specs.List.{take_while}
-use Rattle.heap_model.specs.Bytes.{overwritten}
-use Rattle.heap_model.specs.Chunk.{Chunk, free, movable, fixed, fixed_lock, need, free_size}
+use Rattle.heap_model.specs.Chunk.{Chunk, free, movable, fixed, fixed_lock, need}
 use Rattle.heap_model.specs.Heap.{HeapAccepted}
 use Rattle.heap_model.specs.Meaning.{LiveChunk, ChunkMap}
 use Rattle.heap_model.specs.Reading.{chunks_of, held}
 use Rattle.heap_model.specs.Maps.{made, gone, put, sized, relocked, reowned, without_owner, callers_map}
 use Rattle.heap_model.specs.Space.{free_total, free_slots, NoRun, ShortFor, free_behind, rooms, greatest, place_of, Still, moved_bytes}
 use Rattle.heap_model.specs.Refusals.{Check, ◌brings◌, NoneHolds, FirstBrings}
-use Rattle.heap_model.specs.declared.names.Name.{Name}
-use Rattle.heap_model.specs.declared.names.Place.{Place}
 use Rattle.heap_model.specs.declared.call.MemoryCall.{MemoryCall}
 use Rattle.heap_model.specs.declared.call.MemoryCall.TheVariants.{HandleNew, PtrNew, Free, Lock, Unlock, Size, Owner, Locks, Read, Write, Set, StrCopy, Resize, SetOwner, Recover, FreeByOwner, FreeBytes, LargestStretch, Compact}
 use Rattle.heap_model.specs.declared.call.Reply.{Reply}

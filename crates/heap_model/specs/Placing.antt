@@ -1,7 +1,7 @@
 -- What placing a chunk, claiming a free one and giving a live one back do to an accepted heap.
-use Rattle.std.specs.Prelude.{◌≡◌, ◌≢◌, ◌+◌, ◌++◌, ℕ, List, [], ◌∷◌, length, Option, Some, None}
+use Rattle.std.specs.Prelude.{◌≡◌, ◌≢◌, ◌+◌, ◌++◌, ℕ, List, ◌∷◌, length, Option}
 use Rattle.heap_model.specs.Bytes.{u32_at}
-use Rattle.heap_model.specs.Chunk.{Chunk, free, movable, fixed, size_of, total}
+use Rattle.heap_model.specs.Chunk.{Chunk, free, movable, fixed, total}
 use Rattle.heap_model.specs.Slots.{IsSlot, slot_count, area_start}
 use Rattle.heap_model.specs.Heap.{HeapAccepted}
 use Rattle.heap_model.specs.Meaning.{LiveChunk, NamedHere}

@@ -1,7 +1,7 @@
 -- Free chunks and free slots: how much there is, and where. And where live chunks are.
-use Rattle.std.specs.Prelude.{◌≡◌, ◌≢◌, ◌<◌, ◌≤◌, ◌+◌, ◌-◌, ◌++◌, ◌==◌, not, max, if◌then◌else◌, ℕ, zero, suc, Bool, true, false, List, [], ◌∷◌, length, filter, count_by, sum_by, Option, Some, None, IsSome, All}
+use Rattle.std.specs.Prelude.{◌≡◌, ◌<◌, ◌+◌, ◌++◌, ◌==◌, max, if◌then◌else◌, ℕ, zero, suc, Bool, true, false, List, [], ◌∷◌, length, filter, count_by, sum_by, Option, Some, None, IsSome, All}
 use Rattle.heap_model.specs.Bytes.{u32_at}
-use Rattle.heap_model.specs.Chunk.{Chunk, free, movable, fixed, need, size_of, free_size}
+use Rattle.heap_model.specs.Chunk.{Chunk, free, movable, fixed, need, free_size}
 use Rattle.heap_model.specs.Slots.{slots_of, area_start}
 use Rattle.heap_model.specs.Meaning.{LiveChunk}
 use Rattle.heap_model.specs.Reading.{chunks_of, held}
