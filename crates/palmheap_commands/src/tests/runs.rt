@@ -6,7 +6,7 @@ use crate::run::cmd_run;
 use crate::status::Status;
 use heap_model::Counted;
 use std::alloc::Global;
-use std::io::{ErrorKind, Write};
+use std::io::{BufWriter, ErrorKind, Write};
 use std::process::Abort;
 use std::test::Fail;
 
@@ -253,6 +253,25 @@ fn nothing_follows_a_reply_that_is_not_taken(rt: HostRuntime) -> Result<(), Fail
             assert_eq!(rt; ran.out.refused, 1, "room for {room}");
             assert!(rt; ran.image.is_empty(), "room for {room}");
         }
+    }
+    Ok(())
+}
+
+#[test]
+fn nothing_follows_a_buffer_that_is_not_taken(rt: HostRuntime) -> Result<(), Fail> {
+    let alloc = rt.alloc();
+    let image = bytes_of(alloc, blank())?;
+    for (capacity, room) in [(8, 0), (8, 1), (8, 20), (1000, 0), (1000, 20)] {
+        let narrow = Narrow::new(alloc, room, 3, WhenFull::TakesNothing);
+        let out = BufWriter::with_capacity(alloc, capacity, narrow)?;
+        let ran = run_to(alloc, image.as_slice(), SCRIPT, Vec::new(alloc), out);
+        let Ran { status, image, out } = ran;
+        let (narrow, _) = out.into_parts();
+        assert_eq!(rt; status, Status::WriteFault, "{capacity} {room}");
+        let wanted = &REPLIES.as_bytes()[..room];
+        assert_eq!(rt; narrow.taken.as_slice(), wanted, "{capacity} {room}");
+        assert_eq!(rt; narrow.refused, 1, "{capacity} {room}");
+        assert!(rt; image.is_empty(), "{capacity} {room}");
     }
     Ok(())
 }
