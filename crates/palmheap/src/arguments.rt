@@ -35,7 +35,8 @@ Exit status:
   1  the image or the script was refused; standard output says why: 'bad' and the first fault
      in the image, or 'line', the number of the first faulty line and what is wrong in it
   2  the words were refused, or there is no image of that SIZE with that many SLOTS
-  3  a file could not be read or written, or is longer than 16777216 bytes
+  3  a file could not be read or written, or is longer than 16777216 bytes; or standard output
+     could not be written
   4  there was not enough memory
 On 3 and 4 standard error says what failed: 'fault read', 'fault write' or 'fault memory'.";
 

@@ -13,6 +13,7 @@ use clap::error::ErrorKind;
 use heap_model::Counted;
 use palmheap_commands::{InputFault, OutputFile, Status, cmd_check, cmd_new, cmd_run, read_input};
 use std::fs::File;
+use std::io::BufWriter;
 use std::process::ExitCode;
 use std::rt::{Env, Files};
 use std::{env, io};
@@ -69,19 +70,23 @@ fn answer<R: Print + Eprint>(rt: &R, error: &clap::Error) -> Status {
 
 /// Runs `new`.
 fn new<R: Files + Print + AllocGlobal>(rt: &R, size: u32, slots: u16, path: &str) -> Status {
-    let Ok(mut image_out) = OutputFile::new(rt, path) else {
+    let Ok(image_out) = OutputFile::new(rt, path) else {
         return Status::NoMemory;
     };
-    let mut out = io::writer(rt);
+    let mut image_out = Counted::new(image_out);
+    let mut out = Counted::new(io::writer(rt));
     let status = cmd_new(rt.alloc(), size, slots, &mut image_out, &mut out);
-    image_out.close();
+    image_out.into_inner().close();
     status
 }
 
 /// Runs `check`.
 fn check<R: Files + Print + AllocGlobal>(rt: &R, path: &str) -> Status {
     match read_file(rt, path) {
-        Ok(image) => cmd_check(rt.alloc(), image.as_slice(), &mut io::writer(rt)),
+        Ok(image) => {
+            let mut out = Counted::new(io::writer(rt));
+            cmd_check(rt.alloc(), image.as_slice(), &mut out)
+        }
         Err(fault) => Status::from(fault),
     }
 }
@@ -101,10 +106,13 @@ fn run_script<R: Files + Print + AllocGlobal>(
         Ok(script) => script,
         Err(fault) => return Status::from(fault),
     };
-    let Ok(mut image_out) = OutputFile::new(rt, path) else {
+    let Ok(out) = BufWriter::new(rt.alloc(), io::writer(rt)) else {
         return Status::NoMemory;
     };
-    let mut out = Counted::new(io::writer(rt));
+    let Ok(image_out) = OutputFile::new(rt, path) else {
+        return Status::NoMemory;
+    };
+    let (mut image_out, mut out) = (Counted::new(image_out), Counted::new(out));
     let mut files = Vec::new(rt.alloc());
     let status = cmd_run(
         rt.alloc(),
@@ -115,7 +123,9 @@ fn run_script<R: Files + Print + AllocGlobal>(
         &mut files,
         &mut out,
     );
-    image_out.close();
+    image_out.into_inner().close();
+    // What is left in `out` behind a fault is thrown away, where dropping it would write again.
+    drop(out.into_inner().into_parts());
     status
 }
 

@@ -1,2 +1,2 @@
-pub mod Fronts
-pub mod RunLaws
+pub mod Refusals
+pub mod Texts

@@ -1,10 +1,11 @@
--- What the commands write.
-use Rattle.std.specs.Prelude.{◌≡◌, ◌⊎◌, ℕ, List, ◌++◌, codes, decimal, Option}
-use Rattle.std.specs.Io.KnownBytes.{Appends, Keeps}
-use Rattle.palmheap_commands.specs.Output.{AppendsFront}
-use Rattle.chunk_format.specs.Blank.{IsBlank}
+-- What `new` and `check` write. Where a definition ends in a `Bool`, it says whether all got through.
+use Rattle.std.specs.Prelude.{◌≡◌, ◌⊎◌, ℕ, Bool, true, false, List, ◌++◌, codes, decimal, Option}
+use Rattle.heap_model.specs.Counted.{Writing}
+use Rattle.heap_model.specs.Heap.{HeapAccepted}
+use Rattle.chunk_format.specs.Blank.{IsBlank, IsRegionSize, LeavesRoom}
 use Rattle.heap_check.specs.declared.summary.Summary.{Summary}
 use Rattle.heap_check.specs.Summary.{Summarizes}
+use Rattle.palmheap_commands.specs.Output.{Puts}
 
 -- the line that `check` prints of an accepted heap
 abbrev pub summary_line : Summary → List ℕ
@@ -13,30 +14,35 @@ summary_line summary =
     ++ (codes " movable " ++ (decimal summary.movable ++ (codes " fixed " ++ (decimal summary.fixed
     ++ (codes " free " ++ (decimal summary.free ++ codes "\n")))))))))
 
--- a blank image of this size and slot count was written, whole
-abbrev pub WritesBlank : (size slots : ℕ) (old new : Option (List ℕ)) → Type 0
-WritesBlank size slots old new = (image : List ℕ) × IsBlank size slots image × Appends old new image
-
--- a front of such an image was written
-abbrev pub WritesFrontOfBlank : (size slots : ℕ) (old new : Option (List ℕ)) → Type 0
-WritesFrontOfBlank size slots old new = (image : List ℕ) × IsBlank size slots image × AppendsFront old new image
-
--- A write failed, and nothing was written after it: it was one of the image's, and nothing was
--- printed; or one of the line's, behind the whole image and `ok` or behind no image at all.
-abbrev pub BreaksOff : (size slots : ℕ) (image_old image_new out_old out_new : Option (List ℕ)) → Type 0
-BreaksOff size slots image_old image_new out_old out_new =
-    (WritesFrontOfBlank size slots image_old image_new × Keeps out_old out_new)
-    ⊎ (WritesBlank size slots image_old image_new × AppendsFront out_old out_new (codes "ok\n"))
-    ⊎ Keeps image_old image_new
-
--- the line for an accepted image was written, whole
-abbrev pub WritesSummary : List ℕ → (old new : Option (List ℕ)) → Type 0
-WritesSummary image old new = (summary : Summary) × Summarizes image summary × Appends old new (summary_line summary)
-
 -- `bad`, a fault and a line's end
 abbrev pub IsBadLine : List ℕ → Type 0
 IsBadLine line = (fault : List ℕ) × (line ≡ codes "bad " ++ (fault ++ codes "\n"))
 
--- such a line was written, whole
-abbrev pub WritesBad : Option (List ℕ) → Option (List ℕ) → Type 0
-WritesBad old new = (line : List ℕ) × IsBadLine line × Appends old new line
+module _ {W : Type 0} where
+  -- a blank image of this size and slot count
+  abbrev pub PutsBlank : (size slots : ℕ) → (W → Option (List ℕ)) → Writing W → Writing W → Bool → Type 0
+  PutsBlank size slots contents old new ok = (image : List ℕ) × IsBlank size slots image × Puts contents old new image ok
+
+  -- the line for an accepted image
+  abbrev pub PutsSummary : List ℕ → (W → Option (List ℕ)) → Writing W → Writing W → Bool → Type 0
+  PutsSummary image contents old new ok = (summary : Summary) × Summarizes image summary × Puts contents old new (summary_line summary) ok
+
+  -- a line that says what is bad
+  abbrev pub PutsBad : (W → Option (List ℕ)) → Writing W → Writing W → Bool → Type 0
+  PutsBad contents old new ok = (line : List ℕ) × IsBadLine line × Puts contents old new line ok
+
+-- A write or a flush failed in `new`, and nothing was written after it: it was one of the image's, and
+-- nothing was printed; or one of `ok`, behind the whole image; or there is no such image, it was one of
+-- the line that says so, and no image was written.
+abbrev pub NewBreaksOff : {W V : Type 0} → (size slots : ℕ) → (W → Option (List ℕ)) → Writing W → Writing W → (V → Option (List ℕ)) → Writing V → Writing V → Type 0
+NewBreaksOff size slots image_contents image_old image_new contents old new =
+    (PutsBlank size slots image_contents image_old image_new false × (new ≡ old))
+    ⊎ (PutsBlank size slots image_contents image_old image_new true × Puts contents old new (codes "ok\n") false)
+    ⊎ ((IsRegionSize size × LeavesRoom size slots → ⊥) × PutsBad contents old new false × (image_new ≡ image_old))
+
+-- A write or a flush failed in `check`: it was one of the line for an accepted image, or of the line
+-- that says what is bad.
+abbrev pub CheckBreaksOff : {V : Type 0} → List ℕ → (V → Option (List ℕ)) → Writing V → Writing V → Type 0
+CheckBreaksOff image contents old new =
+    (HeapAccepted image × PutsSummary image contents old new false)
+    ⊎ ((HeapAccepted image → ⊥) × PutsBad contents old new false)

@@ -1,7 +1,9 @@
--- What was written when a write fails.
-use Rattle.std.specs.Prelude.{ℕ, ◌≤◌, List, length, take, Option}
-use Rattle.std.specs.Io.KnownBytes.{Appends}
+-- What a writer gets that a text is written to and that is flushed behind it.
+use Rattle.std.specs.Prelude.{◌⊎◌, ℕ, Bool, true, false, List, Option}
+use Rattle.heap_model.specs.Counted.{Writing, Writes}
 
--- known bytes grow by a front of others
-abbrev pub AppendsFront : Option (List ℕ) → Option (List ℕ) → List ℕ → Type 0
-AppendsFront old new bytes = (n : ℕ) × (n ≤ length bytes) × Appends old new (take n bytes)
+-- The text got through: all of it was written, and no write failed. Or it didn't: a front of it was
+-- written, and a write failed; or all of it was written, no write failed, and the flush did.
+abbrev pub Puts : {W : Type 0} → (W → Option (List ℕ)) → Writing W → Writing W → List ℕ → Bool → Type 0
+Puts contents old new text true = Writes contents old new text true
+Puts contents old new text false = Writes contents old new text false ⊎ Writes contents old new text true

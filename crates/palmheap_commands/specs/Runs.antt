@@ -1,13 +1,13 @@
--- What `run` prints and writes.
-use Rattle.std.specs.Prelude.{◌≡◌, ◌⊎◌, ◌++◌, ℕ, List, Option, codes, decimal, take, Ok, Err}
-use Rattle.std.specs.Io.KnownBytes.{Appends, Keeps}
-use Rattle.heap_model.specs.Counted.{AppendsFront}
+-- What `run` prints and writes. Where a definition ends in a `Bool`, it says whether all got through.
+use Rattle.std.specs.Prelude.{◌≡◌, ◌⊎◌, ◌++◌, ℕ, Bool, true, false, List, Option, codes, decimal, Ok, Err}
+use Rattle.heap_model.specs.Counted.{Writing}
 use Rattle.heap_model.specs.Heap.{HeapAccepted}
 use Rattle.script_lines.specs.Reading.{read_script}
 use Rattle.script_lines.specs.declared.fault.LineFault.{LineFault}
 use Rattle.script_lines.specs.declared.line.Line.{Line}
-use Rattle.palm_script.specs.Lines.{Bindings, Lines, unbound}
+use Rattle.palm_script.specs.Lines.{BreaksOff, RunsThrough}
 use Rattle.palmheap_commands.specs.Commands.{IsBadLine}
+use Rattle.palmheap_commands.specs.Output.{Puts}
 
 -- the line for a refused script: `line`, the number of its first faulty line, what is wrong there, and
 -- a line's end
@@ -21,41 +21,40 @@ IsRefusal image script line =
     ((HeapAccepted image → ⊥) × IsBadLine line)
     ⊎ (HeapAccepted image × ((fault : LineFault) × (read_script script ≡ Err fault) × IsFaultLine fault line))
 
--- such a line was written, whole
-abbrev pub WritesRefusal : (image script : List ℕ) (old new : Option (List ℕ)) → Type 0
-WritesRefusal image script old new = (line : List ℕ) × IsRefusal image script line × Appends old new line
+-- such a line
+abbrev pub PutsRefusal : {V : Type 0} → (image script : List ℕ) → (V → Option (List ℕ)) → Writing V → Writing V → Bool → Type 0
+PutsRefusal image script contents old new ok = (line : List ℕ) × IsRefusal image script line × Puts contents old new line ok
 
--- The lines of a script were run on an image, which became another, and their text was printed, whole.
-pub record Prints (lines : List Line) (image image_after : List ℕ) (old new : Option (List ℕ)) : Type 0 where
-  pub text : List ℕ
-  pub names : Bindings
-  pub ran : Lines image unbound lines text image_after names
-  pub printed : Appends old new text
-
--- Some lines of a script were run on an image, and a front of their text was printed.
-pub record PrintsFront (lines : List Line) (image : List ℕ) (old new : Option (List ℕ)) : Type 0 where
-  pub count : ℕ
-  pub text : List ℕ
-  pub image_after : List ℕ
-  pub names : Bindings
-  pub ran : Lines image unbound (take count lines) text image_after names
-  pub printed : AppendsFront old new text
+-- A write failed in the reply line of some line of a script, which leaves this image; or the lines were
+-- run, all of their text was written, no write failed, and the flush behind it did.
+abbrev pub PrintingFails : {V : Type 0} → (V → Option (List ℕ)) → List Line → List ℕ → Writing V → List ℕ → Writing V → Type 0
+PrintingFails contents lines image old image_after new =
+    BreaksOff contents lines image old image_after new ⊎ RunsThrough contents lines image old image_after new
 
 -- The script of a text was run on an accepted heap, and its text printed; and the heap that came of it
 -- was written.
-pub record RunsScript (image script : List ℕ) (out_old out_new image_old image_new : Option (List ℕ)) : Type 0 where
+pub record RunsScript {W V : Type 0} (image script : List ℕ) (contents : V → Option (List ℕ)) (old new : Writing V) (image_contents : W → Option (List ℕ)) (image_old image_new : Writing W) (ok : Bool) : Type 0 where
   pub lines : List Line
   pub image_after : List ℕ
   pub before : HeapAccepted image
   pub read : read_script script ≡ Ok lines
-  pub prints : Prints lines image image_after out_old out_new
+  pub prints : RunsThrough contents lines image old image_after new
   pub accepted : HeapAccepted image_after
-  pub written : Appends image_old image_new image_after
+  pub written : Puts image_contents image_old image_new image_after ok
 
--- A write or a flush failed, and nothing was written after it: it was in the line for a refusal, or
--- in the text of the script's lines, and no image was written; or in the image, behind all of the text.
-abbrev pub RunBreaksOff : (image script : List ℕ) (out_old out_new image_old image_new : Option (List ℕ)) → Type 0
-RunBreaksOff image script out_old out_new image_old image_new =
-    ((line : List ℕ) × IsRefusal image script line × AppendsFront out_old out_new line × Keeps image_old image_new)
-    ⊎ ((lines : List Line) × (read_script script ≡ Ok lines) × PrintsFront lines image out_old out_new × Keeps image_old image_new)
-    ⊎ ((lines : List Line) × (image_after : List ℕ) × (read_script script ≡ Ok lines) × Prints lines image image_after out_old out_new × AppendsFront image_old image_new image_after)
+-- The script of a text was run on an accepted heap, and printing its text failed.
+pub record StopsPrinting {V : Type 0} (image script : List ℕ) (contents : V → Option (List ℕ)) (old new : Writing V) : Type 0 where
+  pub lines : List Line
+  pub image_after : List ℕ
+  pub before : HeapAccepted image
+  pub read : read_script script ≡ Ok lines
+  pub fails : PrintingFails contents lines image old image_after new
+
+-- A write or a flush failed in `run`, and nothing was written after it: it was one of the line for a
+-- refusal, or of the text of the script's lines, and no image was written; or it was one of the image,
+-- behind all of the text.
+abbrev pub RunBreaksOff : {W V : Type 0} → (image script : List ℕ) → (V → Option (List ℕ)) → Writing V → Writing V → (W → Option (List ℕ)) → Writing W → Writing W → Type 0
+RunBreaksOff image script contents old new image_contents image_old image_new =
+    (PutsRefusal image script contents old new false × (image_new ≡ image_old))
+    ⊎ (StopsPrinting image script contents old new × (image_new ≡ image_old))
+    ⊎ RunsScript image script contents old new image_contents image_old image_new false

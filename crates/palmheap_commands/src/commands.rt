@@ -1,16 +1,17 @@
 //! The commands `new` and `check`, over bytes and writers.
 
-ghost use Rattle.std.specs.Prelude.{◌≡◌, ◌≢◌, ◌⊎◌, codes, IfOk, string_bytes};
-ghost use Rattle.std.specs.Io.KnownBytes.{Appends, Keeps};
+ghost use Rattle.std.specs.Prelude.{◌≡◌, ◌≢◌, codes, true, IfOk, string_bytes};
 ghost use Rattle.heap_model.specs.Heap.{HeapAccepted};
 ghost use Rattle.chunk_format.specs.Blank.{IsRegionSize, LeavesRoom};
-ghost use Rattle.palmheap_commands.specs.Commands.{summary_line, BreaksOff, IsBadLine, WritesBad, WritesBlank, WritesSummary};
-ghost use Rattle.palmheap_commands.specs.Output.{AppendsFront};
+ghost use Rattle.palmheap_commands.specs.Commands.{summary_line, CheckBreaksOff, IsBadLine};
+ghost use Rattle.palmheap_commands.specs.Commands.{NewBreaksOff, PutsBad, PutsBlank, PutsSummary};
+ghost use Rattle.palmheap_commands.specs.Output.{Puts};
 
-use crate::output::put;
+use crate::output::{put, say, say_text};
 use crate::status::Status;
 use chunk_format::{BlankFault, blank};
 use heap_check::{Summary, check_heap};
+use heap_model::Counted;
 use raw_region::Region;
 use std::alloc::{AllocError, Global};
 use std::fmt::Display;
@@ -23,31 +24,27 @@ pub fn cmd_new<W: Write, V: Write>(
     alloc: Global,
     size: u32,
     slots: u16,
-    image_out: &mut W,
-    out: &mut V,
+    image_out: &mut Counted<W>,
+    out: &mut Counted<V>,
 ) -> Status
     ensures image { result ≡ Status.Done
-        → WritesBlank size slots (W.contents image_out.old) (W.contents image_out.new) }
-    ensures ok { result ≡ Status.Done
-        → Appends (V.contents out.old) (V.contents out.new) (codes "ok\n") }
-    ensures bad_words { result ≡ Status.BadWords
-        → WritesBad (V.contents out.old) (V.contents out.new) }
+        → PutsBlank size slots W.contents image_out.old image_out.new true }
+    ensures ok { result ≡ Status.Done → Puts V.contents out.old out.new (codes "ok\n") true }
+    ensures bad_words { result ≡ Status.BadWords → PutsBad V.contents out.old out.new true }
     ensures no_such_image { result ≡ Status.BadWords
         → IsRegionSize size × LeavesRoom size slots → ⊥ }
-    ensures no_image { result ≡ Status.BadWords
-        → Keeps (W.contents image_out.old) (W.contents image_out.new) }
+    ensures no_image { result ≡ Status.BadWords → image_out.new ≡ image_out.old }
     ensures no_memory { result ≡ Status.NoMemory
-        → Keeps (W.contents image_out.old) (W.contents image_out.new) }
-    ensures write_fault { result ≡ Status.WriteFault → BreaksOff size slots
-        (W.contents image_out.old) (W.contents image_out.new)
-        (V.contents out.old) (V.contents out.new) }
+        → (image_out.new ≡ image_out.old) × (out.new ≡ out.old) }
+    ensures write_fault { result ≡ Status.WriteFault → NewBreaksOff size slots
+        W.contents image_out.old image_out.new V.contents out.old out.new }
     ensures not_refused { result ≢ Status.Refused }
     ensures reads_nothing { result ≢ Status.ReadFault }
 {
     let region = match blank(alloc, size, slots) {
         Ok(region) => region,
         Err(BlankFault::OutOfMemory) => return Status::NoMemory,
-        Err(fault) => return say_bad(alloc, fault, Status::BadWords, out),
+        Err(fault) => return say_text(bad_text(alloc, fault), Status::BadWords, out),
     };
     match put(image_out, region.slice(0, region.len())) {
         Ok(()) => say(b"ok\n", Status::Done, out),
@@ -56,15 +53,15 @@ pub fn cmd_new<W: Write, V: Write>(
 }
 
 /// Checks an image, and prints its summary, or `bad` and the first fault.
-pub fn cmd_check<V: Write>(alloc: Global, image: &[u8], out: &mut V) -> Status
+pub fn cmd_check<V: Write>(alloc: Global, image: &[u8], out: &mut Counted<V>) -> Status
     ensures done { result ≡ Status.Done
-        → WritesSummary image.now (V.contents out.old) (V.contents out.new) }
+        → PutsSummary image.now V.contents out.old out.new true }
     ensures accepted { result ≡ Status.Done → HeapAccepted image.now }
     ensures refused { result ≡ Status.Refused → HeapAccepted image.now → ⊥ }
-    ensures fault { result ≡ Status.Refused
-        → WritesBad (V.contents out.old) (V.contents out.new) }
-    ensures no_memory { result ≡ Status.NoMemory
-        → Keeps (V.contents out.old) (V.contents out.new) }
+    ensures fault { result ≡ Status.Refused → PutsBad V.contents out.old out.new true }
+    ensures no_memory { result ≡ Status.NoMemory → out.new ≡ out.old }
+    ensures write_fault { result ≡ Status.WriteFault
+        → CheckBreaksOff image.now V.contents out.old out.new }
     ensures good_words { result ≢ Status.BadWords }
     ensures reads_nothing { result ≢ Status.ReadFault }
 {
@@ -72,11 +69,8 @@ pub fn cmd_check<V: Write>(alloc: Global, image: &[u8], out: &mut V) -> Status
         return Status::NoMemory;
     };
     match check_heap(&region) {
-        Ok(summary) => match summary_text(alloc, &summary) {
-            Ok(line) => say(line.as_bytes(), Status::Done, out),
-            Err(_) => Status::NoMemory,
-        },
-        Err(fault) => say_bad(alloc, fault, Status::Refused, out),
+        Ok(summary) => say_text(summary_text(alloc, &summary), Status::Done, out),
+        Err(fault) => say_text(bad_text(alloc, fault), Status::Refused, out),
     }
 }
 
@@ -94,43 +88,10 @@ fn summary_text(alloc: Global, summary: &Summary) -> Result<String, AllocError>
     format!(in alloc; "ok size {size} slots {slots} movable {movable} fixed {fixed} free {free}\n")
 }
 
-/// Prints `bad` and a fault, and answers `status`.
-fn say_bad<V: Write, F: Display + Drop>(
-    alloc: Global,
-    fault: F,
-    status: Status,
-    out: &mut V,
-) -> Status
-    requires { (status ≡ Status.BadWords) ⊎ (status ≡ Status.Refused) }
-    ensures status { (result ≡ status) ⊎ (result ≡ Status.WriteFault) ⊎ (result ≡ Status.NoMemory) }
-    ensures said { result ≡ status → WritesBad (V.contents out.old) (V.contents out.new) }
-    ensures no_memory { result ≡ Status.NoMemory
-        → Keeps (V.contents out.old) (V.contents out.new) }
-{
-    match bad_text(alloc, fault) {
-        Ok(line) => say(line.as_bytes(), status, out),
-        Err(_) => Status::NoMemory,
-    }
-}
-
 /// The line for a fault.
 pub(crate) fn bad_text<F: Display + Drop>(alloc: Global, fault: F) -> Result<String, AllocError>
     ensures { IfOk result (λ line. IsBadLine (string_bytes line)) }
 {
     let text = format!(in alloc; "{fault}")?;
     format!(in alloc; "bad {text}\n")
-}
-
-/// Prints a line, and answers `status`.
-fn say<V: Write>(line: &[u8], status: Status, out: &mut V) -> Status
-    requires { status ≢ Status.WriteFault }
-    ensures status { (result ≡ status) ⊎ (result ≡ Status.WriteFault) }
-    ensures said { result ≡ status → Appends (V.contents out.old) (V.contents out.new) line.now }
-    ensures fault { result ≡ Status.WriteFault
-        → AppendsFront (V.contents out.old) (V.contents out.new) line.now }
-{
-    match put(out, line) {
-        Ok(()) => status,
-        Err(_) => Status::WriteFault,
-    }
 }

@@ -1,7 +1,7 @@
 //! What the program palmheap does, apart from its command line.
 //!
-//! Each command is a function over bytes and writers, whose contract says which status comes when
-//! and what was written by then. `read_input` reads a file for them, and `OutputFile` is the file
+//! Each command is a function over bytes and counted writers, whose contract says which status comes
+//! when, what was written by then, and where a write failed. `read_input` reads a file for them, and `OutputFile` is the file
 //! that they write an image to. Start at `cmd_new`.
 //!
 //! | module | does |
@@ -9,7 +9,7 @@
 //! | `commands` | the commands `new` and `check` |
 //! | `run` | the command `run`: a script, run on an image |
 //! | `input` | reads a file to its end, within the limit |
-//! | `output` | writes all of some bytes to a writer, or answers that a write failed |
+//! | `output` | writes a text and flushes, or answers that one of these failed |
 //! | `output_file` | a file that takes the place of another as a whole |
 //! | `status` | what a run came to, and the exit status for it |
 #![tactic(auto)]

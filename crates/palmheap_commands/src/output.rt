@@ -1,37 +1,53 @@
-//! Writing all of some bytes.
+//! Texts that are written and flushed.
 
-ghost use Rattle.std.specs.Prelude.{OnOk, OnErr};
-ghost use Rattle.std.specs.Io.KnownBytes.{Appends};
-ghost use Rattle.palmheap_commands.specs.Output.{AppendsFront};
+ghost use Rattle.std.specs.Prelude.{◌≡◌, ◌≢◌, ◌⊎◌, IsOkAnd, is_ok, string_bytes, true, false};
+ghost use Rattle.palmheap_commands.specs.Output.{Puts};
 
+use crate::status::Status;
+use heap_model::Counted;
+use palm_text::{WriteFault, put_all};
+use std::alloc::AllocError;
 use std::io::Write;
-use thiserror::Error;
 
-/// A write failed, or took nothing.
-#[derive(Clone, Copy, Debug, PartialEq, Eq, Error)]
-#[error("a write failed")]
-pub struct WriteFault;
-
-/// Writes all of `bytes`, and flushes. After a write that fails or takes nothing, nothing more is
-/// written.
-pub fn put<W: Write>(writer: &mut W, bytes: &[u8]) -> Result<(), WriteFault>
-    ensures ok { OnOk result (Appends (W.contents writer.old) (W.contents writer.new) bytes.now) }
-    ensures fault { OnErr result (AppendsFront (W.contents writer.old) (W.contents writer.new) bytes.now) }
+/// Writes all of `bytes`, and flushes. After a write that fails or takes 0 bytes nothing more is
+/// written, and nothing flushed.
+pub fn put<W: Write>(out: &mut Counted<W>, bytes: &[u8]) -> Result<(), WriteFault>
+    ensures { Puts W.contents out.old out.new bytes.now (is_ok result) }
 {
-    put_all(writer, bytes)?;
-    writer.flush().map_err(|_| WriteFault)
+    put_all(out, bytes)?;
+    out.flush().map_err(|_| WriteFault)
 }
 
-fn put_all<W: Write>(writer: &mut W, bytes: &[u8]) -> Result<(), WriteFault>
-    ensures ok { OnOk result (Appends (W.contents writer.old) (W.contents writer.new) bytes.now) }
-    ensures fault { OnErr result (AppendsFront (W.contents writer.old) (W.contents writer.new) bytes.now) }
+/// Prints a line, and answers `status`.
+pub fn say<V: Write>(line: &[u8], status: Status, out: &mut Counted<V>) -> Status
+    requires { status ≢ Status.WriteFault }
+    ensures status { (result ≡ status) ⊎ (result ≡ Status.WriteFault) }
+    ensures said { result ≡ status → Puts V.contents out.old out.new line.now true }
+    ensures fault { result ≡ Status.WriteFault → Puts V.contents out.old out.new line.now false }
 {
-    let mut rest = bytes;
-    while !rest.is_empty() {
-        match writer.write(rest) {
-            Ok(n) if n > 0 => rest = &rest[n..],
-            _ => return Err(WriteFault),
-        }
+    match put(out, line) {
+        Ok(()) => status,
+        Err(_) => Status::WriteFault,
     }
-    Ok(())
+}
+
+/// Prints a line if there was memory for it, and answers `status`.
+pub fn say_text<V: Write>(
+    line: Result<String, AllocError>,
+    status: Status,
+    out: &mut Counted<V>,
+) -> Status
+    requires write { status ≢ Status.WriteFault }
+    requires memory { status ≢ Status.NoMemory }
+    ensures status { (result ≡ status) ⊎ (result ≡ Status.WriteFault) ⊎ (result ≡ Status.NoMemory) }
+    ensures said { result ≡ status → IsOkAnd line (λ line.
+        Puts V.contents out.old out.new (string_bytes line) true) }
+    ensures fault { result ≡ Status.WriteFault → IsOkAnd line (λ line.
+        Puts V.contents out.old out.new (string_bytes line) false) }
+    ensures no_memory { result ≡ Status.NoMemory → out.new ≡ out.old }
+{
+    match line {
+        Ok(line) => say(line.as_bytes(), status, out),
+        Err(_) => Status::NoMemory,
+    }
 }

@@ -1,18 +1,16 @@
 //! The command `run`: a script, run on an image.
 
-ghost use Rattle.std.specs.Prelude.{◌≡◌, ◌≢◌, ◌⊎◌, Err, IfOk, IfErr, IsOkAnd, OnOk, [], string_bytes};
-ghost use Rattle.std.specs.Io.KnownBytes.{Appends, Keeps};
-ghost use Rattle.heap_model.specs.Counted.{AppendsFront};
-ghost use Rattle.palmheap_commands.specs.Runs.{IsFaultLine, Prints, PrintsFront};
-ghost use Rattle.palmheap_commands.specs.Runs.{RunBreaksOff, RunsScript, WritesRefusal};
+ghost use Rattle.std.specs.Prelude.{◌≡◌, ◌≢◌, ◌⊎◌, Err, IfOk, IfErr, OnOk, [], string_bytes, true};
+ghost use Rattle.palm_script.specs.Lines.{RunsThrough};
+ghost use Rattle.palmheap_commands.specs.Runs.{IsFaultLine, PrintingFails};
+ghost use Rattle.palmheap_commands.specs.Runs.{PutsRefusal, RunBreaksOff, RunsScript};
 
 use crate::commands::bad_text;
-use crate::output::put;
+use crate::output::{put, say_text};
 use crate::status::Status;
 use heap_model::{Bytes, Counted};
 use mem_manager::Heap;
 use palm_script::{LineFault, RunFault, Script, ScriptFault, parse, run};
-use palm_text::put_all;
 use raw_region::Region;
 use std::alloc::{AllocError, Global};
 use std::io::Write;
@@ -27,26 +25,20 @@ pub fn cmd_run<W: Write, V: Write>(
     image: &[u8],
     script: &[u8],
     inputs: &[Bytes],
-    image_out: &mut W,
+    image_out: &mut Counted<W>,
     files: &mut Vec<Bytes>,
     out: &mut Counted<V>,
 ) -> Status
     ensures done { result ≡ Status.Done → RunsScript image.now script.now
-        (V.contents out.old.writer) (V.contents out.new.writer)
-        (W.contents image_out.old) (W.contents image_out.new) }
+        V.contents out.old out.new W.contents image_out.old image_out.new true }
     ensures no_file { result ≡ Status.Done → files.new.items ≡ [] }
     ensures refused { result ≡ Status.Refused
-        → WritesRefusal image.now script.now
-        (V.contents out.old.writer) (V.contents out.new.writer) }
-    ensures no_image { result ≡ Status.Refused
-        → Keeps (W.contents image_out.old) (W.contents image_out.new) }
+        → PutsRefusal image.now script.now V.contents out.old out.new true }
+    ensures no_image { result ≡ Status.Refused → image_out.new ≡ image_out.old }
     ensures no_memory { result ≡ Status.NoMemory
-        → Keeps (W.contents image_out.old) (W.contents image_out.new) }
-    ensures no_memory_text { result ≡ Status.NoMemory
-        → Keeps (V.contents out.old.writer) (V.contents out.new.writer) }
+        → (image_out.new ≡ image_out.old) × (out.new ≡ out.old) }
     ensures write_fault { result ≡ Status.WriteFault → RunBreaksOff image.now script.now
-        (V.contents out.old.writer) (V.contents out.new.writer)
-        (W.contents image_out.old) (W.contents image_out.new) }
+        V.contents out.old out.new W.contents image_out.old image_out.new }
     ensures good_words { result ≢ Status.BadWords }
     ensures reads_nothing { result ≢ Status.ReadFault }
 {
@@ -55,12 +47,12 @@ pub fn cmd_run<W: Write, V: Write>(
     };
     let mut heap = match Heap::adopt(region) {
         Ok(heap) => heap,
-        Err(error) => return refuse(bad_text(alloc, error.fault), out),
+        Err(error) => return say_text(bad_text(alloc, error.fault), Status::Refused, out),
     };
     let script = match parse(alloc, script) {
         Ok(script) => script,
         Err(fault) if fault.fault == ScriptFault::OutOfMemory => return Status::NoMemory,
-        Err(fault) => return refuse(fault_text(alloc, fault), out),
+        Err(fault) => return say_text(fault_text(alloc, fault), Status::Refused, out),
     };
     match print_replies(alloc, &mut heap, &script, inputs, out) {
         Ok(exported) => *files = exported,
@@ -81,15 +73,14 @@ fn print_replies<V: Write>(
     inputs: &[Bytes],
     out: &mut Counted<V>,
 ) -> Result<Vec<Bytes>, Status>
-    ensures ok { OnOk result (Prints script.now heap.old.bytes heap.new.bytes
-        (V.contents out.old.writer) (V.contents out.new.writer)) }
+    ensures ok { OnOk result (RunsThrough V.contents script.now
+        heap.old.bytes out.old heap.new.bytes out.new) }
     ensures files { IfOk result (λ files. files.items ≡ []) }
     ensures faults { IfErr result (λ status.
         (status ≡ Status.WriteFault) ⊎ (status ≡ Status.NoMemory)) }
-    ensures write { result ≡ Err Status.WriteFault → PrintsFront script.now heap.old.bytes
-        (V.contents out.old.writer) (V.contents out.new.writer) }
-    ensures memory { result ≡ Err Status.NoMemory
-        → Keeps (V.contents out.old.writer) (V.contents out.new.writer) }
+    ensures write { result ≡ Err Status.WriteFault → PrintingFails V.contents script.now
+        heap.old.bytes out.old heap.new.bytes out.new }
+    ensures memory { result ≡ Err Status.NoMemory → out.new ≡ out.old }
 {
     match run(alloc, heap, script, inputs, out) {
         Ok(files) => match out.flush() {
@@ -99,27 +90,6 @@ fn print_replies<V: Write>(
         Err(RunFault::OutOfMemory) => Err(Status::NoMemory),
         Err(RunFault::Write) => Err(Status::WriteFault),
     }
-}
-
-/// Prints the line that says what is refused.
-fn refuse<V: Write>(line: Result<String, AllocError>, out: &mut Counted<V>) -> Status
-    ensures status { (result ≡ Status.Refused) ⊎ (result ≡ Status.WriteFault)
-        ⊎ (result ≡ Status.NoMemory) }
-    ensures refused { result ≡ Status.Refused → IsOkAnd line (λ line.
-        Appends (V.contents out.old.writer) (V.contents out.new.writer) (string_bytes line)) }
-    ensures fault { result ≡ Status.WriteFault → IsOkAnd line (λ line.
-        AppendsFront (V.contents out.old.writer) (V.contents out.new.writer) (string_bytes line)) }
-    ensures no_memory { result ≡ Status.NoMemory
-        → Keeps (V.contents out.old.writer) (V.contents out.new.writer) }
-{
-    let Ok(line) = line else {
-        return Status::NoMemory;
-    };
-    let put = put_all(out, line.as_bytes());
-    if put.is_err() || out.flush().is_err() {
-        return Status::WriteFault;
-    }
-    Status::Refused
 }
 
 /// The line for a refused script.

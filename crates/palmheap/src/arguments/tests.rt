@@ -50,44 +50,47 @@ fn words_ask_for_a_command(rt: HostRuntime) -> Result<(), Fail> {
     Ok(())
 }
 
+/// Words that are refused, and how what is said of them begins.
+const REFUSED: [(&str, &str); 9] = [
+    (
+        "palmheap",
+        "error: 'palmheap' requires a subcommand but one was not provided\n",
+    ),
+    ("palmheap frob", "error: unrecognized subcommand 'frob'\n"),
+    (
+        "palmheap new 128 4",
+        "error: the following required arguments were not provided:\n  <OUT>\n",
+    ),
+    (
+        "palmheap new 128 4 a b",
+        "error: unexpected argument 'b' found\n",
+    ),
+    (
+        "palmheap new 12x 4 a",
+        "error: invalid value '12x' for '<SIZE>': invalid digit found in string\n",
+    ),
+    (
+        "palmheap new 4294967296 4 a",
+        "error: invalid value '4294967296' for '<SIZE>': 4294967296 is not in 0..=4294967295\n",
+    ),
+    (
+        "palmheap new 128 65536 a",
+        "error: invalid value '65536' for '<SLOTS>': 65536 is not in 0..=65535\n",
+    ),
+    (
+        "palmheap run a.img calls.txt",
+        "error: the following required arguments were not provided:\n  <OUT>\n",
+    ),
+    (
+        "palmheap check",
+        "error: the following required arguments were not provided:\n  <IMAGE>\n",
+    ),
+];
+
 #[test]
 fn words_are_refused(rt: HostRuntime) -> Result<(), Fail> {
     let alloc = rt.alloc();
-    for (line, text) in [
-        (
-            "palmheap",
-            "error: 'palmheap' requires a subcommand but one was not provided\n",
-        ),
-        ("palmheap frob", "error: unrecognized subcommand 'frob'\n"),
-        (
-            "palmheap new 128 4",
-            "error: the following required arguments were not provided:\n  <OUT>\n",
-        ),
-        (
-            "palmheap new 128 4 a b",
-            "error: unexpected argument 'b' found\n",
-        ),
-        (
-            "palmheap new 12x 4 a",
-            "error: invalid value '12x' for '<SIZE>': invalid digit found in string\n",
-        ),
-        (
-            "palmheap new 4294967296 4 a",
-            "error: invalid value '4294967296' for '<SIZE>': 4294967296 is not in 0..=4294967295\n",
-        ),
-        (
-            "palmheap new 128 65536 a",
-            "error: invalid value '65536' for '<SLOTS>': 65536 is not in 0..=65535\n",
-        ),
-        (
-            "palmheap run a.img calls.txt",
-            "error: the following required arguments were not provided:\n  <OUT>\n",
-        ),
-        (
-            "palmheap check",
-            "error: the following required arguments were not provided:\n  <IMAGE>\n",
-        ),
-    ] {
+    for (line, text) in REFUSED {
         let words = words_of(alloc, line)?;
         let error = parse(alloc, words.as_slice()).err().ok_or("not refused")?;
         let shown = format!(in alloc; "{error}")?;

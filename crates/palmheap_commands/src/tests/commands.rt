@@ -4,17 +4,49 @@ use super::fakes::{Narrow, Unflushed, WhenFull};
 use super::images::{blank, bytes_of, change, cut_off, database, long_chunk, one_chunk, two_slots};
 use crate::commands::{cmd_check, cmd_new};
 use crate::status::Status;
-use std::io::ErrorKind;
+use heap_model::Counted;
+use std::alloc::Global;
+use std::io::{ErrorKind, Write};
 use std::test::Fail;
+
+/// What a command answered, and what its writers hold.
+#[derive(Drop)]
+struct Told<W, V> {
+    status: Status,
+    image: W,
+    out: V,
+}
+
+fn new_on<W: Write, V: Write>(
+    alloc: Global,
+    size: u32,
+    slots: u16,
+    image: W,
+    out: V,
+) -> Told<W, V> {
+    let (mut image, mut out) = (Counted::new(image), Counted::new(out));
+    let status = cmd_new(alloc, size, slots, &mut image, &mut out);
+    Told {
+        status,
+        image: image.into_inner(),
+        out: out.into_inner(),
+    }
+}
+
+/// The status of `check`, and what its writer holds.
+fn check_on<V: Write>(alloc: Global, image: &[u8], out: V) -> (Status, V) {
+    let mut out = Counted::new(out);
+    let status = cmd_check(alloc, image, &mut out);
+    (status, out.into_inner())
+}
 
 #[test]
 fn new_writes_a_blank_image(rt: HostRuntime) -> Result<(), Fail> {
     let alloc = rt.alloc();
-    let (mut image, mut out) = (Vec::new(alloc), Vec::new(alloc));
-    let status = cmd_new(alloc, 128, 4, &mut image, &mut out);
-    assert_eq!(rt; status, Status::Done);
-    assert_eq!(rt; out.as_slice(), b"ok\n".as_slice());
-    assert_eq!(rt; image.as_slice(), bytes_of(alloc, blank())?.as_slice());
+    let told = new_on(alloc, 128, 4, Vec::new(alloc), Vec::new(alloc));
+    assert_eq!(rt; told.status, Status::Done);
+    assert_eq!(rt; told.out.as_slice(), b"ok\n".as_slice());
+    assert_eq!(rt; told.image.as_slice(), bytes_of(alloc, blank())?.as_slice());
     Ok(())
 }
 
@@ -30,11 +62,10 @@ fn new_refuses_what_is_no_image(rt: HostRuntime) {
         (64, 0, "bad BadSlotCount\n"),
         (128, 65_535, "bad BadSlotCount\n"),
     ] {
-        let (mut image, mut out) = (Vec::new(alloc), Vec::new(alloc));
-        let status = cmd_new(alloc, size, slots, &mut image, &mut out);
-        assert_eq!(rt; status, Status::BadWords, "{size} {slots}");
-        assert_eq!(rt; out.as_slice(), line.as_bytes(), "{size} {slots}");
-        assert!(rt; image.is_empty(), "{size} {slots}");
+        let told = new_on(alloc, size, slots, Vec::new(alloc), Vec::new(alloc));
+        assert_eq!(rt; told.status, Status::BadWords, "{size} {slots}");
+        assert_eq!(rt; told.out.as_slice(), line.as_bytes(), "{size} {slots}");
+        assert!(rt; told.image.is_empty(), "{size} {slots}");
     }
 }
 
@@ -50,12 +81,8 @@ fn check_says_what_is_there(rt: HostRuntime) -> Result<(), Fail> {
         (database(), "ok size 208 slots 8 movable 4 fixed 0 free 8\n"),
     ] {
         let image = bytes_of(alloc, image)?;
-        let mut out = Vec::new(alloc);
-        assert_eq!(rt;
-            cmd_check(alloc, image.as_slice(), &mut out),
-            Status::Done,
-            "{line}"
-        );
+        let (status, out) = check_on(alloc, image.as_slice(), Vec::new(alloc));
+        assert_eq!(rt; status, Status::Done, "{line}");
         assert_eq!(rt; out.as_slice(), line.as_bytes());
     }
     Ok(())
@@ -71,12 +98,8 @@ fn check_says_what_is_bad(rt: HostRuntime) -> Result<(), Fail> {
         (two_slots(), "bad SlotMismatch 20\n"),
     ] {
         let image = bytes_of(alloc, image)?;
-        let mut out = Vec::new(alloc);
-        assert_eq!(rt;
-            cmd_check(alloc, image.as_slice(), &mut out),
-            Status::Refused,
-            "{line}"
-        );
+        let (status, out) = check_on(alloc, image.as_slice(), Vec::new(alloc));
+        assert_eq!(rt; status, Status::Refused, "{line}");
         assert_eq!(rt; out.as_slice(), line.as_bytes());
     }
     Ok(())
@@ -99,12 +122,8 @@ fn check_says_which_fault_is_first(rt: HostRuntime) -> Result<(), Fail> {
     ] {
         let mut image = bytes_of(alloc, database())?;
         change(&mut image, at, digits)?;
-        let mut out = Vec::new(alloc);
-        assert_eq!(rt;
-            cmd_check(alloc, image.as_slice(), &mut out),
-            Status::Refused,
-            "{line}"
-        );
+        let (status, out) = check_on(alloc, image.as_slice(), Vec::new(alloc));
+        assert_eq!(rt; status, Status::Refused, "{line}");
         assert_eq!(rt; out.as_slice(), line.as_bytes());
     }
     Ok(())
@@ -116,11 +135,8 @@ fn check_says_that_a_fixed_chunk_is_no_callers(rt: HostRuntime) -> Result<(), Fa
     let mut image = bytes_of(alloc, database())?;
     change(&mut image, 27, "00")?;
     change(&mut image, 172, "FF000000")?;
-    let mut out = Vec::new(alloc);
-    assert_eq!(rt;
-        cmd_check(alloc, image.as_slice(), &mut out),
-        Status::Refused
-    );
+    let (status, out) = check_on(alloc, image.as_slice(), Vec::new(alloc));
+    assert_eq!(rt; status, Status::Refused);
     assert_eq!(rt; out.as_slice(), b"bad BadFixedOwner 168\n".as_slice());
     Ok(())
 }
@@ -137,38 +153,35 @@ fn new_stops_where_the_image_is_not_taken(rt: HostRuntime) {
     let alloc = rt.alloc();
     for (i, way) in WAYS.iter().enumerate() {
         let room = [0, 1, 127][i];
-        let mut image = Narrow::new(alloc, room, 50, *way);
-        let mut out = Vec::new(alloc);
-        let status = cmd_new(alloc, 128, 4, &mut image, &mut out);
-        assert_eq!(rt; status, Status::WriteFault, "{way:?}");
-        assert_eq!(rt; image.taken.len(), room, "{way:?}");
+        let image = Narrow::new(alloc, room, 50, *way);
+        let told = new_on(alloc, 128, 4, image, Vec::new(alloc));
+        assert_eq!(rt; told.status, Status::WriteFault, "{way:?}");
+        assert_eq!(rt; told.image.taken.len(), room, "{way:?}");
         assert_eq!(rt;
-            image.refused,
+            told.image.refused,
             1,
             "nothing is written after the fault: {way:?}"
         );
-        assert!(rt; out.is_empty(), "{way:?}");
+        assert!(rt; told.out.is_empty(), "{way:?}");
     }
-    let mut image = Unflushed(Vec::new(alloc));
-    let mut out = Vec::new(alloc);
-    assert_eq!(rt;
-        cmd_new(alloc, 128, 4, &mut image, &mut out),
-        Status::WriteFault
-    );
-    assert!(rt; out.is_empty());
+    let image = Unflushed(Vec::new(alloc));
+    let told = new_on(alloc, 128, 4, image, Vec::new(alloc));
+    assert_eq!(rt; told.status, Status::WriteFault);
+    assert!(rt; told.out.is_empty());
 }
 
 #[test]
 fn new_takes_short_writes(rt: HostRuntime) -> Result<(), Fail> {
     let alloc = rt.alloc();
-    let mut image = Narrow::new(alloc, 128, 7, WhenFull::TakesNothing);
-    let mut out = Narrow::new(alloc, 3, 1, WhenFull::TakesNothing);
-    assert_eq!(rt; cmd_new(alloc, 128, 4, &mut image, &mut out), Status::Done);
+    let image = Narrow::new(alloc, 128, 7, WhenFull::TakesNothing);
+    let out = Narrow::new(alloc, 3, 1, WhenFull::TakesNothing);
+    let told = new_on(alloc, 128, 4, image, out);
+    assert_eq!(rt; told.status, Status::Done);
     assert_eq!(rt;
-        image.taken.as_slice(),
+        told.image.taken.as_slice(),
         bytes_of(alloc, blank())?.as_slice()
     );
-    assert_eq!(rt; out.taken.as_slice(), b"ok\n".as_slice());
+    assert_eq!(rt; told.out.taken.as_slice(), b"ok\n".as_slice());
     Ok(())
 }
 
@@ -177,23 +190,19 @@ fn new_stops_where_its_line_is_not_taken(rt: HostRuntime) {
     let alloc = rt.alloc();
     for (i, way) in WAYS.iter().enumerate() {
         for (size, wanted) in [(128, 128), (66, 0)] {
-            let mut image = Vec::new(alloc);
-            let mut out = Narrow::new(alloc, i, 2, *way);
-            let status = cmd_new(alloc, size, 4, &mut image, &mut out);
-            assert_eq!(rt; status, Status::WriteFault, "{size} {way:?}");
-            assert_eq!(rt; image.len(), wanted, "{size} {way:?}");
+            let out = Narrow::new(alloc, i, 2, *way);
+            let told = new_on(alloc, size, 4, Vec::new(alloc), out);
+            assert_eq!(rt; told.status, Status::WriteFault, "{size} {way:?}");
+            assert_eq!(rt; told.image.len(), wanted, "{size} {way:?}");
             assert_eq!(rt;
-                out.refused,
+                told.out.refused,
                 1,
                 "nothing is written after the fault: {way:?}"
             );
         }
     }
-    let (mut image, mut out) = (Vec::new(alloc), Unflushed(Vec::new(alloc)));
-    assert_eq!(rt;
-        cmd_new(alloc, 128, 4, &mut image, &mut out),
-        Status::WriteFault
-    );
+    let told = new_on(alloc, 128, 4, Vec::new(alloc), Unflushed(Vec::new(alloc)));
+    assert_eq!(rt; told.status, Status::WriteFault);
 }
 
 #[test]
@@ -202,12 +211,8 @@ fn check_stops_where_its_line_is_not_taken(rt: HostRuntime) -> Result<(), Fail> 
     let blank = bytes_of(alloc, blank())?;
     for (i, way) in WAYS.iter().enumerate() {
         for image in [blank.as_slice(), b"".as_slice()] {
-            let mut out = Narrow::new(alloc, 4 * i, 3, *way);
-            assert_eq!(rt;
-                cmd_check(alloc, image, &mut out),
-                Status::WriteFault,
-                "{way:?}"
-            );
+            let (status, out) = check_on(alloc, image, Narrow::new(alloc, 4 * i, 3, *way));
+            assert_eq!(rt; status, Status::WriteFault, "{way:?}");
             assert_eq!(rt; out.taken.len(), 4 * i, "{way:?}");
             assert_eq!(rt;
                 out.refused,
@@ -215,6 +220,40 @@ fn check_stops_where_its_line_is_not_taken(rt: HostRuntime) -> Result<(), Fail> 
                 "nothing is written after the fault: {way:?}"
             );
         }
+    }
+    Ok(())
+}
+
+#[test]
+fn check_says_that_its_line_is_not_flushed(rt: HostRuntime) -> Result<(), Fail> {
+    let alloc = rt.alloc();
+    let blank = bytes_of(alloc, blank())?;
+    for (image, printed) in [(blank.as_slice(), 46), (b"".as_slice(), 13)] {
+        let (status, out) = check_on(alloc, image, Unflushed(Vec::new(alloc)));
+        assert_eq!(rt; status, Status::WriteFault);
+        assert_eq!(rt; out.0.len(), printed);
+    }
+    Ok(())
+}
+
+#[test]
+fn an_output_that_takes_0_bytes_is_status_3(rt: HostRuntime) -> Result<(), Fail> {
+    let alloc = rt.alloc();
+    let blank = bytes_of(alloc, blank())?;
+    for (image_room, out_room) in [(0, 1000), (1000, 0)] {
+        let image = Narrow::new(alloc, image_room, 50, WhenFull::TakesNothing);
+        let out = Narrow::new(alloc, out_room, 50, WhenFull::TakesNothing);
+        let told = new_on(alloc, 128, 4, image, out);
+        assert_eq!(rt; told.status, Status::WriteFault);
+        assert_eq!(rt; told.status.code(), 3);
+        assert!(rt; told.out.taken.is_empty());
+    }
+    for image in [blank.as_slice(), b"".as_slice()] {
+        let out = Narrow::new(alloc, 0, 50, WhenFull::TakesNothing);
+        let (status, out) = check_on(alloc, image, out);
+        assert_eq!(rt; status, Status::WriteFault);
+        assert_eq!(rt; status.code(), 3);
+        assert!(rt; out.taken.is_empty());
     }
     Ok(())
 }

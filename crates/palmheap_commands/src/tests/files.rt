@@ -2,6 +2,7 @@
 
 use crate::output::put;
 use crate::output_file::OutputFile;
+use heap_model::Counted;
 use std::fs;
 use std::io::Write;
 use std::test::Fail;
@@ -17,9 +18,9 @@ fn a_file_is_replaced_as_a_whole(rt: HostRuntime) -> Result<(), Fail> {
         if left_over {
             fs::write(&rt, beside.as_str(), "what another run left behind")?;
         }
-        let mut file = OutputFile::new(&rt, path.as_str())?;
+        let mut file = Counted::new(OutputFile::new(&rt, path.as_str())?);
         let written = put(&mut file, bytes.as_bytes());
-        file.close();
+        file.into_inner().close();
         assert!(rt; written.is_ok());
         let found = fs::read(&rt, path.as_str())?;
         assert_eq!(rt; found.as_slice(), bytes.as_bytes());

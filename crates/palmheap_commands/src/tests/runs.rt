@@ -6,21 +6,27 @@ use crate::run::cmd_run;
 use crate::status::Status;
 use heap_model::Counted;
 use std::alloc::Global;
-use std::io::ErrorKind;
+use std::io::{BufWriter, ErrorKind, Write};
 use std::process::Abort;
 use std::test::Fail;
 
-/// What a run answered, printed and wrote.
+/// What a run answered, and what its writers hold.
 #[derive(Drop)]
-struct Ran {
+struct Ran<W, V> {
     status: Status,
-    printed: Vec<u8>,
-    image: Vec<u8>,
+    image: W,
+    out: V,
 }
 
-fn run_on(alloc: Global, image: &[u8], script: &str) -> Ran {
-    let (mut image_out, mut files) = (Vec::new(alloc), Vec::new(alloc));
-    let mut out = Counted::new(Vec::new(alloc));
+fn run_to<W: Write, V: Write>(
+    alloc: Global,
+    image: &[u8],
+    script: &str,
+    image_out: W,
+    out: V,
+) -> Ran<W, V> {
+    let (mut image_out, mut out) = (Counted::new(image_out), Counted::new(out));
+    let mut files = Vec::new(alloc);
     let script = script.as_bytes();
     let status = cmd_run(
         alloc,
@@ -33,9 +39,14 @@ fn run_on(alloc: Global, image: &[u8], script: &str) -> Ran {
     );
     Ran {
         status,
-        printed: out.into_inner(),
-        image: image_out,
+        image: image_out.into_inner(),
+        out: out.into_inner(),
     }
+}
+
+/// Runs a script with writers that take all.
+fn run_on(alloc: Global, image: &[u8], script: &str) -> Ran<Vec<u8>, Vec<u8>> {
+    run_to(alloc, image, script, Vec::new(alloc), Vec::new(alloc))
 }
 
 /// Runs lines, and compares what each prints: a text has a line and its reply, with `=` between.
@@ -51,7 +62,7 @@ fn check_replies(rt: &impl Abort, alloc: Global, image: &str, text: &str) -> Res
     }
     let ran = run_on(alloc, image.as_slice(), script.as_str());
     assert_eq!(rt; ran.status, Status::Done, "{text}");
-    assert_eq!(rt; ran.printed.as_slice(), replies.as_bytes(), "{text}");
+    assert_eq!(rt; ran.out.as_slice(), replies.as_bytes(), "{text}");
     Ok(())
 }
 
@@ -190,7 +201,7 @@ fn no_line_leaves_every_byte(rt: HostRuntime) -> Result<(), Fail> {
     for script in ["", "\n", "# a line that is passed over\n"] {
         let ran = run_on(alloc, image.as_slice(), script);
         assert_eq!(rt; ran.status, Status::Done, "{script}");
-        assert!(rt; ran.printed.is_empty(), "{script}");
+        assert!(rt; ran.out.is_empty(), "{script}");
         assert_eq!(rt; ran.image.as_slice(), image.as_slice(), "{script}");
     }
     Ok(())
@@ -214,7 +225,7 @@ fn a_refused_image_or_script_is_not_run(rt: HostRuntime) -> Result<(), Fail> {
         let image = bytes_of(alloc, image)?;
         let ran = run_on(alloc, image.as_slice(), script);
         assert_eq!(rt; ran.status, Status::Refused, "{line}");
-        assert_eq!(rt; ran.printed.as_slice(), line.as_bytes());
+        assert_eq!(rt; ran.out.as_slice(), line.as_bytes());
         assert!(rt; ran.image.is_empty(), "{line}");
     }
     Ok(())
@@ -234,26 +245,33 @@ fn nothing_follows_a_reply_that_is_not_taken(rt: HostRuntime) -> Result<(), Fail
         WhenFull::Fails(ErrorKind::Interrupted),
     ] {
         for room in 0..REPLIES.len() {
-            let (mut image_out, mut files) = (Vec::new(alloc), Vec::new(alloc));
-            let mut out = Counted::new(Narrow::new(alloc, room, 3, when_full));
-            let script = SCRIPT.as_bytes();
-            let image = image.as_slice();
-            let status = cmd_run(
-                alloc,
-                image,
-                script,
-                &[],
-                &mut image_out,
-                &mut files,
-                &mut out,
-            );
-            assert_eq!(rt; status, Status::WriteFault, "room for {room}");
-            let narrow = out.into_inner();
+            let out = Narrow::new(alloc, room, 3, when_full);
+            let ran = run_to(alloc, image.as_slice(), SCRIPT, Vec::new(alloc), out);
+            assert_eq!(rt; ran.status, Status::WriteFault, "room for {room}");
             let wanted = &REPLIES.as_bytes()[..room];
-            assert_eq!(rt; narrow.taken.as_slice(), wanted, "room for {room}");
-            assert_eq!(rt; narrow.refused, 1, "room for {room}");
-            assert!(rt; image_out.is_empty(), "room for {room}");
+            assert_eq!(rt; ran.out.taken.as_slice(), wanted, "room for {room}");
+            assert_eq!(rt; ran.out.refused, 1, "room for {room}");
+            assert!(rt; ran.image.is_empty(), "room for {room}");
         }
+    }
+    Ok(())
+}
+
+#[test]
+fn nothing_follows_a_buffer_that_is_not_taken(rt: HostRuntime) -> Result<(), Fail> {
+    let alloc = rt.alloc();
+    let image = bytes_of(alloc, blank())?;
+    for (capacity, room) in [(8, 0), (8, 1), (8, 20), (1000, 0), (1000, 20)] {
+        let narrow = Narrow::new(alloc, room, 3, WhenFull::TakesNothing);
+        let out = BufWriter::with_capacity(alloc, capacity, narrow)?;
+        let ran = run_to(alloc, image.as_slice(), SCRIPT, Vec::new(alloc), out);
+        let Ran { status, image, out } = ran;
+        let (narrow, _) = out.into_parts();
+        assert_eq!(rt; status, Status::WriteFault, "{capacity} {room}");
+        let wanted = &REPLIES.as_bytes()[..room];
+        assert_eq!(rt; narrow.taken.as_slice(), wanted, "{capacity} {room}");
+        assert_eq!(rt; narrow.refused, 1, "{capacity} {room}");
+        assert!(rt; image.is_empty(), "{capacity} {room}");
     }
     Ok(())
 }
@@ -263,21 +281,10 @@ fn no_image_follows_replies_that_are_not_flushed(rt: HostRuntime) -> Result<(), 
     let alloc = rt.alloc();
     let image = bytes_of(alloc, blank())?;
     for script in [SCRIPT, "frob"] {
-        let (mut image_out, mut files) = (Vec::new(alloc), Vec::new(alloc));
-        let mut out = Counted::new(Unflushed(Vec::new(alloc)));
-        let script = script.as_bytes();
-        let image = image.as_slice();
-        let status = cmd_run(
-            alloc,
-            image,
-            script,
-            &[],
-            &mut image_out,
-            &mut files,
-            &mut out,
-        );
-        assert_eq!(rt; status, Status::WriteFault);
-        assert!(rt; image_out.is_empty());
+        let out = Unflushed(Vec::new(alloc));
+        let ran = run_to(alloc, image.as_slice(), script, Vec::new(alloc), out);
+        assert_eq!(rt; ran.status, Status::WriteFault);
+        assert!(rt; ran.image.is_empty());
     }
     Ok(())
 }
@@ -287,27 +294,44 @@ fn an_image_that_is_not_taken_is_a_fault(rt: HostRuntime) -> Result<(), Fail> {
     let alloc = rt.alloc();
     let image = bytes_of(alloc, blank())?;
     for room in [0, 1, 127] {
-        let mut image_out = Narrow::new(alloc, room, 50, WhenFull::TakesNothing);
-        let mut files = Vec::new(alloc);
-        let mut out = Counted::new(Vec::new(alloc));
-        let script = SCRIPT.as_bytes();
-        let image = image.as_slice();
-        let status = cmd_run(
-            alloc,
-            image,
-            script,
-            &[],
-            &mut image_out,
-            &mut files,
-            &mut out,
-        );
-        assert_eq!(rt; status, Status::WriteFault, "room for {room}");
-        assert_eq!(rt; image_out.taken.len(), room);
-        assert_eq!(rt;
-            out.into_inner().as_slice(),
-            REPLIES.as_bytes(),
-            "room for {room}"
-        );
+        let image_out = Narrow::new(alloc, room, 50, WhenFull::TakesNothing);
+        let ran = run_to(alloc, image.as_slice(), SCRIPT, image_out, Vec::new(alloc));
+        assert_eq!(rt; ran.status, Status::WriteFault, "room for {room}");
+        assert_eq!(rt; ran.image.taken.len(), room);
+        assert_eq!(rt; ran.image.refused, 1, "room for {room}");
+        assert_eq!(rt; ran.out.as_slice(), REPLIES.as_bytes(), "room for {room}");
+    }
+    Ok(())
+}
+
+#[test]
+fn an_image_that_is_not_flushed_is_a_fault(rt: HostRuntime) -> Result<(), Fail> {
+    let alloc = rt.alloc();
+    let image = bytes_of(alloc, blank())?;
+    let image_out = Unflushed(Vec::new(alloc));
+    let ran = run_to(alloc, image.as_slice(), SCRIPT, image_out, Vec::new(alloc));
+    assert_eq!(rt; ran.status, Status::WriteFault);
+    assert_eq!(rt; ran.image.0.len(), 128);
+    assert_eq!(rt; ran.out.as_slice(), REPLIES.as_bytes());
+    Ok(())
+}
+
+#[test]
+fn an_output_that_takes_0_bytes_is_status_3(rt: HostRuntime) -> Result<(), Fail> {
+    let alloc = rt.alloc();
+    let image = bytes_of(alloc, blank())?;
+    for (script, image_room, out_room) in [
+        (SCRIPT, 0, 1000),
+        (SCRIPT, 1000, 0),
+        ("", 0, 0),
+        ("frob", 1000, 0),
+    ] {
+        let image_out = Narrow::new(alloc, image_room, 50, WhenFull::TakesNothing);
+        let out = Narrow::new(alloc, out_room, 50, WhenFull::TakesNothing);
+        let ran = run_to(alloc, image.as_slice(), script, image_out, out);
+        assert_eq!(rt; ran.status, Status::WriteFault, "{script}");
+        assert_eq!(rt; ran.status.code(), 3, "{script}");
+        assert!(rt; ran.image.taken.is_empty(), "{script}");
     }
     Ok(())
 }
