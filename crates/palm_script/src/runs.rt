@@ -77,8 +77,8 @@ pub(crate) fn run_from<M: Memory, W: Write>(
 }
 
 /// A table of so many labels, none of them bound.
-fn unbound_names<M: Memory>(memory: &M, count: u32) -> Result<Vec<Name>, AllocError>
+fn unbound_names<M: Memory>(memory: &M, count: usize) -> Result<Vec<Name>, AllocError>
     ensures { IfOk result (λ names. names.items ≡ replicate count no_name) }
 {
-    vec![in memory.grant()?; Name(0); count as usize]
+    vec![in memory.grant()?; Name(0); count]
 }

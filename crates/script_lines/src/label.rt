@@ -11,7 +11,7 @@ use std::collections::BTreeMap;
 /// The labels that have appeared, each with its number.
 #[derive(Drop)]
 pub(crate) struct Labels<'a> {
-    numbers: BTreeMap<&'a [u8], u32>,
+    numbers: BTreeMap<&'a [u8], usize>,
 }
 
 impl<'a> Labels<'a> {
@@ -24,8 +24,7 @@ impl<'a> Labels<'a> {
         }
     }
 
-    /// The label that a word spells. A label that hasn't appeared takes the next number; beyond
-    /// `u32::MAX` labels there is none.
+    /// The label that a word spells. A label that hasn't appeared takes the next number.
     pub fn number(&mut self, word: &'a [u8]) -> Result<ChunkLabel, AllocError>
         ensures number { IfOk result (λ label.
             label.0 ≡ label_number (numbering self.old) word.now) }
@@ -35,9 +34,7 @@ impl<'a> Labels<'a> {
         if let Some(number) = self.numbers.get(&word) {
             return Ok(ChunkLabel(*number));
         }
-        let Ok(number) = u32::try_from(self.numbers.len()) else {
-            return Err(AllocError);
-        };
+        let number = self.numbers.len();
         match self.numbers.insert(word, number) {
             Ok(_) => Ok(ChunkLabel(number)),
             Err(_) => Err(AllocError),

@@ -10,7 +10,7 @@ use std::marker::Model;
 /// A label of a script by its number: labels are numbered from 0 in the order in which they first
 /// appear.
 #[derive(Clone, Copy, Debug, PartialEq, Eq)]
-pub struct ChunkLabel(pub u32);
+pub struct ChunkLabel(pub usize);
 
 /// A line of a script: one call, on the chunk that its label stands for.
 #[derive(Drop)]
@@ -67,7 +67,7 @@ pub enum Line {
 
 impl Line {
     /// One more than the number of the line's label, and 0 where it has none.
-    fn label_end(&self) -> Option<u32>
+    fn label_end(&self) -> Option<usize>
         ensures { IfSome result (λ end. end ≡ label_end self.now) }
     {
         match self {
@@ -94,7 +94,7 @@ impl Line {
 #[derive(Drop)]
 pub struct Script {
     lines: Vec<Line>,
-    chunk_labels: u32,
+    chunk_labels: usize,
 }
 
 impl Model for Script {
@@ -120,7 +120,7 @@ impl Script {
         }
     }
 
-    /// Puts a line behind the others. There is no script with the label `u32::MAX`.
+    /// Puts a line behind the others. There is no script with the label `usize::MAX`.
     pub(crate) fn push(&mut self, line: Line) -> Result<(), AllocError>
         ensures ok { OnOk result (self.new ≡ self.old ++ (line ∷ [])) }
     {
@@ -144,7 +144,7 @@ impl Script {
     }
 
     /// How many labels there are, which is one more than the greatest label of a line.
-    pub fn chunk_labels(&self) -> u32
+    pub fn chunk_labels(&self) -> usize
         ensures count { result ≡ label_count self.now }
         ensures below { HasLabelsBelow result self.now }
     {

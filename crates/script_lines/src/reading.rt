@@ -1,6 +1,6 @@
 //! Scripts, read from their text.
 
-ghost use Rattle.std.specs.Prelude.{◌≡◌, ◌≢◌, ◌<◌, ◌^◌, length, IfOk, IfErr};
+ghost use Rattle.std.specs.Prelude.{◌≡◌, ◌≢◌, ◌<◌, length, IfOk, IfErr};
 ghost use Rattle.script_lines.specs.Reading as reading;
 ghost use Rattle.script_lines.specs.Reading.{HasLine, line_behind, line_read, read_behind};
 ghost use Rattle.script_lines.specs.Reading.{read_script, words_in};
@@ -56,7 +56,7 @@ fn read_command<'a>(
     alloc: Global,
     word: &[u8],
     words: &'a [u8],
-    count: u32,
+    count: usize,
     labels: &mut Labels<'a>,
 ) -> Result<Line, ScriptFault>
     requires whole { words_of words.now ≡ Ok (words_in words.now) }
@@ -70,7 +70,7 @@ fn read_command<'a>(
         return Err(ScriptFault::UnknownCommand);
     };
     let kinds = kinds_of(verb);
-    if kinds.len() != count as usize {
+    if kinds.len() != count {
         return Err(ScriptFault::WrongCount);
     }
     let Values { values, bytes } = match read_values(alloc, kinds, words, labels) {
@@ -89,7 +89,6 @@ fn read_line<'a>(
     text: &'a [u8],
     labels: &mut Labels<'a>,
 ) -> Result<Option<Line>, ScriptFault>
-    requires { length text.now < 2 ^ 32 }
     ensures ok { IfOk result (λ line. reading.read_line (numbering labels.old) text.now
         ≡ Ok (line_read line (numbering labels.new))) }
     ensures err { IfErr result (λ fault. fault ≢ ScriptFault.OutOfMemory
@@ -117,8 +116,7 @@ const REFUSED: LineFault = LineFault {
     fault: ScriptFault::OutOfMemory,
 };
 
-/// The script of a text, or its first faulty line. A text of 4 GiB or more is answered as one for
-/// which memory is refused.
+/// The script of a text, or its first faulty line.
 pub fn parse(alloc: Global, text: &[u8]) -> Result<Script, LineFault>
     ensures ok { IfOk result (λ script. read_script text.now ≡ Ok script) }
     ensures err { IfErr result (λ e. e.fault ≢ ScriptFault.OutOfMemory
@@ -127,9 +125,6 @@ pub fn parse(alloc: Global, text: &[u8]) -> Result<Script, LineFault>
         → HasLine text.now e.line) }
     ensures refused { IfErr result (λ e. e.fault ≡ ScriptFault.OutOfMemory → e.line ≡ 0) }
 {
-    if text.len() > u32::MAX as usize {
-        return Err(REFUSED);
-    }
     let mut script = Script::new(alloc);
     let mut labels = Labels::new(alloc);
     let mut rest = text;

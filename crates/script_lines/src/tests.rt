@@ -334,7 +334,7 @@ fn the_first_fault_of_a_line(rt: HostRuntime) -> Result<(), Fail> {
 
 #[test]
 fn labels_are_counted(rt: HostRuntime) -> Result<(), Fail> {
-    let cases: [(&[u8], Option<u32>); 5] = [
+    let cases: [(&[u8], Option<usize>); 5] = [
         (b"", Some(0)),
         (b"freebytes", Some(0)),
         (b"free a\nfree b\nfree a", Some(2)),
