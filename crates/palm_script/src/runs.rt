@@ -4,10 +4,9 @@ ghost use Rattle.std.specs.Prelude.{◌≡◌, [], Err, IfOk, OnOk, replicate};
 ghost use Rattle.palm_script.specs.Lines.{BreaksOff, RunsThrough, no_name};
 
 use crate::lines::do_line;
-use crate::memory::Memory;
 use heap_model::{Bytes, Counted, Name};
 use mem_manager::Heap;
-use script_lines::Script;
+use script_lines::{Memory, Script};
 use std::alloc::{AllocError, Global};
 use std::io::Write;
 use thiserror::Error;

@@ -1,6 +1,6 @@
 -- Laws on the reading of lines and of scripts.
-use Rattle.std.proofs.Common.{◌≡◌, ◌+◌, ◌<◌, ◌≤◌, ℕ, List, [], ◌∷◌, ◌++◌, length, drop, get_or, false, refl, sym, ap, ◌∙◌, arith, drop-cons, add-one}
-use Rattle.std.specs.Prelude.{Some, None, Result, Ok, Err}
+use Rattle.std.proofs.Common.{◌≡◌, ◌+◌, ◌<◌, ◌≤◌, ℕ, List, [], ◌∷◌, ◌++◌, length, drop, get_or, Bool, true, false, refl, sym, ap, ◌∙◌, arith, drop-cons, add-one}
+use Rattle.std.specs.Prelude.{Option, Some, None, Result, Ok, Err}
 use Rattle.std.specs.Result.{result_unwrap_or}
 use Rattle.std.specs.Option.{option_to_list}
 use Rattle.std.specs.Str.Lines.{lines}
@@ -14,6 +14,7 @@ use Rattle.script_lines.specs.declared.value.Kind.{Kind}
 use Rattle.script_lines.specs.Words.{is_passed_over, words_of, with_word, word_count}
 use Rattle.script_lines.specs.Cuts.{CutsWord}
 use Rattle.script_lines.specs.Kinds.{Reading, read_word, read_words}
+use Rattle.script_lines.specs.Views.{Adds}
 use Rattle.script_lines.specs.Numbering.{Numbering, no_labels}
 use Rattle.script_lines.specs.Reading.{HasLine, LineRead, read_lines, read_script, unless_faulty, words_in, line_unless_broken, line_of_words, read_line}
 
@@ -41,6 +42,15 @@ read_more number reading after kinds i kind word words within of_kind = rw (drop
 
 pub read_bad : (number : ℕ) (reading : Reading) (kinds : List Kind) (i : ℕ) (kind : Kind) (word : List ℕ) (words : List (List ℕ)) → i < length kinds → read_word reading (get_or kinds i kind) word ≡ None → read_words number reading (drop i kinds) (word ∷ words) ≡ Err (BadWord number)
 read_bad number reading kinds i kind word words within bad = rw (drop-cons kinds i kind within, bad) refl
+
+-- a word that wasn't added isn't of its kind, and one that was left the reading that goes on
+pub not_added : (read : Option Reading) (is_of_kind : Bool) (new : Reading) → Adds read is_of_kind new → is_of_kind ≡ false → read ≡ None
+not_added None is_of_kind new adds is = refl
+not_added (Some after) is_of_kind new adds is = cc
+
+pub added : (read : Option Reading) (is_of_kind : Bool) (new : Reading) → Adds read is_of_kind new → is_of_kind ≡ true → read ≡ Some new
+added None is_of_kind new adds is = cc
+added (Some after) is_of_kind new adds is = ap Some (sym adds.1)
 
 pub read_short : (number : ℕ) (reading : Reading) (kinds : List Kind) (i : ℕ) (kind : Kind) → i < length kinds → read_words number reading (drop i kinds) [] ≡ Err WrongCount
 read_short number reading kinds i kind within = rw (drop-cons kinds i kind within) refl

@@ -5,6 +5,7 @@ ghost use Rattle.script_lines.specs.Numbering.{no_labels, label_number, with_lab
 ghost use Rattle.script_lines.specs.Views.{numbering};
 
 use crate::line::ChunkLabel;
+use crate::memory::Memory;
 use std::alloc::{AllocError, Global};
 use std::collections::BTreeMap;
 
@@ -25,7 +26,11 @@ impl<'a> Labels<'a> {
     }
 
     /// The label that a word spells. A label that hasn't appeared takes the next number.
-    pub fn number(&mut self, word: &'a [u8]) -> Result<ChunkLabel, AllocError>
+    pub fn number<M: Memory>(
+        &mut self,
+        memory: &M,
+        word: &'a [u8],
+    ) -> Result<ChunkLabel, AllocError>
         ensures number { IfOk result (λ label.
             label.0 ≡ label_number (numbering self.old) word.now) }
         ensures labels { OnOk result
@@ -34,6 +39,7 @@ impl<'a> Labels<'a> {
         if let Some(number) = self.numbers.get(&word) {
             return Ok(ChunkLabel(*number));
         }
+        memory.grant()?;
         let number = self.numbers.len();
         match self.numbers.insert(word, number) {
             Ok(_) => Ok(ChunkLabel(number)),

@@ -10,6 +10,7 @@ mod command;
 mod fault;
 mod label;
 mod line;
+mod memory;
 mod reading;
 mod spelling;
 mod text;
@@ -17,6 +18,7 @@ mod value;
 
 pub use fault::{LineFault, ScriptFault};
 pub use line::{ChunkLabel, Line, Script};
+pub use memory::Memory;
 pub use reading::parse;
 
 #[cfg(test)]

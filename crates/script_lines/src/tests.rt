@@ -2,8 +2,10 @@
 //! word numbers, and the order of faults. The expected values are those of the format's own words.
 
 use super::*;
+use crate::reading::parse_from;
 use heap_model::Bytes;
 use std::alloc::{AllocError, Global};
+use std::cell::Cell;
 use std::fmt;
 use std::test::*;
 
@@ -351,22 +353,69 @@ fn labels_are_counted(rt: HostRuntime) -> Result<(), Fail> {
     Ok(())
 }
 
-/// A script that takes each kind of memory: for lines, labels, values, bytes and texts.
+/// Refuses one growth, of which `before` stand in front, and grants every other.
+struct RefusesOne {
+    alloc: Global,
+    before: Cell<u32>,
+}
+
+impl Drop for RefusesOne {
+    fn drop(self) {
+        let RefusesOne {
+            alloc: _,
+            before: _,
+        } = self;
+    }
+}
+
+impl Memory for RefusesOne {
+    fn allocator(&self) -> Global {
+        self.alloc
+    }
+
+    fn grant(&self) -> Result<Global, AllocError> {
+        let before = self.before.get();
+        self.before.set(before.wrapping_sub(1));
+        if before == 0 {
+            return Err(AllocError);
+        }
+        Ok(self.alloc)
+    }
+}
+
+/// A script that takes each kind of memory, with how many growths: 5 lines, 2 labels, 9 values, and
+/// bytes or text 3 times.
 const EACH_GROWTH: &[u8] =
     b"new a 8 1\nwrite a 0 4142\nstrcopy a 0 \"x\"\nstrcopy b 0 x:79\nfreebytes";
 
+const GROWTHS: u32 = 19;
+
+/// How many lines that script has, or its fault, where a growth behind so many is refused.
+fn lines_without(alloc: Global, before: u32) -> Result<usize, LineFault> {
+    let memory = RefusesOne {
+        alloc,
+        before: Cell::new(before),
+    };
+    match parse_from(&memory, EACH_GROWTH) {
+        Ok(script) => Ok(script.lines().len()),
+        Err(fault) => Err(fault),
+    }
+}
+
 #[test]
 fn every_growth_may_be_refused(rt: HostRuntime) -> Result<(), Fail> {
-    match parse(rt.alloc(), EACH_GROWTH) {
-        Ok(script) => assert_eq!(rt; script.lines().len(), 5),
-        Err(fault) => assert_eq!(rt;
-            fault,
-            LineFault {
-                line: 0,
-                fault: ScriptFault::OutOfMemory
-            }
-        ),
+    let refused = LineFault {
+        line: 0,
+        fault: ScriptFault::OutOfMemory,
+    };
+    for before in 0..GROWTHS {
+        assert_eq!(rt;
+            lines_without(rt.alloc(), before),
+            Err(refused),
+            "after {before}"
+        );
     }
+    assert_eq!(rt; lines_without(rt.alloc(), GROWTHS), Ok(5));
     Ok(())
 }
 

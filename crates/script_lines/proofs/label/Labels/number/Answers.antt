@@ -8,7 +8,7 @@ use Rattle.script_lines.proofs.label.Labels.number.Goals as goal
 
 -- the map has the new label's number besides what it had
 pub returns-in-Ok-clause-labels : goal.returns-in-Ok-clause-labels
-returns-in-Ok-clause-labels c =
+returns-in-Ok-clause-labels g c =
     let old = numbering c.args.self.now in
     let word = c.args.word.now in
     let next : c.len-number.result ≡ old.count = c.len-number.ensures.len in
