@@ -8,6 +8,7 @@ ghost use Rattle.script_lines.specs.Commands as commands;
 ghost use Rattle.script_lines.specs.Commands.{line_of, verb_of};
 
 use crate::line::Line;
+use crate::value::Value::{Byte, Label, Number};
 use crate::value::{Kind, Value};
 use heap_model::Bytes;
 
@@ -116,100 +117,43 @@ pub(crate) fn find_verb(word: &[u8]) -> Option<Verb>
     find_in(&VERBS, word)
 }
 
+/// A line, if some values are of a shape.
+macro_rules! line_if {
+    ($values:expr, $shape:pat => $line:expr) => {
+        match $values {
+            $shape => Some($line),
+            _ => None,
+        }
+    };
+}
+
 /// The line of a command and what its words stand for, if these are of the command's kinds.
 pub(crate) fn make_line(verb: Verb, values: &[Value], bytes: Bytes) -> Option<Line>
     ensures { result ≡ line_of verb values.now bytes }
 {
     match verb {
-        Verb::Bind => match values {
-            &[Value::Label(label), Value::Number(name)] => Some(Line::Bind { label, name }),
-            _ => None,
-        },
-        Verb::New => match values {
-            &[Value::Label(label), Value::Number(size), Value::Byte(owner)] => Some(Line::New {
-                label,
-                size,
-                owner,
-            }),
-            _ => None,
-        },
-        Verb::PtrNew => match values {
-            &[Value::Label(label), Value::Number(size), Value::Byte(owner)] => Some(Line::PtrNew {
-                label,
-                size,
-                owner,
-            }),
-            _ => None,
-        },
-        Verb::Free => match values {
-            &[Value::Label(label)] => Some(Line::Free(label)),
-            _ => None,
-        },
-        Verb::SetOwner => match values {
-            &[Value::Label(label), Value::Byte(owner)] => Some(Line::SetOwner { label, owner }),
-            _ => None,
-        },
-        Verb::Lock => match values {
-            &[Value::Label(label)] => Some(Line::Lock(label)),
-            _ => None,
-        },
-        Verb::Unlock => match values {
-            &[Value::Label(label)] => Some(Line::Unlock(label)),
-            _ => None,
-        },
-        Verb::Size => match values {
-            &[Value::Label(label)] => Some(Line::Size(label)),
-            _ => None,
-        },
-        Verb::Owner => match values {
-            &[Value::Label(label)] => Some(Line::Owner(label)),
-            _ => None,
-        },
-        Verb::Locks => match values {
-            &[Value::Label(label)] => Some(Line::Locks(label)),
-            _ => None,
-        },
-        Verb::Read => match values {
-            &[Value::Label(label), Value::Number(at), Value::Number(count)] => Some(Line::Read {
-                label,
-                at,
-                count,
-            }),
-            _ => None,
-        },
-        Verb::Write => match values {
-            &[Value::Label(label), Value::Number(at)] => Some(Line::Write { label, at, bytes }),
-            _ => None,
-        },
-        Verb::Set => match values {
-            &[
-                Value::Label(label),
-                Value::Number(at),
-                Value::Number(count),
-                Value::Byte(byte),
-            ] => Some(Line::Set {
-                label,
-                at,
-                count,
-                byte,
-            }),
-            _ => None,
-        },
-        Verb::StrCopy => match values {
-            &[Value::Label(label), Value::Number(at)] => Some(Line::StrCopy {
-                label,
-                at,
-                text: bytes,
-            }),
-            _ => None,
-        },
-        Verb::FreeByOwner => match values {
-            &[Value::Byte(owner)] => Some(Line::FreeByOwner(owner)),
-            _ => None,
-        },
-        Verb::FreeBytes => match values {
-            [] => Some(Line::FreeBytes),
-            _ => None,
-        },
+        Verb::Bind => line_if!(values, &[Label(label), Number(name)] => Line::Bind { label, name }),
+        Verb::New => line_if!(values,
+            &[Label(label), Number(size), Byte(owner)] => Line::New { label, size, owner }),
+        Verb::PtrNew => line_if!(values,
+            &[Label(label), Number(size), Byte(owner)] => Line::PtrNew { label, size, owner }),
+        Verb::Free => line_if!(values, &[Label(label)] => Line::Free(label)),
+        Verb::SetOwner => line_if!(values,
+            &[Label(label), Byte(owner)] => Line::SetOwner { label, owner }),
+        Verb::Lock => line_if!(values, &[Label(label)] => Line::Lock(label)),
+        Verb::Unlock => line_if!(values, &[Label(label)] => Line::Unlock(label)),
+        Verb::Size => line_if!(values, &[Label(label)] => Line::Size(label)),
+        Verb::Owner => line_if!(values, &[Label(label)] => Line::Owner(label)),
+        Verb::Locks => line_if!(values, &[Label(label)] => Line::Locks(label)),
+        Verb::Read => line_if!(values,
+            &[Label(label), Number(at), Number(count)] => Line::Read { label, at, count }),
+        Verb::Write => line_if!(values,
+            &[Label(label), Number(at)] => Line::Write { label, at, bytes }),
+        Verb::Set => line_if!(values, &[Label(label), Number(at), Number(count), Byte(byte)] =>
+            Line::Set { label, at, count, byte }),
+        Verb::StrCopy => line_if!(values,
+            &[Label(label), Number(at)] => Line::StrCopy { label, at, text: bytes }),
+        Verb::FreeByOwner => line_if!(values, &[Byte(owner)] => Line::FreeByOwner(owner)),
+        Verb::FreeBytes => line_if!(values, [] => Line::FreeBytes),
     }
 }

@@ -21,53 +21,19 @@ fn put_bytes(text: &mut String, bytes: &Bytes) -> Result<(), AllocError> {
 /// A line as its command and what stands in it, labels by their numbers.
 fn put_line(text: &mut String, line: &Line) -> Result<(), AllocError> {
     match line {
-        Line::Bind { label, name } => {
-            let label = label.0;
-            write!(text, "bind {label} {name}")
-        }
-        Line::New { label, size, owner } => {
-            let label = label.0;
-            write!(text, "new {label} {size} {owner}")
-        }
-        Line::PtrNew { label, size, owner } => {
-            let label = label.0;
-            write!(text, "ptrnew {label} {size} {owner}")
-        }
-        Line::Free(label) => {
-            let label = label.0;
-            write!(text, "free {label}")
-        }
-        Line::SetOwner { label, owner } => {
-            let label = label.0;
-            write!(text, "setowner {label} {owner}")
-        }
-        Line::Lock(label) => {
-            let label = label.0;
-            write!(text, "lock {label}")
-        }
-        Line::Unlock(label) => {
-            let label = label.0;
-            write!(text, "unlock {label}")
-        }
-        Line::Size(label) => {
-            let label = label.0;
-            write!(text, "size {label}")
-        }
-        Line::Owner(label) => {
-            let label = label.0;
-            write!(text, "owner {label}")
-        }
-        Line::Locks(label) => {
-            let label = label.0;
-            write!(text, "locks {label}")
-        }
-        Line::Read { label, at, count } => {
-            let label = label.0;
-            write!(text, "read {label} {at} {count}")
-        }
+        Line::Bind { label, name } => write!(text, "bind {} {name}", label.0),
+        Line::New { label, size, owner } => write!(text, "new {} {size} {owner}", label.0),
+        Line::PtrNew { label, size, owner } => write!(text, "ptrnew {} {size} {owner}", label.0),
+        Line::Free(label) => write!(text, "free {}", label.0),
+        Line::SetOwner { label, owner } => write!(text, "setowner {} {owner}", label.0),
+        Line::Lock(label) => write!(text, "lock {}", label.0),
+        Line::Unlock(label) => write!(text, "unlock {}", label.0),
+        Line::Size(label) => write!(text, "size {}", label.0),
+        Line::Owner(label) => write!(text, "owner {}", label.0),
+        Line::Locks(label) => write!(text, "locks {}", label.0),
+        Line::Read { label, at, count } => write!(text, "read {} {at} {count}", label.0),
         Line::Write { label, at, bytes } => {
-            let label = label.0;
-            write!(text, "write {label} {at} ")?;
+            write!(text, "write {} {at} ", label.0)?;
             put_bytes(text, bytes)
         }
         Line::Set {
@@ -75,17 +41,13 @@ fn put_line(text: &mut String, line: &Line) -> Result<(), AllocError> {
             at,
             count,
             byte,
-        } => {
-            let label = label.0;
-            write!(text, "set {label} {at} {count} {byte}")
-        }
+        } => write!(text, "set {} {at} {count} {byte}", label.0),
         Line::StrCopy {
             label,
             at,
             text: copied,
         } => {
-            let label = label.0;
-            write!(text, "strcopy {label} {at} ")?;
+            write!(text, "strcopy {} {at} ", label.0)?;
             put_bytes(text, copied)
         }
         Line::FreeByOwner(owner) => write!(text, "freeowner {owner}"),
