@@ -62,7 +62,7 @@ pub(crate) fn run_from<M: Memory, W: Write>(
     ensures memory { result ≡ Err RunFault.OutOfMemory
         → (heap.new ≡ heap.old) × (out.new ≡ out.old) }
 {
-    let Ok(mut names) = unbound_names(memory, script.chunk_labels()) else {
+    let Ok(mut names) = unbound_names(memory, script.chunk_label_count()) else {
         return Err(RunFault::OutOfMemory);
     };
     let names = names.as_mut_slice();

@@ -13,7 +13,8 @@ use std::marker::Model;
 #[derive(Clone, Copy, Debug, PartialEq, Eq)]
 pub struct ChunkLabel(pub usize);
 
-/// A line of a script: one call, on the chunk that its label stands for.
+/// A line of a script: one call, on the chunk that its label stands for. Sizes and counts are in
+/// bytes, without a chunk's header; `at` is an offset in bytes from the body's start.
 #[derive(Drop)]
 pub enum Line {
     /// Has the label stand for a name.
@@ -95,7 +96,7 @@ impl Line {
 #[derive(Drop)]
 pub struct Script {
     lines: Vec<Line>,
-    chunk_labels: usize,
+    chunk_label_count: usize,
 }
 
 impl Model for Script {
@@ -107,7 +108,7 @@ impl Model for Script {
 
     ghost view = { λ script. script.lines.items };
 
-    ghost invariant = { λ script. script.chunk_labels ≡ label_count script.lines.items };
+    ghost invariant = { λ script. script.chunk_label_count ≡ label_count script.lines.items };
 }
 
 impl Script {
@@ -117,7 +118,7 @@ impl Script {
     {
         Script {
             lines: Vec::new(alloc),
-            chunk_labels: 0,
+            chunk_label_count: 0,
         }
     }
 
@@ -131,7 +132,7 @@ impl Script {
         memory.grant()?;
         match self.lines.push(line) {
             Ok(()) => {
-                self.chunk_labels = self.chunk_labels.max(end);
+                self.chunk_label_count = self.chunk_label_count.max(end);
                 Ok(())
             }
             Err(_) => Err(AllocError),
@@ -146,10 +147,10 @@ impl Script {
     }
 
     /// How many labels there are, which is one more than the greatest label of a line.
-    pub fn chunk_labels(&self) -> usize
+    pub fn chunk_label_count(&self) -> usize
         ensures count { result ≡ label_count self.now }
         ensures below { HasLabelsBelow result self.now }
     {
-        self.chunk_labels
+        self.chunk_label_count
     }
 }

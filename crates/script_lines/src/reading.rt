@@ -4,10 +4,10 @@ ghost use Rattle.std.specs.Prelude.{◌≡◌, ◌≢◌, ◌<◌, length, IfOk,
 ghost use Rattle.script_lines.specs.Reading as reading;
 ghost use Rattle.script_lines.specs.Reading.{HasLine, line_behind, line_read, read_behind};
 ghost use Rattle.script_lines.specs.Reading.{read_script, words_in};
-ghost use Rattle.script_lines.specs.Views.{numbering, reading_of};
+ghost use Rattle.script_lines.specs.Views.{numbering, words_read};
 ghost use Rattle.script_lines.specs.Words.{words_of};
 
-use crate::command::{find_verb, kinds_of, make_line};
+use crate::command::{find_command, kinds_of, make_line};
 use crate::fault::{LineFault, ScriptFault};
 use crate::label::Labels;
 use crate::line::{Line, Script};
@@ -27,7 +27,7 @@ fn read_values<'a, M: Memory>(
     requires few { length kinds.now < 16 }
     requires whole { words_of words.now ≡ Ok (words_in words.now) }
     ensures ok { IfOk result (λ values. read_behind (numbering labels.old) kinds.now words.now
-        ≡ Ok (reading_of values labels.new)) }
+        ≡ Ok (words_read values labels.new)) }
     ensures err { IfErr result (λ fault. fault ≢ ScriptFault.OutOfMemory
         → read_behind (numbering labels.old) kinds.now words.now ≡ Err fault) }
 {
@@ -67,10 +67,10 @@ fn read_command<'a, M: Memory>(
     ensures err { IfErr result (λ fault. fault ≢ ScriptFault.OutOfMemory
         → line_behind (numbering labels.old) word.now words.now ≡ Err fault) }
 {
-    let Some(verb) = find_verb(word) else {
+    let Some(command) = find_command(word) else {
         return Err(ScriptFault::UnknownCommand);
     };
-    let kinds = kinds_of(verb);
+    let kinds = kinds_of(command);
     if kinds.len() != count {
         return Err(ScriptFault::WrongCount);
     }
@@ -78,10 +78,10 @@ fn read_command<'a, M: Memory>(
         Ok(values) => values,
         Err(fault) => return Err(fault),
     };
-    match make_line(verb, &values, bytes) {
-        Some(line) => Ok(line),
-        None => Err(ScriptFault::WrongCount),
-    }
+    let Some(line) = make_line(command, &values, bytes) else {
+        unreachable!();
+    };
+    Ok(line)
 }
 
 /// A line, read from its text; none, where it is passed over.

@@ -307,7 +307,7 @@ fn labels_are_counted(rt: HostRuntime) -> Result<(), Fail> {
     ];
     for (script, want) in cases {
         let count = match parse(rt.alloc(), script) {
-            Ok(script) => Some(script.chunk_labels()),
+            Ok(script) => Some(script.chunk_label_count()),
             Err(_) => None,
         };
         assert_eq!(rt; count, want);
@@ -388,7 +388,7 @@ fn long_scripts(rt: HostRuntime) -> Result<(), Fail> {
         writeln!(text, "new h{number} 8 1")?;
     }
     let count = match parse(rt.alloc(), text.as_bytes()) {
-        Ok(script) => script.chunk_labels(),
+        Ok(script) => script.chunk_label_count(),
         Err(_) => 0,
     };
     assert_eq!(rt; count, 100_000);

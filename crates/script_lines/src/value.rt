@@ -2,7 +2,7 @@
 
 ghost use Rattle.std.specs.Prelude.{◌≡◌, ◌++◌, ◌∷◌, [], false, true, IfOk, OnOk, MatchOption};
 ghost use Rattle.script_lines.specs.Kinds.{read_word};
-ghost use Rattle.script_lines.specs.Views.{Adds, reading_of};
+ghost use Rattle.script_lines.specs.Views.{Adds, words_read};
 
 use crate::label::Labels;
 use crate::line::ChunkLabel;
@@ -75,8 +75,8 @@ impl Values {
         labels: &mut Labels<'a>,
     ) -> Result<bool, AllocError>
         ensures { IfOk result (λ is_of_kind.
-            Adds (read_word (reading_of self.old labels.old) Kind.Chunk word.now)
-            is_of_kind (reading_of self.new labels.new)) }
+            Adds (read_word (words_read self.old labels.old) Kind.Chunk word.now)
+            is_of_kind (words_read self.new labels.new)) }
     {
         if !is_label(word) {
             return Ok(false);
@@ -126,8 +126,8 @@ impl Values {
         labels: &mut Labels<'a>,
     ) -> Result<bool, AllocError>
         ensures { IfOk result (λ is_of_kind.
-            Adds (read_word (reading_of self.old labels.old) kind word.now)
-            is_of_kind (reading_of self.new labels.new)) }
+            Adds (read_word (words_read self.old labels.old) kind word.now)
+            is_of_kind (words_read self.new labels.new)) }
     {
         match kind {
             Kind::Chunk => self.add_label(memory, word, labels),
