@@ -72,7 +72,7 @@ fn shown(alloc: Global, script: &[u8]) -> Result<String, AllocError> {
 
 #[test]
 fn commands(rt: HostRuntime) -> Result<(), Fail> {
-    let cases: [(&[u8], &str); 24] = [
+    let cases: [(&[u8], &str); 26] = [
         (b"bind a 16", "bind 0 16;"),
         (b"new a 8 1", "new 0 8 1;"),
         (b"ptrnew a 8 1", "ptrnew 0 8 1;"),
@@ -98,6 +98,8 @@ fn commands(rt: HostRuntime) -> Result<(), Fail> {
         (b"newa 8 1", "line 1 UnknownCommand"),
         (b"\"new\" a 8 1", "line 1 UnknownCommand"),
         (b"\"\"", "line 1 UnknownCommand"),
+        (b"frob \"a\"", "line 1 UnknownCommand"),
+        (b"\"#\"", "line 1 UnknownCommand"),
     ];
     for (script, want) in cases {
         assert_eq!(rt; shown(rt.alloc(), script)?.as_str(), want);
@@ -107,7 +109,7 @@ fn commands(rt: HostRuntime) -> Result<(), Fail> {
 
 #[test]
 fn numbers(rt: HostRuntime) -> Result<(), Fail> {
-    let cases: [(&[u8], &str); 28] = [
+    let cases: [(&[u8], &str); 32] = [
         (b"freeowner 0", "freeowner 0;"),
         (b"freeowner 255", "freeowner 255;"),
         (b"freeowner 256", "line 1 BadWord 2"),
@@ -136,6 +138,10 @@ fn numbers(rt: HostRuntime) -> Result<(), Fail> {
         (b"bind a \"1\"", "line 1 BadWord 3"),
         (b"bind a 1/", "line 1 BadWord 3"),
         (b"bind a 1:", "line 1 BadWord 3"),
+        (b"bind a 0000000001", "bind 0 1;"),
+        (b"bind a 00000000001", "line 1 BadWord 3"),
+        (b"bind a 0xfFfFfFfF", "bind 0 4294967295;"),
+        (b"read a 0 0x1G", "line 1 BadWord 4"),
     ];
     for (script, want) in cases {
         assert_eq!(rt; shown(rt.alloc(), script)?.as_str(), want);
@@ -145,9 +151,10 @@ fn numbers(rt: HostRuntime) -> Result<(), Fail> {
 
 #[test]
 fn labels(rt: HostRuntime) -> Result<(), Fail> {
-    let cases: [(&[u8], &str); 18] = [
+    let cases: [(&[u8], &str); 19] = [
         (b"free Z", "free 0;"),
         (b"free z_9A", "free 0;"),
+        (b"free a_1", "free 0;"),
         (b"free abcdefghijabcdefghijabcdefghijk", "free 0;"),
         (b"free abcdefghijabcdefghijabcdefghijkl", "line 1 BadWord 2"),
         (b"free 1a", "line 1 BadWord 2"),
@@ -183,7 +190,7 @@ fn labels(rt: HostRuntime) -> Result<(), Fail> {
 
 #[test]
 fn bytes_and_texts(rt: HostRuntime) -> Result<(), Fail> {
-    let cases: [(&[u8], &str); 27] = [
+    let cases: [(&[u8], &str); 28] = [
         (b"write a 0 -", "write 0 0 /;"),
         (b"write a 0 00fFa9", "write 0 0 /00ffa9;"),
         (b"write a 0 4", "line 1 BadWord 4"),
@@ -205,6 +212,7 @@ fn bytes_and_texts(rt: HostRuntime) -> Result<(), Fail> {
         (b"strcopy a 0 x:", "strcopy 0 0 /;"),
         (b"strcopy a 0 x:7E22", "strcopy 0 0 /7e22;"),
         (b"strcopy a 0 x:7", "line 1 BadWord 4"),
+        (b"strcopy a 0 x:7e2", "line 1 BadWord 4"),
         (b"strcopy a 0 x:7g", "line 1 BadWord 4"),
         (b"strcopy a 0 X:7e", "line 1 BadWord 4"),
         (b"strcopy a 0 x", "line 1 BadWord 4"),
@@ -219,19 +227,12 @@ fn bytes_and_texts(rt: HostRuntime) -> Result<(), Fail> {
 }
 
 #[test]
-fn words_and_lines(rt: HostRuntime) -> Result<(), Fail> {
-    let cases: [(&[u8], &str); 31] = [
+fn lines_and_their_ends(rt: HostRuntime) -> Result<(), Fail> {
+    let cases: [(&[u8], &str); 21] = [
         // no lines, and lines that are passed over
         (b"", ""),
         (b"\n", ""),
         (b"\n \t\n\t#\n#x\n  # \"\n#\"a\"b", ""),
-        // blanks in front, between and behind
-        (b" \tfree\t \ta \t", "free 0;"),
-        (b"free a\n", "free 0;"),
-        (b"free a\n\n", "free 0;"),
-        // a `#` behind the first word is a word
-        (b"free a #", "line 1 WrongCount"),
-        (b"free #", "line 1 BadWord 2"),
         // a carriage return in front of a line feed is dropped, one of them, and no other
         (b"free a\r\nsize a\r\n", "free 0;size 0;"),
         (b"\r\nfree a\r\n", "free 0;"),
@@ -241,7 +242,34 @@ fn words_and_lines(rt: HostRuntime) -> Result<(), Fail> {
         (b"freebytes\r", "line 1 UnknownCommand"),
         (b"free a\nfree a \r", "line 2 WrongCount"),
         (b"\r\r\n", "line 1 UnknownCommand"),
+        (b"#\r", ""),
+        (b" \r\n#\r\n", ""),
+        (b" \r", "line 1 UnknownCommand"),
+        (b"freebytes\n\r", "line 2 UnknownCommand"),
+        (b"\"a\"\r", "line 1 BadWord 1"),
         (b"fr\ree a", "line 1 UnknownCommand"),
+        // lines are counted over all of them
+        (b"\n# x\r\n\nfrob\nnew", "line 4 UnknownCommand"),
+        (b"free a\nnew a 8\nfrob", "line 2 WrongCount"),
+        (b"frob\n\"", "line 1 UnknownCommand"),
+        (b"free a\n\n\n\n\n\n\n\n\nread a 0 x", "line 10 BadWord 4"),
+    ];
+    for (script, want) in cases {
+        assert_eq!(rt; shown(rt.alloc(), script)?.as_str(), want);
+    }
+    Ok(())
+}
+
+#[test]
+fn words_and_their_quotes(rt: HostRuntime) -> Result<(), Fail> {
+    let cases: [(&[u8], &str); 19] = [
+        // blanks in front, between and behind
+        (b" \tfree\t \ta \t", "free 0;"),
+        (b"free a\n", "free 0;"),
+        (b"free a\n\n", "free 0;"),
+        // a `#` behind the first word is a word
+        (b"free a #", "line 1 WrongCount"),
+        (b"free #", "line 1 BadWord 2"),
         // a vertical tab or a zero byte is no blank
         (b"free\x0ba", "line 1 UnknownCommand"),
         (b"free a\x00", "line 1 BadWord 2"),
@@ -255,10 +283,10 @@ fn words_and_lines(rt: HostRuntime) -> Result<(), Fail> {
         (b"strcopy a 0 \"a\"\r\n", "strcopy 0 0 /61;"),
         (b"strcopy a 0 \"a\"\r", "line 1 BadWord 4"),
         (b"strcopy a 0 \"a\nb\"", "line 1 BadWord 4"),
-        // lines are counted over all of them
-        (b"\n# x\r\n\nfrob\nnew", "line 4 UnknownCommand"),
-        (b"free a\nnew a 8\nfrob", "line 2 WrongCount"),
-        (b"free a\n\n\n\n\n\n\n\n\nread a 0 x", "line 10 BadWord 4"),
+        // a quote inside a word is a character like others
+        (b"strcopy a 0 a\"b c\"", "line 1 WrongCount"),
+        (b"strcopy a 0 a\"b\"c", "line 1 BadWord 4"),
+        (b"free\" a", "line 1 UnknownCommand"),
     ];
     for (script, want) in cases {
         assert_eq!(rt; shown(rt.alloc(), script)?.as_str(), want);
@@ -268,13 +296,14 @@ fn words_and_lines(rt: HostRuntime) -> Result<(), Fail> {
 
 #[test]
 fn the_first_fault_of_a_line(rt: HostRuntime) -> Result<(), Fail> {
-    let cases: [(&[u8], &str); 16] = [
+    let cases: [(&[u8], &str); 17] = [
         (b"frob", "line 1 UnknownCommand"),
         (b"new a 8", "line 1 WrongCount"),
         (b"read a 0 x", "line 1 BadWord 4"),
         // a broken word comes before all else, wherever it stands
         (b"\"frob", "line 1 BadWord 1"),
         (b"\"frob\"x a", "line 1 BadWord 1"),
+        (b"\"#", "line 1 BadWord 1"),
         (b"frob \"", "line 1 BadWord 2"),
         (b"free a b c \"d", "line 1 BadWord 5"),
         (b"free 1 \"d\"e \"f", "line 1 BadWord 3"),
