@@ -1,5 +1,6 @@
 //! Scripts by their text: the spellings of each kind at their limits, each command's line, line and
-//! word numbers, and the order of faults. The expected values are those of the format's own words.
+//! word numbers, and the order of faults; and memory that is refused. The expected values are those of
+//! the format's own words.
 
 use super::*;
 use crate::reading::parse_from;
