@@ -11,7 +11,7 @@ use script_lines::{ChunkLabel, Line};
 pub(crate) fn name_of(names: &[Name], label: ChunkLabel) -> Name
     ensures { result ≡ table names.now label.0 }
 {
-    match names.get(label.0 as usize) {
+    match names.get(label.0) {
         Some(name) => *name,
         None => Name(0),
     }
@@ -47,5 +47,5 @@ fn bind_label(names: &mut [Name], label: ChunkLabel, name: Name)
     requires { label.0 < length names.old }
     ensures { table names.new ≡ bind (table names.old) label.0 name }
 {
-    names[label.0 as usize] = name;
+    names[label.0] = name;
 }

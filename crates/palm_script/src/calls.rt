@@ -6,10 +6,10 @@ ghost use Rattle.heap_model.specs.MemorySteps.{Does};
 ghost use Rattle.heap_model.specs.declared.call.Call.{Call};
 ghost use Rattle.palm_script.specs.Calls.{is_there};
 
-use crate::memory::Memory;
 use crate::replies::{done, locked, named, number, small_number};
 use heap_model::{Bytes, Call, MemoryCall, Name, Refusal, Reply};
 use mem_manager::Heap;
+use script_lines::Memory;
 use std::alloc::{AllocError, Global};
 
 /// Does one call and answers its reply. Memory is taken for the bytes that `read` answers alone;

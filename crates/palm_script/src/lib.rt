@@ -11,13 +11,11 @@
 //! | `lines` | one line: its call, what it binds, its reply line |
 //! | `replies` | what a manager answers, as a reply; and reply lines |
 //! | `runs` | the lines of a script |
-//! | `memory` | where memory comes from |
 #![tactic(auto)]
 
 mod bindings;
 mod calls;
 mod lines;
-mod memory;
 mod replies;
 mod runs;
 #[cfg(test)]

@@ -4,10 +4,9 @@ ghost use Rattle.std.specs.Prelude.{◌≡◌, [], Err, IfOk, OnOk, replicate};
 ghost use Rattle.palm_script.specs.Lines.{BreaksOff, RunsThrough, no_name};
 
 use crate::lines::do_line;
-use crate::memory::Memory;
 use heap_model::{Bytes, Counted, Name};
 use mem_manager::Heap;
-use script_lines::Script;
+use script_lines::{Memory, Script};
 use std::alloc::{AllocError, Global};
 use std::io::Write;
 use thiserror::Error;
@@ -63,7 +62,7 @@ pub(crate) fn run_from<M: Memory, W: Write>(
     ensures memory { result ≡ Err RunFault.OutOfMemory
         → (heap.new ≡ heap.old) × (out.new ≡ out.old) }
 {
-    let Ok(mut names) = unbound_names(memory, script.chunk_labels()) else {
+    let Ok(mut names) = unbound_names(memory, script.chunk_label_count()) else {
         return Err(RunFault::OutOfMemory);
     };
     let names = names.as_mut_slice();
@@ -77,8 +76,8 @@ pub(crate) fn run_from<M: Memory, W: Write>(
 }
 
 /// A table of so many labels, none of them bound.
-fn unbound_names<M: Memory>(memory: &M, count: u32) -> Result<Vec<Name>, AllocError>
+fn unbound_names<M: Memory>(memory: &M, count: usize) -> Result<Vec<Name>, AllocError>
     ensures { IfOk result (λ names. names.items ≡ replicate count no_name) }
 {
-    vec![in memory.grant()?; Name(0); count as usize]
+    vec![in memory.grant()?; Name(0); count]
 }

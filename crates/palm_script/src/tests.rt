@@ -1,12 +1,11 @@
 //! Memory that is refused, calls that are done one by one, and a reply line that breaks off.
 
 use crate::calls::{do_call, read};
-use crate::memory::Memory;
 use crate::runs::{RunFault, run, run_from};
 use heap_model::{Bytes, Call, Counted, MemoryCall, Name, Place, Reply};
 use mem_manager::Heap;
 use raw_region::Region;
-use script_lines::parse;
+use script_lines::{Memory, parse};
 use std::alloc::{AllocError, Global};
 use std::cell::Cell;
 use std::test::Fail;
@@ -33,6 +32,10 @@ impl Drop for Scarce {
 }
 
 impl Memory for Scarce {
+    fn allocator(&self) -> Global {
+        self.alloc
+    }
+
     fn grant(&self) -> Result<Global, AllocError> {
         let left = self.left.get();
         if left == 0 {

@@ -4,3 +4,4 @@ pub mod LineLaws
 pub mod NumberingLaws
 pub mod NumberLaws
 pub mod ReadingLaws
+pub mod CommandLaws

@@ -1,6 +1,6 @@
 -- Laws on the reading of lines and of scripts.
-use Rattle.std.proofs.Common.{◌≡◌, ◌+◌, ◌<◌, ◌≤◌, ℕ, List, [], ◌∷◌, ◌++◌, length, drop, get_or, false, refl, sym, ap, ◌∙◌, arith, drop-cons, add-one}
-use Rattle.std.specs.Prelude.{Some, None, Result, Ok, Err}
+use Rattle.std.proofs.Common.{◌≡◌, ◌+◌, ◌<◌, ◌≤◌, ℕ, List, [], ◌∷◌, ◌++◌, length, drop, get_or, Bool, true, false, refl, sym, ap, ◌∙◌, arith, drop-cons, add-one}
+use Rattle.std.specs.Prelude.{Option, Some, None, Result, Ok, Err}
 use Rattle.std.specs.Result.{result_unwrap_or}
 use Rattle.std.specs.Option.{option_to_list}
 use Rattle.std.specs.Str.Lines.{lines}
@@ -13,7 +13,8 @@ use Rattle.script_lines.specs.declared.text.WordCut.TheVariants.{Absent, Broken,
 use Rattle.script_lines.specs.declared.value.Kind.{Kind}
 use Rattle.script_lines.specs.Words.{is_passed_over, words_of, with_word, word_count}
 use Rattle.script_lines.specs.Cuts.{CutsWord}
-use Rattle.script_lines.specs.Kinds.{Reading, read_word, read_words}
+use Rattle.script_lines.specs.Kinds.{WordsRead, read_word, read_words}
+use Rattle.script_lines.specs.Views.{Adds}
 use Rattle.script_lines.specs.Numbering.{Numbering, no_labels}
 use Rattle.script_lines.specs.Reading.{HasLine, LineRead, read_lines, read_script, unless_faulty, words_in, line_unless_broken, line_of_words, read_line}
 
@@ -36,14 +37,23 @@ no_word text Broken cut other whole = cc (cut.0, whole)
 no_word text (Word word rest) cut other whole = absurd (other word rest refl)
 
 -- one word more
-pub read_more : (number : ℕ) (reading after : Reading) (kinds : List Kind) (i : ℕ) (kind : Kind) (word : List ℕ) (words : List (List ℕ)) → i < length kinds → read_word reading (get_or kinds i kind) word ≡ Some after → read_words number reading (drop i kinds) (word ∷ words) ≡ read_words (number + 1) after (drop (i + 1) kinds) words
-read_more number reading after kinds i kind word words within of_kind = rw (drop-cons kinds i kind within, of_kind, add-one i) refl
+pub read_more : (number : ℕ) (read after : WordsRead) (kinds : List Kind) (i : ℕ) (kind : Kind) (word : List ℕ) (words : List (List ℕ)) → i < length kinds → read_word read (get_or kinds i kind) word ≡ Some after → read_words number read (drop i kinds) (word ∷ words) ≡ read_words (number + 1) after (drop (i + 1) kinds) words
+read_more number read after kinds i kind word words within of_kind = rw (drop-cons kinds i kind within, of_kind, add-one i) refl
 
-pub read_bad : (number : ℕ) (reading : Reading) (kinds : List Kind) (i : ℕ) (kind : Kind) (word : List ℕ) (words : List (List ℕ)) → i < length kinds → read_word reading (get_or kinds i kind) word ≡ None → read_words number reading (drop i kinds) (word ∷ words) ≡ Err (BadWord number)
-read_bad number reading kinds i kind word words within bad = rw (drop-cons kinds i kind within, bad) refl
+pub read_bad : (number : ℕ) (read : WordsRead) (kinds : List Kind) (i : ℕ) (kind : Kind) (word : List ℕ) (words : List (List ℕ)) → i < length kinds → read_word read (get_or kinds i kind) word ≡ None → read_words number read (drop i kinds) (word ∷ words) ≡ Err (BadWord number)
+read_bad number read kinds i kind word words within bad = rw (drop-cons kinds i kind within, bad) refl
 
-pub read_short : (number : ℕ) (reading : Reading) (kinds : List Kind) (i : ℕ) (kind : Kind) → i < length kinds → read_words number reading (drop i kinds) [] ≡ Err WrongCount
-read_short number reading kinds i kind within = rw (drop-cons kinds i kind within) refl
+-- a word that wasn't added isn't of its kind, and one that was is read
+pub not_added : (read : Option WordsRead) (is_of_kind : Bool) (new : WordsRead) → Adds read is_of_kind new → is_of_kind ≡ false → read ≡ None
+not_added None is_of_kind new adds is = refl
+not_added (Some after) is_of_kind new adds is = cc
+
+pub added : (read : Option WordsRead) (is_of_kind : Bool) (new : WordsRead) → Adds read is_of_kind new → is_of_kind ≡ true → read ≡ Some new
+added None is_of_kind new adds is = cc
+added (Some after) is_of_kind new adds is = ap Some (sym adds.1)
+
+pub read_short : (number : ℕ) (read : WordsRead) (kinds : List Kind) (i : ℕ) (kind : Kind) → i < length kinds → read_words number read (drop i kinds) [] ≡ Err WrongCount
+read_short number read kinds i kind within = rw (drop-cons kinds i kind within) refl
 
 line_at : (labels : Numbering) (word : List ℕ) (count : ℕ) (behind : Result (List (List ℕ)) ℕ) → Ok count ≡ word_count (with_word word behind) → line_unless_broken labels (with_word word behind) ≡ line_of_words labels (word ∷ result_unwrap_or behind [])
 line_at labels word count (Ok more) counted = refl

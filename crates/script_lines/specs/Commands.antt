@@ -5,15 +5,15 @@ use Rattle.std.specs.List.{find}
 use Rattle.std.specs.Str.{bytes_eq}
 use Rattle.script_lines.specs.declared.line.Line.{Line}
 use Rattle.script_lines.specs.declared.line.Line.TheVariants as lines
-use Rattle.script_lines.specs.declared.command.Verb.{Verb}
-use Rattle.script_lines.specs.declared.command.Verb.TheVariants.{Bind, New, PtrNew, Free, SetOwner, Lock, Unlock, Size, Owner, Locks, Read, Write, Set, StrCopy, FreeByOwner, FreeBytes}
+use Rattle.script_lines.specs.declared.command.Command.{Command}
+use Rattle.script_lines.specs.declared.command.Command.TheVariants.{Bind, New, PtrNew, Free, SetOwner, Lock, Unlock, Size, Owner, Locks, Read, Write, Set, StrCopy, FreeByOwner, FreeBytes}
 use Rattle.script_lines.specs.declared.value.Kind.{Kind}
 use Rattle.script_lines.specs.declared.value.Kind.TheVariants as kinds
 use Rattle.script_lines.specs.declared.value.Kind.TheVariants.{Chunk}
 use Rattle.script_lines.specs.declared.value.Value.{Value}
 use Rattle.script_lines.specs.declared.value.Value.TheVariants.{Label, Byte, Number}
 
-abbrev pub word_of : Verb → List ℕ
+abbrev pub word_of : Command → List ℕ
 word_of Bind = codes "bind"
 word_of New = codes "new"
 word_of PtrNew = codes "ptrnew"
@@ -31,7 +31,7 @@ word_of StrCopy = codes "strcopy"
 word_of FreeByOwner = codes "freeowner"
 word_of FreeBytes = codes "freebytes"
 
-abbrev pub kinds_of : Verb → List Kind
+abbrev pub kinds_of : Command → List Kind
 kinds_of Bind = Chunk ∷ kinds.Number ∷ []
 kinds_of New = Chunk ∷ kinds.Number ∷ kinds.Byte ∷ []
 kinds_of PtrNew = Chunk ∷ kinds.Number ∷ kinds.Byte ∷ []
@@ -50,7 +50,7 @@ kinds_of FreeByOwner = kinds.Byte ∷ []
 kinds_of FreeBytes = []
 
 -- the line of a command, the values of its words, and the bytes of its word of bytes or text
-abbrev pub line_of : Verb → List Value → List ℕ → Option Line
+abbrev pub line_of : Command → List Value → List ℕ → Option Line
 line_of Bind (Label label ∷ Number name ∷ []) bytes = Some (lines.Bind label name)
 line_of New (Label label ∷ Number size ∷ Byte owner ∷ []) bytes = Some (lines.New label size owner)
 line_of PtrNew (Label label ∷ Number size ∷ Byte owner ∷ []) bytes = Some (lines.PtrNew label size owner)
@@ -67,12 +67,12 @@ line_of Set (Label label ∷ Number at ∷ Number count ∷ Byte byte ∷ []) by
 line_of StrCopy (Label label ∷ Number at ∷ []) bytes = Some (lines.StrCopy label at bytes)
 line_of FreeByOwner (Byte owner ∷ []) bytes = Some (lines.FreeByOwner owner)
 line_of FreeBytes [] bytes = Some lines.FreeBytes
-line_of verb values bytes = None
+line_of command values bytes = None
 
 -- every command
-abbrev pub verbs : List Verb
-verbs = Bind ∷ New ∷ PtrNew ∷ Free ∷ SetOwner ∷ Lock ∷ Unlock ∷ Size ∷ Owner ∷ Locks ∷ Read ∷ Write ∷ Set ∷ StrCopy ∷ FreeByOwner ∷ FreeBytes ∷ []
+abbrev pub commands : List Command
+commands = Bind ∷ New ∷ PtrNew ∷ Free ∷ SetOwner ∷ Lock ∷ Unlock ∷ Size ∷ Owner ∷ Locks ∷ Read ∷ Write ∷ Set ∷ StrCopy ∷ FreeByOwner ∷ FreeBytes ∷ []
 
 -- the command of a word
-abbrev pub verb_of : List ℕ → Option Verb
-verb_of word = find (λ verb. bytes_eq (word_of verb) word) verbs
+abbrev pub command_of : List ℕ → Option Command
+command_of word = find (λ command. bytes_eq (word_of command) word) commands

@@ -12,51 +12,51 @@ use Rattle.script_lines.specs.Spellings.{is_label, number_below, spelled_bytes, 
 
 -- what was read of a line so far: the values of its words; the bytes of its word of bytes or text,
 -- of which no line has two; and the labels that have appeared in the script
-pub record Reading : Type 0 where
+pub record WordsRead : Type 0 where
   pub values : List Value
   pub bytes : List ℕ
   pub labels : Numbering
 
 -- the same with a value more
-abbrev pub with_value : Reading → Value → Reading
-with_value reading value = record {
-  values = reading.values ++ value ∷ [];
-  bytes = reading.bytes;
-  labels = reading.labels;
+abbrev pub with_value : WordsRead → Value → WordsRead
+with_value read value = record {
+  values = read.values ++ value ∷ [];
+  bytes = read.bytes;
+  labels = read.labels;
 }
 
 -- the same with its bytes
-abbrev pub with_bytes : Reading → List ℕ → Reading
-with_bytes reading bytes = record {
-  values = reading.values;
+abbrev pub with_bytes : WordsRead → List ℕ → WordsRead
+with_bytes read bytes = record {
+  values = read.values;
   bytes = bytes;
-  labels = reading.labels;
+  labels = read.labels;
 }
 
 -- the same with a label more
-abbrev pub with_chunk : Reading → List ℕ → Reading
-with_chunk reading word = record {
-  values = reading.values ++ Label (record { 0 = label_number reading.labels word }) ∷ [];
-  bytes = reading.bytes;
-  labels = with_label reading.labels word;
+abbrev pub with_chunk : WordsRead → List ℕ → WordsRead
+with_chunk read word = record {
+  values = read.values ++ Label (record { 0 = label_number read.labels word }) ∷ [];
+  bytes = read.bytes;
+  labels = with_label read.labels word;
 }
 
 -- the same with a word more, if that is of its kind
-abbrev pub read_word : Reading → Kind → List ℕ → Option Reading
-read_word reading Chunk word = if is_label word then Some (with_chunk reading word) else None
-read_word reading Byte word =
-    option_map (λ byte. with_value reading (ByteValue byte)) (number_below (2 ^ 8) word)
-read_word reading Number word =
-    option_map (λ number. with_value reading (NumberValue number)) (number_below (2 ^ 32) word)
-read_word reading Bytes word = option_map (with_bytes reading) (spelled_bytes word)
-read_word reading Text word = option_map (with_bytes reading) (spelled_text word)
+abbrev pub read_word : WordsRead → Kind → List ℕ → Option WordsRead
+read_word read Chunk word = if is_label word then Some (with_chunk read word) else None
+read_word read Byte word =
+    option_map (λ byte. with_value read (ByteValue byte)) (number_below (2 ^ 8) word)
+read_word read Number word =
+    option_map (λ number. with_value read (NumberValue number)) (number_below (2 ^ 32) word)
+read_word read Bytes word = option_map (with_bytes read) (spelled_bytes word)
+read_word read Text word = option_map (with_bytes read) (spelled_text word)
 
 -- the same with some words more, the first of them word `number` of its line; the first that isn't of
 -- its kind is the fault
-abbrev pub read_words : ℕ → Reading → List Kind → List (List ℕ) → Result Reading ScriptFault
-read_words number reading [] words = Ok reading
-read_words number reading (kind ∷ kinds) [] = Err WrongCount
-read_words number reading (kind ∷ kinds) (word ∷ words) =
+abbrev pub read_words : ℕ → WordsRead → List Kind → List (List ℕ) → Result WordsRead ScriptFault
+read_words number read [] words = Ok read
+read_words number read (kind ∷ kinds) [] = Err WrongCount
+read_words number read (kind ∷ kinds) (word ∷ words) =
     option_map_or (λ after. read_words (number + 1) after kinds words)
-    (read_word reading kind word)
+    (read_word read kind word)
     (Err (BadWord number))

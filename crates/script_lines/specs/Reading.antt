@@ -7,12 +7,12 @@ use Rattle.script_lines.specs.declared.fault.LineFault.{LineFault}
 use Rattle.script_lines.specs.declared.fault.ScriptFault.{ScriptFault}
 use Rattle.script_lines.specs.declared.fault.ScriptFault.TheVariants.{UnknownCommand, WrongCount, BadWord}
 use Rattle.script_lines.specs.declared.line.Line.{Line}
-use Rattle.script_lines.specs.declared.command.Verb.{Verb}
+use Rattle.script_lines.specs.declared.command.Command.{Command}
 use Rattle.script_lines.specs.declared.value.Kind.{Kind}
 use Rattle.script_lines.specs.Numbering.{Numbering, no_labels}
 use Rattle.script_lines.specs.Words.{is_passed_over, words_of}
-use Rattle.script_lines.specs.Kinds.{Reading, read_words}
-use Rattle.script_lines.specs.Commands.{kinds_of, line_of, verb_of}
+use Rattle.script_lines.specs.Kinds.{WordsRead, read_words}
+use Rattle.script_lines.specs.Commands.{kinds_of, line_of, command_of}
 
 -- what a line is: none, where it is passed over; and the labels that have appeared up to its end
 pub record LineRead : Type 0 where
@@ -23,29 +23,29 @@ abbrev pub line_read : Option Line → Numbering → LineRead
 line_read line labels = record { line = line; labels = labels }
 
 -- nothing of a line yet
-abbrev pub none_read : Numbering → Reading
+abbrev pub none_read : Numbering → WordsRead
 none_read labels = record { values = []; bytes = []; labels = labels }
 
 -- the line of a command and what its words stand for
-abbrev pub made_line : Verb → Result Reading ScriptFault → Result LineRead ScriptFault
-made_line verb (Err fault) = Err fault
-made_line verb (Ok reading) =
-    option_map_or (λ line. Ok (line_read (Some line) reading.labels))
-    (line_of verb reading.values reading.bytes)
+abbrev pub made_line : Command → Result WordsRead ScriptFault → Result LineRead ScriptFault
+made_line command (Err fault) = Err fault
+made_line command (Ok read) =
+    option_map_or (λ line. Ok (line_read (Some line) read.labels))
+    (line_of command read.values read.bytes)
     (Err WrongCount)
 
 -- the line of a command and the words behind it, of which there are as many as the command takes
-abbrev pub read_command : Numbering → Verb → List (List ℕ) → Result LineRead ScriptFault
-read_command labels verb words =
-    if length (kinds_of verb) == length words then
-    made_line verb (read_words 2 (none_read labels) (kinds_of verb) words)
+abbrev pub read_command : Numbering → Command → List (List ℕ) → Result LineRead ScriptFault
+read_command labels command words =
+    if length (kinds_of command) == length words then
+    made_line command (read_words 2 (none_read labels) (kinds_of command) words)
     else Err WrongCount
 
 -- the line of some words, the first of which is a command's
 abbrev pub line_of_words : Numbering → List (List ℕ) → Result LineRead ScriptFault
 line_of_words labels [] = Ok (line_read None labels)
 line_of_words labels (word ∷ words) =
-    option_map_or (λ verb. read_command labels verb words) (verb_of word) (Err UnknownCommand)
+    option_map_or (λ command. read_command labels command words) (command_of word) (Err UnknownCommand)
 
 -- the same, where there may be a broken word, which is the line's first fault
 abbrev pub line_unless_broken : Numbering → Result (List (List ℕ)) ℕ → Result LineRead ScriptFault
@@ -84,7 +84,7 @@ abbrev pub words_in : List ℕ → List (List ℕ)
 words_in text = result_unwrap_or (words_of text) []
 
 -- what the words of a text behind a command stand for
-abbrev pub read_behind : Numbering → List Kind → List ℕ → Result Reading ScriptFault
+abbrev pub read_behind : Numbering → List Kind → List ℕ → Result WordsRead ScriptFault
 read_behind labels kinds text = read_words 2 (none_read labels) kinds (words_in text)
 
 -- the line of a first word and the text behind it

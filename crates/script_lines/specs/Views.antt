@@ -6,7 +6,7 @@ use Rattle.std.specs.Ordering.{nat_cmp}
 use Rattle.script_lines.specs.declared.label.Labels.{Labels}
 use Rattle.script_lines.specs.declared.value.Values.{Values}
 use Rattle.script_lines.specs.Numbering.{Numbering}
-use Rattle.script_lines.specs.Kinds.{Reading}
+use Rattle.script_lines.specs.Kinds.{WordsRead}
 
 -- the numbers that a table of labels has
 abbrev pub numbering : Labels → Numbering
@@ -16,10 +16,10 @@ numbering labels = record {
 }
 
 -- what the values of a line's words say, with the labels
-abbrev pub reading_of : Values → Labels → Reading
-reading_of values labels = record { values = values.values.items; bytes = values.bytes; labels = numbering labels }
+abbrev pub words_read : Values → Labels → WordsRead
+words_read values labels = record { values = values.values.items; bytes = values.bytes; labels = numbering labels }
 
--- what came of a word that was to be added: a reading, if the word is of its kind
-abbrev pub Adds : Option Reading → Bool → Reading → Type 0
+-- what came of a word that was to be added: the words read, if it is of its kind
+abbrev pub Adds : Option WordsRead → Bool → WordsRead → Type 0
 Adds None is_of_kind new = is_of_kind ≡ false
 Adds (Some after) is_of_kind new = (is_of_kind ≡ true) × (new ≡ after)

@@ -14,7 +14,7 @@ pub enum ScriptFault {
     /// The word of this number, counted from 1 with the command, is a quoted word that isn't closed
     /// or has something behind its closing quote, or isn't of the kind that the command takes.
     #[error("BadWord {0}")]
-    BadWord(u32),
+    BadWord(usize),
     /// Memory was refused.
     #[error("OutOfMemory")]
     OutOfMemory,
@@ -25,6 +25,6 @@ pub enum ScriptFault {
 #[derive(Clone, Copy, Debug, PartialEq, Eq, Error)]
 #[error("line {line} {fault}")]
 pub struct LineFault {
-    pub line: u32,
+    pub line: usize,
     pub fault: ScriptFault,
 }

@@ -5,13 +5,14 @@ ghost use Rattle.script_lines.specs.Numbering.{no_labels, label_number, with_lab
 ghost use Rattle.script_lines.specs.Views.{numbering};
 
 use crate::line::ChunkLabel;
+use crate::memory::Memory;
 use std::alloc::{AllocError, Global};
 use std::collections::BTreeMap;
 
 /// The labels that have appeared, each with its number.
 #[derive(Drop)]
 pub(crate) struct Labels<'a> {
-    numbers: BTreeMap<&'a [u8], u32>,
+    numbers: BTreeMap<&'a [u8], usize>,
 }
 
 impl<'a> Labels<'a> {
@@ -24,9 +25,12 @@ impl<'a> Labels<'a> {
         }
     }
 
-    /// The label that a word spells. A label that hasn't appeared takes the next number; beyond
-    /// `u32::MAX` labels there is none.
-    pub fn number(&mut self, word: &'a [u8]) -> Result<ChunkLabel, AllocError>
+    /// The label that a word spells. A label that hasn't appeared takes the next number.
+    pub fn number<M: Memory>(
+        &mut self,
+        memory: &M,
+        word: &'a [u8],
+    ) -> Result<ChunkLabel, AllocError>
         ensures number { IfOk result (λ label.
             label.0 ≡ label_number (numbering self.old) word.now) }
         ensures labels { OnOk result
@@ -35,9 +39,8 @@ impl<'a> Labels<'a> {
         if let Some(number) = self.numbers.get(&word) {
             return Ok(ChunkLabel(*number));
         }
-        let Ok(number) = u32::try_from(self.numbers.len()) else {
-            return Err(AllocError);
-        };
+        memory.grant()?;
+        let number = self.numbers.len();
         match self.numbers.insert(word, number) {
             Ok(_) => Ok(ChunkLabel(number)),
             Err(_) => Err(AllocError),

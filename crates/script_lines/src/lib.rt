@@ -1,15 +1,18 @@
 //! The lines of scripts: what a line is, and how a script is read from its text.
 //!
 //! `specs/Reading.antt` says what a text reads as, line for line: start there. `Words` says how a
-//! line is cut into words, `Spellings` what a word of each kind stands for, `Commands` which words a
-//! command takes, a row for each in three tables, and `Numbering` which number a label has.
+//! line is cut into words, `Spellings` how a word of each kind is spelled, `Kinds` what the words of a
+//! line stand for, `Commands` the word of each command, the kinds of the words behind it and the line
+//! that they make, a row for each in three tables, and `Numbering` which number a label has.
 //! `parse` answers that script or its first faulty line, and nothing else unless memory is refused.
+//! Each growth asks a `Memory` first.
 #![tactic(auto)]
 
 mod command;
 mod fault;
 mod label;
 mod line;
+mod memory;
 mod reading;
 mod spelling;
 mod text;
@@ -17,6 +20,7 @@ mod value;
 
 pub use fault::{LineFault, ScriptFault};
 pub use line::{ChunkLabel, Line, Script};
+pub use memory::Memory;
 pub use reading::parse;
 
 #[cfg(test)]

@@ -3,6 +3,7 @@
 ghost use Rattle.std.specs.Prelude.{◌≡◌, ◌++◌, ◌∷◌, [], OnOk, IfSome};
 ghost use Rattle.script_lines.specs.Labels.{HasLabelsBelow, label_count, label_end};
 
+use crate::memory::Memory;
 use heap_model::Bytes;
 use std::alloc::{AllocError, Global};
 use std::marker::Model;
@@ -10,9 +11,10 @@ use std::marker::Model;
 /// A label of a script by its number: labels are numbered from 0 in the order in which they first
 /// appear.
 #[derive(Clone, Copy, Debug, PartialEq, Eq)]
-pub struct ChunkLabel(pub u32);
+pub struct ChunkLabel(pub usize);
 
-/// A line of a script: one call, on the chunk that its label stands for.
+/// A line of a script: one call, on the chunk that its label stands for. Sizes and counts are in
+/// bytes, without a chunk's header; `at` is an offset in bytes from the body's start.
 #[derive(Drop)]
 pub enum Line {
     /// Has the label stand for a name.
@@ -67,7 +69,7 @@ pub enum Line {
 
 impl Line {
     /// One more than the number of the line's label, and 0 where it has none.
-    fn label_end(&self) -> Option<u32>
+    fn label_end(&self) -> Option<usize>
         ensures { IfSome result (λ end. end ≡ label_end self.now) }
     {
         match self {
@@ -94,7 +96,7 @@ impl Line {
 #[derive(Drop)]
 pub struct Script {
     lines: Vec<Line>,
-    chunk_labels: u32,
+    chunk_label_count: usize,
 }
 
 impl Model for Script {
@@ -106,7 +108,7 @@ impl Model for Script {
 
     ghost view = { λ script. script.lines.items };
 
-    ghost invariant = { λ script. script.chunk_labels ≡ label_count script.lines.items };
+    ghost invariant = { λ script. script.chunk_label_count ≡ label_count script.lines.items };
 }
 
 impl Script {
@@ -116,20 +118,21 @@ impl Script {
     {
         Script {
             lines: Vec::new(alloc),
-            chunk_labels: 0,
+            chunk_label_count: 0,
         }
     }
 
-    /// Puts a line behind the others. There is no script with the label `u32::MAX`.
-    pub(crate) fn push(&mut self, line: Line) -> Result<(), AllocError>
+    /// Puts a line behind the others. There is no script with the label `usize::MAX`.
+    pub(crate) fn push<M: Memory>(&mut self, memory: &M, line: Line) -> Result<(), AllocError>
         ensures ok { OnOk result (self.new ≡ self.old ++ (line ∷ [])) }
     {
         let Some(end) = line.label_end() else {
             return Err(AllocError);
         };
+        memory.grant()?;
         match self.lines.push(line) {
             Ok(()) => {
-                self.chunk_labels = self.chunk_labels.max(end);
+                self.chunk_label_count = self.chunk_label_count.max(end);
                 Ok(())
             }
             Err(_) => Err(AllocError),
@@ -144,10 +147,10 @@ impl Script {
     }
 
     /// How many labels there are, which is one more than the greatest label of a line.
-    pub fn chunk_labels(&self) -> u32
+    pub fn chunk_label_count(&self) -> usize
         ensures count { result ≡ label_count self.now }
         ensures below { HasLabelsBelow result self.now }
     {
-        self.chunk_labels
+        self.chunk_label_count
     }
 }

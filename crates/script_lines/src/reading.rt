@@ -1,24 +1,25 @@
 //! Scripts, read from their text.
 
-ghost use Rattle.std.specs.Prelude.{◌≡◌, ◌≢◌, ◌<◌, ◌^◌, length, IfOk, IfErr};
+ghost use Rattle.std.specs.Prelude.{◌≡◌, ◌≢◌, ◌<◌, length, IfOk, IfErr};
 ghost use Rattle.script_lines.specs.Reading as reading;
 ghost use Rattle.script_lines.specs.Reading.{HasLine, line_behind, line_read, read_behind};
 ghost use Rattle.script_lines.specs.Reading.{read_script, words_in};
-ghost use Rattle.script_lines.specs.Views.{numbering, reading_of};
+ghost use Rattle.script_lines.specs.Views.{numbering, words_read};
 ghost use Rattle.script_lines.specs.Words.{words_of};
 
-use crate::command::{find_verb, kinds_of, make_line};
+use crate::command::{find_command, kinds_of, make_line};
 use crate::fault::{LineFault, ScriptFault};
 use crate::label::Labels;
 use crate::line::{Line, Script};
+use crate::memory::Memory;
 use crate::text::{WordCut, count_words, cut_line, cut_word, is_passed_over};
 use crate::value::{Kind, Values};
 use std::alloc::Global;
 
 /// What the words of a text stand for, by kind, or the number of the first that isn't of its kind;
 /// the first of the text is word 2.
-fn read_values<'a>(
-    alloc: Global,
+fn read_values<'a, M: Memory>(
+    memory: &M,
     kinds: &[Kind],
     words: &'a [u8],
     labels: &mut Labels<'a>,
@@ -26,11 +27,11 @@ fn read_values<'a>(
     requires few { length kinds.now < 16 }
     requires whole { words_of words.now ≡ Ok (words_in words.now) }
     ensures ok { IfOk result (λ values. read_behind (numbering labels.old) kinds.now words.now
-        ≡ Ok (reading_of values labels.new)) }
+        ≡ Ok (words_read values labels.new)) }
     ensures err { IfErr result (λ fault. fault ≢ ScriptFault.OutOfMemory
         → read_behind (numbering labels.old) kinds.now words.now ≡ Err fault) }
 {
-    let mut values = Values::new(alloc);
+    let mut values = Values::new(memory.allocator());
     let mut rest = words;
     let mut number = 1;
     for kind in kinds {
@@ -38,7 +39,7 @@ fn read_values<'a>(
             return Err(ScriptFault::WrongCount);
         };
         number += 1;
-        match values.add(alloc, *kind, word, labels) {
+        match values.add(memory, *kind, word, labels) {
             Ok(is_of_kind) => {
                 if !is_of_kind {
                     return Err(ScriptFault::BadWord(number));
@@ -52,11 +53,11 @@ fn read_values<'a>(
 }
 
 /// The line of a command's word and the words behind it, of which there are so many.
-fn read_command<'a>(
-    alloc: Global,
+fn read_command<'a, M: Memory>(
+    memory: &M,
     word: &[u8],
     words: &'a [u8],
-    count: u32,
+    count: usize,
     labels: &mut Labels<'a>,
 ) -> Result<Line, ScriptFault>
     requires whole { words_of words.now ≡ Ok (words_in words.now) }
@@ -66,30 +67,29 @@ fn read_command<'a>(
     ensures err { IfErr result (λ fault. fault ≢ ScriptFault.OutOfMemory
         → line_behind (numbering labels.old) word.now words.now ≡ Err fault) }
 {
-    let Some(verb) = find_verb(word) else {
+    let Some(command) = find_command(word) else {
         return Err(ScriptFault::UnknownCommand);
     };
-    let kinds = kinds_of(verb);
-    if kinds.len() != count as usize {
+    let kinds = kinds_of(command);
+    if kinds.len() != count {
         return Err(ScriptFault::WrongCount);
     }
-    let Values { values, bytes } = match read_values(alloc, kinds, words, labels) {
+    let Values { values, bytes } = match read_values(memory, kinds, words, labels) {
         Ok(values) => values,
         Err(fault) => return Err(fault),
     };
-    match make_line(verb, &values, bytes) {
-        Some(line) => Ok(line),
-        None => Err(ScriptFault::WrongCount),
-    }
+    let Some(line) = make_line(command, &values, bytes) else {
+        unreachable!();
+    };
+    Ok(line)
 }
 
 /// A line, read from its text; none, where it is passed over.
-fn read_line<'a>(
-    alloc: Global,
+fn read_line<'a, M: Memory>(
+    memory: &M,
     text: &'a [u8],
     labels: &mut Labels<'a>,
 ) -> Result<Option<Line>, ScriptFault>
-    requires { length text.now < 2 ^ 32 }
     ensures ok { IfOk result (λ line. reading.read_line (numbering labels.old) text.now
         ≡ Ok (line_read line (numbering labels.new))) }
     ensures err { IfErr result (λ fault. fault ≢ ScriptFault.OutOfMemory
@@ -105,7 +105,7 @@ fn read_line<'a>(
     let WordCut::Word { word, rest } = cut_word(text) else {
         return Ok(None);
     };
-    match read_command(alloc, word, rest, count - 1, labels) {
+    match read_command(memory, word, rest, count - 1, labels) {
         Ok(line) => Ok(Some(line)),
         Err(fault) => Err(fault),
     }
@@ -117,8 +117,7 @@ const REFUSED: LineFault = LineFault {
     fault: ScriptFault::OutOfMemory,
 };
 
-/// The script of a text, or its first faulty line. A text of 4 GiB or more is answered as one for
-/// which memory is refused.
+/// The script of a text, or its first faulty line.
 pub fn parse(alloc: Global, text: &[u8]) -> Result<Script, LineFault>
     ensures ok { IfOk result (λ script. read_script text.now ≡ Ok script) }
     ensures err { IfErr result (λ e. e.fault ≢ ScriptFault.OutOfMemory
@@ -127,20 +126,29 @@ pub fn parse(alloc: Global, text: &[u8]) -> Result<Script, LineFault>
         → HasLine text.now e.line) }
     ensures refused { IfErr result (λ e. e.fault ≡ ScriptFault.OutOfMemory → e.line ≡ 0) }
 {
-    if text.len() > u32::MAX as usize {
-        return Err(REFUSED);
-    }
-    let mut script = Script::new(alloc);
-    let mut labels = Labels::new(alloc);
+    parse_from(&alloc, text)
+}
+
+/// `parse`, from any memory.
+pub(crate) fn parse_from<M: Memory>(memory: &M, text: &[u8]) -> Result<Script, LineFault>
+    ensures ok { IfOk result (λ script. read_script text.now ≡ Ok script) }
+    ensures err { IfErr result (λ e. e.fault ≢ ScriptFault.OutOfMemory
+        → read_script text.now ≡ Err e) }
+    ensures line { IfErr result (λ e. e.fault ≢ ScriptFault.OutOfMemory
+        → HasLine text.now e.line) }
+    ensures refused { IfErr result (λ e. e.fault ≡ ScriptFault.OutOfMemory → e.line ≡ 0) }
+{
+    let mut script = Script::new(memory.allocator());
+    let mut labels = Labels::new(memory.allocator());
     let mut rest = text;
     let mut number = 0;
     while !rest.is_empty() {
         let cut = cut_line(rest);
         rest = cut.rest;
         number += 1;
-        match read_line(alloc, cut.line, &mut labels) {
+        match read_line(memory, cut.line, &mut labels) {
             Ok(None) => {}
-            Ok(Some(line)) => match script.push(line) {
+            Ok(Some(line)) => match script.push(memory, line) {
                 Ok(()) => {}
                 Err(_) => return Err(REFUSED),
             },

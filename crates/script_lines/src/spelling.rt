@@ -6,8 +6,9 @@ ghost use Rattle.script_lines.specs.Spellings as spellings;
 ghost use Rattle.script_lines.specs.Spellings.{below, number_behind, number_below, hex_bytes};
 ghost use Rattle.script_lines.specs.Spellings.{is_quoted, spelled_bytes, spelled_text};
 
+use crate::memory::Memory;
 use heap_model::Bytes;
-use std::alloc::{AllocError, Global};
+use std::alloc::AllocError;
 
 /// The longest label.
 const MAX_LABEL: usize = 31;
@@ -99,10 +100,10 @@ pub(crate) fn byte_of(word: &[u8]) -> Option<u8>
 }
 
 /// The bytes that hex digits spell, if there is an even number of them.
-fn decode(alloc: Global, digits: &[u8]) -> Result<Option<Bytes>, AllocError>
+fn decode<M: Memory>(memory: &M, digits: &[u8]) -> Result<Option<Bytes>, AllocError>
     ensures { IfOk result (λ bytes. bytes ≡ hex_bytes digits.now) }
 {
-    match hex::decode(alloc, digits) {
+    match hex::decode(memory.grant()?, digits) {
         Ok(bytes) => Ok(Some(Bytes::of(bytes))),
         Err(hex::FromHexError::OutOfMemory) => Err(AllocError),
         Err(_) => Ok(None),
@@ -110,16 +111,16 @@ fn decode(alloc: Global, digits: &[u8]) -> Result<Option<Bytes>, AllocError>
 }
 
 /// The bytes that a word spells.
-pub(crate) fn bytes_of(alloc: Global, word: &[u8]) -> Result<Option<Bytes>, AllocError>
+pub(crate) fn bytes_of<M: Memory>(memory: &M, word: &[u8]) -> Result<Option<Bytes>, AllocError>
     ensures { IfOk result (λ bytes. bytes ≡ spelled_bytes word.now) }
 {
     if word == b"-".as_slice() {
-        return Ok(Some(Bytes::of(Vec::new(alloc))));
+        return Ok(Some(Bytes::of(Vec::new(memory.allocator()))));
     }
     if word.is_empty() {
         return Ok(None);
     }
-    decode(alloc, word)
+    decode(memory, word)
 }
 
 /// Whether a byte may stand in quotes.
@@ -142,10 +143,10 @@ fn are_printable(bytes: &[u8]) -> bool
 }
 
 /// A copy of some bytes.
-fn copied(alloc: Global, bytes: &[u8]) -> Result<Bytes, AllocError>
+fn copied<M: Memory>(memory: &M, bytes: &[u8]) -> Result<Bytes, AllocError>
     ensures { IfOk result (λ copy. copy ≡ bytes.now) }
 {
-    let copy = Vec::from_slice(alloc, bytes)?;
+    let copy = Vec::from_slice(memory.grant()?, bytes)?;
     Ok(Bytes::of(copy))
 }
 
@@ -161,18 +162,18 @@ fn inside_quotes(word: &[u8]) -> Option<&[u8]>
 }
 
 /// The text that a word spells.
-pub(crate) fn text_of(alloc: Global, word: &[u8]) -> Result<Option<Bytes>, AllocError>
+pub(crate) fn text_of<M: Memory>(memory: &M, word: &[u8]) -> Result<Option<Bytes>, AllocError>
     ensures { IfOk result (λ text. text ≡ spelled_text word.now) }
 {
     if let Some(digits) = word.strip_prefix(b"x:") {
-        return decode(alloc, digits);
+        return decode(memory, digits);
     }
     match inside_quotes(word) {
         Some(inside) => {
             if !are_printable(inside) {
                 return Ok(None);
             }
-            Ok(Some(copied(alloc, inside)?))
+            Ok(Some(copied(memory, inside)?))
         }
         None => Ok(None),
     }

@@ -1,9 +1,12 @@
 //! Scripts by their text: the spellings of each kind at their limits, each command's line, line and
-//! word numbers, and the order of faults. The expected values are those of the format's own words.
+//! word numbers, and the order of faults; and memory that is refused. The expected values are those of
+//! the format's own words.
 
 use super::*;
+use crate::reading::parse_from;
 use heap_model::Bytes;
 use std::alloc::{AllocError, Global};
+use std::cell::Cell;
 use std::fmt;
 use std::test::*;
 
@@ -19,53 +22,19 @@ fn put_bytes(text: &mut String, bytes: &Bytes) -> Result<(), AllocError> {
 /// A line as its command and what stands in it, labels by their numbers.
 fn put_line(text: &mut String, line: &Line) -> Result<(), AllocError> {
     match line {
-        Line::Bind { label, name } => {
-            let label = label.0;
-            write!(text, "bind {label} {name}")
-        }
-        Line::New { label, size, owner } => {
-            let label = label.0;
-            write!(text, "new {label} {size} {owner}")
-        }
-        Line::PtrNew { label, size, owner } => {
-            let label = label.0;
-            write!(text, "ptrnew {label} {size} {owner}")
-        }
-        Line::Free(label) => {
-            let label = label.0;
-            write!(text, "free {label}")
-        }
-        Line::SetOwner { label, owner } => {
-            let label = label.0;
-            write!(text, "setowner {label} {owner}")
-        }
-        Line::Lock(label) => {
-            let label = label.0;
-            write!(text, "lock {label}")
-        }
-        Line::Unlock(label) => {
-            let label = label.0;
-            write!(text, "unlock {label}")
-        }
-        Line::Size(label) => {
-            let label = label.0;
-            write!(text, "size {label}")
-        }
-        Line::Owner(label) => {
-            let label = label.0;
-            write!(text, "owner {label}")
-        }
-        Line::Locks(label) => {
-            let label = label.0;
-            write!(text, "locks {label}")
-        }
-        Line::Read { label, at, count } => {
-            let label = label.0;
-            write!(text, "read {label} {at} {count}")
-        }
+        Line::Bind { label, name } => write!(text, "bind {} {name}", label.0),
+        Line::New { label, size, owner } => write!(text, "new {} {size} {owner}", label.0),
+        Line::PtrNew { label, size, owner } => write!(text, "ptrnew {} {size} {owner}", label.0),
+        Line::Free(label) => write!(text, "free {}", label.0),
+        Line::SetOwner { label, owner } => write!(text, "setowner {} {owner}", label.0),
+        Line::Lock(label) => write!(text, "lock {}", label.0),
+        Line::Unlock(label) => write!(text, "unlock {}", label.0),
+        Line::Size(label) => write!(text, "size {}", label.0),
+        Line::Owner(label) => write!(text, "owner {}", label.0),
+        Line::Locks(label) => write!(text, "locks {}", label.0),
+        Line::Read { label, at, count } => write!(text, "read {} {at} {count}", label.0),
         Line::Write { label, at, bytes } => {
-            let label = label.0;
-            write!(text, "write {label} {at} ")?;
+            write!(text, "write {} {at} ", label.0)?;
             put_bytes(text, bytes)
         }
         Line::Set {
@@ -73,17 +42,13 @@ fn put_line(text: &mut String, line: &Line) -> Result<(), AllocError> {
             at,
             count,
             byte,
-        } => {
-            let label = label.0;
-            write!(text, "set {label} {at} {count} {byte}")
-        }
+        } => write!(text, "set {} {at} {count} {byte}", label.0),
         Line::StrCopy {
             label,
             at,
             text: copied,
         } => {
-            let label = label.0;
-            write!(text, "strcopy {label} {at} ")?;
+            write!(text, "strcopy {} {at} ", label.0)?;
             put_bytes(text, copied)
         }
         Line::FreeByOwner(owner) => write!(text, "freeowner {owner}"),
@@ -108,7 +73,7 @@ fn shown(alloc: Global, script: &[u8]) -> Result<String, AllocError> {
 
 #[test]
 fn commands(rt: HostRuntime) -> Result<(), Fail> {
-    let cases: [(&[u8], &str); 24] = [
+    let cases: [(&[u8], &str); 26] = [
         (b"bind a 16", "bind 0 16;"),
         (b"new a 8 1", "new 0 8 1;"),
         (b"ptrnew a 8 1", "ptrnew 0 8 1;"),
@@ -134,6 +99,8 @@ fn commands(rt: HostRuntime) -> Result<(), Fail> {
         (b"newa 8 1", "line 1 UnknownCommand"),
         (b"\"new\" a 8 1", "line 1 UnknownCommand"),
         (b"\"\"", "line 1 UnknownCommand"),
+        (b"frob \"a\"", "line 1 UnknownCommand"),
+        (b"\"#\"", "line 1 UnknownCommand"),
     ];
     for (script, want) in cases {
         assert_eq!(rt; shown(rt.alloc(), script)?.as_str(), want);
@@ -143,7 +110,7 @@ fn commands(rt: HostRuntime) -> Result<(), Fail> {
 
 #[test]
 fn numbers(rt: HostRuntime) -> Result<(), Fail> {
-    let cases: [(&[u8], &str); 28] = [
+    let cases: [(&[u8], &str); 32] = [
         (b"freeowner 0", "freeowner 0;"),
         (b"freeowner 255", "freeowner 255;"),
         (b"freeowner 256", "line 1 BadWord 2"),
@@ -172,6 +139,10 @@ fn numbers(rt: HostRuntime) -> Result<(), Fail> {
         (b"bind a \"1\"", "line 1 BadWord 3"),
         (b"bind a 1/", "line 1 BadWord 3"),
         (b"bind a 1:", "line 1 BadWord 3"),
+        (b"bind a 0000000001", "bind 0 1;"),
+        (b"bind a 00000000001", "line 1 BadWord 3"),
+        (b"bind a 0xfFfFfFfF", "bind 0 4294967295;"),
+        (b"read a 0 0x1G", "line 1 BadWord 4"),
     ];
     for (script, want) in cases {
         assert_eq!(rt; shown(rt.alloc(), script)?.as_str(), want);
@@ -181,9 +152,10 @@ fn numbers(rt: HostRuntime) -> Result<(), Fail> {
 
 #[test]
 fn labels(rt: HostRuntime) -> Result<(), Fail> {
-    let cases: [(&[u8], &str); 18] = [
+    let cases: [(&[u8], &str); 19] = [
         (b"free Z", "free 0;"),
         (b"free z_9A", "free 0;"),
+        (b"free a_1", "free 0;"),
         (b"free abcdefghijabcdefghijabcdefghijk", "free 0;"),
         (b"free abcdefghijabcdefghijabcdefghijkl", "line 1 BadWord 2"),
         (b"free 1a", "line 1 BadWord 2"),
@@ -219,7 +191,7 @@ fn labels(rt: HostRuntime) -> Result<(), Fail> {
 
 #[test]
 fn bytes_and_texts(rt: HostRuntime) -> Result<(), Fail> {
-    let cases: [(&[u8], &str); 27] = [
+    let cases: [(&[u8], &str); 28] = [
         (b"write a 0 -", "write 0 0 /;"),
         (b"write a 0 00fFa9", "write 0 0 /00ffa9;"),
         (b"write a 0 4", "line 1 BadWord 4"),
@@ -241,6 +213,7 @@ fn bytes_and_texts(rt: HostRuntime) -> Result<(), Fail> {
         (b"strcopy a 0 x:", "strcopy 0 0 /;"),
         (b"strcopy a 0 x:7E22", "strcopy 0 0 /7e22;"),
         (b"strcopy a 0 x:7", "line 1 BadWord 4"),
+        (b"strcopy a 0 x:7e2", "line 1 BadWord 4"),
         (b"strcopy a 0 x:7g", "line 1 BadWord 4"),
         (b"strcopy a 0 X:7e", "line 1 BadWord 4"),
         (b"strcopy a 0 x", "line 1 BadWord 4"),
@@ -255,19 +228,12 @@ fn bytes_and_texts(rt: HostRuntime) -> Result<(), Fail> {
 }
 
 #[test]
-fn words_and_lines(rt: HostRuntime) -> Result<(), Fail> {
-    let cases: [(&[u8], &str); 31] = [
+fn lines_and_their_ends(rt: HostRuntime) -> Result<(), Fail> {
+    let cases: [(&[u8], &str); 21] = [
         // no lines, and lines that are passed over
         (b"", ""),
         (b"\n", ""),
         (b"\n \t\n\t#\n#x\n  # \"\n#\"a\"b", ""),
-        // blanks in front, between and behind
-        (b" \tfree\t \ta \t", "free 0;"),
-        (b"free a\n", "free 0;"),
-        (b"free a\n\n", "free 0;"),
-        // a `#` behind the first word is a word
-        (b"free a #", "line 1 WrongCount"),
-        (b"free #", "line 1 BadWord 2"),
         // a carriage return in front of a line feed is dropped, one of them, and no other
         (b"free a\r\nsize a\r\n", "free 0;size 0;"),
         (b"\r\nfree a\r\n", "free 0;"),
@@ -277,7 +243,34 @@ fn words_and_lines(rt: HostRuntime) -> Result<(), Fail> {
         (b"freebytes\r", "line 1 UnknownCommand"),
         (b"free a\nfree a \r", "line 2 WrongCount"),
         (b"\r\r\n", "line 1 UnknownCommand"),
+        (b"#\r", ""),
+        (b" \r\n#\r\n", ""),
+        (b" \r", "line 1 UnknownCommand"),
+        (b"freebytes\n\r", "line 2 UnknownCommand"),
+        (b"\"a\"\r", "line 1 BadWord 1"),
         (b"fr\ree a", "line 1 UnknownCommand"),
+        // lines are counted over all of them
+        (b"\n# x\r\n\nfrob\nnew", "line 4 UnknownCommand"),
+        (b"free a\nnew a 8\nfrob", "line 2 WrongCount"),
+        (b"frob\n\"", "line 1 UnknownCommand"),
+        (b"free a\n\n\n\n\n\n\n\n\nread a 0 x", "line 10 BadWord 4"),
+    ];
+    for (script, want) in cases {
+        assert_eq!(rt; shown(rt.alloc(), script)?.as_str(), want);
+    }
+    Ok(())
+}
+
+#[test]
+fn words_and_their_quotes(rt: HostRuntime) -> Result<(), Fail> {
+    let cases: [(&[u8], &str); 19] = [
+        // blanks in front, between and behind
+        (b" \tfree\t \ta \t", "free 0;"),
+        (b"free a\n", "free 0;"),
+        (b"free a\n\n", "free 0;"),
+        // a `#` behind the first word is a word
+        (b"free a #", "line 1 WrongCount"),
+        (b"free #", "line 1 BadWord 2"),
         // a vertical tab or a zero byte is no blank
         (b"free\x0ba", "line 1 UnknownCommand"),
         (b"free a\x00", "line 1 BadWord 2"),
@@ -291,10 +284,10 @@ fn words_and_lines(rt: HostRuntime) -> Result<(), Fail> {
         (b"strcopy a 0 \"a\"\r\n", "strcopy 0 0 /61;"),
         (b"strcopy a 0 \"a\"\r", "line 1 BadWord 4"),
         (b"strcopy a 0 \"a\nb\"", "line 1 BadWord 4"),
-        // lines are counted over all of them
-        (b"\n# x\r\n\nfrob\nnew", "line 4 UnknownCommand"),
-        (b"free a\nnew a 8\nfrob", "line 2 WrongCount"),
-        (b"free a\n\n\n\n\n\n\n\n\nread a 0 x", "line 10 BadWord 4"),
+        // a quote inside a word is a character like others
+        (b"strcopy a 0 a\"b c\"", "line 1 WrongCount"),
+        (b"strcopy a 0 a\"b\"c", "line 1 BadWord 4"),
+        (b"free\" a", "line 1 UnknownCommand"),
     ];
     for (script, want) in cases {
         assert_eq!(rt; shown(rt.alloc(), script)?.as_str(), want);
@@ -304,13 +297,14 @@ fn words_and_lines(rt: HostRuntime) -> Result<(), Fail> {
 
 #[test]
 fn the_first_fault_of_a_line(rt: HostRuntime) -> Result<(), Fail> {
-    let cases: [(&[u8], &str); 16] = [
+    let cases: [(&[u8], &str); 17] = [
         (b"frob", "line 1 UnknownCommand"),
         (b"new a 8", "line 1 WrongCount"),
         (b"read a 0 x", "line 1 BadWord 4"),
         // a broken word comes before all else, wherever it stands
         (b"\"frob", "line 1 BadWord 1"),
         (b"\"frob\"x a", "line 1 BadWord 1"),
+        (b"\"#", "line 1 BadWord 1"),
         (b"frob \"", "line 1 BadWord 2"),
         (b"free a b c \"d", "line 1 BadWord 5"),
         (b"free 1 \"d\"e \"f", "line 1 BadWord 3"),
@@ -334,7 +328,7 @@ fn the_first_fault_of_a_line(rt: HostRuntime) -> Result<(), Fail> {
 
 #[test]
 fn labels_are_counted(rt: HostRuntime) -> Result<(), Fail> {
-    let cases: [(&[u8], Option<u32>); 5] = [
+    let cases: [(&[u8], Option<usize>); 5] = [
         (b"", Some(0)),
         (b"freebytes", Some(0)),
         (b"free a\nfree b\nfree a", Some(2)),
@@ -343,7 +337,7 @@ fn labels_are_counted(rt: HostRuntime) -> Result<(), Fail> {
     ];
     for (script, want) in cases {
         let count = match parse(rt.alloc(), script) {
-            Ok(script) => Some(script.chunk_labels()),
+            Ok(script) => Some(script.chunk_label_count()),
             Err(_) => None,
         };
         assert_eq!(rt; count, want);
@@ -351,22 +345,69 @@ fn labels_are_counted(rt: HostRuntime) -> Result<(), Fail> {
     Ok(())
 }
 
-/// A script that takes each kind of memory: for lines, labels, values, bytes and texts.
+/// Refuses one growth, of which `before` stand in front, and grants every other.
+struct RefusesOne {
+    alloc: Global,
+    before: Cell<u32>,
+}
+
+impl Drop for RefusesOne {
+    fn drop(self) {
+        let RefusesOne {
+            alloc: _,
+            before: _,
+        } = self;
+    }
+}
+
+impl Memory for RefusesOne {
+    fn allocator(&self) -> Global {
+        self.alloc
+    }
+
+    fn grant(&self) -> Result<Global, AllocError> {
+        let before = self.before.get();
+        self.before.set(before.wrapping_sub(1));
+        if before == 0 {
+            return Err(AllocError);
+        }
+        Ok(self.alloc)
+    }
+}
+
+/// A script that takes each kind of memory, with how many growths: 5 lines, 2 labels, 9 values, and
+/// bytes or text 3 times.
 const EACH_GROWTH: &[u8] =
     b"new a 8 1\nwrite a 0 4142\nstrcopy a 0 \"x\"\nstrcopy b 0 x:79\nfreebytes";
 
+const GROWTHS: u32 = 19;
+
+/// How many lines that script has, or its fault, where a growth behind so many is refused.
+fn lines_without(alloc: Global, before: u32) -> Result<usize, LineFault> {
+    let memory = RefusesOne {
+        alloc,
+        before: Cell::new(before),
+    };
+    match parse_from(&memory, EACH_GROWTH) {
+        Ok(script) => Ok(script.lines().len()),
+        Err(fault) => Err(fault),
+    }
+}
+
 #[test]
 fn every_growth_may_be_refused(rt: HostRuntime) -> Result<(), Fail> {
-    match parse(rt.alloc(), EACH_GROWTH) {
-        Ok(script) => assert_eq!(rt; script.lines().len(), 5),
-        Err(fault) => assert_eq!(rt;
-            fault,
-            LineFault {
-                line: 0,
-                fault: ScriptFault::OutOfMemory
-            }
-        ),
+    let refused = LineFault {
+        line: 0,
+        fault: ScriptFault::OutOfMemory,
+    };
+    for before in 0..GROWTHS {
+        assert_eq!(rt;
+            lines_without(rt.alloc(), before),
+            Err(refused),
+            "after {before}"
+        );
     }
+    assert_eq!(rt; lines_without(rt.alloc(), GROWTHS), Ok(5));
     Ok(())
 }
 
@@ -377,7 +418,7 @@ fn long_scripts(rt: HostRuntime) -> Result<(), Fail> {
         writeln!(text, "new h{number} 8 1")?;
     }
     let count = match parse(rt.alloc(), text.as_bytes()) {
-        Ok(script) => script.chunk_labels(),
+        Ok(script) => script.chunk_label_count(),
         Err(_) => 0,
     };
     assert_eq!(rt; count, 100_000);

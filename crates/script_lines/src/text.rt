@@ -1,6 +1,6 @@
 //! The lines of a text, and the words of a line.
 
-ghost use Rattle.std.specs.Prelude.{◌≡◌, ◌<◌, ◌≤◌, ◌^◌, ◌==◌, length, not};
+ghost use Rattle.std.specs.Prelude.{◌≡◌, ◌<◌, ◌≤◌, ◌==◌, length, not};
 ghost use Rattle.std.specs.List.{position_or_len};
 ghost use Rattle.std.specs.Str.Lines.{strip_carriage_return};
 ghost use Rattle.script_lines.specs.Words as words;
@@ -157,8 +157,7 @@ pub(crate) fn cut_word(text: &[u8]) -> WordCut<'_>
 }
 
 /// How many words a line has, or the number of its first broken word, counted from 1.
-pub(crate) fn count_words(line: &[u8]) -> Result<u32, u32>
-    requires { length line.now < 2 ^ 32 }
+pub(crate) fn count_words(line: &[u8]) -> Result<usize, usize>
     ensures { result ≡ word_count (words_of line.now) }
 {
     let mut rest = line;

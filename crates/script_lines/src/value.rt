@@ -1,11 +1,12 @@
 //! What the words of a line stand for, by kind.
 
-ghost use Rattle.std.specs.Prelude.{◌≡◌, ◌++◌, ◌∷◌, [], IfOk, OnOk};
+ghost use Rattle.std.specs.Prelude.{◌≡◌, ◌++◌, ◌∷◌, [], false, true, IfOk, OnOk, MatchOption};
 ghost use Rattle.script_lines.specs.Kinds.{read_word};
-ghost use Rattle.script_lines.specs.Views.{Adds, reading_of};
+ghost use Rattle.script_lines.specs.Views.{Adds, words_read};
 
 use crate::label::Labels;
 use crate::line::ChunkLabel;
+use crate::memory::Memory;
 use crate::spelling::{byte_of, bytes_of, is_label, number_of, text_of};
 use heap_model::Bytes;
 use std::alloc::{AllocError, Global};
@@ -54,66 +55,86 @@ impl Values {
     }
 
     /// Puts a value behind the others.
-    pub fn push(&mut self, value: Value) -> Result<(), AllocError>
+    fn push<M: Memory>(&mut self, memory: &M, value: Value) -> Result<(), AllocError>
         ensures values { OnOk result
             (self.new.values.items ≡ self.old.values.items ++ (value ∷ [])) }
         ensures bytes { self.new.bytes ≡ self.old.bytes }
     {
+        memory.grant()?;
         match self.values.push(value) {
             Ok(()) => Ok(()),
             Err(_) => Err(AllocError),
         }
     }
 
-    /// Adds what a word of a kind stands for, and answers whether it is of that kind.
-    pub fn add<'a>(
+    /// Puts a label's number behind the values, and answers whether the word is a label.
+    fn add_label<'a, M: Memory>(
         &mut self,
-        alloc: Global,
+        memory: &M,
+        word: &'a [u8],
+        labels: &mut Labels<'a>,
+    ) -> Result<bool, AllocError>
+        ensures { IfOk result (λ is_of_kind.
+            Adds (read_word (words_read self.old labels.old) Kind.Chunk word.now)
+            is_of_kind (words_read self.new labels.new)) }
+    {
+        if !is_label(word) {
+            return Ok(false);
+        }
+        let label = labels.number(memory, word)?;
+        self.push(memory, Value::Label(label))?;
+        Ok(true)
+    }
+
+    /// Puts a value behind the others, if there is one, and answers whether there is.
+    fn add_value<M: Memory>(&mut self, memory: &M, value: Option<Value>) -> Result<bool, AllocError>
+        ensures values { IfOk result (λ is_there. MatchOption value (is_there ≡ false)
+            (λ value. (is_there ≡ true)
+            × (self.new.values.items ≡ self.old.values.items ++ (value ∷ [])))) }
+        ensures bytes { self.new.bytes ≡ self.old.bytes }
+    {
+        match value {
+            Some(value) => {
+                self.push(memory, value)?;
+                Ok(true)
+            }
+            None => Ok(false),
+        }
+    }
+
+    /// Takes bytes for those of the line, if there are any, and answers whether there are.
+    fn add_bytes(&mut self, bytes: Option<Bytes>) -> bool
+        ensures bytes { MatchOption bytes (result ≡ false)
+            (λ bytes. (result ≡ true) × (self.new.bytes ≡ bytes)) }
+        ensures values { self.new.values ≡ self.old.values }
+    {
+        match bytes {
+            Some(bytes) => {
+                self.bytes = bytes;
+                true
+            }
+            None => false,
+        }
+    }
+
+    /// Adds what a word of a kind stands for, and answers whether it is of that kind.
+    pub fn add<'a, M: Memory>(
+        &mut self,
+        memory: &M,
         kind: Kind,
         word: &'a [u8],
         labels: &mut Labels<'a>,
     ) -> Result<bool, AllocError>
         ensures { IfOk result (λ is_of_kind.
-            Adds (read_word (reading_of self.old labels.old) kind word.now)
-            is_of_kind (reading_of self.new labels.new)) }
+            Adds (read_word (words_read self.old labels.old) kind word.now)
+            is_of_kind (words_read self.new labels.new)) }
     {
         match kind {
-            Kind::Chunk => {
-                if !is_label(word) {
-                    return Ok(false);
-                }
-                let label = labels.number(word)?;
-                self.push(Value::Label(label))?;
-                Ok(true)
-            }
-            Kind::Byte => match byte_of(word) {
-                Some(byte) => {
-                    self.push(Value::Byte(byte))?;
-                    Ok(true)
-                }
-                None => Ok(false),
-            },
-            Kind::Number => match number_of(word) {
-                Some(number) => {
-                    self.push(Value::Number(number))?;
-                    Ok(true)
-                }
-                None => Ok(false),
-            },
-            Kind::Bytes => match bytes_of(alloc, word)? {
-                Some(bytes) => {
-                    self.bytes = bytes;
-                    Ok(true)
-                }
-                None => Ok(false),
-            },
-            Kind::Text => match text_of(alloc, word)? {
-                Some(text) => {
-                    self.bytes = text;
-                    Ok(true)
-                }
-                None => Ok(false),
-            },
+            Kind::Chunk => self.add_label(memory, word, labels),
+            Kind::Byte => self.add_value(memory, byte_of(word).map(Value::Byte)),
+            Kind::Number => self.add_value(memory, number_of(word).map(Value::Number)),
+            Kind::Bytes => Ok(self.add_bytes(bytes_of(memory, word)?)),
+            Kind::Text => Ok(self.add_bytes(text_of(memory, word)?)),
         }
     }
 }

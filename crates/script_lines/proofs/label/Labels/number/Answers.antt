@@ -7,14 +7,14 @@ use Rattle.script_lines.proofs.NumberingLaws.{same_numbering, with_label_absent}
 use Rattle.script_lines.proofs.label.Labels.number.Goals as goal
 
 -- the map has the new label's number besides what it had
-pub returns-in-Ok-insert-clause-labels : goal.returns-in-Ok-insert-clause-labels
-returns-in-Ok-insert-clause-labels c =
+pub returns-in-Ok-clause-labels : goal.returns-in-Ok-clause-labels
+returns-in-Ok-clause-labels g c =
     let old = numbering c.args.self.now in
     let word = c.args.word.now in
-    let next : c.in-Ok.number ≡ old.count = c.in-Ok.ensures.1 ∙ c.len.ensures.len in
-    let none : c.in-Ok-insert.field-0 ≡ None = c.in-Ok-insert.ensures.old ∙ sym c.in_default.ensures.value in
-    let more : btree_map_len c.insert.new.self ≡ old.count + 1 = rw none at c.in-Ok-insert.ensures.len in
+    let next : c.len-number.result ≡ old.count = c.len-number.ensures.len in
+    let none : c.in-Ok.field-0 ≡ None = c.in-Ok.ensures.old ∙ sym c.in_default.ensures.value in
+    let more : btree_map_len c.insert.new.self ≡ old.count + 1 = rw none at c.in-Ok.ensures.len in
     same_numbering (numbering (record { numbers = c.insert.new.self })) (with_next old word)
-    (λ other. btree_map_updates_str word c.args.self.now.numbers c.insert.new.self _ c.in-Ok-insert.ensures.updates other ∙ rw next refl)
+    (λ other. btree_map_updates_str word c.args.self.now.numbers c.insert.new.self _ c.in-Ok.ensures.updates other ∙ rw next refl)
     more
     ∙ sym (with_label_absent old word (sym c.in_default.ensures.value))
