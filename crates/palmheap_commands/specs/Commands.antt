@@ -1,7 +1,6 @@
 -- What `new` and `check` write. Where a definition ends in a `Bool`, it says whether all got through.
 use Rattle.std.specs.Prelude.{◌≡◌, ◌⊎◌, ℕ, Bool, true, false, List, ◌++◌, codes, decimal, Option}
 use Rattle.heap_model.specs.Counted.{Writing}
-use Rattle.heap_model.specs.Heap.{HeapAccepted}
 use Rattle.chunk_format.specs.Blank.{IsBlank, IsRegionSize, LeavesRoom}
 use Rattle.heap_check.specs.declared.summary.Summary.{Summary}
 use Rattle.heap_check.specs.Summary.{Summarizes}
@@ -39,10 +38,3 @@ NewBreaksOff size slots image_contents image_old image_new contents old new =
     (PutsBlank size slots image_contents image_old image_new false × (new ≡ old))
     ⊎ (PutsBlank size slots image_contents image_old image_new true × Puts contents old new (codes "ok\n") false)
     ⊎ ((IsRegionSize size × LeavesRoom size slots → ⊥) × PutsBad contents old new false × (image_new ≡ image_old))
-
--- A write or a flush failed in `check`: it was one of the line for an accepted image, or of the line
--- that says what is bad.
-abbrev pub CheckBreaksOff : {V : Type 0} → List ℕ → (V → Option (List ℕ)) → Writing V → Writing V → Type 0
-CheckBreaksOff image contents old new =
-    (HeapAccepted image × PutsSummary image contents old new false)
-    ⊎ ((HeapAccepted image → ⊥) × PutsBad contents old new false)

@@ -6,7 +6,7 @@ use Rattle.script_lines.specs.Reading.{read_script}
 use Rattle.script_lines.specs.declared.fault.LineFault.{LineFault}
 use Rattle.script_lines.specs.declared.line.Line.{Line}
 use Rattle.palm_script.specs.Lines.{BreaksOff, RunsThrough}
-use Rattle.palmheap_commands.specs.Commands.{IsBadLine}
+use Rattle.palmheap_commands.specs.Commands.{PutsBad}
 use Rattle.palmheap_commands.specs.Output.{Puts}
 
 -- the line for a refused script: `line`, the number of its first faulty line, what is wrong there, and
@@ -14,16 +14,16 @@ use Rattle.palmheap_commands.specs.Output.{Puts}
 abbrev pub IsFaultLine : LineFault → List ℕ → Type 0
 IsFaultLine fault line = (text : List ℕ) × (line ≡ codes "line " ++ (decimal fault.line ++ (codes " " ++ (text ++ codes "\n"))))
 
--- What is printed where the image is no accepted heap, or is one and no script is read from the text:
--- one line that says why.
-abbrev pub IsRefusal : (image script line : List ℕ) → Type 0
-IsRefusal image script line =
-    ((HeapAccepted image → ⊥) × IsBadLine line)
-    ⊎ (HeapAccepted image × ((fault : LineFault) × (read_script script ≡ Err fault) × IsFaultLine fault line))
-
 -- such a line
+abbrev pub PutsFault : {V : Type 0} → LineFault → (V → Option (List ℕ)) → Writing V → Writing V → Bool → Type 0
+PutsFault fault contents old new ok = (line : List ℕ) × IsFaultLine fault line × Puts contents old new line ok
+
+-- The image is no accepted heap, and a line that starts with `bad` says why; or it is one and no script is
+-- read from the text, and a line says why.
 abbrev pub PutsRefusal : {V : Type 0} → (image script : List ℕ) → (V → Option (List ℕ)) → Writing V → Writing V → Bool → Type 0
-PutsRefusal image script contents old new ok = (line : List ℕ) × IsRefusal image script line × Puts contents old new line ok
+PutsRefusal image script contents old new ok =
+    ((HeapAccepted image → ⊥) × PutsBad contents old new ok)
+    ⊎ (HeapAccepted image × ((fault : LineFault) × (read_script script ≡ Err fault) × PutsFault fault contents old new ok))
 
 -- A write failed in the reply line of some line of a script, which leaves this image; or the lines were
 -- run, all of their text was written, no write failed, and the flush behind it did.

@@ -1,9 +1,9 @@
 //! The commands `new` and `check`, over bytes and writers.
 
-ghost use Rattle.std.specs.Prelude.{◌≡◌, ◌≢◌, codes, true, IfOk, string_bytes};
+ghost use Rattle.std.specs.Prelude.{◌≡◌, ◌≢◌, ◌⊎◌, codes, true, false, IfOk, string_bytes};
 ghost use Rattle.heap_model.specs.Heap.{HeapAccepted};
 ghost use Rattle.chunk_format.specs.Blank.{IsRegionSize, LeavesRoom};
-ghost use Rattle.palmheap_commands.specs.Commands.{summary_line, CheckBreaksOff, IsBadLine};
+ghost use Rattle.palmheap_commands.specs.Commands.{summary_line, IsBadLine};
 ghost use Rattle.palmheap_commands.specs.Commands.{NewBreaksOff, PutsBad, PutsBlank, PutsSummary};
 ghost use Rattle.palmheap_commands.specs.Output.{Puts};
 
@@ -44,7 +44,7 @@ pub fn cmd_new<W: Write, V: Write>(
     let region = match blank(alloc, size, slots) {
         Ok(region) => region,
         Err(BlankFault::OutOfMemory) => return Status::NoMemory,
-        Err(fault) => return say_text(bad_text(alloc, fault), Status::BadWords, out),
+        Err(fault) => return say_bad(alloc, fault, Status::BadWords, out),
     };
     match put(image_out, region.slice(0, region.len())) {
         Ok(()) => say(b"ok\n", Status::Done, out),
@@ -60,8 +60,10 @@ pub fn cmd_check<V: Write>(alloc: Global, image: &[u8], out: &mut Counted<V>) ->
     ensures refused { result ≡ Status.Refused → HeapAccepted image.now → ⊥ }
     ensures fault { result ≡ Status.Refused → PutsBad V.contents out.old out.new true }
     ensures no_memory { result ≡ Status.NoMemory → out.new ≡ out.old }
-    ensures write_fault { result ≡ Status.WriteFault
-        → CheckBreaksOff image.now V.contents out.old out.new }
+    ensures summary_fault { result ≡ Status.WriteFault → HeapAccepted image.now
+        → PutsSummary image.now V.contents out.old out.new false }
+    ensures bad_fault { result ≡ Status.WriteFault → (HeapAccepted image.now → ⊥)
+        → PutsBad V.contents out.old out.new false }
     ensures good_words { result ≢ Status.BadWords }
     ensures reads_nothing { result ≢ Status.ReadFault }
 {
@@ -70,7 +72,7 @@ pub fn cmd_check<V: Write>(alloc: Global, image: &[u8], out: &mut Counted<V>) ->
     };
     match check_heap(&region) {
         Ok(summary) => say_text(summary_text(alloc, &summary), Status::Done, out),
-        Err(fault) => say_text(bad_text(alloc, fault), Status::Refused, out),
+        Err(fault) => say_bad(alloc, fault, Status::Refused, out),
     }
 }
 
@@ -88,8 +90,24 @@ fn summary_text(alloc: Global, summary: &Summary) -> Result<String, AllocError>
     format!(in alloc; "ok size {size} slots {slots} movable {movable} fixed {fixed} free {free}\n")
 }
 
+/// Prints `bad` and a fault, and answers `status`.
+pub(crate) fn say_bad<V: Write, F: Display + Drop>(
+    alloc: Global,
+    fault: F,
+    status: Status,
+    out: &mut Counted<V>,
+) -> Status
+    requires { (status ≡ Status.BadWords) ⊎ (status ≡ Status.Refused) }
+    ensures status { (result ≡ status) ⊎ (result ≡ Status.WriteFault) ⊎ (result ≡ Status.NoMemory) }
+    ensures said { result ≡ status → PutsBad V.contents out.old out.new true }
+    ensures fault { result ≡ Status.WriteFault → PutsBad V.contents out.old out.new false }
+    ensures no_memory { result ≡ Status.NoMemory → out.new ≡ out.old }
+{
+    say_text(bad_text(alloc, fault), status, out)
+}
+
 /// The line for a fault.
-pub(crate) fn bad_text<F: Display + Drop>(alloc: Global, fault: F) -> Result<String, AllocError>
+fn bad_text<F: Display + Drop>(alloc: Global, fault: F) -> Result<String, AllocError>
     ensures { IfOk result (λ line. IsBadLine (string_bytes line)) }
 {
     let text = format!(in alloc; "{fault}")?;

@@ -1,11 +1,11 @@
 //! The command `run`: a script, run on an image.
 
-ghost use Rattle.std.specs.Prelude.{◌≡◌, ◌≢◌, ◌⊎◌, Err, IfOk, IfErr, OnOk, [], string_bytes, true};
+ghost use Rattle.std.specs.Prelude.{◌≡◌, ◌≢◌, ◌⊎◌, Err, IfOk, IfErr, OnOk, [], string_bytes, true, false};
 ghost use Rattle.palm_script.specs.Lines.{RunsThrough};
-ghost use Rattle.palmheap_commands.specs.Runs.{IsFaultLine, PrintingFails};
+ghost use Rattle.palmheap_commands.specs.Runs.{IsFaultLine, PrintingFails, PutsFault};
 ghost use Rattle.palmheap_commands.specs.Runs.{PutsRefusal, RunBreaksOff, RunsScript};
 
-use crate::commands::bad_text;
+use crate::commands::say_bad;
 use crate::output::{put, say_text};
 use crate::status::Status;
 use heap_model::{Bytes, Counted};
@@ -47,12 +47,12 @@ pub fn cmd_run<W: Write, V: Write>(
     };
     let mut heap = match Heap::adopt(region) {
         Ok(heap) => heap,
-        Err(error) => return say_text(bad_text(alloc, error.fault), Status::Refused, out),
+        Err(error) => return say_bad(alloc, error.fault, Status::Refused, out),
     };
     let script = match parse(alloc, script) {
         Ok(script) => script,
         Err(fault) if fault.fault == ScriptFault::OutOfMemory => return Status::NoMemory,
-        Err(fault) => return say_text(fault_text(alloc, fault), Status::Refused, out),
+        Err(fault) => return say_fault(alloc, fault, out),
     };
     match print_replies(alloc, &mut heap, &script, inputs, out) {
         Ok(exported) => *files = exported,
@@ -90,6 +90,17 @@ fn print_replies<V: Write>(
         Err(RunFault::OutOfMemory) => Err(Status::NoMemory),
         Err(RunFault::Write) => Err(Status::WriteFault),
     }
+}
+
+/// Prints the line for a refused script.
+fn say_fault<V: Write>(alloc: Global, fault: LineFault, out: &mut Counted<V>) -> Status
+    ensures status { (result ≡ Status.Refused) ⊎ (result ≡ Status.WriteFault)
+        ⊎ (result ≡ Status.NoMemory) }
+    ensures said { result ≡ Status.Refused → PutsFault fault V.contents out.old out.new true }
+    ensures fault { result ≡ Status.WriteFault → PutsFault fault V.contents out.old out.new false }
+    ensures no_memory { result ≡ Status.NoMemory → out.new ≡ out.old }
+{
+    say_text(fault_text(alloc, fault), Status::Refused, out)
 }
 
 /// The line for a refused script.
