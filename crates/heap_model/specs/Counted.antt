@@ -1,19 +1,21 @@
 -- What contracts see of a writer whose faults are counted.
 use Rattle.std.specs.Prelude.{◌≡◌, ℕ, ◌≤◌, ◌<◌, ◌==◌, Bool, true, false, ◌&&◌, not, cond, List, length, take, refl, Option, Result, Ok, Err}
-use Rattle.std.specs.Coded.{Coded, code_by, coded×, coded_ℕ}
+use Rattle.std.specs.Coded.{Coded, code_by, coded×, coded_ℕ, coded_bool, coded_option}
 use Rattle.std.specs.Io.KnownBytes.{Appends}
 
--- a writer, and how many of its writes of one byte or more failed or took 0 bytes
+-- A writer; how many of its writes of one byte or more failed or took 0 bytes; and, where the last call
+-- of it was a flush, whether that got through.
 pub record Writing (W : Type 0) : Type 0 where
   pub writer : W
   pub faults : ℕ
+  pub flushed : Option Bool
 
 module _ {W : Type 0} where
-  abbrev pub writing : W → ℕ → Writing W
-  writing writer faults = record { writer = writer; faults = faults }
+  abbrev pub writing : W → ℕ → Option Bool → Writing W
+  writing writer faults flushed = record { writer = writer; faults = faults; flushed = flushed }
 
   abbrev pub writing_code : Coded W → Coded (Writing W)
-  writing_code code = code_by (W × ℕ) (coded× code coded_ℕ) (λ w. (w.writer, w.faults)) (λ pair. writing pair.0 pair.1) (λ _. refl)
+  writing_code code = code_by (W × (ℕ × Option Bool)) (coded× code (coded× coded_ℕ (coded_option coded_bool))) (λ w. (w.writer, (w.faults, w.flushed))) (λ parts. writing parts.0 parts.1.0 parts.1.1) (λ _. refl)
 
 -- a write of one byte or more failed, or took 0 bytes
 abbrev pub is_write_fault : {E : Type 0} → Result ℕ E → List ℕ → Bool

@@ -1,6 +1,6 @@
 //! Writing all of some bytes.
 
-ghost use Rattle.std.specs.Prelude.{is_ok};
+ghost use Rattle.std.specs.Prelude.{◌≡◌, is_ok, None, OnErr};
 ghost use Rattle.heap_model.specs.Counted.{Writes};
 
 use heap_model::Counted;
@@ -14,7 +14,8 @@ pub struct WriteFault;
 
 /// Writes all of `bytes`. After a write that fails or takes 0 bytes nothing more is written.
 pub fn put_all<W: Write>(out: &mut Counted<W>, bytes: &[u8]) -> Result<(), WriteFault>
-    ensures { Writes W.contents out.old out.new bytes.now (is_ok result) }
+    ensures text { Writes W.contents out.old out.new bytes.now (is_ok result) }
+    ensures unflushed { OnErr result (out.new.flushed ≡ None) }
 {
     let mut rest = bytes;
     while !rest.is_empty() {

@@ -1,5 +1,5 @@
 -- What `run` prints and writes. Where a definition ends in a `Bool`, it says whether all got through.
-use Rattle.std.specs.Prelude.{◌≡◌, ◌⊎◌, ◌++◌, ℕ, Bool, true, false, List, Option, codes, decimal, Ok, Err}
+use Rattle.std.specs.Prelude.{◌≡◌, ◌⊎◌, ◌++◌, ℕ, Bool, true, false, List, Option, Some, codes, decimal, Ok, Err}
 use Rattle.heap_model.specs.Counted.{Writing}
 use Rattle.heap_model.specs.Heap.{HeapAccepted}
 use Rattle.script_lines.specs.Reading.{read_script}
@@ -25,20 +25,27 @@ PutsRefusal image script contents old new ok =
     ((HeapAccepted image → ⊥) × PutsBad contents old new ok)
     ⊎ (HeapAccepted image × ((fault : LineFault) × (read_script script ≡ Err fault) × PutsFault fault contents old new ok))
 
+-- The lines of a script were run, all of their text was written and no write failed, and then the writer
+-- was flushed, which got through or didn't.
+pub record RunsAndFlushes {V : Type 0} (contents : V → Option (List ℕ)) (lines : List Line) (image : List ℕ) (old : Writing V) (image_after : List ℕ) (new : Writing V) (ok : Bool) : Type 0 where
+  pub ran : RunsThrough contents lines image old image_after new
+  pub flushed : new.flushed ≡ Some ok
+
 -- A write failed in the reply line of some line of a script, which leaves this image; or the lines were
 -- run, all of their text was written, no write failed, and the flush behind it did.
 abbrev pub PrintingFails : {V : Type 0} → (V → Option (List ℕ)) → List Line → List ℕ → Writing V → List ℕ → Writing V → Type 0
 PrintingFails contents lines image old image_after new =
-    BreaksOff contents lines image old image_after new ⊎ RunsThrough contents lines image old image_after new
+    BreaksOff contents lines image old image_after new
+    ⊎ RunsAndFlushes contents lines image old image_after new false
 
--- The script of a text was run on an accepted heap, and its text printed; and the heap that came of it
--- was written.
+-- The script of a text was run on an accepted heap, and its text printed and flushed; and the heap that
+-- came of it was written.
 pub record RunsScript {W V : Type 0} (image script : List ℕ) (contents : V → Option (List ℕ)) (old new : Writing V) (image_contents : W → Option (List ℕ)) (image_old image_new : Writing W) (ok : Bool) : Type 0 where
   pub lines : List Line
   pub image_after : List ℕ
   pub before : HeapAccepted image
   pub read : read_script script ≡ Ok lines
-  pub prints : RunsThrough contents lines image old image_after new
+  pub prints : RunsAndFlushes contents lines image old image_after new true
   pub accepted : HeapAccepted image_after
   pub written : Puts image_contents image_old image_new image_after ok
 

@@ -1,6 +1,7 @@
 //! Texts that are written and flushed.
 
 ghost use Rattle.std.specs.Prelude.{◌≡◌, ◌≢◌, ◌⊎◌, IsOkAnd, is_ok, string_bytes, true, false};
+ghost use Rattle.std.specs.Result.{IsErr};
 ghost use Rattle.palmheap_commands.specs.Output.{Puts};
 
 use crate::status::Status;
@@ -44,7 +45,8 @@ pub fn say_text<V: Write>(
         Puts V.contents out.old out.new (string_bytes line) true) }
     ensures fault { result ≡ Status.WriteFault → IsOkAnd line (λ line.
         Puts V.contents out.old out.new (string_bytes line) false) }
-    ensures no_memory { result ≡ Status.NoMemory → out.new ≡ out.old }
+    ensures no_memory { result ≡ Status.NoMemory
+        → IsErr line × (out.new ≡ out.old) }
 {
     match line {
         Ok(line) => say(line.as_bytes(), status, out),

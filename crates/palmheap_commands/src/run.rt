@@ -1,8 +1,7 @@
 //! The command `run`: a script, run on an image.
 
 ghost use Rattle.std.specs.Prelude.{◌≡◌, ◌≢◌, ◌⊎◌, Err, IfOk, IfErr, OnOk, [], string_bytes, true, false};
-ghost use Rattle.palm_script.specs.Lines.{RunsThrough};
-ghost use Rattle.palmheap_commands.specs.Runs.{IsFaultLine, PrintingFails, PutsFault};
+ghost use Rattle.palmheap_commands.specs.Runs.{IsFaultLine, PrintingFails, PutsFault, RunsAndFlushes};
 ghost use Rattle.palmheap_commands.specs.Runs.{PutsRefusal, RunBreaksOff, RunsScript};
 
 use crate::commands::say_bad;
@@ -16,7 +15,7 @@ use std::alloc::{AllocError, Global};
 use std::io::Write;
 
 /// Runs a script on an image: prints the reply lines to `out`, and then writes the image to
-/// `image_out`. The files that the script exports go to `files`.
+/// `image_out`. The files that the script exports go to `files`, once all that is done.
 ///
 /// A refused image or script prints why, the image before the script, and then nothing is run or
 /// written. After a write that fails nothing more is written.
@@ -32,6 +31,7 @@ pub fn cmd_run<W: Write, V: Write>(
     ensures done { result ≡ Status.Done → RunsScript image.now script.now
         V.contents out.old out.new W.contents image_out.old image_out.new true }
     ensures no_file { result ≡ Status.Done → files.new.items ≡ [] }
+    ensures files_kept { result ≢ Status.Done → files.new ≡ files.old }
     ensures refused { result ≡ Status.Refused
         → PutsRefusal image.now script.now V.contents out.old out.new true }
     ensures no_image { result ≡ Status.Refused → image_out.new ≡ image_out.old }
@@ -54,13 +54,16 @@ pub fn cmd_run<W: Write, V: Write>(
         Err(fault) if fault.fault == ScriptFault::OutOfMemory => return Status::NoMemory,
         Err(fault) => return say_fault(alloc, fault, out),
     };
-    match print_replies(alloc, &mut heap, &script, inputs, out) {
-        Ok(exported) => *files = exported,
+    let exported = match print_replies(alloc, &mut heap, &script, inputs, out) {
+        Ok(exported) => exported,
         Err(status) => return status,
-    }
+    };
     let region = heap.into_region();
     match put(image_out, region.slice(0, region.len())) {
-        Ok(()) => Status::Done,
+        Ok(()) => {
+            *files = exported;
+            Status::Done
+        }
         Err(_) => Status::WriteFault,
     }
 }
@@ -73,8 +76,8 @@ fn print_replies<V: Write>(
     inputs: &[Bytes],
     out: &mut Counted<V>,
 ) -> Result<Vec<Bytes>, Status>
-    ensures ok { OnOk result (RunsThrough V.contents script.now
-        heap.old.bytes out.old heap.new.bytes out.new) }
+    ensures ok { OnOk result (RunsAndFlushes V.contents script.now
+        heap.old.bytes out.old heap.new.bytes out.new true) }
     ensures files { IfOk result (λ files. files.items ≡ []) }
     ensures faults { IfErr result (λ status.
         (status ≡ Status.WriteFault) ⊎ (status ≡ Status.NoMemory)) }

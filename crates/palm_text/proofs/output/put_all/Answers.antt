@@ -12,16 +12,16 @@ loop-rest-preserved g c =
       quiet = omega (arith, c.in-Ok.ensures.faults, c.loop-rest.invariant.quiet, no_fault n (not (length rest == 0)) c.if-n-gt0.true);
     }
 
-pub returns-in_default : goal.returns-in_default
-returns-in_default g c =
+pub returns-in_default-clause-text : goal.returns-in_default-clause-text
+returns-in_default-clause-text g c =
     let (done, split, appended) = c.loop-rest.invariant.gone in let rest = c.loop-rest.rest.now in let n = c.in-Ok.n in
     let some : 0 < length rest = search rules in (
       stalled _ _ _ _ done _ n c.if-n-gt0.false split appended c.in-Ok.ensures.bytes,
       omega (arith, c.in-Ok.ensures.faults, c.loop-rest.invariant.quiet, one_fault n (length rest) c.if-n-gt0.false some),
     )
 
-pub returns-in_default-2 : goal.returns-in_default-2
-returns-in_default-2 g c =
+pub returns-in_default-2-clause-text : goal.returns-in_default-2-clause-text
+returns-in_default-2-clause-text g c =
     let (done, split, appended) = c.loop-rest.invariant.gone in let rest = c.loop-rest.rest.now in
     let some : 0 < length rest = search rules in (
       stopped _ _ _ _ done _ split appended c.in_default.ensures.bytes,

@@ -5,7 +5,7 @@ use Rattle.palm_text.proofs.pieces.put_hex.Goals as goal
 
 pub returns-in-Err : goal.returns-in-Err
 returns-in-Err g c =
-    c.loop-rest.invariant _ false (stops_turn g.W.Write.contents c.loop-rest.out c.put_hex_turn.new.out c.min.result c.loop-rest.rest.now _ c.split_at.ensures.front c.in-Err.ensures)
+    c.loop-rest.invariant c.put_hex_turn.new.out false (stops_turn g.W.Write.contents c.loop-rest.out c.put_hex_turn.new.out c.min.result c.loop-rest.rest.now _ c.split_at.ensures.front c.in-Err.ensures)
 
 pub loop-rest-preserved : goal.loop-rest-preserved
 loop-rest-preserved g c = λ new ok w.

@@ -9,7 +9,7 @@ loop-piece-preserved g c = λ new ok w.
 
 pub returns-in-Err : goal.returns-in-Err
 returns-in-Err g c =
-    c.loop-piece.invariant _ false (stops_piece g.W.Write.contents c.loop-piece.out c.put_piece.new.out c.args.pieces.now c.loop-piece.piece-index _ c.loop-piece-test.true c.in-Err.ensures)
+    c.loop-piece.invariant c.put_piece.new.out false (stops_piece g.W.Write.contents c.loop-piece.out c.put_piece.new.out c.args.pieces.now c.loop-piece.piece-index _ c.loop-piece-test.true c.in-Err.ensures)
 
 pub returns : goal.returns
 returns g c =
