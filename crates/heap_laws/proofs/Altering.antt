@@ -1,21 +1,23 @@
 -- A live chunk is altered where it stands, and a free chunk is claimed for a fixed one.
-use Rattle.std.proofs.Common.{◌≡◌, ◌≢◌, ℕ, ◌+◌, ◌-◌, ◌*◌, ◌%◌, ◌^◌, ◌<◌, ◌≤◌, List, [], ◌∷◌, ◌++◌, length, Option, Some, None, refl, sym, ap, subst, ◌∙◌, arith, inl, inr}
+use Rattle.std.proofs.Common.{◌≡◌, ◌≢◌, ℕ, ◌+◌, ◌-◌, ◌*◌, ◌%◌, ◌^◌, ◌<◌, ◌≤◌, List, [], ◌∷◌, ◌++◌, length, Option, Some, refl, sym, ap, subst, ◌∙◌, arith, inl, inr}
 use Rattle.std.specs.Prelude.{◌↔◌, ◌==◌, slice_range}
 use Rattle.std.proofs.lemmas.Bool.{eq-eqb}
 use Rattle.heap_model.specs.Bytes.{overwritten}
 use Rattle.heap_model.specs.Chunk.{Chunk, free, movable, fixed, fixed_lock, need, size_of, total, IsLive, Spelled}
 use Rattle.heap_model.specs.Slots.{table_end, area_start}
-use Rattle.heap_model.specs.Heap.{BodyHere, IsCallersIfFixed, directory_of, IsHeap, HeapAccepted}
+use Rattle.heap_model.specs.Heap.{BodyHere, IsCallersIfFixed, ManagersHere, directory_of, IsHeap, HeapAccepted}
 use Rattle.heap_model.specs.Placed.{AnyPlaced}
 use Rattle.heap_model.specs.Meaning.{LiveChunk, NamedHere}
 use Rattle.heap_model.specs.Reading.{held, live_under}
 use Rattle.heap_model.specs.Space.{place_under, place_of}
-use Rattle.heap_model.specs.Placing.{ChangesName, Finds}
+use Rattle.heap_model.specs.Placing.{Finds}
+use Rattle.heap_model.specs.Layout.{Becomes, with_bytes}
+use Rattle.heap_laws.proofs.Becoming.{becomes_heap}
 use Rattle.heap_laws.proofs.Deciding.{cond-true}
-use Rattle.heap_laws.proofs.Replacing.{same_start, Replaces, replaced_total, replaced_heap, SameSlots, kept_ties, kept_directory}
-use Rattle.heap_laws.proofs.Lives.{or_else, live_replaced, place_replaced}
+use Rattle.heap_laws.proofs.Replacing.{Replaces, replaced_heap, SameSlots, kept_ties, kept_directory}
+use Rattle.heap_laws.proofs.Lives.{or_else}
 use Rattle.heap_laws.proofs.Meanings.{named_once}
-use Rattle.heap_laws.proofs.Freeing.{reads_live, reads_place, frame_of, unnamed, live_mid, place_mid, other_name, other_name_place, NotManagers, not_managers}
+use Rattle.heap_laws.proofs.Freeing.{reads_live, reads_place, unnamed, live_mid, place_mid}
 use Rattle.heap_laws.proofs.Finding.{read_heap, finds_spelled}
 use Rattle.heap_laws.proofs.Frames.{length-overwritten, slice-same, slice-overwritten-within}
 use Rattle.heap_laws.proofs.Chunks.{Spelled-size}
@@ -24,7 +26,7 @@ use Rattle.heap_laws.proofs.Writing.{WroteWithin, wrote_none, wrote_part, wrote_
 
 -- ---- what is read of a chunk of a name
 
-named_live : (name at : ℕ) (live : LiveChunk) (c : Chunk) (cs : List Chunk) → NamedHere name live at c → live_under at (c ∷ cs) name ≡ Some live
+pub named_live : (name at : ℕ) (live : LiveChunk) (c : Chunk) (cs : List Chunk) → NamedHere name live at c → live_under at (c ∷ cs) name ≡ Some live
 named_live name at live (free size) cs n = absurd n
 named_live name at live (movable bytes lock owner slot) cs n = cond-true (slot == name) _ _ (eq-eqb slot name n.0) ∙ ap (λ (x : LiveChunk). some x) n.1 where
   some : LiveChunk → Option LiveChunk
@@ -33,7 +35,7 @@ named_live name at live (fixed bytes owner) cs n = cond-true ((at + 8) == name) 
   some : LiveChunk → Option LiveChunk
   some x = Some x
 
-named_place : (name at : ℕ) (live : LiveChunk) (c : Chunk) (cs : List Chunk) → NamedHere name live at c → place_under at (c ∷ cs) name ≡ Some (at + 8)
+pub named_place : (name at : ℕ) (live : LiveChunk) (c : Chunk) (cs : List Chunk) → NamedHere name live at c → place_under at (c ∷ cs) name ≡ Some (at + 8)
 named_place name at live (free size) cs n = absurd n
 named_place name at live (movable bytes lock owner slot) cs n = cond-true (slot == name) _ _ (eq-eqb slot name n.0)
 named_place name at live (fixed bytes owner) cs n = cond-true ((at + 8) == name) _ _ (eq-eqb (at + 8) name n.0)
@@ -84,125 +86,33 @@ alike_bodies (fixed bytes owner) (free size) slot place at t = absurd t
 alike_bodies (fixed bytes owner) (movable others count holder named) slot place at t = absurd t
 alike_bodies (fixed bytes owner) (fixed others holder) slot place at t = (λ b. b, λ b. b)
 
-pub altered : (old new : List ℕ) (before : List Chunk) (c d : Chunk) (after : List Chunk) (at name : ℕ) (live now : LiveChunk) → IsHeap old (before ++ c ∷ after) → Replaces old new before (c ∷ []) (d ∷ []) after at → SameSlots old new → TiedAlike c d
-    → NamedHere name live at c → NamedHere name now at d → NotManagers c → IsCallersIfFixed at d → ChangesName old new name (Some now) (Some (at + 8))
-altered old new before c d after at name live now h r slots alike was is owned callers = record {
-  frame = frame_of old new new_list r.head heap;
-  here = read_live new start before d after name now heap starts is_there;
-  others = λ other apart. reads_live new new_list start other heap starts
-      ∙ live_replaced start before (c ∷ []) (d ∷ []) after other sizes (other_name name other (start + total before) now d [] is_there apart ∙ sym (other_name name other (start + total before) live c [] was_there apart))
-      ∙ sym (reads_live old (before ++ c ∷ after) start other h refl);
-  place = read_place new start before d after name now heap starts is_there ∙ ap (λ (n : ℕ). some (n + 8)) (sym r.there);
-  places = λ other apart. reads_place new new_list start other heap starts
-      ∙ place_replaced start before (c ∷ []) (d ∷ []) after other sizes (other_name_place name other (start + total before) now d [] is_there apart ∙ sym (other_name_place name other (start + total before) live c [] was_there apart))
-      ∙ sym (reads_place old (before ++ c ∷ after) start other h refl);
-  slots = λ slot s apart. slots.same slot s;
-} where
-  some : ℕ → Option ℕ
-  some n = Some n
-
-  start : ℕ
-  start = area_start old
-
-  new_list : List Chunk
-  new_list = before ++ d ∷ after
-
-  sizes : size_of d + 0 ≡ size_of c + 0
-  sizes = replaced_total old new before (c ∷ []) (d ∷ []) after at r
-
-  starts : area_start new ≡ start
-  starts = same_start old new r.head
-
-  was_there : NamedHere name live (start + total before) c
-  was_there = subst (λ (n : ℕ). NamedHere name live n c) r.there was
-
-  is_there : NamedHere name now (start + total before) d
-  is_there = subst (λ (n : ℕ). NamedHere name now n d) r.there is
-
-  heap : IsHeap new new_list
-  heap = replaced_heap old new before (c ∷ []) (d ∷ []) after at h r record {
-    ties = kept_ties old new before (c ∷ []) (d ∷ []) after at h r slots (λ slot place. (
-      λ b. elim b [ inl own ↦ inl ((alike_bodies c d slot place at alike).0 own) | inr none ↦ absurd none ],
-      λ b. elim b [ inl own ↦ inl ((alike_bodies c d slot place at alike).1 own) | inr none ↦ absurd none ],
-    ));
-    callers = (callers, tt);
-    directory = kept_directory old new before (c ∷ []) (d ∷ []) after at h r (λ m. elim m [ inl own ↦ absurd (not_managers (directory_of old) at c owned own) | inr none ↦ absurd none ]);
-  }
+pub altered : (old new : List ℕ) (before : List Chunk) (c d : Chunk) (after : List Chunk) (at : ℕ) → IsHeap old (before ++ c ∷ after) → Replaces old new before (c ∷ []) (d ∷ []) after at → SameSlots old new → TiedAlike c d
+    → (ManagersHere (directory_of old) at c → ManagersHere (directory_of old) at d) → IsCallersIfFixed at d → IsHeap new (before ++ d ∷ after)
+altered old new before c d after at h r slots alike kept callers = replaced_heap old new before (c ∷ []) (d ∷ []) after at h r record {
+  ties = kept_ties old new before (c ∷ []) (d ∷ []) after at h r slots (λ slot place. (
+    λ b. elim b [ inl own ↦ inl ((alike_bodies c d slot place at alike).0 own) | inr none ↦ absurd none ],
+    λ b. elim b [ inl own ↦ inl ((alike_bodies c d slot place at alike).1 own) | inr none ↦ absurd none ],
+  ));
+  callers = (callers, tt);
+  directory = kept_directory old new before (c ∷ []) (d ∷ []) after at h r (λ m. elim m [ inl own ↦ inl (kept own) | inr none ↦ absurd none ]);
+}
 
 -- ---- a free chunk is claimed for a fixed one
 
 pub claimed_fixed : (old new : List ℕ) (before after : List Chunk) (at size : ℕ) (bytes : List ℕ) (owner : ℕ) → IsHeap old (before ++ free size ∷ after) → Replaces old new before (free size ∷ []) (fixed bytes owner ∷ []) after at → SameSlots old new → 0 < owner → owner < 15
-    → ChangesName old new (at + 8) (Some (record { bytes = bytes; lock = fixed_lock; owner = owner })) (Some (at + 8)) × (held old (at + 8) ≡ None)
-claimed_fixed old new before after at size bytes owner h r slots some_owner most_owner = (
-  record {
-    frame = frame_of old new new_list r.head heap;
-    here = read_live new start before c after name now heap starts is_there;
-    others = λ other apart. reads_live new new_list start other heap starts
-        ∙ live_replaced start before (free size ∷ []) (c ∷ []) after other sizes (other_name name other (start + total before) now c [] is_there apart)
-        ∙ sym (reads_live old old_list start other h refl);
-    place = read_place new start before c after name now heap starts is_there ∙ ap (λ (n : ℕ). some (n + 8)) (sym r.there);
-    places = λ other apart. reads_place new new_list start other heap starts
-        ∙ place_replaced start before (free size ∷ []) (c ∷ []) after other sizes (other_name_place name other (start + total before) now c [] is_there apart)
-        ∙ sym (reads_place old old_list start other h refl);
-    slots = λ slot s apart. slots.same slot s;
-  },
-  reads_live old old_list start name h refl ∙ live_mid start before (free size ∷ []) after name (unnamed start before name (λ y b. (once y).0 (subst (λ (k : ℕ). AnyPlaced (NamedHere name y) k before) (sym starts) b))) ∙ back,
-) where
-  some : ℕ → Option ℕ
-  some n = Some n
-
-  start : ℕ
-  start = area_start old
-
-  name : ℕ
-  name = at + 8
-
-  c : Chunk
-  c = fixed bytes owner
-
-  now : LiveChunk
-  now = record { bytes = bytes; lock = fixed_lock; owner = owner }
-
-  old_list : List Chunk
-  old_list = before ++ free size ∷ after
-
-  new_list : List Chunk
-  new_list = before ++ c ∷ after
-
-  there : at ≡ start + total before
-  there = r.there
-
-  sizes : need (length bytes) + 0 ≡ size + 0
-  sizes = replaced_total old new before (free size ∷ []) (c ∷ []) after at r
-
-  starts : area_start new ≡ start
-  starts = same_start old new r.head
-
-  is_there : NamedHere name now (start + total before) c
-  is_there = (omega arith, refl)
-
-  heap : IsHeap new new_list
-  heap = replaced_heap old new before (free size ∷ []) (c ∷ []) after at h r record {
-    ties = kept_ties old new before (free size ∷ []) (c ∷ []) after at h r slots (λ slot place. (λ b. elim b [ inl own ↦ absurd own | inr none ↦ absurd none ], λ b. elim b [ inl own ↦ absurd own | inr none ↦ absurd none ]));
-    callers = ((some_owner, most_owner), tt);
-    directory = kept_directory old new before (free size ∷ []) (c ∷ []) after at h r (λ m. elim m [ inl own ↦ absurd own | inr none ↦ absurd none ]);
-  }
-
-  once : (y : LiveChunk) → (AnyPlaced (NamedHere name y) (area_start new) before → ⊥) × (AnyPlaced (NamedHere name y) (area_start new + total before + size_of c) after → ⊥)
-  once y = named_once new before c after name now y heap (subst (λ (k : ℕ). NamedHere name now (k + total before) c) (sym starts) is_there)
-
-  behind : start + total before + (size + 0) ≡ area_start new + total before + need (length bytes)
-  behind = let e = starts in omega arith
-
-  back : live_under (start + total before + (size + 0)) after name ≡ None
-  back = unnamed (start + total before + (size + 0)) after name (λ y b. (once y).1 (subst (λ (k : ℕ). AnyPlaced (NamedHere name y) k after) behind b))
+    → IsHeap new (before ++ fixed bytes owner ∷ after)
+claimed_fixed old new before after at size bytes owner h r slots some_owner most_owner = replaced_heap old new before (free size ∷ []) (fixed bytes owner ∷ []) after at h r record {
+  ties = kept_ties old new before (free size ∷ []) (fixed bytes owner ∷ []) after at h r slots (λ slot place. (λ b. elim b [ inl own ↦ absurd own | inr none ↦ absurd none ], λ b. elim b [ inl own ↦ absurd own | inr none ↦ absurd none ]));
+  callers = ((some_owner, most_owner), tt);
+  directory = kept_directory old new before (free size ∷ []) (fixed bytes owner ∷ []) after at h r (λ m. elim m [ inl own ↦ absurd own | inr none ↦ absurd none ]);
+}
 
 -- ---- by what was written
 
 -- bytes of the chunk alone were written, and now another chunk of its size and its name stands there
-pub altered_write : (old new : List ℕ) (name at : ℕ) (live now : LiveChunk) (c d : Chunk) → HeapAccepted old → Finds old name live c at → WroteWithin old new at (at + size_of c) → Spelled new at d → size_of d ≡ size_of c → TiedAlike c d
-    → NamedHere name now at d → NotManagers c → IsCallersIfFixed at d → ChangesName old new name (Some now) (Some (at + 8))
-altered_write old new name at live now c d h f w spelled sizes alike is owned callers =
+pub altered_write : (old new : List ℕ) (name at : ℕ) (live : LiveChunk) (c d : Chunk) → HeapAccepted old → (f : Finds old name live c at) → WroteWithin old new at (at + size_of c) → Spelled new at d → size_of d ≡ size_of c → TiedAlike c d
+    → (ManagersHere (directory_of old) at c → ManagersHere (directory_of old) at d) → IsCallersIfFixed at d → Becomes old new (f.before ++ d ∷ f.after)
+altered_write old new name at live c d h f w spelled sizes alike kept callers =
     let there : at ≡ area_start old + total f.before = f.there in
     let heap : IsHeap old (f.before ++ c ∷ f.after) = subst (λ (cs : List Chunk). IsHeap old cs) f.chunks (read_heap old h) in
     let size = Spelled-size old at c (finds_spelled old name live c at h f) in
@@ -210,10 +120,10 @@ altered_write old new name at live now c d h f w spelled sizes alike is owned ca
     let inside = size.1 in
     let wrote : WroteWithin old new at (at + total (c ∷ [])) = subst (λ (n : ℕ). WroteWithin old new at n) (let e : at + size_of c ≡ at + (size_of c + 0) = omega arith in e) w in
     let area : WroteArea old new at (at + total (c ∷ [])) = record { mid = new; slot = at; area = wrote; word = wrote_none new at (at + 4); is_slot = inl refl; there = omega arith; fits = omega arith } in
-    altered old new f.before c d f.after at name live now heap
-    (area_replaces old new f.before (c ∷ []) (d ∷ []) f.after at there (omega arith) area (spelled, omega arith))
-    (record { same = λ slot s. let high : slot < table_end old = s.in_table in let whole : slot % 4 ≡ 0 = s.whole in wrote_word_apart old new at (at + size_of c) slot w (inl (omega arith)) })
-    alike f.named is owned callers
+    let r = area_replaces old new f.before (c ∷ []) (d ∷ []) f.after at there (omega arith) area (spelled, omega arith) in
+    becomes_heap old new (f.before ++ d ∷ f.after) r.head
+    (altered old new f.before c d f.after at heap r
+    (record { same = λ slot s. let high : slot < table_end old = s.in_table in let whole : slot % 4 ≡ 0 = s.whole in wrote_word_apart old new at (at + size_of c) slot w (inl (omega arith)) }) alike kept callers)
 
 -- a fixed chunk that is found is a caller's
 pub finds_callers : (image : List ℕ) (name : ℕ) (live : LiveChunk) (c : Chunk) (at : ℕ) → HeapAccepted image → Finds image name live c at → IsCallersIfFixed at c
@@ -245,26 +155,22 @@ overwritten_body old new at k bytes part lock owner h_offset s within is =
       wrote_wider old new (at + 8 + k) (at + 8 + k + length part) at (at + need (length bytes)) w (omega arith) (omega arith),
     )
 
--- part of a caller's body is written over
-pub body_written : (old new : List ℕ) (name at k : ℕ) (live : LiveChunk) (c : Chunk) (part : List ℕ) → HeapAccepted old → Finds old name live c at → live.owner ≢ 0 → k + length part ≤ length live.bytes → new ≡ overwritten old (at + 8 + k) part
-    → ChangesName old new name (Some (record live { bytes = overwritten live.bytes k part })) (Some (at + 8))
-body_written old new name at k live (free size) part h f owned within is = absurd f.named
-body_written old new name at k live (movable bytes lock owner slot) part h f owned within is =
+-- part of a body is written over
+pub body_written : (old new : List ℕ) (name at k : ℕ) (live : LiveChunk) (c : Chunk) (part : List ℕ) → HeapAccepted old → (f : Finds old name live c at) → k + length part ≤ length live.bytes → new ≡ overwritten old (at + 8 + k) part
+    → Becomes old new (f.before ++ with_bytes k part c ∷ f.after)
+body_written old new name at k live (free size) part h f within is = absurd f.named
+body_written old new name at k live (movable bytes lock owner slot) part h f within is =
     let e : record { bytes = bytes; lock = lock; owner = owner } ≡ live = f.named.1 in
-    let all : bytes ≡ live.bytes = ap (λ (x : LiveChunk). x.bytes) e in
-    let fits : k + length part ≤ length bytes = subst (λ (b : List ℕ). k + length part ≤ length b) (sym all) within in
+    let fits : k + length part ≤ length bytes = subst (λ (x : LiveChunk). k + length part ≤ length x.bytes) (sym e) within in
     let s : Spelled old at (movable bytes lock owner slot) = finds_spelled old name live (movable bytes lock owner slot) at h f in
     let b = overwritten_body old new at k bytes part lock owner s.0 s.1 fits is in
-    altered_write old new name at live (record live { bytes = overwritten live.bytes k part }) (movable bytes lock owner slot) (movable (overwritten bytes k part) lock owner slot) h f b.1 (s.0, b.0, s.2, s.3, s.4)
-    (ap need (length-overwritten bytes k part fits)) refl (f.named.0, ap (λ (x : LiveChunk). record x { bytes = overwritten x.bytes k part }) e) (λ z. owned (ap (λ (x : LiveChunk). x.owner) (sym e) ∙ z)) tt
-body_written old new name at k live (fixed bytes owner) part h f owned within is =
-    let e : record { bytes = bytes; lock = fixed_lock; owner = owner } ≡ live = f.named.1 in
-    let all : bytes ≡ live.bytes = ap (λ (x : LiveChunk). x.bytes) e in
-    let fits : k + length part ≤ length bytes = subst (λ (b : List ℕ). k + length part ≤ length b) (sym all) within in
+    altered_write old new name at live (movable bytes lock owner slot) (movable (overwritten bytes k part) lock owner slot) h f b.1 (s.0, b.0, s.2, s.3, s.4)
+    (ap need (length-overwritten bytes k part fits)) refl (λ m. m) tt
+body_written old new name at k live (fixed bytes owner) part h f within is =
+    let fits : k + length part ≤ length bytes = subst (λ (x : LiveChunk). k + length part ≤ length x.bytes) (sym f.named.1) within in
     let s : Spelled old at (fixed bytes owner) = finds_spelled old name live (fixed bytes owner) at h f in
     let b = overwritten_body old new at k bytes part fixed_lock owner 0 s fits is in
-    altered_write old new name at live (record live { bytes = overwritten live.bytes k part }) (fixed bytes owner) (fixed (overwritten bytes k part) owner) h f b.1 b.0
-    (ap need (length-overwritten bytes k part fits)) tt (f.named.0, ap (λ (x : LiveChunk). record x { bytes = overwritten x.bytes k part }) e) tt (finds_callers old name live (fixed bytes owner) at h f)
+    altered_write old new name at live (fixed bytes owner) (fixed (overwritten bytes k part) owner) h f b.1 b.0 (ap need (length-overwritten bytes k part fits)) tt (λ m. m) (finds_callers old name live (fixed bytes owner) at h f)
 
 -- ---- a header is written over another
 
@@ -278,22 +184,20 @@ body_stays old new at bytes others lock owner h_offset count holder way s t len 
     ∙ sym (slice-same (at + 8) (at + 8 + length bytes) old new (wrote_apart old new at (at + 8) (at + 8) (at + 8 + length bytes) w (inr (omega arith, omega arith))) (omega arith) (omega arith))
     ∙ s.body
 
--- of a movable chunk with the same slot
-pub movable_relabelled : (old new : List ℕ) (name at : ℕ) (live : LiveChunk) (bytes others : List ℕ) (lock owner slot count holder : ℕ) → HeapAccepted old → Finds old name live (movable bytes lock owner slot) at → owner ≢ 0 → WroteWithin old new at (at + 8)
-    → Spelled new at (movable others count holder slot) → length others ≡ length bytes → ChangesName old new name (Some (record { bytes = live.bytes; lock = count; owner = holder })) (Some (at + 8))
-movable_relabelled old new name at live bytes others lock owner slot count holder h f owned w t len =
+-- of a movable chunk with the same slot; the directory's stays the manager's
+pub movable_relabelled : (old new : List ℕ) (name at : ℕ) (live : LiveChunk) (bytes others : List ℕ) (lock owner slot count holder : ℕ) → HeapAccepted old → (f : Finds old name live (movable bytes lock owner slot) at) → (slot ≡ directory_of old → owner ≡ 0 → holder ≡ 0) → WroteWithin old new at (at + 8)
+    → Spelled new at (movable others count holder slot) → length others ≡ length bytes → Becomes old new (f.before ++ movable bytes count holder slot ∷ f.after)
+movable_relabelled old new name at live bytes others lock owner slot count holder h f kept w t len =
     let s : Spelled old at (movable bytes lock owner slot) = finds_spelled old name live (movable bytes lock owner slot) at h f in
     let same : others ≡ bytes = body_stays old new at bytes others lock owner s.0 count holder t.0 s.1 t.1 len w in
-    let all : others ≡ live.bytes = same ∙ ap (λ (x : LiveChunk). x.bytes) f.named.1 in
-    altered_write old new name at live (record { bytes = live.bytes; lock = count; owner = holder }) (movable bytes lock owner slot) (movable others count holder slot) h f
-    (wrote_wider old new at (at + 8) at (at + need (length bytes)) w (omega arith) (omega arith)) t (ap need len) refl (f.named.0, ap (λ (b : List ℕ). record { bytes = b; lock = count; owner = holder }) all) owned tt
+    altered_write old new name at live (movable bytes lock owner slot) (movable bytes count holder slot) h f
+    (wrote_wider old new at (at + 8) at (at + need (length bytes)) w (omega arith) (omega arith)) (subst (λ (b : List ℕ). Spelled new at (movable b count holder slot)) same t) refl refl (λ m. (m.0, kept m.0 m.1)) tt
 
 -- of a fixed chunk
-pub fixed_relabelled : (old new : List ℕ) (name at : ℕ) (live : LiveChunk) (bytes others : List ℕ) (owner holder : ℕ) → HeapAccepted old → Finds old name live (fixed bytes owner) at → 0 < holder → holder < 15 → WroteWithin old new at (at + 8)
-    → Spelled new at (fixed others holder) → length others ≡ length bytes → ChangesName old new name (Some (record { bytes = live.bytes; lock = fixed_lock; owner = holder })) (Some (at + 8))
+pub fixed_relabelled : (old new : List ℕ) (name at : ℕ) (live : LiveChunk) (bytes others : List ℕ) (owner holder : ℕ) → HeapAccepted old → (f : Finds old name live (fixed bytes owner) at) → 0 < holder → holder < 15 → WroteWithin old new at (at + 8)
+    → Spelled new at (fixed others holder) → length others ≡ length bytes → Becomes old new (f.before ++ fixed bytes holder ∷ f.after)
 fixed_relabelled old new name at live bytes others owner holder h f some_owner most_owner w t len =
     let s : Spelled old at (fixed bytes owner) = finds_spelled old name live (fixed bytes owner) at h f in
     let same : others ≡ bytes = body_stays old new at bytes others fixed_lock owner 0 fixed_lock holder 0 s t len w in
-    let all : others ≡ live.bytes = same ∙ ap (λ (x : LiveChunk). x.bytes) f.named.1 in
-    altered_write old new name at live (record { bytes = live.bytes; lock = fixed_lock; owner = holder }) (fixed bytes owner) (fixed others holder) h f
-    (wrote_wider old new at (at + 8) at (at + need (length bytes)) w (omega arith) (omega arith)) t (ap need len) tt (f.named.0, ap (λ (b : List ℕ). record { bytes = b; lock = fixed_lock; owner = holder }) all) tt (some_owner, most_owner)
+    altered_write old new name at live (fixed bytes owner) (fixed bytes holder) h f
+    (wrote_wider old new at (at + 8) at (at + need (length bytes)) w (omega arith) (omega arith)) (subst (λ (b : List ℕ). Spelled new at (fixed b holder)) same t) refl tt (λ m. m) (some_owner, most_owner)

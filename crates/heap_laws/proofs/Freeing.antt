@@ -1,9 +1,9 @@
 -- Free chunks are split and joined, claimed for live ones, and live ones given back.
 use Rattle.std.proofs.Common.{◌≡◌, ◌≢◌, ℕ, ◌+◌, ◌<◌, List, [], ◌∷◌, ◌++◌, length, Option, Some, None, refl, sym, ap, subst, ◌∙◌, arith, inl, inr}
 use Rattle.std.specs.Prelude.{◌↔◌, ◌==◌, sum_by}
-use Rattle.std.proofs.lemmas.Bool.{cases_eq, eq-eqb}
+use Rattle.std.proofs.lemmas.Bool.{cases_eq}
 use Rattle.std.proofs.lemmas.Bool.Decides.{nat_tests}
-use Rattle.std.proofs.lemmas.List.Sums.{sum_by-append, sum_by-cons}
+use Rattle.std.proofs.lemmas.List.Sums.{sum_by-cons}
 use Rattle.heap_model.specs.Bytes.{u32_at}
 use Rattle.heap_model.specs.Chunk.{Chunk, free, movable, fixed, need, size_of, total, free_size}
 use Rattle.heap_model.specs.Slots.{IsSlot, table_end, area_start}
@@ -12,13 +12,12 @@ use Rattle.heap_model.specs.Placed.{EveryPlaced, AnyPlaced}
 use Rattle.heap_model.specs.Meaning.{LiveChunk, NamedHere}
 use Rattle.heap_model.specs.Reading.{held, live_under}
 use Rattle.heap_model.specs.Space.{AllFree, free_total, place_under, place_of}
-use Rattle.heap_model.specs.Placing.{SameFrame, Untouched, ChangesName}
-use Rattle.heap_laws.proofs.Deciding.{cond-true, cond-false}
+use Rattle.heap_laws.proofs.Deciding.{cond-false}
 use Rattle.heap_laws.proofs.Placed.{AnyPlaced-left, AnyPlaced-right, AnyPlaced-split}
 use Rattle.heap_laws.proofs.Runs.{chunks_of-tiled}
-use Rattle.heap_laws.proofs.Replacing.{SameHead, same_count, same_start, Replaces, replaced_total, replaced_heap, any_replaced, SameSlots, kept_ties, kept_directory}
-use Rattle.heap_laws.proofs.Lives.{or_else, live_under-append, place_under-append, live_replaced, place_replaced, live_under-free, place_under-free, live_placed}
-use Rattle.heap_laws.proofs.Meanings.{held-is, empty_unheld, live_under-there, named_once}
+use Rattle.heap_laws.proofs.Replacing.{Replaces, replaced_total, replaced_heap, any_replaced, SameSlots, kept_ties, kept_directory}
+use Rattle.heap_laws.proofs.Lives.{or_else, live_under-append, place_under-append, live_placed}
+use Rattle.heap_laws.proofs.Meanings.{held-is, live_under-there, named_once}
 
 -- ---- free chunks
 
@@ -47,15 +46,7 @@ reads_place image cs start name h e = ap (λ (xs : List Chunk). place_under (are
 reads_free : (image : List ℕ) (cs : List Chunk) → IsHeap image cs → free_total image ≡ sum_by free_size cs
 reads_free image cs h = ap (sum_by free_size) (chunks_of-tiled image cs h.tiles)
 
-pub frame_of : (old new : List ℕ) (cs : List Chunk) → SameHead old new → IsHeap new cs → SameFrame old new
-frame_of old new cs same h = record { accepted = (cs, h); len = same.len; count = same_count old new same }
-
 -- ---- free chunks are replaced by free chunks
-
-sum_middle : (before mid others after : List Chunk) → sum_by free_size mid ≡ sum_by free_size others → sum_by free_size (before ++ (mid ++ after)) ≡ sum_by free_size (before ++ (others ++ after))
-sum_middle before mid others after e =
-    sum_by-append free_size before (mid ++ after) ∙ ap (λ (n : ℕ). sum_by free_size before + n) (sum_by-append free_size mid after ∙ ap (λ (n : ℕ). n + sum_by free_size after) e ∙ sym (sum_by-append free_size others after))
-    ∙ sym (sum_by-append free_size before (others ++ after))
 
 pub free_sum : (run : List Chunk) → AllFree run → sum_by free_size run ≡ total run
 free_sum [] f = refl
@@ -63,35 +54,17 @@ free_sum (free size ∷ run) f = sum_by-cons free_size (free size) run ∙ ap (�
 free_sum (movable bytes lock owner slot ∷ run) f = absurd f
 free_sum (fixed bytes owner ∷ run) f = absurd f
 
-pub untouched : (old new : List ℕ) (before mid others after : List Chunk) (at : ℕ) → IsHeap old (before ++ (mid ++ after)) → Replaces old new before mid others after at → SameSlots old new → AllFree mid → AllFree others
-    → IsHeap new (before ++ (others ++ after)) × Untouched old new
-untouched old new before mid others after at h r slots fm fo =
-    let start : ℕ = area_start old in
-    let sizes = replaced_total old new before mid others after at r in
-    let starts : area_start new ≡ start = same_start old new r.head in
-    let heap : IsHeap new (before ++ (others ++ after)) = replaced_heap old new before mid others after at h r record {
+pub free_replaced : (old new : List ℕ) (before mid others after : List Chunk) (at : ℕ) → IsHeap old (before ++ (mid ++ after)) → Replaces old new before mid others after at → SameSlots old new → AllFree mid → AllFree others
+    → IsHeap new (before ++ (others ++ after))
+free_replaced old new before mid others after at h r slots fm fo =
+    replaced_heap old new before mid others after at h r record {
       ties = kept_ties old new before mid others after at h r slots (λ slot place. (
         λ b. absurd (any_free (BodyHere slot place) (λ at size b. b) at mid fm b),
         λ b. absurd (any_free (BodyHere slot place) (λ at size b. b) at others fo b),
       ));
       callers = every_free at others fo;
       directory = kept_directory old new before mid others after at h r (λ b. absurd (any_free (ManagersHere (directory_of old)) (λ at size b. b) at mid fm b));
-    } in (
-      heap,
-      record {
-        frame = frame_of old new (before ++ (others ++ after)) r.head heap;
-        map = λ name. reads_live new (before ++ (others ++ after)) start name heap starts
-            ∙ live_replaced start before mid others after name sizes (live_under-free (start + total before) others name fo ∙ sym (live_under-free (start + total before) mid name fm))
-            ∙ sym (reads_live old (before ++ (mid ++ after)) start name h refl);
-        places = λ name. reads_place new (before ++ (others ++ after)) start name heap starts
-            ∙ place_replaced start before mid others after name sizes (place_under-free (start + total before) others name fo ∙ sym (place_under-free (start + total before) mid name fm))
-            ∙ sym (reads_place old (before ++ (mid ++ after)) start name h refl);
-        free = reads_free new (before ++ (others ++ after)) heap
-            ∙ sum_middle before others mid after (free_sum others fo ∙ sizes ∙ sym (free_sum mid fm))
-            ∙ sym (reads_free old (before ++ (mid ++ after)) h);
-        slots = slots.same;
-      },
-    )
+    }
 
 -- ---- one slot changes
 
@@ -164,11 +137,11 @@ claimed_ties old new before after at size bytes owner slot h r s empty now other
 or_none : {A : Type 0} (x y : Option A) → x ≡ None → or_else x y ≡ y
 or_none x y e = ap (λ o. or_else o y) e
 
-or_front : {A : Type 0} (x y : Option A) → or_else x y ≡ None → x ≡ None
+pub or_front : {A : Type 0} (x y : Option A) → or_else x y ≡ None → x ≡ None
 or_front None y e = refl
 or_front (Some x) y e = e
 
-or_back : {A : Type 0} (x y : Option A) → or_else x y ≡ None → y ≡ None
+pub or_back : {A : Type 0} (x y : Option A) → or_else x y ≡ None → y ≡ None
 or_back None y e = e
 or_back (Some x) y e = absurd cc
 
@@ -186,12 +159,6 @@ live_mid at before mid after name none = live_under-append at before (mid ++ aft
 pub place_mid : (at : ℕ) (before : List Chunk) (mid after : List Chunk) (name : ℕ) → live_under at before name ≡ None → place_under at (before ++ (mid ++ after)) name ≡ or_else (place_under (at + total before) mid name) (place_under (at + total before + total mid) after name)
 place_mid at before mid after name none = place_under-append at before (mid ++ after) name ∙ or_none _ _ (live_placed at before name none) ∙ place_under-append (at + total before) mid after name
 
-own_live : (at : ℕ) (bytes : List ℕ) (lock owner slot : ℕ) (cs : List Chunk) → live_under at (movable bytes lock owner slot ∷ cs) slot ≡ Some (record { bytes = bytes; lock = lock; owner = owner })
-own_live at bytes lock owner slot cs = cond-true (slot == slot) _ _ (eq-eqb slot slot refl)
-
-own_place : (at : ℕ) (bytes : List ℕ) (lock owner slot : ℕ) (cs : List Chunk) → place_under at (movable bytes lock owner slot ∷ cs) slot ≡ Some (at + 8)
-own_place at bytes lock owner slot cs = cond-true (slot == slot) _ _ (eq-eqb slot slot refl)
-
 other_live : (at : ℕ) (bytes : List ℕ) (lock owner slot name : ℕ) (cs : List Chunk) → name ≢ slot → live_under at (movable bytes lock owner slot ∷ cs) name ≡ live_under (at + need (length bytes)) cs name
 other_live at bytes lock owner slot name cs apart = cond-false (slot == name) _ _ (grind (arith, nat_tests))
 
@@ -199,47 +166,14 @@ other_place : (at : ℕ) (bytes : List ℕ) (lock owner slot name : ℕ) (cs : L
 other_place at bytes lock owner slot name cs apart = cond-false (slot == name) _ _ (grind (arith, nat_tests))
 
 pub claimed : (old new : List ℕ) (before after : List Chunk) (at size : ℕ) (bytes : List ℕ) (owner slot : ℕ) → IsHeap old (before ++ (free size ∷ after)) → Replaces old new before (free size ∷ []) (movable bytes 0 owner slot ∷ []) after at
-    → IsSlot old slot → u32_at old slot ≡ 0 → u32_at new slot ≡ at + 8 → OtherSlots old new slot
-    → IsHeap new (before ++ (movable bytes 0 owner slot ∷ after)) × ChangesName old new slot (Some (record { bytes = bytes; lock = 0; owner = owner })) (Some (at + 8))
-claimed old new before after at size bytes owner slot h r s empty now others =
-    let start : ℕ = area_start old in
-    let c : Chunk = movable bytes 0 owner slot in
-    let old_list : List Chunk = before ++ (free size ∷ after) in
-    let new_list : List Chunk = before ++ (c ∷ after) in
-    let sizes = replaced_total old new before (free size ∷ []) (c ∷ []) after at r in
-    let starts : area_start new ≡ start = same_start old new r.head in
-    let heap : IsHeap new new_list = replaced_heap old new before (free size ∷ []) (c ∷ []) after at h r record {
-      ties = claimed_ties old new before after at size bytes owner slot h r s empty now others;
-      callers = (tt, tt);
-      directory = kept_directory old new before (free size ∷ []) (c ∷ []) after at h r (λ m. elim m [ inl own ↦ absurd own | inr none ↦ absurd none ]);
-    } in
-    let none : live_under start old_list slot ≡ None = empty_unheld old old_list slot h s empty in
-    let front : live_under start before slot ≡ None = or_front _ _ (sym (live_under-append start before (free size ∷ after) slot) ∙ none) in
-    let at_is : start + total before + 8 ≡ at + 8 = let e = r.there in omega arith in (
-      heap,
-      record {
-        frame = frame_of old new new_list r.head heap;
-        here = reads_live new new_list start slot heap starts ∙ live_mid start before (c ∷ []) after slot front ∙ ap (λ o. or_else o (live_under (start + total before + total (c ∷ [])) after slot)) (own_live (start + total before) bytes 0 owner slot []);
-        others = λ name apart. reads_live new new_list start name heap starts
-            ∙ live_replaced start before (free size ∷ []) (c ∷ []) after name sizes (other_live (start + total before) bytes 0 owner slot name [] apart)
-            ∙ sym (reads_live old old_list start name h refl);
-        place = reads_place new new_list start slot heap starts ∙ place_mid start before (c ∷ []) after slot front ∙ ap (λ o. or_else o (place_under (start + total before + total (c ∷ [])) after slot)) (own_place (start + total before) bytes 0 owner slot []) ∙ ap (λ (n : ℕ). some_place n) at_is;
-        places = λ name apart. reads_place new new_list start name heap starts
-            ∙ place_replaced start before (free size ∷ []) (c ∷ []) after name sizes (other_place (start + total before) bytes 0 owner slot name [] apart)
-            ∙ sym (reads_place old old_list start name h refl);
-        slots = others.same;
-      },
-    ) where
-      some_place : ℕ → Option ℕ
-      some_place n = Some n
+    → IsSlot old slot → u32_at old slot ≡ 0 → u32_at new slot ≡ at + 8 → OtherSlots old new slot → IsHeap new (before ++ (movable bytes 0 owner slot ∷ after))
+claimed old new before after at size bytes owner slot h r s empty now others = replaced_heap old new before (free size ∷ []) (movable bytes 0 owner slot ∷ []) after at h r record {
+  ties = claimed_ties old new before after at size bytes owner slot h r s empty now others;
+  callers = (tt, tt);
+  directory = kept_directory old new before (free size ∷ []) (movable bytes 0 owner slot ∷ []) after at h r (λ m. elim m [ inl own ↦ absurd own | inr none ↦ absurd none ]);
+}
 
 -- ---- a live chunk is given back, with the free chunks behind it
-
--- of a named chunk: not the manager's, so that the directory stays
-abbrev pub NotManagers : Chunk → Type 0
-NotManagers (free size) = Unit {0}
-NotManagers (movable bytes lock owner slot) = owner ≢ 0
-NotManagers (fixed bytes owner) = Unit {0}
 
 -- the slot of a movable chunk is cleared
 abbrev pub ClearsSlot : List ℕ → Chunk → Type 0
@@ -247,7 +181,7 @@ ClearsSlot new (free size) = Unit {0}
 ClearsSlot new (movable bytes lock owner slot) = u32_at new slot ≡ 0
 ClearsSlot new (fixed bytes owner) = Unit {0}
 
-body_name : (name slot place at : ℕ) (live : LiveChunk) (c : Chunk) → NamedHere name live at c → BodyHere slot place at c → slot ≡ name
+pub body_name : (name slot place at : ℕ) (live : LiveChunk) (c : Chunk) → NamedHere name live at c → BodyHere slot place at c → slot ≡ name
 body_name name slot place at live (free size) n b = absurd n
 body_name name slot place at live (movable bytes lock owner own) n b = sym b.0 ∙ n.0
 body_name name slot place at live (fixed bytes owner) n b = absurd b
@@ -260,11 +194,6 @@ cleared old new before (movable bytes lock owner own) rest name place live h n c
 cleared old new before (fixed bytes owner) rest name place live h n clear s e positive =
     let high : name < table_end old = s.in_table in let is = n.0 in omega arith
 
-pub not_managers : (slot at : ℕ) (c : Chunk) → NotManagers c → ManagersHere slot at c → ⊥
-not_managers slot at (free size) n m = m
-not_managers slot at (movable bytes lock owner own) n m = n m.1
-not_managers slot at (fixed bytes owner) n m = m
-
 pub other_name : (name other at : ℕ) (live : LiveChunk) (c : Chunk) (run : List Chunk) → NamedHere name live at c → other ≢ name → live_under at (c ∷ run) other ≡ live_under (at + size_of c) run other
 other_name name other at live (free size) run n apart = refl
 other_name name other at live (movable bytes lock owner slot) run n apart = other_live at bytes lock owner slot other run (λ e. apart (e ∙ n.0))
@@ -276,23 +205,8 @@ other_name_place name other at live (movable bytes lock owner slot) run n apart 
 other_name_place name other at live (fixed bytes owner) run n apart = cond-false ((at + 8) == other) _ _ (let e : at + 8 ≢ other = λ f. apart (sym f ∙ n.0) in grind (arith, nat_tests))
 
 pub released : (old new : List ℕ) (before : List Chunk) (c : Chunk) (run after : List Chunk) (at size name : ℕ) (live : LiveChunk) → IsHeap old (before ++ ((c ∷ run) ++ after)) → Replaces old new before (c ∷ run) (free size ∷ []) after at
-    → AllFree run → NamedHere name live at c → NotManagers c → ClearsSlot new c → OtherSlots old new name
-    → IsHeap new (before ++ (free size ∷ after)) × ChangesName old new name None None
-released old new before c run after at size name live h r f own owned clear others = (
-  heap,
-  record {
-    frame = frame_of old new new_list r.head heap;
-    here = reads_live new new_list start name heap starts ∙ live_mid start before (free size ∷ []) after name front ∙ back_new;
-    others = λ other apart. reads_live new new_list start other heap starts
-        ∙ live_replaced start before (c ∷ run) (free size ∷ []) after other sizes (sym (other_name name other (start + total before) live c run mine apart ∙ live_under-free (start + total before + size_of c) run other f))
-        ∙ sym (reads_live old old_list start other h refl);
-    place = reads_place new new_list start name heap starts ∙ place_mid start before (free size ∷ []) after name front ∙ live_placed (start + total before + (size + 0)) after name back_new;
-    places = λ other apart. reads_place new new_list start other heap starts
-        ∙ place_replaced start before (c ∷ run) (free size ∷ []) after other sizes (sym (other_name_place name other (start + total before) live c run mine apart ∙ place_under-free (start + total before + size_of c) run other f))
-        ∙ sym (reads_place old old_list start other h refl);
-    slots = others.same;
-  },
-) where
+    → AllFree run → NamedHere name live at c → (ManagersHere (directory_of old) at c → ⊥) → ClearsSlot new c → OtherSlots old new name → IsHeap new (before ++ (free size ∷ after))
+released old new before c run after at size name live h r f own apart_from_directory clear others = heap where
   start : ℕ
   start = area_start old
 
@@ -311,20 +225,8 @@ released old new before c run after at size name live h r f own owned clear othe
   sizes : size + 0 ≡ size_of c + total run
   sizes = replaced_total old new before (c ∷ run) (free size ∷ []) after at r
 
-  starts : area_start new ≡ start
-  starts = same_start old new r.head
-
   once : (y : LiveChunk) → (AnyPlaced (NamedHere name y) start before → ⊥) × (AnyPlaced (NamedHere name y) (start + total before + size_of c) (run ++ after) → ⊥)
   once y = named_once old before c (run ++ after) name live y h mine
-
-  front : live_under start before name ≡ None
-  front = unnamed start before name (λ y. (once y).0)
-
-  behind : start + total before + size_of c + total run ≡ start + total before + (size + 0)
-  behind = omega arith
-
-  back_new : live_under (start + total before + (size + 0)) after name ≡ None
-  back_new = unnamed (start + total before + (size + 0)) after name (λ y b. (once y).1 (AnyPlaced-right (NamedHere name y) (start + total before + size_of c) run after (subst (λ (n : ℕ). AnyPlaced (NamedHere name y) n after) (sym behind) b)))
 
   to_new : (slot place : ℕ) → slot ≢ name → IsBody start old_list slot place → IsBody start new_list slot place
   to_new slot place apart b = any_replaced (BodyHere slot place) start before (c ∷ run) (free size ∷ []) after sizes (λ m. elim m [
@@ -364,7 +266,7 @@ released old new before c run after at size name live h r f own owned clear othe
     ties = ties;
     callers = (tt, tt);
     directory = kept_directory old new before (c ∷ run) (free size ∷ []) after at h r (λ m. elim m [
-      | inl here ↦ absurd (not_managers (directory_of old) at c owned here)
+      | inl here ↦ absurd (apart_from_directory here)
       | inr later ↦ absurd (any_free (ManagersHere (directory_of old)) (λ at size b. b) (at + size_of c) run f later)
     ]);
   }

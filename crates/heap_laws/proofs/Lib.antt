@@ -10,7 +10,11 @@ pub mod Accepted
 pub mod Meanings
 pub mod Replacing
 pub mod Lives
+pub mod Layouts
+pub mod Becoming
 pub mod Freeing
 pub mod Writing
 pub mod Finding
 pub mod Altering
+pub mod Exchanging
+pub mod Changing

@@ -76,7 +76,7 @@ pub record Offset (name : ℕ) (live : LiveChunk) (start : ℕ) (cs : List Chunk
   pub there : AnyPlaced (At at (NamedHere name live)) start cs
   pub kind : IsBody start cs name (at + 8) ⊎ (at + 8 ≡ name)
 
-with_offset : (name : ℕ) (live : LiveChunk) (start : ℕ) (cs : List Chunk) → AnyPlaced (NamedHere name live) start cs → Offset name live start cs
+pub with_offset : (name : ℕ) (live : LiveChunk) (start : ℕ) (cs : List Chunk) → AnyPlaced (NamedHere name live) start cs → Offset name live start cs
 with_offset name live start [] h = absurd h
 with_offset name live start (c ∷ cs) h = elim h [
   | inl own ↦ let header = takes_header name live start c own in record { at = start; behind = omega arith; within = omega arith; there = inl (refl, own); kind = elim (kinds name live start c own) [ inl b ↦ inl (inl b) | inr is ↦ inr is ] }
@@ -88,7 +88,7 @@ with_offset name live start (c ∷ cs) h = elim h [
 ]
 
 -- the slot of a body holds its place
-slot_place : (image : List ℕ) (cs : List Chunk) (name place : ℕ) → IsHeap image cs → IsBody (area_start image) cs name place → IsSlot image name × (u32_at image name ≡ place)
+pub slot_place : (image : List ℕ) (cs : List Chunk) (name place : ℕ) → IsHeap image cs → IsBody (area_start image) cs name place → IsSlot image name × (u32_at image name ≡ place)
 slot_place image cs name place h b = let low = IsBody-low (area_start image) cs name place b in (h.tied name place (omega arith)).1 b
 
 -- a slot stands in front of every place

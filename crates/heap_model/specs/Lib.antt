@@ -10,6 +10,7 @@ pub mod Reading
 pub mod Maps
 pub mod Space
 pub mod Placing
+pub mod Layout
 pub mod Numbers
 pub mod Refusals
 pub mod MemorySteps

@@ -1,4 +1,7 @@
-pub mod SearchLaws
-pub mod SpaceLaws
+pub mod FoundLaws
+pub mod WalkLaws
+pub mod LookupLaws
+pub mod RoomLaws
+pub mod CutLaws
 pub mod ReleaseLaws
 pub mod AlterLaws

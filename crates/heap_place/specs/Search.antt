@@ -1,25 +1,14 @@
 -- Runs of neighbouring free chunks, and the search for one.
-use Rattle.std.specs.Prelude.{◌≡◌, ◌≢◌, ◌<◌, ◌≤◌, ◌+◌, ◌-◌, ◌^◌, ◌++◌, ◌⊎◌, ℕ, List, [], ◌∷◌, length, Option, Some, None}
+use Rattle.std.specs.Prelude.{◌≡◌, ◌≢◌, ◌<◌, ◌≤◌, ◌+◌, ◌-◌, ◌^◌, ◌++◌, ◌⊎◌, ℕ, List, [], ◌∷◌, length, sum_by, Option, Some, None}
 use Rattle.heap_model.specs.Bytes.{u32_bytes, overwritten}
-use Rattle.heap_model.specs.Chunk.{Chunk, free, movable, fixed, size_of, total, SpelledAll}
+use Rattle.heap_model.specs.Chunk.{Chunk, free, movable, fixed, total, free_size, SpelledAll}
 use Rattle.heap_model.specs.Slots.{area_start}
-use Rattle.heap_model.specs.Meaning.{LiveChunk}
-use Rattle.heap_model.specs.Placing.{Finds, ChangesName}
 use Rattle.heap_model.specs.Reading.{chunk_at, chunks_of}
 use Rattle.heap_model.specs.Space.{AllFree}
+use Rattle.heap_model.specs.Layout.{merged, layout_of}
 use Rattle.chunk_format.specs.Header.{HasHeader}
 use Rattle.chunk_format.specs.declared.header.Header.{Header}
 use Rattle.chunk_format.specs.declared.header.Header.TheVariants as headers
-
--- a run of neighbouring free chunks begins at an offset, and takes so many bytes
-pub record IsFreeRun (image : List ℕ) (at size : ℕ) : Type 0 where
-  pub before : List Chunk
-  pub run : List Chunk
-  pub after : List Chunk
-  pub chunks : chunks_of image ≡ before ++ (run ++ after)
-  pub all_free : AllFree run
-  pub there : at ≡ area_start image + total before
-  pub sums : size ≡ total run
 
 -- every run of free chunks stays below a size, where one of so many bytes has begun in front
 abbrev pub StaysBelow : ℕ → ℕ → List Chunk → Type 0
@@ -35,6 +24,10 @@ run_behind begun (free more ∷ chunks) = run_behind (begun + more) chunks
 run_behind begun (movable bytes lock owner slot ∷ chunks) = run_behind 0 chunks
 run_behind begun (fixed bytes owner ∷ chunks) = run_behind 0 chunks
 
+-- chunks that don't end with a free one: in a layout what is behind them stays apart
+abbrev pub KeepsApart : List Chunk → Type 0
+KeepsApart chunks = (others : List Chunk) → merged (chunks ++ others) ≡ merged chunks ++ merged others
+
 -- the search for a run of a size has come to an offset, behind a run of so many bytes
 pub record Searched (image : List ℕ) (size at run_size : ℕ) : Type 0 where
   pub front : List Chunk
@@ -46,6 +39,7 @@ pub record Searched (image : List ℕ) (size at run_size : ℕ) : Type 0 where
   pub ends : run_behind 0 (front ++ run) ≡ run_size
   pub inside : at ≤ length image
   pub small : run_size < size
+  pub apart : KeepsApart front
 
 -- the bytes of a run of free chunks, once the chunk behind it is known
 abbrev pub run_by : ℕ → Header → ℕ
@@ -53,39 +47,30 @@ run_by begun (headers.Free size) = begun + size
 run_by begun (headers.Movable length lock owner slot) = 0
 run_by begun (headers.Fixed length owner) = 0
 
--- the chunk that has its body at this place is live and not the manager's
-pub record IsCallersChunk (image : List ℕ) (place : ℕ) : Type 0 where
-  pub name : ℕ
-  pub live : LiveChunk
-  pub chunk : Chunk
-  pub found : Finds image name live chunk (place - 8)
-  pub behind_header : 8 ≤ place
-  pub owned : live.owner ≢ 0
+-- a free chunk of exactly this size stands at an offset, and none in front of it
+pub record IsCut (image : List ℕ) (at size : ℕ) : Type 0 where
+  pub before : List Chunk
+  pub after : List Chunk
+  pub chunks : chunks_of image ≡ before ++ free size ∷ after
+  pub there : at ≡ area_start image + total before
+  pub front : layout_of image ≡ merged before ++ merged (free size ∷ after)
 
--- whatever chunk was found at an offset, its name now stands for nothing
-abbrev pub GivesBack : List ℕ → List ℕ → ℕ → Type 0
-GivesBack old new at = (name : ℕ) (live : LiveChunk) (chunk : Chunk) → Finds old name live chunk at → ChangesName old new name None None
+-- the free bytes of a header's chunk
+abbrev pub free_by : Header → ℕ
+free_by (headers.Free size) = size
+free_by (headers.Movable length lock owner slot) = 0
+free_by (headers.Fixed length owner) = 0
 
--- the size of the chunk with which a list begins, if it is free
-abbrev pub free_first : List Chunk → ℕ
-free_first [] = 0
-free_first (free size ∷ chunks) = size
-free_first (movable bytes lock owner slot ∷ chunks) = 0
-free_first (fixed bytes owner ∷ chunks) = 0
+-- the free ones of some chunks have so many bytes
+abbrev pub AreFree : ℕ → List Chunk → Type 0
+AreFree count chunks = sum_by free_size chunks ≡ count
 
--- the chunks behind it
-abbrev pub behind_free_first : List Chunk → List Chunk
-behind_free_first [] = []
-behind_free_first (free size ∷ chunks) = chunks
-behind_free_first (movable bytes lock owner slot ∷ chunks) = movable bytes lock owner slot ∷ chunks
-behind_free_first (fixed bytes owner ∷ chunks) = fixed bytes owner ∷ chunks
-
--- whatever chunk stood at an offset, a free one of this size now stands there, joined with the free
--- chunk behind it
-abbrev pub Joins : List ℕ → List ℕ → ℕ → ℕ → Type 0
-Joins old new at size =
-    (before : List Chunk) (chunk : Chunk) (after : List Chunk) → chunks_of old ≡ before ++ chunk ∷ after → at ≡ area_start old + total before
-    → (size ≡ size_of chunk + free_first after) × (chunks_of new ≡ before ++ free size ∷ behind_free_first after)
+-- a walk has come to an offset, and of the chunks that it passed this holds
+pub record Passed (image : List ℕ) (P : List Chunk → Type 0) (at : ℕ) : Type 0 where
+  pub front : List Chunk
+  pub spelled : SpelledAll image (area_start image) front at
+  pub inside : at ≤ length image
+  pub holds : P front
 
 -- the size of the free chunk that is read at an offset
 abbrev pub size_if_free : Option Chunk → ℕ
@@ -103,7 +88,7 @@ WroteRest old new at size =
     ((size ≡ 0) × (new ≡ old)) ⊎ ((0 < size) × ((new ≡ overwritten old at (u32_bytes (2 ^ 31 + size))) × HasHeader new at (headers.Free size)))
 
 -- the slot of a movable chunk is emptied
-abbrev pub Emptied : List ℕ → Header → List ℕ → Type 0
-Emptied mid (headers.Free size) new = new ≡ mid
-Emptied mid (headers.Movable length lock owner slot) new = new ≡ overwritten mid slot (u32_bytes 0)
-Emptied mid (headers.Fixed length owner) new = new ≡ mid
+abbrev pub Emptied : List ℕ → Chunk → List ℕ → Type 0
+Emptied mid (free size) new = new ≡ mid
+Emptied mid (movable bytes lock owner slot) new = new ≡ overwritten mid slot (u32_bytes 0)
+Emptied mid (fixed bytes owner) new = new ≡ mid

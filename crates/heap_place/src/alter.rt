@@ -1,84 +1,34 @@
-//! Changes of a live chunk's header.
+//! Another header for a live chunk.
 
-ghost use Rattle.std.specs.Prelude.{◌≡◌, ◌<◌, ◌+◌};
+ghost use Rattle.std.specs.Prelude.{◌≡◌, ◌<◌, ◌-◌, ◌⊎◌};
 ghost use Rattle.heap_model.specs.Chunk.{fixed_lock};
 ghost use Rattle.heap_model.specs.Heap.{HeapAccepted};
-ghost use Rattle.heap_place.specs.Search.{IsCallersChunk};
-ghost use Rattle.heap_place.specs.Alter.{Alters, IsMovableThere, relocked_header, reowned_header};
+ghost use Rattle.heap_model.specs.Layout.{Alters, with_lock, with_owner};
+ghost use Rattle.heap_place.specs.Found.{IsOne, CanGoTo};
 
-use chunk_format::Header;
-use heap_model::Place;
+use crate::found::Found;
 use raw_region::Region;
 
-/// Gives the movable chunk at a place another lock count.
-pub(crate) fn relock_at(region: &mut Region, place: Place, lock: u8)
+/// Gives a movable chunk another lock count.
+pub(crate) fn relock_at(region: &mut Region, found: Found, lock: u8)
     requires accepted { HeapAccepted region.old.bytes }
-    requires live { IsCallersChunk region.old.bytes place.0 }
-    requires movable { IsMovableThere region.old.bytes place.0 }
+    requires found { IsOne region.old.bytes found }
+    requires movable { found.lock < fixed_lock }
     requires lock { lock < fixed_lock }
-    ensures { Alters region.old.bytes region.new.bytes place.0 (λ live. record live { lock = lock }) }
+    requires owned { (lock ≡ 0) ⊎ (0 < found.owner) }
+    ensures { Alters region.old.bytes region.new.bytes (found.place.0 - 8) (with_lock lock) }
 {
-    let header = match Header::read(region, place.0 - 8) {
-        Some(header) => header,
-        None => unreachable!(),
-    };
-    relocked(header, lock).write(region, place.0 - 8);
+    let header = found.header_with(lock, found.owner);
+    header.write(region, found.place.0 - 8);
 }
 
-/// Gives the live chunk at a place to another owner.
-pub(crate) fn reown_at(region: &mut Region, place: Place, owner: u8)
+/// Gives a live chunk to another owner.
+pub(crate) fn reown_at(region: &mut Region, found: Found, owner: u8)
     requires accepted { HeapAccepted region.old.bytes }
-    requires live { IsCallersChunk region.old.bytes place.0 }
-    requires some_owner { 0 < owner }
-    requires most_owner { owner < 15 }
-    ensures { Alters region.old.bytes region.new.bytes place.0 (λ live. record live { owner = owner }) }
+    requires found { IsOne region.old.bytes found }
+    requires owner { CanGoTo region.old.bytes found owner }
+    ensures { Alters region.old.bytes region.new.bytes (found.place.0 - 8) (with_owner owner) }
 {
-    let header = match Header::read(region, place.0 - 8) {
-        Some(header) => header,
-        None => unreachable!(),
-    };
-    reowned(header, owner).write(region, place.0 - 8);
-}
-
-/// The same header with another lock count.
-#[inline]
-fn relocked(header: Header, lock: u8) -> Header
-    ensures { result ≡ relocked_header header lock }
-{
-    match header {
-        Header::Movable {
-            length,
-            owner,
-            slot,
-            ..
-        } => Header::Movable {
-            length,
-            lock,
-            owner,
-            slot,
-        },
-        other => other,
-    }
-}
-
-/// The same header with another owner.
-#[inline]
-fn reowned(header: Header, owner: u8) -> Header
-    ensures { result ≡ reowned_header header owner }
-{
-    match header {
-        Header::Movable {
-            length,
-            lock,
-            slot,
-            ..
-        } => Header::Movable {
-            length,
-            lock,
-            owner,
-            slot,
-        },
-        Header::Fixed { length, .. } => Header::Fixed { length, owner },
-        other => other,
-    }
+    let header = found.header_with(found.lock, owner);
+    header.write(region, found.place.0 - 8);
 }

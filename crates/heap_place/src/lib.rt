@@ -1,13 +1,33 @@
-//! Space for chunks: free chunks are found, split and joined, claimed for live ones and given back.
+//! Space for chunks: live chunks are found, changed where they stand and given back, and free ones
+//! found, claimed and joined.
 //!
-//! `Space` owns a heap's region, and every write that touches a free chunk goes through it; callers
-//! see the image alone. Each of its calls asks for an accepted heap and leaves one. Free neighbours
-//! need not be joined: what lies behind a chunk is joined when it is given back, and what lies in
-//! front when a run of free chunks is looked for, since headers have no links back.
+//! `Space` owns a heap's region, and every write to a chunk goes through it; callers see the image
+//! alone. Each of its calls asks for an accepted heap and leaves one, and its contract says which
+//! layout stands afterwards: the chunks of the heap, with each run of neighbouring free ones as one.
+//! How such a run is split is open. Here free neighbours are joined late: what lies behind a chunk when
+//! it is given back, and what lies in front when room is looked for, since headers have no links back.
+//!
+//! | module | does |
+//! |---|---|
+//! | `space` | the type `Space`, whose methods call the functions of the others |
+//! | `found` | a live chunk, as it is found |
+//! | `lookup` | finds a live chunk by its name or by its place |
+//! | `walks` | goes over all chunks |
+//! | `room` | finds room for a chunk |
+//! | `claim` | makes a live chunk at the front of room |
+//! | `release` | makes a live chunk free |
+//! | `alter` | writes another header for a live chunk |
 #![tactic(auto)]
 
 mod alter;
-mod search;
+mod claim;
+mod found;
+mod lookup;
+mod release;
+mod room;
 mod space;
+mod walks;
 
+pub use found::Found;
+pub use room::Room;
 pub use space::Space;

@@ -1,20 +1,22 @@
 //! The type that owns a heap's region.
 
-ghost use Rattle.std.specs.Prelude.{◌≡◌, ◌≤◌, ◌<◌, ◌+◌, ◌-◌, ◌%◌, ◌^◌, ◌++◌, ◌∷◌, [], ℕ, length, replicate, IfSome, IfNone, Some, None};
-ghost use Rattle.heap_model.specs.Bytes.{u32_at, overwritten};
-ghost use Rattle.heap_model.specs.Chunk.{Chunk, need, fixed_lock};
+ghost use Rattle.std.specs.Prelude.{◌≡◌, ◌≢◌, ◌≤◌, ◌<◌, ◌+◌, ◌-◌, ◌++◌, ◌∷◌, ◌⊎◌, ◌^◌, [], length, replicate, IfSome, IfNone, None};
+ghost use Rattle.heap_model.specs.Bytes.{u32_at};
+ghost use Rattle.heap_model.specs.Chunk.{movable, fixed, need, fixed_lock};
 ghost use Rattle.heap_model.specs.Slots.{IsSlot};
-ghost use Rattle.heap_model.specs.Heap.{HeapAccepted};
-ghost use Rattle.heap_model.specs.Meaning.{LiveChunk};
+ghost use Rattle.heap_model.specs.Heap.{HeapAccepted, directory_of};
 ghost use Rattle.heap_model.specs.Reading.{chunks_of, held};
-ghost use Rattle.heap_model.specs.Space.{NoRun};
-ghost use Rattle.heap_model.specs.Placing.{Untouched, IsReserved, ChangesName, Finds};
-ghost use Rattle.heap_place.specs.Search.{IsFreeRun, IsCallersChunk, GivesBack, Joins, WroteRest, free_size_at};
-ghost use Rattle.heap_place.specs.Alter.{Alters, IsMovableThere, HasBytes};
+ghost use Rattle.heap_model.specs.Space.{NoRun, free_total};
+ghost use Rattle.heap_model.specs.Layout.{Exchanges, Alters, in_front, freed, with_lock, with_owner, with_bytes, FreeUpTo, IsRoom};
+ghost use Rattle.heap_place.specs.Found.{IsFound, IsOne, NothingAt, CanGoTo};
 
 use crate::alter::{relock_at, reown_at};
-use crate::search::{FreeRun, find_run};
-use chunk_format::Header;
+use crate::claim::{claim_fixed_at, claim_movable, cut};
+use crate::found::Found;
+use crate::lookup::{find_named, find_placed};
+use crate::release::release;
+use crate::room::{Room, find_room};
+use crate::walks::free_bytes;
 use heap_model::{Name, Place};
 use raw_region::Region;
 use std::marker::Model;
@@ -58,228 +60,158 @@ impl Space {
         &self.region
     }
 
-    /// Makes the front of a run of neighbouring free chunks one free chunk of exactly `size` bytes,
-    /// header included, and answers the place of its body. None where no such run has so many bytes.
-    pub fn place(&mut self, size: u32) -> Option<Place>
-        requires accepted { HeapAccepted self.old.bytes }
-        requires least { 8 ≤ size }
-        requires whole { size % 8 ≡ 0 }
-        ensures untouched { IfSome result (λ place. Untouched self.old.bytes self.new.bytes) }
-        ensures reserved { IfSome result (λ place. IsReserved self.new.bytes size place.0) }
-        ensures some { IfSome result (λ place. NoRun (chunks_of self.old.bytes) size → ⊥) }
-        ensures none { IfNone result (NoRun (chunks_of self.old.bytes) size) }
-        ensures unchanged { IfNone result (self.new ≡ self.old) }
+    /// The chunk that a name stands for, whoever owns it. That of a slot costs the same however large
+    /// the heap is; for any other name the chunks are walked.
+    pub fn find(&self, name: Name) -> Option<Found>
+        requires accepted { HeapAccepted self.now.bytes }
+        ensures found { IfSome result (IsFound self.now.bytes name.0) }
+        ensures none { IfNone result (held self.now.bytes name.0 ≡ None) }
     {
-        reserve(&mut self.region, size)
+        find_named(&self.region, name)
     }
 
-    /// Makes the free chunk at a place a movable one of `count` zeros and no locks, which the empty
-    /// slot names.
-    pub fn claim(&mut self, place: Place, slot: Name, count: u32, owner: u8)
+    /// The live chunk whose body is at a place, whoever owns it. Bytes of a body that look like a header
+    /// are none.
+    pub fn find_at(&self, place: Place) -> Option<Found>
+        requires accepted { HeapAccepted self.now.bytes }
+        ensures found { IfSome result (IsOne self.now.bytes) }
+        ensures there { IfSome result (λ found. found.place.0 ≡ place.0) }
+        ensures none { IfNone result (NothingAt self.now.bytes place.0) }
+    {
+        find_placed(&self.region, place)
+    }
+
+    /// The sizes of the free chunks together, in bytes.
+    pub fn free_bytes(&self) -> u32
+        requires accepted { HeapAccepted self.now.bytes }
+        ensures { result ≡ free_total self.now.bytes }
+    {
+        free_bytes(&self.region)
+    }
+
+    /// Room for a chunk of `size` bytes, header included: the front of a run of neighbouring free chunks.
+    /// None where no such run has so many bytes.
+    pub fn place(&self, size: u32) -> Option<Room>
+        requires accepted { HeapAccepted self.now.bytes }
+        requires some_size { 0 < size }
+        ensures room { IfSome result (λ room. IsRoom self.now.bytes room.at room.size) }
+        ensures enough { IfSome result (λ room. size ≤ room.size) }
+        ensures none { IfNone result (NoRun (chunks_of self.now.bytes) size) }
+    {
+        find_room(&self.region, size)
+    }
+
+    /// Makes the front of room a movable chunk of `count` zeros and no locks, which the empty slot names.
+    pub fn claim(&mut self, room: Room, slot: Name, count: u32, owner: u8)
         requires accepted { HeapAccepted self.old.bytes }
-        requires reserved { IsReserved self.old.bytes (need count) place.0 }
+        requires room { IsRoom self.old.bytes room.at room.size }
+        requires enough { need count ≤ room.size }
         requires slot { IsSlot self.old.bytes slot.0 }
         requires empty { u32_at self.old.bytes slot.0 ≡ 0 }
         requires owner { owner < 16 }
-        ensures made { ChangesName self.old.bytes self.new.bytes slot.0 (Some (record { bytes = replicate count 0; lock = 0; owner = owner })) (Some place.0) }
-        ensures used { u32_at self.new.bytes slot.0 ≡ place.0 }
+        ensures made { Exchanges self.old.bytes self.new.bytes room.at (in_front (movable (replicate count 0) 0 owner slot.0)) }
+        ensures rest { self.new ≡ record self.old { bytes = self.new.bytes } }
     {
-        claim_movable(&mut self.region, place.0 - 8, slot, count, owner);
+        cut(&mut self.region, room, size_of_body(count));
+        claim_movable(&mut self.region, room.at, slot, count, owner);
     }
 
-    /// Makes the free chunk at a place a fixed one of `count` zeros.
-    pub fn claim_fixed(&mut self, place: Place, count: u32, owner: u8)
+    /// Makes the front of room a fixed chunk of `count` zeros, and answers its name.
+    pub fn claim_fixed(&mut self, room: Room, count: u32, owner: u8) -> Name
         requires accepted { HeapAccepted self.old.bytes }
-        requires reserved { IsReserved self.old.bytes (need count) place.0 }
+        requires room { IsRoom self.old.bytes room.at room.size }
+        requires enough { need count ≤ room.size }
         requires some_owner { 0 < owner }
         requires most_owner { owner < 15 }
-        ensures made { ChangesName self.old.bytes self.new.bytes place.0 (Some (record { bytes = replicate count 0; lock = fixed_lock; owner = owner })) (Some place.0) }
-        ensures unheld { held self.old.bytes place.0 ≡ None }
+        ensures made { Exchanges self.old.bytes self.new.bytes room.at (in_front (fixed (replicate count 0) owner)) }
+        ensures name { result.0 ≡ room.at + 8 }
+        ensures rest { self.new ≡ record self.old { bytes = self.new.bytes } }
     {
-        claim_fixed_at(&mut self.region, place.0 - 8, count, owner);
+        cut(&mut self.region, room, size_of_body(count));
+        claim_fixed_at(&mut self.region, room.at, count, owner);
+        Name(room.at + 8)
     }
 
-    /// Makes the live chunk at a place free, joins it with the free chunk behind it, if one is there,
-    /// and answers the size of what became free, in bytes. The slot of a movable chunk is emptied.
-    pub fn give_back(&mut self, place: Place) -> u32
+    /// Makes a live chunk free, and answers how many bytes are free from its header on, up to where the
+    /// next chunk begins. The slot of a movable chunk is emptied. The directory is not given back.
+    pub fn give_back(&mut self, found: Found) -> u32
         requires accepted { HeapAccepted self.old.bytes }
-        requires live { IsCallersChunk self.old.bytes place.0 }
-        ensures gone { GivesBack self.old.bytes self.new.bytes (place.0 - 8) }
-        ensures joined { Joins self.old.bytes self.new.bytes (place.0 - 8) result }
+        requires found { IsOne self.old.bytes found }
+        requires no_directory { found.name.0 ≢ directory_of self.old.bytes }
+        ensures gone { Alters self.old.bytes self.new.bytes (found.place.0 - 8) freed }
+        ensures free { FreeUpTo self.new.bytes (found.place.0 - 8) (found.place.0 - 8 + result) }
+        ensures rest { self.new ≡ record self.old { bytes = self.new.bytes } }
     {
-        release(&mut self.region, place.0 - 8)
+        release(&mut self.region, found)
     }
 
-    /// Gives the movable chunk at a place another lock count.
-    pub fn relock(&mut self, place: Place, lock: u8)
+    /// Gives a movable chunk another lock count. One of the manager's, whose owner is 0, has none.
+    pub fn relock(&mut self, found: Found, lock: u8)
         requires accepted { HeapAccepted self.old.bytes }
-        requires live { IsCallersChunk self.old.bytes place.0 }
-        requires movable { IsMovableThere self.old.bytes place.0 }
+        requires found { IsOne self.old.bytes found }
+        requires movable { found.lock < fixed_lock }
         requires lock { lock < fixed_lock }
-        ensures { Alters self.old.bytes self.new.bytes place.0 (λ live. record live { lock = lock }) }
+        requires owned { (lock ≡ 0) ⊎ (0 < found.owner) }
+        ensures made { Alters self.old.bytes self.new.bytes (found.place.0 - 8) (with_lock lock) }
+        ensures rest { self.new ≡ record self.old { bytes = self.new.bytes } }
     {
-        relock_at(&mut self.region, place, lock);
+        relock_at(&mut self.region, found, lock);
     }
 
-    /// Gives the live chunk at a place to another owner.
-    pub fn reown(&mut self, place: Place, owner: u8)
+    /// Gives a live chunk to another owner.
+    pub fn reown(&mut self, found: Found, owner: u8)
         requires accepted { HeapAccepted self.old.bytes }
-        requires live { IsCallersChunk self.old.bytes place.0 }
-        requires some_owner { 0 < owner }
-        requires most_owner { owner < 15 }
-        ensures { Alters self.old.bytes self.new.bytes place.0 (λ live. record live { owner = owner }) }
+        requires found { IsOne self.old.bytes found }
+        requires owner { CanGoTo self.old.bytes found owner }
+        ensures made { Alters self.old.bytes self.new.bytes (found.place.0 - 8) (with_owner owner) }
+        ensures rest { self.new ≡ record self.old { bytes = self.new.bytes } }
     {
-        reown_at(&mut self.region, place, owner);
+        reown_at(&mut self.region, found, owner);
     }
 
-    /// Writes bytes over those of the live chunk at a place, from `at` within its body on.
-    pub fn write(&mut self, place: Place, at: u32, bytes: &[u8])
+    /// Writes bytes over those of a live chunk, from `at` within its body on.
+    pub fn write(&mut self, found: Found, at: u32, bytes: &[u8])
         requires accepted { HeapAccepted self.old.bytes }
-        requires live { IsCallersChunk self.old.bytes place.0 }
-        requires within { HasBytes self.old.bytes place.0 (at + length bytes.now) }
-        ensures { Alters self.old.bytes self.new.bytes place.0 (λ live. record live { bytes = overwritten live.bytes at bytes.now }) }
+        requires found { IsOne self.old.bytes found }
+        requires within { at + length bytes.now ≤ found.length }
+        ensures made { Alters self.old.bytes self.new.bytes (found.place.0 - 8) (with_bytes at bytes.now) }
+        ensures rest { self.new ≡ record self.old { bytes = self.new.bytes } }
     {
-        self.region.write(place.0 as usize + at as usize, bytes);
+        self.region
+            .write(found.place.0 as usize + at as usize, bytes);
     }
 
-    /// Writes bytes and then one zero byte over those of the live chunk at a place, from `at` within its
-    /// body on.
-    pub fn write_ended(&mut self, place: Place, at: u32, bytes: &[u8])
+    /// Writes bytes and then one zero byte over those of a live chunk, from `at` within its body on.
+    pub fn write_ended(&mut self, found: Found, at: u32, bytes: &[u8])
         requires accepted { HeapAccepted self.old.bytes }
-        requires live { IsCallersChunk self.old.bytes place.0 }
-        requires within { HasBytes self.old.bytes place.0 (at + length bytes.now + 1) }
-        ensures { Alters self.old.bytes self.new.bytes place.0 (λ live. record live { bytes = overwritten live.bytes at (bytes.now ++ 0 ∷ []) }) }
+        requires found { IsOne self.old.bytes found }
+        requires within { at + length bytes.now + 1 ≤ found.length }
+        ensures made { Alters self.old.bytes self.new.bytes (found.place.0 - 8) (with_bytes at (bytes.now ++ 0 ∷ [])) }
+        ensures rest { self.new ≡ record self.old { bytes = self.new.bytes } }
     {
-        let start = place.0 as usize + at as usize;
+        let start = found.place.0 as usize + at as usize;
         self.region.write(start, bytes);
         self.region.fill(start + bytes.len(), 1, 0);
     }
 
-    /// Makes each of `count` bytes of the live chunk at a place the byte `byte`, from `at` within its
-    /// body on.
-    pub fn fill(&mut self, place: Place, at: u32, count: u32, byte: u8)
+    /// Makes each of `count` bytes of a live chunk the byte `byte`, from `at` within its body on.
+    pub fn fill(&mut self, found: Found, at: u32, count: u32, byte: u8)
         requires accepted { HeapAccepted self.old.bytes }
-        requires live { IsCallersChunk self.old.bytes place.0 }
-        requires within { HasBytes self.old.bytes place.0 (at + count) }
-        ensures { Alters self.old.bytes self.new.bytes place.0 (λ live. record live { bytes = overwritten live.bytes at (replicate count byte) }) }
+        requires found { IsOne self.old.bytes found }
+        requires within { at + count ≤ found.length }
+        ensures made { Alters self.old.bytes self.new.bytes (found.place.0 - 8) (with_bytes at (replicate count byte)) }
+        ensures rest { self.new ≡ record self.old { bytes = self.new.bytes } }
     {
         self.region
-            .fill(place.0 as usize + at as usize, count as usize, byte);
+            .fill(found.place.0 as usize + at as usize, count as usize, byte);
     }
 }
 
-/// Finds a run of free chunks, and makes its front one of `size` bytes.
-fn reserve(region: &mut Region, size: u32) -> Option<Place>
-    requires accepted { HeapAccepted region.old.bytes }
-    requires least { 8 ≤ size }
-    requires whole { size % 8 ≡ 0 }
-    ensures untouched { IfSome result (λ place. Untouched region.old.bytes region.new.bytes) }
-    ensures reserved { IfSome result (λ place. IsReserved region.new.bytes size place.0) }
-    ensures some { IfSome result (λ place. NoRun (chunks_of region.old.bytes) size → ⊥) }
-    ensures none { IfNone result (NoRun (chunks_of region.old.bytes) size) }
-    ensures unchanged { IfNone result (region.new ≡ region.old) }
+/// What a chunk with a body of `count` bytes takes, where that is at most what a region can have.
+#[inline]
+fn size_of_body(count: u32) -> u32
+    requires { need count < 2 ^ 24 }
+    ensures { result ≡ need count }
 {
-    match find_run(region, size) {
-        Some(run) => {
-            carve(region, run, size);
-            Some(Place(run.at + 8))
-        }
-        None => None,
-    }
-}
-
-/// Makes the front of a run of free chunks one of `size` bytes, and what is left another.
-fn carve(region: &mut Region, run: FreeRun, size: u32)
-    requires accepted { HeapAccepted region.old.bytes }
-    requires run { IsFreeRun region.old.bytes run.at run.size }
-    requires least { 8 ≤ size }
-    requires whole { size % 8 ≡ 0 }
-    requires within { size ≤ run.size }
-    ensures untouched { Untouched region.old.bytes region.new.bytes }
-    ensures reserved { IsReserved region.new.bytes size (run.at + 8) }
-{
-    write_rest(region, run.at + size, run.size - size);
-    Header::Free { size }.write(region, run.at);
-}
-
-/// Writes the header of a free chunk of `size` bytes at `at`, unless there are none.
-fn write_rest(region: &mut Region, at: u32, size: u32)
-    requires inside { at + size ≤ length region.old.bytes }
-    requires small { length region.old.bytes < 2 ^ 24 }
-    requires whole { size % 8 ≡ 0 }
-    ensures { WroteRest region.old.bytes region.new.bytes at size }
-{
-    if size > 0 {
-        Header::Free { size }.write(region, at);
-    }
-}
-
-/// Makes the free chunk at `at` a movable one of zeros.
-fn claim_movable(region: &mut Region, at: u32, slot: Name, count: u32, owner: u8)
-    requires accepted { HeapAccepted region.old.bytes }
-    requires reserved { IsReserved region.old.bytes (need count) (at + 8) }
-    requires slot { IsSlot region.old.bytes slot.0 }
-    requires empty { u32_at region.old.bytes slot.0 ≡ 0 }
-    requires owner { owner < 16 }
-    ensures made { ChangesName region.old.bytes region.new.bytes slot.0 (Some (record { bytes = replicate count 0; lock = 0; owner = owner })) (Some (at + 8)) }
-    ensures used { u32_at region.new.bytes slot.0 ≡ at + 8 }
-{
-    let header = Header::Movable {
-        length: count,
-        lock: 0,
-        owner,
-        slot: slot.0,
-    };
-    header.write(region, at);
-    region.fill(at as usize + 8, count as usize, 0);
-    master_table::set(region, slot, Place(at + 8));
-}
-
-/// Makes the free chunk at `at` a fixed one of zeros.
-fn claim_fixed_at(region: &mut Region, at: u32, count: u32, owner: u8)
-    requires accepted { HeapAccepted region.old.bytes }
-    requires reserved { IsReserved region.old.bytes (need count) (at + 8) }
-    requires some_owner { 0 < owner }
-    requires most_owner { owner < 15 }
-    ensures made { ChangesName region.old.bytes region.new.bytes (at + 8) (Some (record { bytes = replicate count 0; lock = fixed_lock; owner = owner })) (Some (at + 8)) }
-    ensures unheld { held region.old.bytes (at + 8) ≡ None }
-{
-    let header = Header::Fixed {
-        length: count,
-        owner,
-    };
-    header.write(region, at);
-    let body = at as usize + 8;
-    region.fill(body, count as usize, 0);
-}
-
-/// Makes the live chunk at `at` free, with the free chunk behind it.
-fn release(region: &mut Region, at: u32) -> u32
-    requires accepted { HeapAccepted region.old.bytes }
-    requires live { IsCallersChunk region.old.bytes (at + 8) }
-    ensures gone { GivesBack region.old.bytes region.new.bytes at }
-    ensures joined { Joins region.old.bytes region.new.bytes at result }
-{
-    let header = match Header::read(region, at) {
-        Some(header) => header,
-        None => unreachable!(),
-    };
-    let size = header.size();
-    let joined = size + free_size(region, at + size);
-    Header::Free { size: joined }.write(region, at);
-    if let Header::Movable { slot, .. } = header {
-        master_table::clear(region, Name(slot));
-    }
-    joined
-}
-
-/// The size of the free chunk at `at`, or 0 where none stands there.
-fn free_size(region: &Region, at: u32) -> u32
-    requires small { length region.now.bytes < 2 ^ 24 }
-    ensures { result ≡ free_size_at region.now.bytes at }
-{
-    match Header::read(region, at) {
-        Some(Header::Free { size }) => size,
-        _ => 0,
-    }
+    8 + 8 * ((count + 7) / 8)
 }

@@ -1,0 +1,110 @@
+-- The layout of an image: its chunks, with each run of neighbouring free ones as one. What an image
+-- holds, where, and what room is left are functions of its layout and of where its chunks begin. So
+-- contracts say which layout stands afterwards, and leave open how runs of free chunks are split.
+use Rattle.std.specs.Prelude.{◌≡◌, ◌≤◌, ◌<◌, ◌+◌, ◌-◌, ◌++◌, ◌==◌, if◌then◌else◌, ℕ, zero, suc, List, [], ◌∷◌, length, All}
+use Rattle.heap_model.specs.Bytes.{overwritten}
+use Rattle.heap_model.specs.Chunk.{Chunk, free, movable, fixed, size_of, total, free_size}
+use Rattle.heap_model.specs.Space.{AllFree}
+use Rattle.heap_model.specs.Slots.{area_start}
+use Rattle.heap_model.specs.Reading.{chunks_of}
+use Rattle.heap_model.specs.Placing.{SameFrame}
+
+-- a free chunk in front of others, as one with a free chunk that is first there
+abbrev pub free_onto : ℕ → List Chunk → List Chunk
+free_onto size [] = free size ∷ []
+free_onto size (free more ∷ chunks) = free (size + more) ∷ chunks
+free_onto size (movable bytes lock owner slot ∷ chunks) = free size ∷ movable bytes lock owner slot ∷ chunks
+free_onto size (fixed bytes owner ∷ chunks) = free size ∷ fixed bytes owner ∷ chunks
+
+-- the same chunks, with each run of neighbouring free ones as one
+abbrev pub merged : List Chunk → List Chunk
+merged [] = []
+merged (free size ∷ chunks) = free_onto size (merged chunks)
+merged (movable bytes lock owner slot ∷ chunks) = movable bytes lock owner slot ∷ merged chunks
+merged (fixed bytes owner ∷ chunks) = fixed bytes owner ∷ merged chunks
+
+-- the layout of an image
+abbrev pub layout_of : List ℕ → List Chunk
+layout_of image = merged (chunks_of image)
+
+-- of some chunks none is free and has so many bytes
+abbrev pub AllBelow : ℕ → List Chunk → Type 0
+AllBelow size chunks = All (λ chunk. free_size chunk < size) chunks
+
+-- The image has become an accepted heap with the layout of these chunks, in the same frame. What each
+-- slot holds follows from the layout.
+pub record Becomes (old new : List ℕ) (chunks : List Chunk) : Type 0 where
+  pub frame : SameFrame old new
+  pub layout : layout_of new ≡ merged chunks
+
+-- ---- one chunk of a layout, and others for it
+
+-- some chunks, which begin at an offset, with others in place of the one that stands there
+unfoldable pub exchanged : ℕ → (Chunk → List Chunk) → ℕ → List Chunk → List Chunk
+exchanged there change at [] = []
+exchanged there change at (chunk ∷ chunks) = (if at == there then change chunk else chunk ∷ []) ++ exchanged there change (at + size_of chunk) chunks
+
+-- in the layout, others stand in place of the chunk that stood at an offset, and all else is as it was
+abbrev pub Exchanges : List ℕ → List ℕ → ℕ → (Chunk → List Chunk) → Type 0
+Exchanges old new there change = Becomes old new (exchanged there change (area_start old) (layout_of old))
+
+-- the same, where one chunk is changed
+abbrev pub Alters : List ℕ → List ℕ → ℕ → (Chunk → Chunk) → Type 0
+Alters old new there change = Exchanges old new there (λ chunk. change chunk ∷ [])
+
+-- a free chunk of so many bytes, if there are any
+abbrev pub gap : ℕ → List Chunk
+gap zero = []
+gap (suc more) = free (suc more) ∷ []
+
+-- a chunk at the front of another's bytes, and what is left of these free
+abbrev pub in_front : Chunk → Chunk → List Chunk
+in_front front chunk = front ∷ gap (size_of chunk - size_of front)
+
+-- the chunk made free
+abbrev pub freed : Chunk → Chunk
+freed chunk = free (size_of chunk)
+
+-- with another lock count, if it is movable
+abbrev pub with_lock : ℕ → Chunk → Chunk
+with_lock lock (free size) = free size
+with_lock lock (movable bytes count owner slot) = movable bytes lock owner slot
+with_lock lock (fixed bytes owner) = fixed bytes owner
+
+-- with another owner, if it is live
+abbrev pub with_owner : ℕ → Chunk → Chunk
+with_owner owner (free size) = free size
+with_owner owner (movable bytes lock holder slot) = movable bytes lock owner slot
+with_owner owner (fixed bytes holder) = fixed bytes owner
+
+-- with bytes written over its own, from an offset within them on, if it is live
+abbrev pub with_bytes : ℕ → List ℕ → Chunk → Chunk
+with_bytes at part (free size) = free size
+with_bytes at part (movable bytes lock owner slot) = movable (overwritten bytes at part) lock owner slot
+with_bytes at part (fixed bytes owner) = fixed (overwritten bytes at part) owner
+
+-- ---- where free chunks are
+
+-- The bytes from one offset up to another, a header's at least, are those of free chunks, the last of
+-- which ends there.
+pub record FreeUpTo (image : List ℕ) (at end : ℕ) : Type 0 where
+  pub before : List Chunk
+  pub run : List Chunk
+  pub after : List Chunk
+  pub chunks : chunks_of image ≡ before ++ (run ++ after)
+  pub all_free : AllFree run
+  pub from : area_start image + total before ≤ at
+  pub to : area_start image + total before + total run ≡ end
+  pub least : at + 8 ≤ end
+
+-- At an offset begins a run of neighbouring free chunks, of which the first ones take so many bytes.
+-- No free chunk stands in front of the run: in the layout it is a chunk of its own.
+pub record IsRoom (image : List ℕ) (at size : ℕ) : Type 0 where
+  pub before : List Chunk
+  pub run : List Chunk
+  pub after : List Chunk
+  pub chunks : chunks_of image ≡ before ++ (run ++ after)
+  pub all_free : AllFree run
+  pub there : at ≡ area_start image + total before
+  pub sums : size ≡ total run
+  pub front : layout_of image ≡ merged before ++ merged (run ++ after)

@@ -1,0 +1,289 @@
+-- What the writes of cutting off room and of claiming it do to an accepted heap.
+use Rattle.std.proofs.Common.{◌≡◌, ℕ, zero, suc, ◌+◌, ◌-◌, ◌*◌, ◌%◌, ◌^◌, ◌<◌, ◌≤◌, List, [], ◌∷◌, ◌++◌, length, take, drop, replicate, refl, sym, ap, subst, ◌∙◌, arith, inl, inr, length-append}
+use Rattle.std.specs.Prelude.{slice_range}
+use Rattle.std.proofs.lemmas.List.{length-replicate, drop_all, append-nil}
+use Rattle.heap_model.specs.Bytes.{u32_at, u32_bytes, overwritten}
+use Rattle.heap_model.specs.Chunk.{Chunk, free, movable, fixed, fixed_lock, need, size_of, total, IsFree, IsLive, Spelled, SpelledAll}
+use Rattle.heap_model.specs.Slots.{IsSlot, area_start, table_end}
+use Rattle.heap_model.specs.Heap.{IsHeap, HeapAccepted}
+use Rattle.heap_model.specs.Reading.{chunks_of}
+use Rattle.heap_model.specs.Layout.{merged, Becomes, Exchanges, gap, in_front, IsRoom}
+use Rattle.heap_laws.proofs.Frames.{u32_at-written, slice-same, slice-overwritten, length-u32_bytes}
+use Rattle.heap_laws.proofs.Chunks.{Spelled-same}
+use Rattle.heap_laws.proofs.Runs.{chunks_of-tiled}
+use Rattle.heap_laws.proofs.Replacing.{SameHead, same_count, slot_there, Replaces, replaced_total, same_start, SameSlots}
+use Rattle.heap_laws.proofs.Writing.{WroteWithin, wrote_none, wrote_part, wrote_word, wrote_wider, wrote_then, wrote_apart, wrote_word_apart, WroteArea, area_replaces, area_slots}
+use Rattle.heap_laws.proofs.Freeing.{free_replaced, OtherSlots, claimed}
+use Rattle.heap_laws.proofs.Layouts.{merged-left, merged-right, runs-merged}
+use Rattle.heap_laws.proofs.Becoming.{becomes_heap, becomes_alike}
+use Rattle.heap_laws.proofs.Exchanging.{gap_free, claims_parts}
+use Rattle.heap_laws.proofs.Altering.{overwritten_body, claimed_fixed}
+use Rattle.chunk_format.specs.declared.header.Header.TheVariants as headers
+use Rattle.chunk_format.specs.Header.{header_of, HasHeader, header_bytes, live_words, h_offset_to}
+use Rattle.heap_place.specs.Search.{IsCut, WroteRest}
+use Rattle.heap_place.proofs.FoundLaws.{heap_in_parts, middle_of}
+
+-- ---- headers of free chunks
+
+free_header : (size : ℕ) (c : Chunk) → headers.Free size ≡ header_of c → c ≡ free size
+free_header size (free n) e = ap free (sym (same e)) where
+  same : headers.Free size ≡ headers.Free n → size ≡ n
+  same e = cc
+free_header size (movable bytes lock owner slot) e = absurd cc
+free_header size (fixed bytes owner) e = absurd cc
+
+pub has_free : (image : List ℕ) (at size : ℕ) → HasHeader image at (headers.Free size) → IsFree image at size
+has_free image at size h = subst (λ (c : Chunk). Spelled image at c) (free_header size h.chunk h.header_is) h.spelled
+
+-- ---- a run is carved
+
+gap_spelled : (old mid new : List ℕ) (at size at_rest rest end : ℕ) → at_rest ≡ at + size → end ≡ at_rest + rest → 8 ≤ size → end ≤ length new → length new ≡ length mid → WroteWithin mid new at (at + 4) → WroteRest old mid at_rest rest → SpelledAll new at_rest (gap rest) end
+gap_spelled old mid new at size at_rest zero end e f least inside len w r = omega arith
+gap_spelled old mid new at size at_rest (suc n) end e f least inside len w r = elim r [
+  | inl none ↦ absurd (let z = none.0 in omega arith)
+  | inr some ↦
+      let there : IsFree mid at_rest (suc n) = has_free mid at_rest (suc n) some.1.1 in
+      (Spelled-same mid new at_rest (free (suc n)) (wrote_apart mid new at (at + 4) at_rest (at_rest + suc n) w (inr (omega arith, omega arith))) len there, omega arith)
+]
+
+rest_within : (old mid : List ℕ) (at_rest rest low high : ℕ) → WroteRest old mid at_rest rest → low ≤ at_rest → at_rest + rest ≤ high → high ≤ length old → rest % 8 ≡ 0 → WroteWithin old mid low high
+rest_within old mid at_rest rest low high r a b c whole = elim r [
+  | inl none ↦ subst (λ (image : List ℕ). WroteWithin old image low high) (sym none.1) (wrote_none old low high)
+  | inr some ↦ let positive = some.0 in wrote_wider old mid at_rest (at_rest + 4) low high (wrote_word old mid at_rest (2 ^ 31 + rest) some.1.0 (omega arith)) a (omega arith)
+]
+
+pub was_cut : (old mid new : List ℕ) (at room size : ℕ) → HeapAccepted old → IsRoom old at room → 8 ≤ size → size % 8 ≡ 0 → size ≤ room → WroteRest old mid (at + size) (room - size)
+    → new ≡ overwritten mid at (u32_bytes (2 ^ 31 + size)) → HasHeader new at (headers.Free size) → Becomes old new (chunks_of old) × IsCut new at size
+was_cut old mid new at room size accepted r least whole within wrote is header =
+    let heap = heap_in_parts old (r.before ++ (r.run ++ r.after)) accepted r.chunks in
+    let m = middle_of old r.before r.run r.after at heap r.there in
+    let sums : room ≡ total r.run = r.sums in
+    let inside = m.inside in
+    let run_whole = m.whole in
+    let start = m.there in
+    let rest : ℕ = room - size in
+    let first : WroteWithin old mid at (at + room) = rest_within old mid (at + size) rest at (at + room) wrote (omega arith) (omega arith) (omega arith) (omega arith) in
+    let len_mid = first.len in
+    let second : WroteWithin mid new at (at + 4) = wrote_word mid new at (2 ^ 31 + size) is (omega arith) in
+    let all : WroteWithin old new at (at + room) = wrote_then old mid new at (at + room) first (wrote_wider mid new at (at + 4) at (at + room) second (omega arith) (omega arith)) in
+    let len = all.len in
+    let area : WroteArea old new at (at + room) = record { mid = new; slot = at; area = all; word = wrote_none new at (at + 4); is_slot = inl refl; there = omega arith; fits = omega arith } in
+    let others : List Chunk = free size ∷ gap rest in
+    let spelled : SpelledAll new at others (at + total r.run) = (has_free new at size header, gap_spelled old mid new at size (at + size) rest (at + total r.run) refl (omega arith) least (omega arith) (second.len) second wrote) in
+    let replaces = area_replaces old new r.before r.run others r.after at r.there m.inside (subst (λ (n : ℕ). WroteArea old new at (at + n)) sums area) spelled in
+    let slots : SameSlots old new = record { same = λ slot s. let low_slot : slot < table_end old = s.in_table in let four : slot % 4 ≡ 0 = s.whole in wrote_word_apart old new at (at + room) slot all (inl (omega arith)) } in
+    let new_heap = free_replaced old new r.before r.run others r.after at heap replaces slots r.all_free (gap_free rest) in
+    let sizes = replaced_total old new r.before r.run others r.after at replaces in
+    let alike : merged (others ++ r.after) ≡ merged (r.run ++ r.after) = merged-left others r.run r.after (runs-merged others r.run (gap_free rest) r.all_free (omega arith) sizes) in
+    let all_alike : merged (r.before ++ (others ++ r.after)) ≡ merged (chunks_of old) = merged-right r.before (others ++ r.after) (r.run ++ r.after) alike ∙ ap merged (sym r.chunks) in
+    let start_new : area_start new ≡ area_start old = same_start old new replaces.head in
+    let becomes = becomes_alike old new (r.before ++ (others ++ r.after)) (chunks_of old) all_alike (becomes_heap old new (r.before ++ (others ++ r.after)) replaces.head new_heap) in (
+      becomes,
+      record {
+        before = r.before;
+        after = gap rest ++ r.after;
+        chunks = chunks_of-tiled new (r.before ++ (others ++ r.after)) new_heap.tiles;
+        there = omega arith;
+        front = becomes.layout ∙ r.front ∙ ap (λ (cs : List Chunk). merged r.before ++ cs) (sym alike);
+      },
+    )
+
+-- where room lies
+pub room_facts : (image : List ℕ) (at size : ℕ) → HeapAccepted image → IsRoom image at size → (at + size ≤ length image) × (size % 8 ≡ 0) × (length image ≤ 16777208)
+room_facts image at size accepted r =
+    let m = middle_of image r.before r.run r.after at (heap_in_parts image (r.before ++ (r.run ++ r.after)) accepted r.chunks) r.there in
+    let inside = m.inside in
+    let whole = m.whole in
+    let sums = r.sums in
+    (omega arith, omega arith, m.most)
+
+pub rest_length : (old new : List ℕ) (at size : ℕ) → WroteRest old new at size → at + size ≤ length old → size % 8 ≡ 0 → length new ≡ length old
+rest_length old new at size w inside whole = (rest_within old new at size at (at + size) w (omega arith) (omega arith) inside whole).len
+
+-- a free chunk that was cut off is room
+pub cut_room : (image : List ℕ) (at size : ℕ) → IsCut image at size → IsRoom image at size
+cut_room image at size c = record { before = c.before; run = free size ∷ []; after = c.after; chunks = c.chunks; all_free = tt; there = c.there; sums = (let e : size ≡ size + 0 = omega arith in e); front = c.front }
+
+-- ---- a free chunk is claimed
+
+-- where a free chunk lies that was cut off
+pub cut_facts : (image : List ℕ) (size at : ℕ) → HeapAccepted image → IsCut image at size → (at + size ≤ length image) × (area_start image ≤ at) × (at % 8 ≡ 0) × (length image ≤ 16777208)
+cut_facts image size at accepted r =
+    let there = r.there in
+    let m = middle_of image r.before (free size ∷ []) r.after at (heap_in_parts image (r.before ++ free size ∷ r.after) accepted r.chunks) r.there in
+    let inside = m.inside in
+    (omega arith, omega arith, m.start_whole, m.most)
+
+pub slot_facts : (image : List ℕ) (slot : ℕ) → HeapAccepted image → IsSlot image slot → (slot + 4 ≤ area_start image) × (slot % 4 ≡ 0) × (area_start image ≤ length image) × (16 ≤ slot) × (length image ≤ 16777208) × (table_end image ≤ length image)
+slot_facts image slot accepted s =
+    let high : slot < table_end image = s.in_table in
+    let whole : slot % 4 ≡ 0 = s.whole in
+    let fits = accepted.1.tiles.head.a_chunk_fits in
+    (omega arith, whole, omega arith, s.behind_head, accepted.1.tiles.head.most, omega arith)
+
+pub header_movable : (count lock owner slot : ℕ) (c : Chunk) → headers.Movable count lock owner slot ≡ header_of c → (bytes : List ℕ) × ((c ≡ movable bytes lock owner slot) × (length bytes ≡ count))
+header_movable count lock owner slot (free n) e = absurd cc
+header_movable count lock owner slot (fixed bytes v) e = absurd cc
+header_movable count lock owner slot (movable bytes l v s) e =
+    let a : lock ≡ l = cc in
+    let b : owner ≡ v = cc in
+    let d : slot ≡ s = cc in
+    let n : count ≡ length bytes = cc in
+    (bytes, (cc, sym n))
+
+-- the header of a chunk, and zeros behind it
+zeroed : (h new : List ℕ) (at count lock owner slot : ℕ) → HasHeader h at (headers.Movable count lock owner slot) → length new ≡ length h → u32_at new at ≡ u32_at h at → u32_at new (at + 4) ≡ u32_at h (at + 4)
+    → slice_range new (at + 8) (at + 8 + count) ≡ replicate count 0 → Spelled new at (movable (replicate count 0) lock owner slot)
+zeroed h new at count lock owner slot found len first second body =
+    let m = header_movable count lock owner slot found.chunk found.header_is in
+    let s : Spelled h at (movable m.0 lock owner slot) = subst (λ (c : Chunk). Spelled h at c) m.1.0 found.spelled in
+    let zeros : length (replicate {A = ℕ} count 0) ≡ count = length-replicate count 0 in
+    let same : length (replicate {A = ℕ} count 0) ≡ length m.0 = zeros ∙ sym m.1.1 in
+    let inside : at + need (length m.0) ≤ length h = s.1.inside in
+    let fits : need (length m.0) < 2 ^ 24 = s.1.size_fits in (
+      s.0,
+      record {
+        first_word = first ∙ s.1.first_word ∙ ap (λ (n : ℕ). (need n - 8 - n) * 2 ^ 24 + need n) (sym same);
+        size_fits = omega arith;
+        second_word = second ∙ s.1.second_word;
+        lock_fits = s.1.lock_fits;
+        owner_fits = s.1.owner_fits;
+        h_offset_fits = s.1.h_offset_fits;
+        body = ap (λ (n : ℕ). slice_range new (at + 8) (at + 8 + n)) zeros ∙ body;
+        inside = omega arith;
+      },
+      s.2,
+      s.3,
+      s.4,
+    )
+
+pub live_words_length : (count lock owner h : ℕ) → length (live_words count lock owner h) ≡ 8
+live_words_length count lock owner h =
+    let a = length-u32_bytes ((need count - 8 - count) * 2 ^ 24 + need count) in
+    let b = length-u32_bytes (lock * 2 ^ 28 + owner * 2 ^ 24 + h) in
+    simp length-append (omega arith)
+
+-- the header and the bytes of the claimed chunk lie among the chunks
+pub claimed_area : (old h z : List ℕ) (at count owner slot : ℕ) → at + need count ≤ length old → h ≡ overwritten old at (live_words count 0 owner (h_offset_to at slot)) → z ≡ overwritten h (at + 8) (replicate count 0) → WroteWithin old z at (at + need count)
+claimed_area old h z at count owner slot inside h_is z_is =
+    let words : List ℕ = live_words count 0 owner (h_offset_to at slot) in
+    let eight : length words ≡ 8 = live_words_length count 0 owner (h_offset_to at slot) in
+    let zeros : length (replicate {A = ℕ} count 0) ≡ count = length-replicate count 0 in
+    let header : WroteWithin old h at (at + need count) = wrote_wider old h at (at + length words) at (at + need count) (wrote_part old h at words h_is (omega arith)) (omega arith) (omega arith) in
+    let len = header.len in
+    let body : WroteWithin h z (at + 8) (at + 8 + length (replicate {A = ℕ} count 0)) = wrote_part h z (at + 8) (replicate count 0) z_is (omega arith) in
+    wrote_then old h z at (at + need count) header (wrote_wider h z (at + 8) (at + 8 + length (replicate {A = ℕ} count 0)) at (at + need count) body (omega arith) (omega arith))
+
+-- what is written among the chunks leaves the table where it is
+pub wrote_head : (old new : List ℕ) (low high : ℕ) → WroteWithin old new low high → area_start old ≤ low → low ≤ length old → SameHead old new
+wrote_head old new low high w there inside = record {
+  len = w.len;
+  words = wrote_apart old new low high 0 16 w (inl (omega arith));
+  padding = wrote_apart old new low high (table_end old) (area_start old) w (inl there);
+}
+
+pub table_kept : (old new : List ℕ) (low high slot : ℕ) → HeapAccepted old → WroteWithin old new low high → area_start old ≤ low → low ≤ length old → IsSlot old slot → (table_end new ≤ length new) × IsSlot new slot
+table_kept old new low high slot accepted w there inside s =
+    let same = wrote_head old new low high w there inside in
+    let ends = same_count old new same in
+    let len = w.len in
+    let fits = accepted.1.tiles.head.a_chunk_fits in
+    (omega arith, slot_there old new slot same s)
+
+-- a chunk that takes all of what was cut off
+claimed_front : (old new : List ℕ) (at size : ℕ) (d : Chunk) → HeapAccepted old → (r : IsCut old at size) → size_of d ≡ size → Becomes old new (r.before ++ d ∷ r.after) → Exchanges old new at (in_front d)
+unfolding cut_room
+claimed_front old new at size d accepted r takes b =
+    let facts = cut_facts old size at accepted r in
+    let spelled = (middle_of old r.before (free size ∷ []) r.after at (heap_in_parts old (r.before ++ free size ∷ r.after) accepted r.chunks) r.there).spelled.0 in
+    let least = spelled.header_fits in
+    let none : size - size_of d ≡ 0 = omega arith in
+    let whole : r.before ++ ((d ∷ gap (size - size_of d)) ++ r.after) ≡ r.before ++ d ∷ r.after = ap (λ (n : ℕ). r.before ++ ((d ∷ gap n) ++ r.after)) none in
+    claims_parts old new at size d accepted (omega arith) (cut_room old at size r) (omega arith) (subst (λ (cs : List Chunk). Becomes old new cs) (sym whole) b)
+
+pub claimed_write : (old h z new : List ℕ) (at count owner slot : ℕ) → HeapAccepted old → IsCut old at (need count) → IsSlot old slot → u32_at old slot ≡ 0
+    → h ≡ overwritten old at (live_words count 0 owner (h_offset_to at slot)) → HasHeader h at (headers.Movable count 0 owner slot) → z ≡ overwritten h (at + 8) (replicate count 0) → new ≡ overwritten z slot (u32_bytes (at + 8))
+    → Exchanges old new at (in_front (movable (replicate count 0) 0 owner slot))
+claimed_write old h z new at count owner slot accepted r s empty h_is header z_is new_is =
+    let size : ℕ = need count in
+    let heap = heap_in_parts old (r.before ++ free size ∷ r.after) accepted r.chunks in
+    let there = r.there in
+    let facts = cut_facts old size at accepted r in
+    let inside = facts.0 in
+    let low = facts.1 in
+    let most = facts.3 in
+    let sf = slot_facts old slot accepted s in
+    let sf0 = sf.0 in
+    let sf3 = sf.3 in
+    let eight = live_words_length count 0 owner (h_offset_to at slot) in
+    let zeros : length (replicate {A = ℕ} count 0) ≡ count = length-replicate count 0 in
+    let w1 : WroteWithin old h at (at + size) = wrote_wider old h at (at + length (live_words count 0 owner (h_offset_to at slot))) at (at + size) (wrote_part old h at (live_words count 0 owner (h_offset_to at slot)) h_is (omega arith)) (omega arith) (omega arith) in
+    let len_h = w1.len in
+    let w2' : WroteWithin h z (at + 8) (at + 8 + length (replicate {A = ℕ} count 0)) = wrote_part h z (at + 8) (replicate count 0) z_is (omega arith) in
+    let w2 : WroteWithin h z at (at + size) = wrote_wider h z (at + 8) (at + 8 + length (replicate {A = ℕ} count 0)) at (at + size) w2' (omega arith) (omega arith) in
+    let len_z = w2.len in
+    let area : WroteWithin old z at (at + size) = claimed_area old h z at count owner slot inside h_is z_is in
+    let word : WroteWithin z new slot (slot + 4) = wrote_word z new slot (at + 8) new_is (omega arith) in
+    let len_new = word.len in
+    let first : u32_at new at ≡ u32_at h at = wrote_word_apart z new slot (slot + 4) at word (inr (omega arith, omega arith)) ∙ wrote_word_apart h z (at + 8) (at + 8 + length (replicate {A = ℕ} count 0)) at w2' (inl (omega arith)) in
+    let second : u32_at new (at + 4) ≡ u32_at h (at + 4) = wrote_word_apart z new slot (slot + 4) (at + 4) word (inr (omega arith, omega arith)) ∙ wrote_word_apart h z (at + 8) (at + 8 + length (replicate {A = ℕ} count 0)) (at + 4) w2' (inl (omega arith)) in
+    let body : slice_range new (at + 8) (at + 8 + count) ≡ replicate count 0 =
+    sym (slice-same (at + 8) (at + 8 + count) z new (wrote_apart z new slot (slot + 4) (at + 8) (at + 8 + count) word (inr (omega arith, omega arith))) (omega arith) (omega arith))
+    ∙ ap (λ (x : List ℕ). take (at + 8 + count - (at + 8)) (drop (at + 8) x)) z_is ∙ slice-overwritten h (at + 8) (replicate count 0) count zeros (omega arith) in
+    let spelled : Spelled new at (movable (replicate count 0) 0 owner slot) = zeroed h new at count 0 owner slot header (omega arith) first second body in
+    let takes : need (length (replicate {A = ℕ} count 0)) ≡ size = ap need zeros in
+    let is : at ≡ area_start old + total r.before = r.there in
+    let wrote : WroteArea old new at (at + (size + 0)) = subst (λ (n : ℕ). WroteArea old new at (at + n)) (let e : size ≡ size + 0 = omega arith in e)
+    record { mid = z; slot = slot; area = area; word = word; is_slot = inr s; there = omega arith; fits = omega arith } in
+    let replaces : Replaces old new r.before (free size ∷ []) (movable (replicate count 0) 0 owner slot ∷ []) r.after at = area_replaces old new r.before (free size ∷ []) (movable (replicate count 0) 0 owner slot ∷ []) r.after at is (omega arith) wrote (spelled, omega arith) in
+    let now : u32_at new slot ≡ at + 8 = ap (λ (x : List ℕ). u32_at x slot) new_is ∙ u32_at-written (at + 8) slot z (omega arith) (omega arith) in
+    let others : OtherSlots old new slot = record { same = λ t ts ne. area_slots old new at (at + (size + 0)) t wrote ts (omega arith) (λ e. ne (sym (slot_of e))) } in
+    let c = claimed old new r.before r.after at size (replicate count 0) owner slot heap replaces s empty now others in
+    claimed_front old new at size (movable (replicate count 0) 0 owner slot) accepted r takes (becomes_heap old new (r.before ++ movable (replicate count 0) 0 owner slot ∷ r.after) replaces.head c) where
+      slot_of : {t : ℕ} → slot ≡ t → slot ≡ t
+      slot_of e = e
+
+-- ---- a fixed chunk is claimed
+
+pub header_fixed : (count owner : ℕ) (c : Chunk) → headers.Fixed count owner ≡ header_of c → (bytes : List ℕ) × ((c ≡ fixed bytes owner) × (length bytes ≡ count))
+header_fixed count owner (free n) e = absurd cc
+header_fixed count owner (movable bytes l v s) e = absurd cc
+header_fixed count owner (fixed bytes v) e =
+    let b : owner ≡ v = cc in
+    let n : count ≡ length bytes = cc in
+    (bytes, (cc, sym n))
+
+overwritten_whole : (old part : List ℕ) → length part ≡ length old → overwritten old 0 part ≡ part
+unfolding overwritten
+overwritten_whole old part len = let all : length old ≤ 0 + length part = omega arith in rw (drop_all (0 + length part) old all) (append-nil part)
+
+wrote_words : (old new : List ℕ) (at count lock owner way : ℕ) → at + need count ≤ length old → new ≡ overwritten old at (live_words count lock owner way) → WroteWithin old new at (at + 8)
+wrote_words old new at count lock owner way inside is =
+    let eight = live_words_length count lock owner way in
+    subst (λ (n : ℕ). WroteWithin old new at (at + n)) eight (wrote_part old new at (live_words count lock owner way) is (omega arith))
+
+pub fixed_claimed : (old mid new : List ℕ) (at count owner : ℕ) → HeapAccepted old → IsCut old at (need count) → 0 < owner → owner < 15 → mid ≡ overwritten old at (header_bytes at (headers.Fixed count owner)) → HasHeader mid at (headers.Fixed count owner)
+    → new ≡ overwritten mid (at + 8) (replicate count 0) → Exchanges old new at (in_front (fixed (replicate count 0) owner))
+fixed_claimed old mid new at count owner h r some most mid_is header new_is =
+    let heap = heap_in_parts old (r.before ++ free (need count) ∷ r.after) h r.chunks in
+    let facts = cut_facts old (need count) at h r in
+    let inside = facts.0 in
+    let low = facts.1 in
+    let zeros : length (replicate {A = ℕ} count 0) ≡ count = length-replicate count 0 in
+    let m = header_fixed count owner header.chunk header.header_is in
+    let s : Spelled mid at (fixed m.0 owner) = subst (λ (c : Chunk). Spelled mid at c) m.1.0 header.spelled in
+    let len : length m.0 ≡ count = m.1.1 in
+    let front : at + 8 ≡ at + 8 + 0 = omega arith in
+    let b = overwritten_body mid new at 0 m.0 (replicate count 0) fixed_lock owner 0 s (omega arith) (new_is ∙ ap (λ (n : ℕ). overwritten mid n (replicate count 0)) front) in
+    let spelled : Spelled new at (fixed (replicate count 0) owner) = subst (λ (x : List ℕ). IsLive new at x fixed_lock owner 0) (overwritten_whole m.0 (replicate count 0) (zeros ∙ sym len)) b.0 in
+    let first : WroteWithin old mid at (at + need count) = wrote_wider old mid at (at + 8) at (at + need count) (wrote_words old mid at count fixed_lock owner 0 inside mid_is) (omega arith) (omega arith) in
+    let both : WroteWithin old new at (at + need count) = wrote_then old mid new at (at + need count) first (subst (λ (n : ℕ). WroteWithin mid new at (at + need n)) len b.1) in
+    let size : need count + 0 ≡ need count = omega arith in
+    let takes : need (length (replicate {A = ℕ} count 0)) ≡ need count = ap need zeros in
+    let there = r.there in
+    let area : WroteArea old new at (at + (need count + 0)) = subst (λ (n : ℕ). WroteArea old new at (at + n)) (sym size) record { mid = new; slot = at; area = both; word = wrote_none new at (at + 4); is_slot = inl refl; there = omega arith; fits = omega arith } in
+    let replaces = area_replaces old new r.before (free (need count) ∷ []) (fixed (replicate count 0) owner ∷ []) r.after at (omega arith) (omega arith) area (spelled, omega arith) in
+    claimed_front old new at (need count) (fixed (replicate count 0) owner) h r takes
+    (becomes_heap old new (r.before ++ fixed (replicate count 0) owner ∷ r.after) replaces.head
+    (claimed_fixed old new r.before r.after at (need count) (replicate count 0) owner heap replaces
+    (record { same = λ slot s. let high : slot < table_end old = s.in_table in let whole : slot % 4 ≡ 0 = s.whole in wrote_word_apart old new at (at + need count) slot both (inl (omega arith)) }) some most))

@@ -1,0 +1,156 @@
+-- A live chunk that was found: its chunk, its header, and where its bytes lie.
+use Rattle.std.proofs.Common.{◌≡◌, ◌≢◌, ℕ, ◌+◌, ◌-◌, ◌%◌, ◌<◌, ◌≤◌, Bool, true, false, cond, List, [], ◌∷◌, ◌++◌, length, refl, sym, ap, subst, ◌∙◌, arith, inl, inr}
+use Rattle.std.specs.Prelude.{◌==◌, ◌⊎◌}
+use Rattle.std.proofs.lemmas.Bool.{eq-eqb}
+use Rattle.std.proofs.lemmas.Bool.Decides.{nat_tests}
+use Rattle.heap_model.specs.Chunk.{Chunk, free, movable, fixed, fixed_lock, need, size_of, total, Spelled, SpelledAll}
+use Rattle.heap_model.specs.Slots.{IsSlot, area_start}
+use Rattle.heap_model.specs.Heap.{BodyHere, IsHeap, HeapAccepted}
+use Rattle.heap_model.specs.Meaning.{LiveChunk}
+use Rattle.heap_model.specs.Reading.{chunks_of}
+use Rattle.heap_model.specs.Placing.{Finds}
+use Rattle.heap_model.specs.Layout.{with_lock, with_owner}
+use Rattle.heap_laws.proofs.Deciding.{cond-true, cond-false}
+use Rattle.heap_laws.proofs.Chunks.{Spelled-size, SpelledAll-split, SpelledAll-end}
+use Rattle.heap_laws.proofs.Placed.{AnyPlaced-mid}
+use Rattle.heap_laws.proofs.Accepted.{heap_of_read}
+use Rattle.heap_laws.proofs.Finding.{finds_spelled}
+use Rattle.chunk_format.specs.declared.header.Header.{Header}
+use Rattle.chunk_format.specs.declared.header.Header.TheVariants as headers
+use Rattle.chunk_format.specs.Header.{header_of, size_by}
+use Rattle.chunk_format.proofs.HeaderLaws.{size_by-header_of}
+use Rattle.heap_place.specs.declared.found.Found.{Found}
+use Rattle.heap_place.specs.Found.{IsFound, IsOne, header_by}
+
+-- ---- chunks of a heap
+
+-- the chunks that are read off an accepted heap, in parts
+pub heap_in_parts : (image : List ℕ) (cs : List Chunk) → HeapAccepted image → chunks_of image ≡ cs → IsHeap image cs
+heap_in_parts image cs h e = subst (λ (xs : List Chunk). IsHeap image xs) e (heap_of_read image h.0 h.1)
+
+pub total_whole : (image : List ℕ) (at : ℕ) (cs : List Chunk) (end : ℕ) → SpelledAll image at cs end → total cs % 8 ≡ 0
+total_whole image at [] end s = refl
+total_whole image at (c ∷ cs) end s =
+    let ih = total_whole image (at + size_of c) cs end s.1 in
+    let whole = (Spelled-size image at c s.0).2 in
+    omega arith
+
+-- some chunks of a heap, where they stand
+pub record Middle (image : List ℕ) (before mid after : List Chunk) (at : ℕ) : Type 0 where
+  pub there : at ≡ area_start image + total before
+  pub spelled : SpelledAll image at mid (at + total mid)
+  pub behind : SpelledAll image (at + total mid) after (length image)
+  pub inside : at + total mid ≤ length image
+  pub whole : total mid % 8 ≡ 0
+  pub most : length image ≤ 16777208
+  pub start_whole : at % 8 ≡ 0
+
+pub middle_of : (image : List ℕ) (before mid after : List Chunk) (at : ℕ) → IsHeap image (before ++ (mid ++ after)) → at ≡ area_start image + total before → Middle image before mid after at
+middle_of image before mid after at h e =
+    let start : ℕ = area_start image in
+    let a = SpelledAll-split image start before (mid ++ after) (length image) h.tiles.area in
+    let b = SpelledAll-split image (start + total before) mid after (length image) a.1 in
+    let end = SpelledAll-end image (start + total before + total mid) after (length image) b.1 in
+    let front = total_whole image start before (start + total before) a.0 in
+    record {
+      there = e;
+      spelled = subst (λ (n : ℕ). SpelledAll image n mid (n + total mid)) (sym e) b.0;
+      behind = subst (λ (n : ℕ). SpelledAll image (n + total mid) after (length image)) (sym e) b.1;
+      inside = omega arith;
+      whole = total_whole image (start + total before) mid (start + total before + total mid) b.0;
+      most = h.tiles.head.most;
+      start_whole = omega arith;
+    }
+
+pub finds_middle : (image : List ℕ) (name at : ℕ) (live : LiveChunk) (c : Chunk) → HeapAccepted image → (f : Finds image name live c at) → Middle image f.before (c ∷ []) f.after at
+finds_middle image name at live c h f = middle_of image f.before (c ∷ []) f.after at (heap_in_parts image (f.before ++ c ∷ f.after) h f.chunks) f.there
+
+-- the slot of a movable chunk
+pub own_slot : (image : List ℕ) (name at : ℕ) (live : LiveChunk) (bytes : List ℕ) (lock owner slot : ℕ) → HeapAccepted image → Finds image name live (movable bytes lock owner slot) at → IsSlot image slot
+own_slot image name at live bytes lock owner slot h f =
+    let heap = heap_in_parts image (f.before ++ movable bytes lock owner slot ∷ f.after) h f.chunks in
+    let place : ℕ = area_start image + total f.before + 8 in
+    let here : BodyHere slot place (area_start image + total f.before) (movable bytes lock owner slot) = (refl, refl) in
+    ((heap.tied slot place (omega arith)).1 (AnyPlaced-mid (BodyHere slot place) (area_start image) f.before (movable bytes lock owner slot) f.after here)).0
+
+-- ---- its header
+
+-- what is known of the fields
+pub record Fields (name : ℕ) (live : LiveChunk) (found : Found) : Type 0 where
+  pub name_is : found.name.0 ≡ name
+  pub count : found.length ≡ length live.bytes
+  pub lock_is : found.lock ≡ live.lock
+  pub owner_is : found.owner ≡ live.owner
+
+pub fields_of : (image : List ℕ) (name : ℕ) (found : Found) → (f : IsFound image name found) → Fields name f.live found
+fields_of image name found f = record { name_is = f.name_is; count = f.count; lock_is = f.lock_is; owner_is = f.owner_is }
+
+pub header-with : (image : List ℕ) (name at lock owner : ℕ) (found : Found) (live : LiveChunk) (c : Chunk) → HeapAccepted image → Finds image name live c at → Fields name live found → header_by found lock owner ≡ header_of (with_owner owner (with_lock lock c))
+header-with image name at lock owner found live (free size) h f k = absurd f.named
+header-with image name at lock owner found live (movable bytes count holder slot) h f k =
+    let s : Spelled image at (movable bytes count holder slot) = finds_spelled image name live (movable bytes count holder slot) at h f in
+    let e : record { bytes = bytes; lock = count; owner = holder } ≡ live = f.named.1 in
+    let low : found.lock ≡ count = k.lock_is ∙ ap (λ (x : LiveChunk). x.lock) (sym e) in
+    let loose = s.2 in
+    let apart : found.lock ≢ fixed_lock = omega arith in
+    let len : found.length ≡ length bytes = k.count ∙ ap (λ (x : LiveChunk). length x.bytes) (sym e) in
+    let named : found.name.0 ≡ slot = k.name_is ∙ sym f.named.0 in
+    cond-false (found.lock == fixed_lock) (headers.Fixed found.length owner) (headers.Movable found.length lock owner found.name.0) (grind (arith, nat_tests)) ∙ same _ _ _ _ len named where
+      same : (m n a b : ℕ) → m ≡ n → a ≡ b → headers.Movable m lock owner a ≡ headers.Movable n lock owner b
+      same m n a b e f = cc
+header-with image name at lock owner found live (fixed bytes holder) h f k =
+    let e : record { bytes = bytes; lock = fixed_lock; owner = holder } ≡ live = f.named.1 in
+    let is : found.lock ≡ fixed_lock = k.lock_is ∙ ap (λ (x : LiveChunk). x.lock) (sym e) in
+    let len : found.length ≡ length bytes = k.count ∙ ap (λ (x : LiveChunk). length x.bytes) (sym e) in
+    cond-true (found.lock == fixed_lock) (headers.Fixed found.length owner) (headers.Movable found.length lock owner found.name.0) (eq-eqb found.lock fixed_lock is) ∙ ap (λ (n : ℕ). headers.Fixed n owner) len
+
+-- the chunk as it is
+pub same_labels : (image : List ℕ) (name at : ℕ) (found : Found) (live : LiveChunk) (c : Chunk) → Finds image name live c at → Fields name live found → with_owner found.owner (with_lock found.lock c) ≡ c
+same_labels image name at found live (free size) f k = absurd f.named
+same_labels image name at found live (movable bytes count holder slot) f k =
+    let lock : found.lock ≡ count = k.lock_is ∙ ap (λ (x : LiveChunk). x.lock) (sym f.named.1) in
+    let owner : found.owner ≡ holder = k.owner_is ∙ ap (λ (x : LiveChunk). x.owner) (sym f.named.1) in
+    both _ _ _ _ lock owner where
+      both : (m n a b : ℕ) → m ≡ n → a ≡ b → movable bytes m a slot ≡ movable bytes n b slot
+      both m n a b e f = cc
+same_labels image name at found live (fixed bytes holder) f k = ap (λ (n : ℕ). fixed bytes n) (k.owner_is ∙ ap (λ (x : LiveChunk). x.owner) (sym f.named.1))
+
+pub own_header : (image : List ℕ) (found : Found) → HeapAccepted image → (f : IsOne image found) → header_by found found.lock found.owner ≡ header_of f.chunk
+own_header image found h f =
+    let k = fields_of image found.name.0 found f in
+    header-with image found.name.0 (found.place.0 - 8) found.lock found.owner found f.live f.chunk h f.finds k ∙ ap header_of (same_labels image found.name.0 (found.place.0 - 8) found f.live f.chunk f.finds k)
+
+-- where the whole chunk lies
+pub header_inside : (image : List ℕ) (found : Found) (lock owner : ℕ) → HeapAccepted image → IsOne image found → found.place.0 - 8 + size_by (header_by found lock owner) ≤ length image
+header_inside image found lock owner h f =
+    let k = fields_of image found.name.0 found f in
+    let c : Chunk = f.chunk in
+    let size : size_by (header_by found lock owner) ≡ size_of c = ap size_by (header-with image found.name.0 (found.place.0 - 8) lock owner found f.live c h f.finds k) ∙ size_by-header_of (with_owner owner (with_lock lock c)) ∙ same_size c in
+    let inside = (Spelled-size image (found.place.0 - 8) c (finds_spelled image found.name.0 f.live c (found.place.0 - 8) h f.finds)).1 in
+    omega arith where
+      same_size : (c : Chunk) → size_of (with_owner owner (with_lock lock c)) ≡ size_of c
+      same_size (free size) = refl
+      same_size (movable bytes l o s) = refl
+      same_size (fixed bytes o) = refl
+
+-- ---- its bytes
+
+body_inside : (image : List ℕ) (at name : ℕ) (live : LiveChunk) (chunk : Chunk) → HeapAccepted image → Finds image name live chunk at → at + 8 + length live.bytes ≤ length image
+body_inside image at name live (free size) h f = absurd f.named
+body_inside image at name live (movable bytes lock owner slot) h f =
+    let s : Spelled image at (movable bytes lock owner slot) = finds_spelled image name live (movable bytes lock owner slot) at h f in
+    let inside = s.1.inside in
+    let e : length bytes ≡ length live.bytes = ap (λ (x : LiveChunk). length x.bytes) f.named.1 in
+    omega arith
+body_inside image at name live (fixed bytes owner) h f =
+    let s : Spelled image at (fixed bytes owner) = finds_spelled image name live (fixed bytes owner) at h f in
+    let inside = s.inside in
+    let e : length bytes ≡ length live.bytes = ap (λ (x : LiveChunk). length x.bytes) f.named.1 in
+    omega arith
+
+pub bytes_inside : (image : List ℕ) (found : Found) → HeapAccepted image → IsOne image found → found.place.0 + found.length ≤ length image
+bytes_inside image found h f =
+    let low = f.behind_header in
+    let len = f.count in
+    let inside = body_inside image (found.place.0 - 8) found.name.0 f.live f.chunk h f.finds in
+    omega arith

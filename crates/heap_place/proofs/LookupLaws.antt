@@ -1,0 +1,210 @@
+-- Live chunks by their names and by their places.
+use Rattle.std.proofs.Common.{◌≡◌, ℕ, ◌+◌, ◌-◌, ◌<◌, ◌≤◌, List, ◌∷◌, ◌++◌, length, Option, Some, None, MatchOption, refl, sym, ap, subst, ◌∙◌, arith, inl, inr}
+use Rattle.std.proofs.lemmas.Bool.{cases_eq, eq-eqb}
+use Rattle.std.proofs.lemmas.Bool.Decides.{nat_tests}
+use Rattle.std.specs.Prelude.{◌==◌, IfNone, IfSome}
+use Rattle.std.specs.Option.{option_map}
+use Rattle.heap_model.specs.Chunk.{Chunk, free, movable, fixed, fixed_lock, total}
+use Rattle.heap_model.specs.Slots.{area_start}
+use Rattle.heap_model.specs.Heap.{BodyHere, IsHeap, HeapAccepted}
+use Rattle.heap_model.specs.Placed.{EveryPlaced}
+use Rattle.heap_model.specs.Meaning.{LiveChunk}
+use Rattle.heap_model.specs.Reading.{chunk_at, chunks_of, held}
+use Rattle.heap_model.specs.Space.{place_of}
+use Rattle.heap_model.specs.Placing.{Finds, NotFixedAs}
+use Rattle.heap_model.specs.declared.names.Name.{Name}
+use Rattle.heap_model.specs.declared.names.Place.{Place}
+use Rattle.heap_laws.proofs.Deciding.{cond-true, cond-false}
+use Rattle.heap_laws.proofs.Placed.{EveryPlaced-push, EveryPlaced-split, AnyPlaced-mid}
+use Rattle.heap_laws.proofs.Finding.{InSlot, in_slot, finds_read, held_finds, none_held, read_heap}
+use Rattle.heap_laws.proofs.Lives.{live_placed}
+use Rattle.heap_laws.proofs.Altering.{finds_place}
+use Rattle.master_table.specs.Table.{HoldsPlace, HoldsNothing}
+use Rattle.chunk_format.specs.declared.header.Header.{Header}
+use Rattle.chunk_format.specs.declared.header.Header.TheVariants as headers
+use Rattle.chunk_format.specs.Header.{header_of, size_by, HasHeader}
+use Rattle.heap_place.specs.declared.found.Found.{Found}
+use Rattle.heap_place.specs.Found.{IsFound, IsOne, NothingAt, NoneFixedAs, NoSlotHolds, movable_by, fixed_by}
+use Rattle.heap_place.specs.Search.{Passed}
+use Rattle.heap_place.proofs.WalkLaws.{passed_at, passed_more, passed_parts}
+
+-- ---- the fixed chunk of a name
+
+abbrev pub placed : ℕ → Place
+placed at = record { 0 = at }
+
+abbrev as_found : ℕ → Name → ℕ → ℕ → Found
+as_found at name count owner = record { name = name; place = placed (at + 8); length = count; lock = fixed_lock; owner = owner }
+
+-- the chunk whose header is that of a fixed one of the name
+record FixedAs (at : ℕ) (name : Name) (c : Chunk) (found : Found) : Type 0 where
+  bytes : List ℕ
+  owner : ℕ
+  chunk : c ≡ fixed bytes owner
+  is : found ≡ as_found at name (length bytes) owner
+  there : at + 8 ≡ name.0
+
+fixed_named : (at : ℕ) (name : Name) (header : Header) (c : Chunk) (found : Found) → header ≡ header_of c → fixed_by header (placed (at + 8)) name ≡ Some found → FixedAs at name c found
+fixed_named at name header (free size) found e f = let g : fixed_by (headers.Free size) (placed (at + 8)) name ≡ Some found = subst (λ (h : Header). fixed_by h (placed (at + 8)) name ≡ Some found) e f in absurd cc
+fixed_named at name header (movable bytes lock owner slot) found e f = let g : fixed_by (headers.Movable (length bytes) lock owner slot) (placed (at + 8)) name ≡ Some found = subst (λ (h : Header). fixed_by h (placed (at + 8)) name ≡ Some found) e f in absurd cc
+fixed_named at name header (fixed bytes owner) found e f = elim (cases_eq (at + 8) name.0) [
+  | inl same ↦ record { bytes = bytes; owner = owner; chunk = refl; is = one (sym (cond-true ((at + 8) == name.0) _ _ (eq-eqb (at + 8) name.0 same)) ∙ g); there = same }
+  | inr apart ↦ let none : fixed_by (headers.Fixed (length bytes) owner) (placed (at + 8)) name ≡ None = cond-false ((at + 8) == name.0) _ _ (grind (arith, nat_tests)) in absurd cc
+] where
+  g : fixed_by (headers.Fixed (length bytes) owner) (placed (at + 8)) name ≡ Some found
+  g = subst (λ (h : Header). fixed_by h (placed (at + 8)) name ≡ Some found) e f
+
+  one : Some (as_found at name (length bytes) owner) ≡ Some found → found ≡ as_found at name (length bytes) owner
+  one s = cc
+
+pub fixed_found : (image : List ℕ) (P : List Chunk → Type 0) (at : ℕ) (name : Name) (header : Header) (found : Found) → HeapAccepted image → Passed image P at → HasHeader image at header → fixed_by header (placed (at + 8)) name ≡ Some found → IsFound image name.0 found
+fixed_found image P at name header found h p has f =
+    let n = fixed_named at name header has.chunk found has.header_is f in
+    let live : LiveChunk = record { bytes = n.bytes; lock = fixed_lock; owner = n.owner } in
+    let parts = passed_parts image P at header h p has in
+    let there = passed_at image P at p in
+    let place : at + 8 - 8 ≡ at = omega arith in
+    let finds : Finds image name.0 live (fixed n.bytes n.owner) at = record {
+      before = p.front;
+      after = parts.0;
+      chunks = subst (λ (c : Chunk). chunks_of image ≡ p.front ++ c ∷ parts.0) n.chunk parts.1;
+      there = omega arith;
+      named = (n.there, refl);
+    } in
+    subst (λ (x : Found). IsFound image name.0 x) (sym n.is) record {
+      live = live;
+      chunk = fixed n.bytes n.owner;
+      finds = subst (λ (k : ℕ). Finds image name.0 live (fixed n.bytes n.owner) k) (sym place) finds;
+      behind_header = omega arith;
+      name_is = refl;
+      count = refl;
+      lock_is = refl;
+      owner_is = refl;
+    }
+
+-- it is where its name says
+pub fixed_there : (at : ℕ) (name : Name) (header : Header) (found : Found) (image : List ℕ) → HasHeader image at header → fixed_by header (placed (at + 8)) name ≡ Some found → found.place.0 ≡ name.0
+fixed_there at name header found image has f = let n = fixed_named at name header has.chunk found has.header_is f in ap (λ (x : Found). x.place.0) n.is ∙ n.there
+
+not_fixed : (at : ℕ) (name : Name) (c : Chunk) → fixed_by (header_of c) (placed (at + 8)) name ≡ None → NotFixedAs name.0 at c
+not_fixed at name (free size) f = tt
+not_fixed at name (movable bytes lock owner slot) f = tt
+not_fixed at name (fixed bytes owner) f = λ same. let some = sym (cond-true ((at + 8) == name.0) _ _ (eq-eqb (at + 8) name.0 same)) ∙ f in absurd cc
+
+pub fixed_passed : (image : List ℕ) (at : ℕ) (name : Name) (header : Header) → Passed image (NoneFixedAs image name.0) at → HasHeader image at header → fixed_by header (placed (at + 8)) name ≡ None → Passed image (NoneFixedAs image name.0) (at + size_by header)
+fixed_passed image at name header p has f = passed_more image (NoneFixedAs image name.0) (NoneFixedAs image name.0) at header p has
+    (EveryPlaced-push (NotFixedAs name.0) (area_start image) p.front has.chunk at (passed_at image (NoneFixedAs image name.0) at p) p.holds
+    (not_fixed at name has.chunk (subst (λ (h : Header). fixed_by h (placed (at + 8)) name ≡ None) has.header_is f)))
+
+-- ---- by a slot
+
+pub slot_header : (image : List ℕ) (name place : ℕ) → HeapAccepted image → (s : InSlot image name place) → option_map header_of (chunk_at image (place - 8)) ≡ Some (headers.Movable (length s.live.bytes) s.live.lock s.live.owner s.named)
+slot_header image name place h s = ap (option_map header_of) (finds_read image name s.live (movable s.live.bytes s.live.lock s.live.owner s.named) (place - 8) h s.finds)
+
+-- what is read at the place that a slot holds is its chunk
+pub slot_found : (image : List ℕ) (name : ℕ) (place : Place) (header : Header) → HeapAccepted image → Some header ≡ option_map header_of (chunk_at image (place.0 - 8)) → HoldsPlace image name place.0 → MatchOption (movable_by header place) ⊥ (IsFound image name)
+slot_found image name place header h read holds =
+    let s = in_slot image name place.0 h holds.is_slot holds.held holds.some in
+    subst (λ (x : Header). MatchOption (movable_by x place) ⊥ (IsFound image name)) (sym (same s (read ∙ slot_header image name place.0 h s)))
+    record { live = s.live; chunk = movable s.live.bytes s.live.lock s.live.owner s.named; finds = s.finds; behind_header = s.behind_header; name_is = s.finds.named.0; count = refl; lock_is = refl; owner_is = refl } where
+      same : (s : InSlot image name place.0) → Some header ≡ Some (headers.Movable (length s.live.bytes) s.live.lock s.live.owner s.named) → header ≡ headers.Movable (length s.live.bytes) s.live.lock s.live.owner s.named
+      same s e = cc
+
+pub slot_unread : (image : List ℕ) (name place : ℕ) → HeapAccepted image → None ≡ option_map header_of (chunk_at image (place - 8)) → HoldsPlace image name place → ⊥
+slot_unread image name place h read holds = let s = in_slot image name place h holds.is_slot holds.held holds.some in let e = read ∙ slot_header image name place h s in absurd cc
+
+pub slot_behind : (image : List ℕ) (name : ℕ) (place : Option Place) (found : Place) → HeapAccepted image → MatchOption place (HoldsNothing image name) (λ place. HoldsPlace image name place.0) → place ≡ Some found → 8 ≤ found.0
+slot_behind image name place found h holds is =
+    let here : HoldsPlace image name found.0 = subst (λ (p : Option Place). MatchOption p (HoldsNothing image name) (λ place. HoldsPlace image name place.0)) is holds in
+    (in_slot image name found.0 h here.is_slot here.held here.some).behind_header
+
+-- ---- what is not found
+
+pub unheld : (image : List ℕ) (name : ℕ) (found : Option Found) → HeapAccepted image → HoldsNothing image name → IfNone found (NoneFixedAs image name (chunks_of image)) → IfNone found (held image name ≡ None)
+unheld image name None h nothing none = none_held image name h nothing none
+unheld image name (Some found) h nothing none = tt
+
+-- ---- at a place
+
+-- what stands for nothing is nowhere
+unplaced : (image : List ℕ) (name : ℕ) → held image name ≡ None → place_of image name ≡ None
+unfolding held
+unplaced image name e = live_placed (area_start image) (chunks_of image) name e
+
+abbrev IsAt : List ℕ → ℕ → Found → Type 0
+IsAt image place found = IsOne image found × (found.place.0 ≡ place)
+
+pub low_holds_none : (image : List ℕ) (place : ℕ) → HeapAccepted image → place < 8 → NoSlotHolds image place
+low_holds_none image place h low name holds = let behind = (in_slot image name place h holds.is_slot holds.held holds.some).behind_header in absurd (omega arith)
+
+one : (x y : Header) → Some x ≡ Some y → x ≡ y
+one x y e = cc
+
+-- the header in front of a place that a slot holds
+slot_header_is : (image : List ℕ) (name place : ℕ) (header : Header) → HeapAccepted image → Some header ≡ option_map header_of (chunk_at image (place - 8)) → (holds : HoldsPlace image name place)
+    → (s : InSlot image name place) × (header ≡ headers.Movable (length s.live.bytes) s.live.lock s.live.owner name)
+slot_header_is image name place header h read holds =
+    let s = in_slot image name place h holds.is_slot holds.held holds.some in
+    (s, one header _ (read ∙ slot_header image name place h s) ∙ ap (λ (n : ℕ). headers.Movable (length s.live.bytes) s.live.lock s.live.owner n) s.finds.named.0)
+
+-- no slot holds a place whose header is no movable chunk's
+pub other_holds_none : (image : List ℕ) (place : Place) (header : Header) → HeapAccepted image → Some header ≡ option_map header_of (chunk_at image (place.0 - 8)) → movable_by header place ≡ None → NoSlotHolds image place.0
+other_holds_none image place header h read none name holds =
+    let b = slot_header_is image name place.0 header h read holds in
+    let is : movable_by (headers.Movable (length b.0.live.bytes) b.0.live.lock b.0.live.owner name) place ≡ None = ap (λ (x : Header). movable_by x place) (sym b.1) ∙ none in
+    absurd cc
+
+movable_name : (count lock owner slot : ℕ) (place : Place) (found : Found) → movable_by (headers.Movable count lock owner slot) place ≡ Some found → found.name.0 ≡ slot
+movable_name count lock owner slot place found e = ap (λ (x : Found). x.name.0) (sym (same e)) where
+  same : Some (record { name = record { 0 = slot }; place = place; length = count; lock = lock; owner = owner }) ≡ Some found → record { name = record { 0 = slot }; place = place; length = count; lock = lock; owner = owner } ≡ found
+  same f = cc
+
+-- the slot that the header names holds another place
+pub elsewhere_holds_none : (image : List ℕ) (place : Place) (found : Found) (header : Header) → HeapAccepted image → Some header ≡ option_map header_of (chunk_at image (place.0 - 8)) → movable_by header place ≡ Some found → (HoldsPlace image found.name.0 place.0 → ⊥) → NoSlotHolds image place.0
+elsewhere_holds_none image place found header h read is not_held name holds =
+    let b = slot_header_is image name place.0 header h read holds in
+    let named = movable_name _ _ _ name place found (ap (λ (x : Header). movable_by x place) (sym b.1) ∙ is) in
+    not_held (subst (λ (n : ℕ). HoldsPlace image n place.0) (sym named) holds)
+
+-- it holds this place
+pub slot_one : (image : List ℕ) (place : Place) (found : Found) (header : Header) → HeapAccepted image → Some header ≡ option_map header_of (chunk_at image (place.0 - 8)) → movable_by header place ≡ Some found → HoldsPlace image found.name.0 place.0 → IsOne image found
+slot_one image place found header h read is holds = subst (λ (x : Option Found). MatchOption x ⊥ (IsFound image found.name.0)) is (slot_found image found.name.0 place header h read holds)
+
+pub movable_place : (header : Header) (place : Place) (found : Found) → movable_by header place ≡ Some found → found.place.0 ≡ place.0
+movable_place (headers.Free size) place found e = absurd cc
+movable_place (headers.Movable count lock owner slot) place found e = ap (λ (x : Found). x.place.0) (sym (same e)) where
+  same : Some (record { name = record { 0 = slot }; place = place; length = count; lock = lock; owner = owner }) ≡ Some found → record { name = record { 0 = slot }; place = place; length = count; lock = lock; owner = owner } ≡ found
+  same f = cc
+movable_place (headers.Fixed count owner) place found e = absurd cc
+
+-- the slot of a movable chunk holds its place
+own_holds : (image : List ℕ) (name at : ℕ) (live : LiveChunk) (bytes : List ℕ) (lock owner slot : ℕ) → HeapAccepted image → Finds image name live (movable bytes lock owner slot) at → HoldsPlace image name (at + 8)
+own_holds image name at live bytes lock owner slot h f =
+    let there = f.there in
+    let here : BodyHere name (at + 8) (area_start image + total f.before) (movable bytes lock owner slot) = (f.named.0, omega arith) in
+    let cs : IsHeap image (f.before ++ movable bytes lock owner slot ∷ f.after) = subst (λ (xs : List Chunk). IsHeap image xs) f.chunks (read_heap image h) in
+    let k = (cs.tied name (at + 8) (omega arith)).1 (AnyPlaced-mid (BodyHere name (at + 8)) (area_start image) f.before (movable bytes lock owner slot) f.after here) in
+    record { is_slot = k.0; held = k.1; some = omega arith }
+
+-- neither a slot nor a fixed chunk has the place
+pub nothing_at : (image : List ℕ) (place : ℕ) → HeapAccepted image → NoSlotHolds image place → NoneFixedAs image place (chunks_of image) → NothingAt image place
+nothing_at image place h slots none_fixed name at = none (held image name) refl where
+  at_place : (live : LiveChunk) (c : Chunk) (there : ℕ) → Finds image name live c there → there + 8 ≡ place → ⊥
+  at_place live (free size) there f e = f.named
+  at_place live (movable bytes lock owner slot) there f e = slots name (subst (λ (p : ℕ). HoldsPlace image name p) e (own_holds image name there live bytes lock owner slot h f))
+  at_place live (fixed bytes owner) there f e =
+      let here : EveryPlaced (NotFixedAs place) (area_start image + total f.before) (fixed bytes owner ∷ f.after) =
+      (EveryPlaced-split (NotFixedAs place) (area_start image) f.before (fixed bytes owner ∷ f.after) (subst (λ (cs : List Chunk). EveryPlaced (NotFixedAs place) (area_start image) cs) f.chunks none_fixed)).1 in
+      here.0 (ap (λ (n : ℕ). n + 8) (sym f.there) ∙ e)
+
+  same : (m n : ℕ) → Some m ≡ Some n → m ≡ n
+  same m n f = cc
+
+  nowhere : place_of image name ≡ None → ⊥
+  nowhere e = let f = sym at ∙ e in absurd cc
+
+  none : (x : Option LiveChunk) → held image name ≡ x → ⊥
+  none None e = nowhere (unplaced image name e)
+  none (Some live) e =
+      let found = held_finds image name live h e in
+      at_place live found.chunk found.at found.finds (same _ _ (sym (finds_place image name live found.chunk found.at h found.finds) ∙ at))

@@ -1,0 +1,37 @@
+use Rattle.std.proofs.Common.{◌+◌, ap, inl, refl, arith}
+use Rattle.heap_model.specs.Memory.{Memory}
+use Rattle.heap_model.specs.Chunk.{need}
+use Rattle.heap_place.proofs.CutLaws.{cut_facts, slot_facts, claimed_area, table_kept, claimed_write}
+use Rattle.heap_place.proofs.claim.claim_movable.Goals as goal
+
+pub write-requires-clause-inside : goal.write-requires-clause-inside
+write-requires-clause-inside c = (cut_facts c.args.region.now.bytes (need c.args.count) c.args.at c.requires.accepted c.requires.cut).0
+
+pub write-requires-clause-writable : goal.write-requires-clause-writable
+write-requires-clause-writable c =
+    let f = cut_facts c.args.region.now.bytes (need c.args.count) c.args.at c.requires.accepted c.requires.cut in
+    let s = slot_facts c.args.region.now.bytes c.args.slot.0 c.requires.accepted c.requires.slot in
+    let inside = f.0 in let whole = f.2 in let most = f.3 in
+    let low = s.0 in let four = s.1 in let area = s.2 in
+    (omega arith, omega arith, omega arith, inl refl, omega arith, omega arith)
+
+pub set-requires-clause-table : goal.set-requires-clause-table
+set-requires-clause-table c =
+    let f = cut_facts c.args.region.now.bytes (need c.args.count) c.args.at c.requires.accepted c.requires.cut in
+    let inside = f.0 in
+    (table_kept c.args.region.now.bytes c.fill.new.self.bytes c.args.at (c.args.at + need c.args.count) c.args.slot.0 c.requires.accepted
+    (claimed_area c.args.region.now.bytes c.write.new.region.bytes c.fill.new.self.bytes c.args.at c.args.count c.args.owner c.args.slot.0 f.0 (ap (λ (m : Memory). m.bytes) c.write.ensures.after) (ap (λ (m : Memory). m.bytes) c.fill.ensures.after))
+    f.1 (omega arith) c.requires.slot).0
+
+pub set-requires-clause-slot : goal.set-requires-clause-slot
+set-requires-clause-slot c =
+    let f = cut_facts c.args.region.now.bytes (need c.args.count) c.args.at c.requires.accepted c.requires.cut in
+    let inside = f.0 in
+    (table_kept c.args.region.now.bytes c.fill.new.self.bytes c.args.at (c.args.at + need c.args.count) c.args.slot.0 c.requires.accepted
+    (claimed_area c.args.region.now.bytes c.write.new.region.bytes c.fill.new.self.bytes c.args.at c.args.count c.args.owner c.args.slot.0 f.0 (ap (λ (m : Memory). m.bytes) c.write.ensures.after) (ap (λ (m : Memory). m.bytes) c.fill.ensures.after))
+    f.1 (omega arith) c.requires.slot).1
+
+pub returns : goal.returns
+returns c =
+    claimed_write c.args.region.now.bytes c.write.new.region.bytes c.fill.new.self.bytes c.set.new.region.bytes c.args.at c.args.count c.args.owner c.args.slot.0 c.requires.accepted c.requires.cut c.requires.slot c.requires.empty
+    (ap (λ (m : Memory). m.bytes) c.write.ensures.after) c.write.ensures.spelled (ap (λ (m : Memory). m.bytes) c.fill.ensures.after) (ap (λ (m : Memory). m.bytes) c.set.ensures.after)

@@ -1,0 +1,9 @@
+use Rattle.std.proofs.Common.{◌-◌, length}
+use Rattle.heap_place.specs.Search.{Searched}
+use Rattle.heap_place.proofs.room.find_room.Given as goal
+
+abbrev pub invariant-loop-at : goal.invariant-loop-at
+invariant-loop-at l = Searched l.region.bytes l.size l.at l.run_size
+
+abbrev pub decreases-loop-at : goal.decreases-loop-at
+decreases-loop-at l = length l.region.bytes - l.at

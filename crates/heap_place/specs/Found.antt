@@ -1,0 +1,66 @@
+-- A live chunk, as it is found.
+use Rattle.std.specs.Prelude.{◌≡◌, ◌<◌, ◌≤◌, ◌-◌, ◌==◌, if◌then◌else◌, ℕ, List, length, Option, Some, None}
+use Rattle.heap_model.specs.Chunk.{Chunk, fixed_lock}
+use Rattle.heap_model.specs.Heap.{directory_of}
+use Rattle.heap_model.specs.Placed.{EveryPlaced}
+use Rattle.heap_model.specs.Slots.{area_start}
+use Rattle.heap_model.specs.Meaning.{LiveChunk}
+use Rattle.heap_model.specs.Space.{place_of}
+use Rattle.heap_model.specs.Placing.{Finds, NotFixedAs}
+use Rattle.heap_model.specs.declared.names.Name.{Name}
+use Rattle.heap_model.specs.declared.names.Place.{Place}
+use Rattle.master_table.specs.Table.{HoldsPlace}
+use Rattle.chunk_format.specs.declared.header.Header.{Header}
+use Rattle.chunk_format.specs.declared.header.Header.TheVariants as headers
+use Rattle.heap_place.specs.declared.found.Found.{Found}
+
+-- a name's chunk was found, whoever owns it
+pub record IsFound (image : List ℕ) (name : ℕ) (found : Found) : Type 0 where
+  pub live : LiveChunk
+  pub chunk : Chunk
+  pub finds : Finds image name live chunk (found.place.0 - 8)
+  pub behind_header : 8 ≤ found.place.0
+  pub name_is : found.name.0 ≡ name
+  pub count : found.length ≡ length live.bytes
+  pub lock_is : found.lock ≡ live.lock
+  pub owner_is : found.owner ≡ live.owner
+
+-- this is the chunk of its name
+abbrev pub IsOne : List ℕ → Found → Type 0
+IsOne image found = IsFound image found.name.0 found
+
+-- no name has its chunk at this place
+abbrev pub NothingAt : List ℕ → ℕ → Type 0
+NothingAt image place = (name : ℕ) → place_of image name ≡ Some place → ⊥
+
+-- A found chunk can go to this owner. A locked one can't be the manager's, and a fixed one only a
+-- caller's; the directory's stays the manager's.
+pub record CanGoTo (image : List ℕ) (found : Found) (owner : ℕ) : Type 0 where
+  pub fits : owner < 16
+  pub locked : 0 < found.lock → 0 < owner
+  pub fixed : found.lock ≡ fixed_lock → owner < 15
+  pub directory : found.name.0 ≡ directory_of image → owner ≡ 0
+
+-- the header of a found chunk, with another lock count, if it is movable, and another owner
+abbrev pub header_by : Found → ℕ → ℕ → Header
+header_by found lock owner = if found.lock == fixed_lock then headers.Fixed found.length owner else headers.Movable found.length lock owner found.name.0
+
+-- what a header says of the movable chunk whose body is at a place
+abbrev pub movable_by : Header → Place → Option Found
+movable_by (headers.Free size) place = None
+movable_by (headers.Movable length lock owner slot) place = Some (record { name = record { 0 = slot }; place = place; length = length; lock = lock; owner = owner })
+movable_by (headers.Fixed length owner) place = None
+
+-- what a header says of a fixed chunk of this name whose body is at a place
+abbrev pub fixed_by : Header → Place → Name → Option Found
+fixed_by (headers.Free size) place name = None
+fixed_by (headers.Movable length lock owner slot) place name = None
+fixed_by (headers.Fixed length owner) place name = if place.0 == name.0 then Some (record { name = name; place = place; length = length; lock = fixed_lock; owner = owner }) else None
+
+-- none of the chunks is a fixed one of this name
+abbrev pub NoneFixedAs : List ℕ → ℕ → List Chunk → Type 0
+NoneFixedAs image name chunks = EveryPlaced (NotFixedAs name) (area_start image) chunks
+
+-- no slot holds the place
+abbrev pub NoSlotHolds : List ℕ → ℕ → Type 0
+NoSlotHolds image place = (name : ℕ) → HoldsPlace image name place → ⊥

@@ -1,0 +1,78 @@
+//! A live chunk is made at the front of room.
+
+ghost use Rattle.std.specs.Prelude.{◌≡◌, ◌≤◌, ◌<◌, ◌+◌, ◌%◌, ◌^◌, length, replicate};
+ghost use Rattle.heap_model.specs.Bytes.{u32_at};
+ghost use Rattle.heap_model.specs.Chunk.{movable, fixed, need};
+ghost use Rattle.heap_model.specs.Slots.{IsSlot};
+ghost use Rattle.heap_model.specs.Heap.{HeapAccepted};
+ghost use Rattle.heap_model.specs.Reading.{chunks_of};
+ghost use Rattle.heap_model.specs.Layout.{Becomes, Exchanges, in_front, IsRoom};
+ghost use Rattle.heap_place.specs.Search.{IsCut, WroteRest};
+
+use crate::room::Room;
+use chunk_format::Header;
+use heap_model::{Name, Place};
+use raw_region::Region;
+
+/// Makes the front of a run of free chunks one free chunk of `size` bytes, and what is left another.
+pub(crate) fn cut(region: &mut Region, room: Room, size: u32)
+    requires accepted { HeapAccepted region.old.bytes }
+    requires room { IsRoom region.old.bytes room.at room.size }
+    requires least { 8 ≤ size }
+    requires whole { size % 8 ≡ 0 }
+    requires within { size ≤ room.size }
+    ensures same { Becomes region.old.bytes region.new.bytes (chunks_of region.old.bytes) }
+    ensures cut { IsCut region.new.bytes room.at size }
+{
+    write_rest(region, room.at + size, room.size - size);
+    Header::Free { size }.write(region, room.at);
+}
+
+/// Writes the header of a free chunk of `size` bytes at `at`, unless there are none.
+fn write_rest(region: &mut Region, at: u32, size: u32)
+    requires inside { at + size ≤ length region.old.bytes }
+    requires small { length region.old.bytes < 2 ^ 24 }
+    requires whole { size % 8 ≡ 0 }
+    ensures { WroteRest region.old.bytes region.new.bytes at size }
+{
+    if size > 0 {
+        Header::Free { size }.write(region, at);
+    }
+}
+
+/// Makes the free chunk at `at` a movable one of zeros.
+pub(crate) fn claim_movable(region: &mut Region, at: u32, slot: Name, count: u32, owner: u8)
+    requires accepted { HeapAccepted region.old.bytes }
+    requires cut { IsCut region.old.bytes at (need count) }
+    requires slot { IsSlot region.old.bytes slot.0 }
+    requires empty { u32_at region.old.bytes slot.0 ≡ 0 }
+    requires owner { owner < 16 }
+    ensures { Exchanges region.old.bytes region.new.bytes at (in_front (movable (replicate count 0) 0 owner slot.0)) }
+{
+    let header = Header::Movable {
+        length: count,
+        lock: 0,
+        owner,
+        slot: slot.0,
+    };
+    header.write(region, at);
+    region.fill(at as usize + 8, count as usize, 0);
+    master_table::set(region, slot, Place(at + 8));
+}
+
+/// Makes the free chunk at `at` a fixed one of zeros.
+pub(crate) fn claim_fixed_at(region: &mut Region, at: u32, count: u32, owner: u8)
+    requires accepted { HeapAccepted region.old.bytes }
+    requires cut { IsCut region.old.bytes at (need count) }
+    requires some_owner { 0 < owner }
+    requires most_owner { owner < 15 }
+    ensures { Exchanges region.old.bytes region.new.bytes at (in_front (fixed (replicate count 0) owner)) }
+{
+    let header = Header::Fixed {
+        length: count,
+        owner,
+    };
+    header.write(region, at);
+    let body = at as usize + 8;
+    region.fill(body, count as usize, 0);
+}

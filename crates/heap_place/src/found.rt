@@ -1,0 +1,81 @@
+//! A live chunk, as it is found.
+
+ghost use Rattle.std.specs.Prelude.{◌≡◌};
+ghost use Rattle.heap_place.specs.Found.{header_by, movable_by, fixed_by};
+
+use chunk_format::Header;
+use heap_model::{Name, Place};
+
+/// The lock of a fixed chunk.
+pub(crate) const FIXED_LOCK: u8 = 15;
+
+/// A live chunk: its name, where its body is, how many bytes that has, its lock (15 if it is fixed) and
+/// its owner.
+#[derive(Clone, Copy, Debug, PartialEq, Eq)]
+pub struct Found {
+    pub name: Name,
+    pub place: Place,
+    pub length: u32,
+    pub lock: u8,
+    pub owner: u8,
+}
+
+impl Found {
+    /// The header of the chunk, with this lock count, if it is movable, and this owner.
+    #[inline]
+    pub(crate) fn header_with(self, lock: u8, owner: u8) -> Header
+        ensures { result ≡ header_by self lock owner }
+    {
+        if self.lock == FIXED_LOCK {
+            return Header::Fixed {
+                length: self.length,
+                owner,
+            };
+        }
+        Header::Movable {
+            length: self.length,
+            lock,
+            owner,
+            slot: self.name.0,
+        }
+    }
+}
+
+/// The chunk whose body is at a place, if its header is a movable one's.
+#[inline]
+pub(crate) fn as_movable(header: Header, place: Place) -> Option<Found>
+    ensures { result ≡ movable_by header place }
+{
+    match header {
+        Header::Movable {
+            length,
+            lock,
+            owner,
+            slot,
+        } => Some(Found {
+            name: Name(slot),
+            place,
+            length,
+            lock,
+            owner,
+        }),
+        _ => None,
+    }
+}
+
+/// The chunk whose body is at a place, if its header is a fixed one's and its name is this.
+#[inline]
+pub(crate) fn as_fixed(header: Header, place: Place, name: Name) -> Option<Found>
+    ensures { result ≡ fixed_by header place name }
+{
+    match header {
+        Header::Fixed { length, owner } if place.0 == name.0 => Some(Found {
+            name,
+            place,
+            length,
+            lock: FIXED_LOCK,
+            owner,
+        }),
+        _ => None,
+    }
+}

@@ -1,0 +1,77 @@
+//! Live chunks by their names and by their places.
+
+ghost use Rattle.std.specs.Prelude.{◌≡◌, ◌≤◌, ◌-◌, ℕ, IfSome, IfNone, MatchOption, None};
+ghost use Rattle.heap_model.specs.Heap.{HeapAccepted};
+ghost use Rattle.heap_model.specs.Reading.{held};
+ghost use Rattle.master_table.specs.Table.{HoldsPlace};
+ghost use Rattle.heap_place.specs.Found.{IsFound, IsOne, NothingAt, NoSlotHolds};
+
+use crate::found::{Found, as_movable};
+use crate::walks::find_fixed;
+use chunk_format::Header;
+use heap_model::{Name, Place};
+use master_table::resolve;
+use raw_region::Region;
+
+/// The chunk that a name stands for. That of a slot costs the same however large the heap is; for
+/// any other name the chunks are walked.
+pub(crate) fn find_named(region: &Region, name: Name) -> Option<Found>
+    requires accepted { HeapAccepted region.now.bytes }
+    ensures found { IfSome result (IsFound region.now.bytes name.0) }
+    ensures none { IfNone result (held region.now.bytes name.0 ≡ None) }
+{
+    match resolve(region, name) {
+        Some(place) => movable_at(region, place),
+        None => find_fixed(region, name),
+    }
+}
+
+/// The movable chunk whose body is at a place.
+fn movable_at(region: &Region, place: Place) -> Option<Found>
+    requires accepted { HeapAccepted region.now.bytes }
+    requires behind_header { 8 ≤ place.0 }
+    ensures { (name : ℕ) → HoldsPlace region.now.bytes name place.0 → MatchOption result ⊥ (IsFound region.now.bytes name) }
+{
+    match Header::read(region, place.0 - 8) {
+        Some(header) => as_movable(header, place),
+        None => None,
+    }
+}
+
+/// The live chunk whose body is at a place. The header that seems to stand in front of it is believed
+/// only where the slot that it names holds the place; a fixed chunk is looked for among all chunks.
+pub(crate) fn find_placed(region: &Region, place: Place) -> Option<Found>
+    requires accepted { HeapAccepted region.now.bytes }
+    ensures found { IfSome result (IsOne region.now.bytes) }
+    ensures there { IfSome result (λ found. found.place.0 ≡ place.0) }
+    ensures none { IfNone result (NothingAt region.now.bytes place.0) }
+{
+    match in_slot_at(region, place) {
+        Some(found) => Some(found),
+        None => find_fixed(region, Name(place.0)),
+    }
+}
+
+/// The movable chunk whose body is at a place, if there is one.
+fn in_slot_at(region: &Region, place: Place) -> Option<Found>
+    requires accepted { HeapAccepted region.now.bytes }
+    ensures found { IfSome result (IsOne region.now.bytes) }
+    ensures there { IfSome result (λ found. found.place.0 ≡ place.0) }
+    ensures none { IfNone result (NoSlotHolds region.now.bytes place.0) }
+{
+    if place.0 < 8 {
+        return None;
+    }
+    let header = match Header::read(region, place.0 - 8) {
+        Some(header) => header,
+        None => return None,
+    };
+    let found = match as_movable(header, place) {
+        Some(found) => found,
+        None => return None,
+    };
+    match resolve(region, found.name) {
+        Some(held) if held.0 == place.0 => Some(found),
+        _ => None,
+    }
+}

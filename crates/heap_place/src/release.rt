@@ -1,0 +1,40 @@
+//! A live chunk is made free.
+
+ghost use Rattle.std.specs.Prelude.{◌≡◌, ◌≢◌, ◌<◌, ◌+◌, ◌-◌, ◌^◌, length};
+ghost use Rattle.heap_model.specs.Heap.{HeapAccepted, directory_of};
+ghost use Rattle.heap_model.specs.Layout.{Alters, FreeUpTo, freed};
+ghost use Rattle.heap_place.specs.Found.{IsOne};
+ghost use Rattle.heap_place.specs.Search.{free_size_at};
+
+use crate::found::{FIXED_LOCK, Found};
+use chunk_format::Header;
+use raw_region::Region;
+
+/// Makes a live chunk free, with the free chunk behind it, and empties its slot, if it has one.
+pub(crate) fn release(region: &mut Region, found: Found) -> u32
+    requires accepted { HeapAccepted region.old.bytes }
+    requires found { IsOne region.old.bytes found }
+    requires no_directory { found.name.0 ≢ directory_of region.old.bytes }
+    ensures gone { Alters region.old.bytes region.new.bytes (found.place.0 - 8) freed }
+    ensures free { FreeUpTo region.new.bytes (found.place.0 - 8) (found.place.0 - 8 + result) }
+{
+    let at = found.place.0 - 8;
+    let size = found.header_with(found.lock, found.owner).size();
+    let joined = size + free_size(region, at + size);
+    Header::Free { size: joined }.write(region, at);
+    if found.lock != FIXED_LOCK {
+        master_table::clear(region, found.name);
+    }
+    joined
+}
+
+/// The size of the free chunk at `at`, or 0 where none stands there.
+fn free_size(region: &Region, at: u32) -> u32
+    requires small { length region.now.bytes < 2 ^ 24 }
+    ensures { result ≡ free_size_at region.now.bytes at }
+{
+    match Header::read(region, at) {
+        Some(Header::Free { size }) => size,
+        _ => 0,
+    }
+}

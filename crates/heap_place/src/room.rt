@@ -1,0 +1,61 @@
+//! Room for a chunk: the search for a run of neighbouring free chunks.
+
+ghost use Rattle.std.specs.Prelude.{◌≡◌, ◌≤◌, ◌<◌, ◌+◌, ◌^◌, length, IfSome, IfNone};
+ghost use Rattle.heap_model.specs.Heap.{HeapAccepted};
+ghost use Rattle.heap_model.specs.Reading.{chunks_of};
+ghost use Rattle.heap_model.specs.Space.{NoRun};
+ghost use Rattle.heap_model.specs.Layout.{IsRoom};
+ghost use Rattle.heap_place.specs.Search.{run_by};
+ghost use Rattle.chunk_format.specs.Header.{size_by};
+
+use chunk_format::{Header, area_start};
+use master_table::slot_count;
+use raw_region::Region;
+
+/// Where a run of neighbouring free chunks begins, as an offset from the image's start, and how many
+/// bytes its first chunks take.
+#[derive(Clone, Copy, Debug, PartialEq, Eq)]
+pub struct Room {
+    pub at: u32,
+    pub size: u32,
+}
+
+/// The first run of neighbouring free chunks that has `size` bytes, as far as it is needed.
+pub(crate) fn find_room(region: &Region, size: u32) -> Option<Room>
+    requires accepted { HeapAccepted region.now.bytes }
+    requires some_size { 0 < size }
+    ensures room { IfSome result (λ room. IsRoom region.now.bytes room.at room.size) }
+    ensures enough { IfSome result (λ room. size ≤ room.size) }
+    ensures none { IfNone result (NoRun (chunks_of region.now.bytes) size) }
+{
+    let end = region.len() as u32;
+    let mut at = area_start(slot_count(region));
+    let mut run_size = 0;
+    while at < end {
+        let (header, taken) = match Header::read_with_size(region, at) {
+            Some(both) => both,
+            None => unreachable!(),
+        };
+        at += taken;
+        run_size = run_with(run_size, header);
+        if run_size >= size {
+            return Some(Room {
+                at: at - run_size,
+                size: run_size,
+            });
+        }
+    }
+    None
+}
+
+/// The bytes of a run of free chunks, once the chunk behind it is known: it goes on or is broken.
+#[inline]
+fn run_with(run_size: u32, header: Header) -> u32
+    requires { run_size + size_by header < 2 ^ 32 }
+    ensures { result ≡ run_by run_size header }
+{
+    match header {
+        Header::Free { size } => run_size + size,
+        _ => 0,
+    }
+}

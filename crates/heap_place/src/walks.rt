@@ -1,0 +1,67 @@
+//! Walks over all chunks.
+
+ghost use Rattle.std.specs.Prelude.{◌≡◌, ◌≤◌, ◌<◌, ◌+◌, ◌^◌, length, IfSome, IfNone};
+ghost use Rattle.heap_model.specs.Heap.{HeapAccepted};
+ghost use Rattle.heap_model.specs.Reading.{chunks_of};
+ghost use Rattle.heap_model.specs.Space.{free_total};
+ghost use Rattle.heap_place.specs.Found.{IsFound, NoneFixedAs};
+ghost use Rattle.heap_place.specs.Search.{free_by};
+
+use crate::found::{Found, as_fixed};
+use chunk_format::{Header, area_start};
+use heap_model::{Name, Place};
+use master_table::slot_count;
+use raw_region::Region;
+
+/// The fixed chunk that a name stands for: the name is the offset of its body.
+#[inline(never)]
+pub(crate) fn find_fixed(region: &Region, name: Name) -> Option<Found>
+    requires accepted { HeapAccepted region.now.bytes }
+    ensures found { IfSome result (IsFound region.now.bytes name.0) }
+    ensures there { IfSome result (λ found. found.place.0 ≡ name.0) }
+    ensures none { IfNone result (NoneFixedAs region.now.bytes name.0 (chunks_of region.now.bytes)) }
+{
+    let end = region.len() as u32;
+    let mut at = area_start(slot_count(region));
+    while at < end {
+        let (header, taken) = match Header::read_with_size(region, at) {
+            Some(both) => both,
+            None => unreachable!(),
+        };
+        if let Some(found) = as_fixed(header, Place(at + 8), name) {
+            return Some(found);
+        }
+        at += taken;
+    }
+    None
+}
+
+/// The sizes of the free chunks together.
+pub(crate) fn free_bytes(region: &Region) -> u32
+    requires accepted { HeapAccepted region.now.bytes }
+    ensures { result ≡ free_total region.now.bytes }
+{
+    let end = region.len() as u32;
+    let mut at = area_start(slot_count(region));
+    let mut count = 0;
+    while at < end {
+        let (header, taken) = match Header::read_with_size(region, at) {
+            Some(both) => both,
+            None => unreachable!(),
+        };
+        count += size_if_free(header);
+        at += taken;
+    }
+    count
+}
+
+/// The size of a free chunk, and 0 of any other.
+#[inline]
+fn size_if_free(header: Header) -> u32
+    ensures { result ≡ free_by header }
+{
+    match header {
+        Header::Free { size } => size,
+        _ => 0,
+    }
+}
