@@ -22,10 +22,10 @@ const RESERVED_AT: usize = 10;
 const DIRECTORY_AT: usize = 12;
 
 /// What the frame takes in bytes. The table begins behind it.
-const FRAME_SIZE: u32 = 16;
+pub const FRAME_SIZE: u32 = 16;
 
 /// What a slot takes in bytes.
-const SLOT_SIZE: u32 = 4;
+pub const SLOT_SIZE: u32 = 4;
 
 /// The least size of an image, in bytes.
 const LEAST_SIZE: usize = 64;
