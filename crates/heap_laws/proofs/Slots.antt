@@ -1,7 +1,8 @@
 -- The slots of an image: by their number, which is how many stand before one, and one after the other.
 use Rattle.std.proofs.Common.{◌≡◌, ℕ, zero, suc, ◌+◌, ◌-◌, ◌*◌, ◌/◌, ◌<◌, ◌≤◌, List, ◌∷◌, ◌++◌, length, take, refl, sym, ap, subst, ◌∙◌, arith, [], append_assoc, length-append}
 use Rattle.std.proofs.lemmas.List.{take_all, take_at}
-use Rattle.heap_model.specs.Slots.{slot_count, table_end, slots_in_row, slots_of, first_slots, StandsBehind, IsSlot}
+use Rattle.heap_model.specs.Memory.{Memory, IsWithin}
+use Rattle.heap_model.specs.Slots.{HasTable, slot_count, table_end, slots_in_row, slots_of, first_slots, StandsBehind, IsSlot}
 use Rattle.heap_model.specs.Placed.{EveryOne}
 
 -- ---- where they are
@@ -102,6 +103,15 @@ stands_below image slot k s =
 -- what stands in the list is a slot
 pub stands_slot : (image : List ℕ) (slot k : ℕ) → StandsBehind image slot k → IsSlot image slot
 stands_slot image slot k s = subst (λ (t : ℕ). IsSlot image t) (sym (stands_there image slot k s)) (slot_of_number image k (stands_below image slot k s))
+
+-- a slot lies within a memory that has the table
+pub slot_within : (memory : Memory) (slot : ℕ) → HasTable memory → IsSlot memory.bytes slot → IsWithin memory slot 4
+slot_within memory slot has s =
+    let low = s.behind_head in
+    let high : slot < table_end memory.bytes = s.in_table in
+    let whole = s.whole in
+    let table : table_end memory.bytes ≤ length memory.bytes = has in
+    omega arith
 
 -- each slot stands in the list
 pub slot_stands : (image : List ℕ) (slot : ℕ) → IsSlot image slot → (k : ℕ) × StandsBehind image slot k

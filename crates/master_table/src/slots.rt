@@ -48,6 +48,7 @@ impl Table {
     /// How many slots stand before the one at an offset, if one stands there.
     #[inline]
     pub fn number(self, slot: u32) -> Option<u32>
+        ensures below { IfSome result (λ number. number < self.count) }
         ensures some { IfSome result (λ number. (image : List ℕ) → IsTable image self → StandsBehind image slot number) }
         ensures none { IfNone result ((image : List ℕ) → IsTable image self → IsSlot image slot → ⊥) }
     {
