@@ -1,36 +1,27 @@
 -- A blank image is an accepted heap that holds nothing.
 use Rattle.std.proofs.Common.{◌≡◌, ℕ, ◌+◌, ◌-◌, ◌%◌, ◌^◌, ◌<◌, ◌≤◌, List, [], ◌∷◌, length, replicate, refl, sym, ap, subst, ◌∙◌, arith, inl, inr, lit<}
-use Rattle.std.specs.Prelude.{codes}
 use Rattle.std.proofs.lemmas.List.{length-replicate}
 use Rattle.heap_model.specs.Memory.{Memory}
 use Rattle.heap_model.specs.Bytes.{u16_at, u32_at, u16_bytes, u32_bytes, overwritten}
 use Rattle.heap_model.specs.Chunk.{free, IsFree}
-use Rattle.heap_model.specs.Slots.{slot_count, table_end, head_end, area_start}
-use Rattle.heap_model.specs.Heap.{magic, IsHead, IsHeap, IsBody}
+use Rattle.heap_model.specs.Slots.{slot_count, table_end, head_end, area_start, start_behind}
+use Rattle.heap_model.specs.Frame.{magic}
+use Rattle.heap_model.specs.Heap.{IsHead, IsHeap, IsBody}
 use Rattle.heap_laws.proofs.Frames.{SameBetween, SameBetween-within, SameBetween-then, big_from-written, u32_at-same, u16_at-same, length-overwritten, overwritten-below, overwritten-above, u32_at-written, u16_at-written, length-u32_bytes, length-u16_bytes, u32_at-below, u32_at-zeros, u16_at-zeros, slice_index-zeros, u16_at-below}
 use Rattle.heap_laws.proofs.Meanings.{held-is}
-use Rattle.chunk_format.specs.Blank.{start_behind, IsPlanned, IsBlank}
+use Rattle.chunk_format.specs.Blank.{framed, IsPlanned, IsBlank}
 
-abbrev magic_bytes : List ℕ
-magic_bytes = codes "PHI1"
-
--- zeros, and over them the four writes
+-- zeros, and over them the frame and the first word of a chunk
 unfoldable pub written : ℕ → ℕ → ℕ → ℕ → List ℕ
-written size slots start word = overwritten (overwritten (overwritten (overwritten (replicate size 0) 0 magic_bytes) 4 (u32_bytes size)) 8 (u16_bytes slots)) start (u32_bytes word)
+written size slots start word = overwritten (framed (replicate size 0) size slots) start (u32_bytes word)
 
-abbrev changed : Memory → ℕ → List ℕ → Memory
-changed memory at part = record memory { bytes = overwritten memory.bytes at part }
-
-pub four_writes : (zeros one two three four : Memory) (size slots start word : ℕ) (front : List ℕ) → zeros.bytes ≡ replicate size 0 → front ≡ magic_bytes
-    → one ≡ changed zeros 0 front → two ≡ changed one 4 (u32_bytes size) → three ≡ changed two 8 (u16_bytes slots) → four ≡ changed three start (u32_bytes word)
-    → four.bytes ≡ written size slots start word
+pub all_writes : (zeros one two : Memory) (size slots start word : ℕ) → zeros.bytes ≡ replicate size 0 → one ≡ record zeros { bytes = framed zeros.bytes size slots }
+    → two ≡ record one { bytes = overwritten one.bytes start (u32_bytes word) } → two.bytes ≡ written size slots start word
 unfolding written
-four_writes zeros one two three four size slots start word front z m a b c d =
+all_writes zeros one two size slots start word z a b =
     let bytes : Memory → List ℕ = λ memory. memory.bytes in
-    let first : one.bytes ≡ overwritten (replicate size 0) 0 magic_bytes = ap bytes a ∙ ap (λ (x : List ℕ). overwritten x 0 front) z ∙ ap (overwritten (replicate size 0) 0) m in
-    let second = ap bytes b ∙ ap (λ (x : List ℕ). overwritten x 4 (u32_bytes size)) first in
-    let third = ap bytes c ∙ ap (λ (x : List ℕ). overwritten x 8 (u16_bytes slots)) second in
-    ap bytes d ∙ ap (λ (x : List ℕ). overwritten x start (u32_bytes word)) third
+    let first : one.bytes ≡ framed (replicate size 0) size slots = ap bytes a ∙ ap (λ (x : List ℕ). framed x size slots) z in
+    ap bytes b ∙ ap (λ (x : List ℕ). overwritten x start (u32_bytes word)) first
 
 -- what they read as
 pub record Reads (size slots start word : ℕ) (image : List ℕ) : Type 0 where
@@ -42,15 +33,11 @@ pub record Reads (size slots start word : ℕ) (image : List ℕ) : Type 0 where
   pub chunk : u32_at image start ≡ word
   pub back : SameBetween (start + 4) size (replicate size 0) image
 
-magic_written : (size : ℕ) (old : List ℕ) → length old ≡ size → 64 ≤ size → u32_at (overwritten old 0 magic_bytes) 0 ≡ magic
-unfolding u32_at
-magic_written size old len least = big_from-written 4 magic 0 old magic_bytes refl (omega arith) (lit< tt)
-
 reads : (size slots start word : ℕ) → IsPlanned size slots start → word ≡ 2 ^ 31 + (size - start) → Reads size slots start word (written size slots start word)
 unfolding written
 reads size slots start word plan word_is =
     let i0 : List ℕ = replicate size 0 in
-    let i1 : List ℕ = overwritten i0 0 magic_bytes in
+    let i1 : List ℕ = overwritten i0 0 (u32_bytes magic) in
     let i2 : List ℕ = overwritten i1 4 (u32_bytes size) in
     let i3 : List ℕ = overwritten i2 8 (u16_bytes slots) in
     let i4 : List ℕ = overwritten i3 start (u32_bytes word) in
@@ -60,25 +47,26 @@ reads size slots start word plan word_is =
     let most = plan.size_right.most in
     let least = plan.size_right.least in
     let b4 = length-u32_bytes size in
+    let bm = length-u32_bytes magic in
     let b2 = length-u16_bytes slots in
     let bw = length-u32_bytes word in
     let l0 : length i0 ≡ size = length-replicate size 0 in
-    let l1 : length i1 ≡ size = length-overwritten i0 0 magic_bytes (omega arith) ∙ l0 in
+    let l1 : length i1 ≡ size = length-overwritten i0 0 (u32_bytes magic) (omega arith) ∙ l0 in
     let l2 : length i2 ≡ size = length-overwritten i1 4 (u32_bytes size) (omega arith) ∙ l1 in
     let l3 : length i3 ≡ size = length-overwritten i2 8 (u16_bytes slots) (omega arith) ∙ l2 in
-    let s1 = overwritten-above i0 0 magic_bytes size (omega arith) in
+    let s1 = overwritten-above i0 0 (u32_bytes magic) size (omega arith) in
     let s2 = overwritten-above i1 4 (u32_bytes size) size (omega arith) in
     let s3 = overwritten-above i2 8 (u16_bytes slots) size (omega arith) in
     let zeros : SameBetween 10 size i0 i3 =
     SameBetween-then 10 size i0 i2 i3
     (SameBetween-then 10 size i0 i1 i2
-    (SameBetween-within (0 + length magic_bytes) size 10 size i0 i1 s1 (omega arith) (omega arith))
+    (SameBetween-within (0 + length (u32_bytes magic)) size 10 size i0 i1 s1 (omega arith) (omega arith))
     (SameBetween-within (4 + length (u32_bytes size)) size 10 size i1 i2 s2 (omega arith) (omega arith)))
     (SameBetween-within (8 + length (u16_bytes slots)) size 10 size i2 i3 s3 (omega arith) (omega arith)) in
     record {
       len = length-overwritten i3 start (u32_bytes word) (omega arith) ∙ l3;
       magic_is = u32_at-below 0 start i3 (u32_bytes word) (omega arith) (omega arith) ∙ u32_at-below 0 8 i2 (u16_bytes slots) (omega arith) (omega arith)
-          ∙ u32_at-below 0 4 i1 (u32_bytes size) (omega arith) (omega arith) ∙ magic_written size i0 l0 least;
+          ∙ u32_at-below 0 4 i1 (u32_bytes size) (omega arith) (omega arith) ∙ u32_at-written magic 0 i0 (omega arith) (lit< tt);
       size_is = u32_at-below 4 start i3 (u32_bytes word) (omega arith) (omega arith) ∙ u32_at-below 4 8 i2 (u16_bytes slots) (omega arith) (omega arith) ∙ u32_at-written size 4 i1 (omega arith) (omega arith);
       slots_are = u16_at-below 8 start i3 (u32_bytes word) (omega arith) (omega arith) ∙ u16_at-written slots 8 i2 (omega arith) plan.slots_fit;
       front = SameBetween-then 10 start i0 i3 i4 (SameBetween-within 10 size 10 start i0 i3 zeros (omega arith) (omega arith))

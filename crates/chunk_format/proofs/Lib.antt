@@ -2,3 +2,4 @@ pub mod HeaderLaws
 pub mod WriteLaws
 pub mod WalkLaws
 pub mod BlankLaws
+pub mod SecondLaws

@@ -1,18 +1,16 @@
 -- Blank images.
 use Rattle.std.specs.Prelude.{◌≡◌, ◌≤◌, ◌<◌, ◌+◌, ◌-◌, ◌*◌, ◌/◌, ◌%◌, ℕ, List, [], ◌∷◌, length, slice_index, None}
 use Rattle.heap_model.specs.Chunk.{free}
-use Rattle.heap_model.specs.Slots.{slot_count}
+use Rattle.heap_model.specs.Bytes.{u16_bytes, u32_bytes, overwritten}
+use Rattle.heap_model.specs.Frame.{magic, magic_at, size_at, slot_count_at, least_size, most_size}
+use Rattle.heap_model.specs.Slots.{slot_count, start_behind}
 use Rattle.heap_model.specs.Heap.{IsHeap}
 use Rattle.heap_model.specs.Reading.{held}
 
--- where the chunks begin behind so many slots
-abbrev pub start_behind : ℕ → ℕ
-start_behind slots = 8 * ((16 + 4 * slots + 7) / 8)
-
 -- an image may have this size
 pub record IsRegionSize (size : ℕ) : Type 0 where
-  pub least : 64 ≤ size
-  pub most : size ≤ 16777208
+  pub least : least_size ≤ size
+  pub most : size ≤ most_size
   pub whole : size % 8 ≡ 0
 
 -- there is a slot, and so many leave room for a chunk
@@ -28,6 +26,11 @@ pub record IsBlank (size slots : ℕ) (image : List ℕ) : Type 0 where
   pub heap : IsHeap image (free (size - start_behind slots) ∷ [])
   pub nothing : (name : ℕ) → held image name ≡ None
   pub zeros : (k : ℕ) → start_behind slots + 4 ≤ k → k < size → slice_index image k ≡ 0
+
+-- bytes over which a frame is written: the magic, the size and the slot count
+abbrev pub framed : List ℕ → ℕ → ℕ → List ℕ
+framed old size slots =
+    overwritten (overwritten (overwritten old magic_at (u32_bytes magic)) size_at (u32_bytes size)) slot_count_at (u16_bytes slots)
 
 -- a size and a slot count that pass, and where the chunks begin
 pub record IsPlanned (size slots start : ℕ) : Type 0 where

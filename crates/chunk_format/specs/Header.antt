@@ -1,7 +1,8 @@
 -- The header of a chunk: what its two words say.
-use Rattle.std.specs.Prelude.{◌≡◌, ◌≤◌, ◌<◌, ◌+◌, ◌-◌, ◌*◌, ◌/◌, ◌%◌, ◌^◌, ◌++◌, ◌⊎◌, ℕ, List, [], ◌∷◌, length, slice_range}
+use Rattle.std.specs.Prelude.{◌≡◌, ◌≤◌, ◌<◌, ◌+◌, ◌-◌, ◌*◌, ◌/◌, ◌%◌, ◌^◌, ◌++◌, ◌⊎◌, ◌==◌, if◌then◌else◌, ℕ, List, [], ◌∷◌, length, slice_range}
 use Rattle.heap_model.specs.Bytes.{u32_bytes}
-use Rattle.heap_model.specs.Chunk.{Chunk, free, movable, fixed, fixed_lock, need, size_of, Spelled}
+use Rattle.heap_model.specs.Chunk.{Chunk, free, movable, fixed, fixed_lock, need, size_of, slot_named, Spelled}
+use Rattle.heap_model.specs.Reading.{lock_field, owner_field, h_offset_field}
 use Rattle.heap_model.specs.declared.names.Place.{Place}
 use Rattle.chunk_format.specs.declared.header.Header.{Header}
 use Rattle.chunk_format.specs.declared.header.Header.TheVariants as headers
@@ -17,6 +18,12 @@ abbrev pub size_by : Header → ℕ
 size_by (headers.Free size) = size
 size_by (headers.Movable length lock owner slot) = need length
 size_by (headers.Fixed length owner) = need length
+
+-- the header of a live chunk of so many bytes at an offset, by its second word
+abbrev pub live_header_by : ℕ → ℕ → ℕ → Header
+live_header_by at length word =
+    if lock_field word == fixed_lock then headers.Fixed length (owner_field word)
+    else headers.Movable length (lock_field word) (owner_field word) (slot_named at (h_offset_field word))
 
 -- the chunk with this header whose bytes are those behind it
 abbrev pub chunk_with : List ℕ → ℕ → Header → Chunk
@@ -42,6 +49,29 @@ IsWritable at (headers.Free size) = (8 ≤ size) × (size % 8 ≡ 0) × (size < 
 IsWritable at (headers.Movable length lock owner slot) =
     (need length < 2 ^ 24) × (lock < fixed_lock) × (owner < 16) × ((lock ≡ 0) ⊎ (0 < owner)) × (slot < 2 ^ 24) × (slot % 2 ≡ at % 2)
 IsWritable at (headers.Fixed length owner) = (need length < 2 ^ 24) × (owner < 16)
+
+-- a lock count and an owner that may stand in one movable chunk: a locked one has an owner
+abbrev pub MayStand : ℕ → ℕ → Type 0
+MayStand lock owner = (lock ≡ 0) ⊎ (0 < owner)
+
+-- a second word with another lock field
+abbrev pub with_lock_field : ℕ → ℕ → ℕ
+with_lock_field word lock = lock * 2 ^ 28 + word % 2 ^ 28
+
+-- a second word with another owner field
+abbrev pub with_owner_field : ℕ → ℕ → ℕ
+with_owner_field word owner = word / 2 ^ 28 * 2 ^ 28 + owner * 2 ^ 24 + word % 2 ^ 24
+
+-- The movable chunk that was spelled at this offset is spelled there with another lock count, and is
+-- else as it was.
+abbrev pub Relocks : List ℕ → List ℕ → ℕ → ℕ → Type 0
+Relocks old new at lock = (bytes : List ℕ) (was owner slot : ℕ) → MayStand lock owner → Spelled old at (movable bytes was owner slot) → Spelled new at (movable bytes lock owner slot)
+
+-- The live chunk that was spelled at this offset is spelled there with another owner, and is else as it
+-- was.
+pub record Reowns (old new : List ℕ) (at owner : ℕ) : Type 0 where
+  pub movable_too : (bytes : List ℕ) (lock was slot : ℕ) → MayStand lock owner → Spelled old at (movable bytes lock was slot) → Spelled new at (movable bytes lock owner slot)
+  pub fixed_too : (bytes : List ℕ) (was : ℕ) → Spelled old at (fixed bytes was) → Spelled new at (fixed bytes owner)
 
 -- the two words of a live chunk of so many bytes: sizeAdj above the size, and the lock above the
 -- owner above hOffset

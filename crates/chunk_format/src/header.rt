@@ -1,15 +1,15 @@
 //! Headers of chunks, read and written.
 
 ghost use Rattle.std.specs.Prelude.{◌≡◌, ◌%◌, ◌+◌, ◌≤◌, ◌<◌, ◌^◌, length, option_map, IfSome, IfNone, SomeIff};
-ghost use Rattle.heap_model.specs.Bytes.{overwritten};
-ghost use Rattle.heap_model.specs.Chunk.{Chunk, need, Spelled};
+ghost use Rattle.heap_model.specs.Memory.{IsWithin};
+ghost use Rattle.heap_model.specs.Bytes.{u32_at, u32_bytes, overwritten};
+ghost use Rattle.heap_model.specs.Frame.{most_size};
+ghost use Rattle.heap_model.specs.Chunk.{Chunk, need, fixed_lock, Spelled, HasChunk};
 ghost use Rattle.heap_model.specs.Reading.{chunk_at};
-ghost use Rattle.chunk_format.specs.Header.{chunk_with, size_by, h_offset_to, live_words};
+ghost use Rattle.chunk_format.specs.Header.{chunk_with, size_by, live_header_by, h_offset_to, live_words, with_lock_field, with_owner_field, Relocks, Reowns};
 
+use crate::frame::MOST_SIZE;
 use raw_region::Region;
-
-/// The greatest size of a region, and so of a chunk, in bytes.
-const MAX_SIZE: u32 = 16_777_208;
 
 /// The free bit of the first word.
 const FREE_BIT: u32 = 0x8000_0000;
@@ -49,9 +49,9 @@ pub enum Header {
 /// What a chunk with a body of `length` bytes takes: 8 for its header, and the body rounded up to a
 /// multiple of 8. None where that is more than a region can have.
 pub fn chunk_size(length: u32) -> Option<u32>
-    ensures { SomeIff result (need length ≤ 16777208) (need length) }
+    ensures { SomeIff result (need length ≤ most_size) (need length) }
 {
-    if length > MAX_SIZE - 8 {
+    if length > MOST_SIZE - 8 {
         return None;
     }
     Some(8 + 8 * ((length + 7) / 8))
@@ -87,11 +87,41 @@ impl Header {
         decode(region, at)
     }
 
+    /// The header of the chunk that is known to stand at `at`. It reads the words and tests nothing but
+    /// of which kind they are.
+    #[inline]
+    pub fn at(region: &Region, at: u32) -> Header
+        requires chunk { HasChunk region.now.bytes at }
+        requires small { length region.now.bytes < 2 ^ 24 }
+        ensures { HasHeader region.now.bytes at result }
+    {
+        let (header, _) = Header::at_with_size(region, at);
+        header
+    }
+
+    /// The header of the chunk that is known to stand at `at`, as `at` answers it, and its size.
+    #[inline]
+    pub fn at_with_size(region: &Region, at: u32) -> (Header, u32)
+        requires chunk { HasChunk region.now.bytes at }
+        requires small { length region.now.bytes < 2 ^ 24 }
+        ensures header { HasHeader region.now.bytes at result.0 }
+        ensures size { result.1 ≡ size_by result.0 }
+    {
+        let offset = at as usize;
+        let first = region.get_u32(offset);
+        let size = first % ABOVE_24_BITS;
+        if first >= FREE_BIT {
+            return (Header::Free { size }, size);
+        }
+        let length = size - 8 - first / ABOVE_24_BITS;
+        (live_header(at, length, region.get_u32(offset + 4)), size)
+    }
+
     /// Writes the header at `at`: of a free chunk its first word alone, with every bit but the free
     /// bit and the size zero, and of a live one both words. The caller shows that the chunk lies
     /// within the region, and that its numbers fit their fields.
     pub fn write(self, region: &mut Region, at: u32)
-        requires inside { at + size_by self ≤ length region.old.bytes }
+        requires inside { IsWithin region.old at (size_by self) }
         requires small { length region.old.bytes < 2 ^ 24 }
         requires writable { IsWritable at self }
         ensures after { region.new ≡ record region.old { bytes = overwritten region.old.bytes at (header_bytes at self) } }
@@ -176,6 +206,58 @@ fn decode(region: &Region, at: u32) -> Option<(Header, u32)>
     Some((header, size))
 }
 
+/// The header of a live chunk of `length` bytes, by its second word.
+#[inline]
+fn live_header(at: u32, length: u32, second: u32) -> Header
+    requires { at < 2 ^ 24 }
+    ensures { result ≡ live_header_by at length second }
+{
+    let lock = (second / ABOVE_28_BITS) as u8;
+    let owner = (second / ABOVE_24_BITS % 16) as u8;
+    if lock == FIXED_LOCK {
+        return Header::Fixed { length, owner };
+    }
+    let slot = (at + 2 * (second % ABOVE_24_BITS)) % (2 * ABOVE_24_BITS);
+    Header::Movable {
+        length,
+        lock,
+        owner,
+        slot,
+    }
+}
+
+/// Gives the movable chunk at `at` another lock count: its second word alone is written, and keeps its
+/// other fields.
+#[inline]
+pub fn put_lock(region: &mut Region, at: u32, lock: u8)
+    requires inside { IsWithin region.old at 8 }
+    requires lock { lock < fixed_lock }
+    ensures after { region.new ≡ record region.old { bytes = overwritten region.old.bytes (at + 4) (u32_bytes (with_lock_field (u32_at region.old.bytes (at + 4)) lock)) } }
+    ensures len { length region.new.bytes ≡ length region.old.bytes }
+    ensures relocked { Relocks region.old.bytes region.new.bytes at lock }
+{
+    let second = at as usize + 4;
+    let word = region.get_u32(second);
+    region.put_u32(second, lock as u32 * ABOVE_28_BITS + word % ABOVE_28_BITS);
+}
+
+/// Gives the live chunk at `at` another owner: its second word alone is written, and keeps its other
+/// fields.
+#[inline]
+pub fn put_owner(region: &mut Region, at: u32, owner: u8)
+    requires inside { IsWithin region.old at 8 }
+    requires owner { owner < 16 }
+    ensures after { region.new ≡ record region.old { bytes = overwritten region.old.bytes (at + 4) (u32_bytes (with_owner_field (u32_at region.old.bytes (at + 4)) owner)) } }
+    ensures len { length region.new.bytes ≡ length region.old.bytes }
+    ensures reowned { Reowns region.old.bytes region.new.bytes at owner }
+{
+    let second = at as usize + 4;
+    let word = region.get_u32(second);
+    let lock = word / ABOVE_28_BITS * ABOVE_28_BITS;
+    let rest = word % ABOVE_24_BITS;
+    region.put_u32(second, lock + owner as u32 * ABOVE_24_BITS + rest);
+}
+
 /// Half the distance from the chunk at `at` to a slot, as a two's complement of 24 bits.
 fn h_offset(at: u32, slot: u32) -> u32
     requires at { at < 2 ^ 24 }
@@ -187,7 +269,7 @@ fn h_offset(at: u32, slot: u32) -> u32
 
 /// Writes the two words of a live chunk.
 fn write_live(region: &mut Region, at: u32, count: u32, lock: u8, owner: u8, h_offset: u32)
-    requires inside { at + need count ≤ length region.old.bytes }
+    requires inside { IsWithin region.old at (need count) }
     requires small { length region.old.bytes < 2 ^ 24 }
     requires lock { lock < 16 }
     requires owner { owner < 16 }

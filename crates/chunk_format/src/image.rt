@@ -1,15 +1,13 @@
 //! Blank images.
 
-ghost use Rattle.std.specs.Prelude.{◌≡◌, ◌↔◌, ◌+◌, ◌-◌, ◌*◌, ◌/◌, ◌≤◌, ◌<◌, ◌^◌, IfOk, Err, replicate};
-ghost use Rattle.heap_model.specs.Memory.{Memory};
-ghost use Rattle.chunk_format.specs.Blank.{start_behind, IsRegionSize, LeavesRoom, IsPlanned, IsBlank};
+ghost use Rattle.std.specs.Prelude.{◌≡◌, ◌↔◌, IfOk, Err, replicate};
+ghost use Rattle.chunk_format.specs.Blank.{IsRegionSize, LeavesRoom, IsPlanned, IsBlank};
 
+use crate::frame::{is_image_size, start_behind, write_frame};
+use crate::header::Header;
 use raw_region::Region;
 use std::alloc::Global;
 use thiserror::Error;
-
-/// The first four bytes of an image of profile PHI1.
-const MAGIC: &[u8; 4] = b"PHI1";
 
 /// Why there is no blank image, in the order in which the reasons are looked for.
 #[derive(Clone, Copy, Debug, PartialEq, Eq, Error)]
@@ -25,13 +23,6 @@ pub enum BlankFault {
     OutOfMemory,
 }
 
-/// Where the chunks of an image with so many slots begin, in bytes from its start.
-pub fn area_start(slots: u16) -> u32
-    ensures { result ≡ start_behind slots }
-{
-    8 * ((16 + 4 * slots as u32 + 7) / 8)
-}
-
 /// An image of `size` bytes with `slots` slots and one free chunk, whose other bytes are zero. Sizes
 /// count bytes, and the layout is this project's own (docs/FORMAT.md).
 pub fn blank(alloc: Global, size: u32, slots: u16) -> Result<Region, BlankFault>
@@ -39,10 +30,10 @@ pub fn blank(alloc: Global, size: u32, slots: u16) -> Result<Region, BlankFault>
     ensures size { (result ≡ Err BlankFault.BadSize) ↔ (IsRegionSize size → ⊥) }
     ensures slots { (result ≡ Err BlankFault.BadSlotCount) ↔ (IsRegionSize size × (LeavesRoom size slots → ⊥)) }
 {
-    if size < 64 || size > 16_777_208 || size % 8 != 0 {
+    if !is_image_size(size as usize) {
         return Err(BlankFault::BadSize);
     }
-    let start = area_start(slots);
+    let start = start_behind(slots);
     if slots == 0 || size < start + 8 {
         return Err(BlankFault::BadSlotCount);
     }
@@ -60,8 +51,6 @@ fn write_blank(region: &mut Region, size: u32, slots: u16, start: u32)
     requires planned { IsPlanned size slots start }
     ensures { IsBlank size slots region.new.bytes }
 {
-    region.write(0, MAGIC);
-    region.put_u32(4, size);
-    region.put_u16(8, slots);
-    region.put_u32(start as usize, 0x8000_0000 + (size - start));
+    write_frame(region, size, slots);
+    Header::Free { size: size - start }.write(region, start);
 }

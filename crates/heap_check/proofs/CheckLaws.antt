@@ -24,7 +24,7 @@ not_short : (image : List ℕ) → IsHead image → IsTooShort image → ⊥
 not_short image h f = let least = h.least in let size = h.size_is in elim f [ inl short ↦ omega arith | inr cut ↦ let less = cut.1 in omega arith ]
 
 not_size : (image : List ℕ) → IsHead image → HasBadSize image → ⊥
-not_size image h f = elim f [ inl other ↦ other h.size_is | inr f ↦ elim f [ inl part ↦ part h.whole | inr f ↦ elim f [ inl low ↦ let least = h.least in omega arith | inr high ↦ let most = h.most in omega arith ] ] ]
+not_size image h f = elim f [ inl other ↦ other h.size_is | inr never ↦ never record { least = h.least; most = h.most; whole = h.whole } ]
 
 not_count : (image : List ℕ) → IsHead image → HasBadSlotCount image → ⊥
 not_count image h f = elim f [ inl none ↦ let some = h.some_slot in omega arith | inr small ↦ let fits = h.a_chunk_fits in omega arith ]

@@ -6,7 +6,7 @@ use Rattle.std.proofs.lemmas.Bool.{false≢true}
 use Rattle.std.proofs.lemmas.List.Sums.{sum_by_push}
 use Rattle.heap_model.specs.Bytes.{u32_at}
 use Rattle.heap_model.specs.Chunk.{Chunk, free, movable, fixed, size_of, total, is_movable, is_fixed, free_size, SpelledAll}
-use Rattle.heap_model.specs.Slots.{slot_count, area_start}
+use Rattle.heap_model.specs.Slots.{area_start}
 use Rattle.heap_model.specs.Heap.{BodyHere, IsCallersIfFixed}
 use Rattle.heap_model.specs.Pairing.{NamesItsSlot}
 use Rattle.heap_model.specs.Reading.{chunks_of, names_its_slot, is_callers_if_fixed}
@@ -18,7 +18,7 @@ use Rattle.chunk_format.specs.declared.header.Header.{Header}
 use Rattle.chunk_format.specs.Header.{header_of, size_by, HasHeader}
 use Rattle.chunk_format.proofs.HeaderLaws.{size_by-header_of}
 use Rattle.heap_check.specs.declared.survey.Survey.{Survey}
-use Rattle.heap_check.specs.Survey.{movable_by, fixed_by, free_by, names_by, callers_by, BodyBy, noted, IsFirstWithout, Surveys, HasSurveyed, IsSurvey}
+use Rattle.heap_check.specs.Survey.{movable_by, fixed_by, free_by, names_by, callers_by, BodyBy, noted, IsFirstWithout, Surveys, HasSurveyed, IsSurvey, AddsMarks}
 
 -- ---- what is read off a header is so of its chunk
 
@@ -61,12 +61,12 @@ counts_within (fixed bytes owner) s = omega arith
 -- ---- no chunk
 
 pub surveys_none : (image : List ℕ) (survey : Survey) (marks : List Bool) → survey.movable ≡ 0 → survey.fixed ≡ 0 → survey.free ≡ 0 → survey.without_slot ≡ None → survey.bad_owner ≡ None
-    → ((k : ℕ) → k < slot_count image → slice_index_or marks k false ≡ false) → Surveys image [] survey marks
+    → ((k : ℕ) → slice_index_or marks k false ≡ false) → Surveys image [] survey marks
 surveys_none image survey marks m f s w o clear = record {
   movable = m;
   fixed = f;
   free = s;
-  marked = λ k below. (λ is. absurd (false≢true (sym (clear k below) ∙ is)), λ b. absurd b);
+  marked = λ slot k stands. (λ is. absurd (false≢true (sym (clear k) ∙ is)), λ b. absurd b);
   without_slot = subst (λ (found : Option ℕ). IsFirstWithout (NamesItsSlot image) (area_start image) [] found) (sym w) tt;
   bad_owner = subst (λ (found : Option ℕ). IsFirstWithout IsCallersIfFixed (area_start image) [] found) (sym o) tt;
 }
@@ -89,7 +89,7 @@ pub record Adds (image : List ℕ) (at : ℕ) (header : Header) (old new : Surve
   pub free : new.free ≡ old.free + free_by header
   pub without_slot : new.without_slot ≡ noted old.without_slot at (names_by image at header)
   pub bad_owner : new.bad_owner ≡ noted old.bad_owner at (callers_by header)
-  pub marked : (k : ℕ) → k < slot_count image → ((slice_index_or after_marks k false ≡ true) ↔ ((slice_index_or before_marks k false ≡ true) ⊎ BodyBy (16 + 4 * k) (u32_at image (16 + 4 * k)) at header))
+  pub marked : AddsMarks image (λ slot. BodyBy slot (u32_at image slot) at header) before_marks after_marks
 
 pub surveys_more : (image : List ℕ) (before : List Chunk) (c : Chunk) (at : ℕ) (header : Header) (old new : Survey) (before_marks after_marks : List Bool) → at ≡ area_start image + total before → header ≡ header_of c
     → Surveys image before old before_marks → Adds image at header old new before_marks after_marks → Surveys image (before ++ c ∷ []) new after_marks
@@ -97,16 +97,15 @@ surveys_more image before c at header old new before_marks after_marks e is was 
   movable = adds.movable ∙ ap (λ (n : ℕ). old.movable + n) (ap movable_by is ∙ movable_of c) ∙ ap (λ (n : ℕ). n + count_by is_movable (c ∷ [])) was.movable ∙ sym (count_push is_movable before c);
   fixed = adds.fixed ∙ ap (λ (n : ℕ). old.fixed + n) (ap fixed_by is ∙ fixed_of c) ∙ ap (λ (n : ℕ). n + count_by is_fixed (c ∷ [])) was.fixed ∙ sym (count_push is_fixed before c);
   free = adds.free ∙ ap (λ (n : ℕ). old.free + n) (ap free_by is ∙ free_of c) ∙ ap (λ (n : ℕ). n + free_size c) was.free ∙ sym (sum_by_push free_size before c);
-  marked = λ k below.
-      let slot : ℕ = 16 + 4 * k in
-      let place : ℕ = u32_at image (16 + 4 * k) in
+  marked = λ slot k stands.
+      let place : ℕ = u32_at image slot in
       let here : BodyBy slot place at header ≡ BodyHere slot place (area_start image + total before) c = ap (BodyBy slot place at) is ∙ body_of slot place at c ∙ ap (λ (n : ℕ). BodyHere slot place n c) e in (
-        λ marked. elim ((adds.marked k below).0 marked) [
-          | inl earlier ↦ AnyPlaced-left (BodyHere slot place) (area_start image) before (c ∷ []) ((was.marked k below).0 earlier)
+        λ marked. elim ((adds.marked slot k stands).0 marked) [
+          | inl earlier ↦ AnyPlaced-left (BodyHere slot place) (area_start image) before (c ∷ []) ((was.marked slot k stands).0 earlier)
           | inr own ↦ AnyPlaced-right (BodyHere slot place) (area_start image) before (c ∷ []) (inl (coe_to here own))
         ],
-        λ body. (adds.marked k below).1 (elim (AnyPlaced-split (BodyHere slot place) (area_start image) before (c ∷ []) body) [
-          | inl left ↦ inl ((was.marked k below).1 left)
+        λ body. (adds.marked slot k stands).1 (elim (AnyPlaced-split (BodyHere slot place) (area_start image) before (c ∷ []) body) [
+          | inl left ↦ inl ((was.marked slot k stands).1 left)
           | inr own ↦ inr (elim own [ inl b ↦ coe_to (sym here) b | inr none ↦ absurd none ])
         ]),
       );

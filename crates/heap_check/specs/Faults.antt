@@ -4,33 +4,35 @@ use Rattle.heap_model.specs.Bytes.{u16_at, u32_at}
 use Rattle.heap_model.specs.Chunk.{Chunk, Spelled, SpelledAll}
 use Rattle.heap_model.specs.Placed.{FirstWithout, FirstOne}
 use Rattle.heap_model.specs.Slots.{slot_count, head_end, slots_of, area_start}
-use Rattle.heap_model.specs.Heap.{magic, Tiles, IsCallersIfFixed, HasDirectory}
+use Rattle.heap_model.specs.Frame.{magic, magic_at, size_at, reserved_at, frame_size}
+use Rattle.heap_model.specs.Heap.{Tiles, IsCallersIfFixed, HasDirectory}
 use Rattle.heap_model.specs.Pairing.{HoldsBody, NamesItsSlot}
 use Rattle.heap_model.specs.Reading.{chunks_of}
+use Rattle.chunk_format.specs.Blank.{IsRegionSize}
 use Rattle.heap_check.specs.declared.fault.HeapFault.{HeapFault}
 use Rattle.heap_check.specs.declared.fault.HeapFault.TheVariants.{TooShort, BadMagic, BadSize, BadSlotCount, BadReserved, BadPadding, BadChunk, SlotMismatch, ChunkWithoutSlot, BadFixedOwner, BadDirectory}
 
 -- ---- what each fault says
 
--- under 16 bytes, or the magic is there and the size field is above the length
+-- too short for a frame, or the magic is there and the size field is above the length
 abbrev pub IsTooShort : List ℕ → Type 0
-IsTooShort image = (length image < 16) ⊎ ((u32_at image 0 ≡ magic) × (length image < u32_at image 4))
+IsTooShort image = (length image < frame_size) ⊎ ((u32_at image magic_at ≡ magic) × (length image < u32_at image size_at))
 
 -- the first four bytes are others
 abbrev pub HasBadMagic : List ℕ → Type 0
-HasBadMagic image = u32_at image 0 ≢ magic
+HasBadMagic image = u32_at image magic_at ≢ magic
 
--- the size field isn't the length, isn't a multiple of 8, or isn't 64 to 16,777,208
+-- the size field isn't the length, or no image may have this length
 abbrev pub HasBadSize : List ℕ → Type 0
-HasBadSize image = (u32_at image 4 ≢ length image) ⊎ ((length image % 8 ≢ 0) ⊎ ((length image < 64) ⊎ (16777208 < length image)))
+HasBadSize image = (u32_at image size_at ≢ length image) ⊎ (IsRegionSize (length image) → ⊥)
 
 -- no slots, or less than 8 bytes are left behind the table and its padding
 abbrev pub HasBadSlotCount : List ℕ → Type 0
 HasBadSlotCount image = (slot_count image ≡ 0) ⊎ (length image < area_start image + 8)
 
--- bytes 10 and 11 aren't zero
+-- the two bytes behind the slot count aren't zero
 abbrev pub HasBadReserved : List ℕ → Type 0
-HasBadReserved image = u16_at image 10 ≢ 0
+HasBadReserved image = u16_at image reserved_at ≢ 0
 
 -- there is padding, and a byte of it isn't zero
 abbrev pub HasBadPadding : List ℕ → Type 0

@@ -1,9 +1,9 @@
 -- What a walk over chunks has found, and what one header adds to it.
-use Rattle.std.specs.Prelude.{◌≡◌, ◌≢◌, ◌<◌, ◌+◌, ◌-◌, ◌*◌, ◌/◌, ◌==◌, ◌&&◌, ◌↔◌, ◌≤◌, nat_lt, ℕ, Bool, true, false, List, length, slice_index_or, count_by, sum_by, Option, Some, None, MatchOption}
+use Rattle.std.specs.Prelude.{◌≡◌, ◌≢◌, ◌+◌, ◌==◌, ◌&&◌, ◌↔◌, ◌⊎◌, ◌≤◌, nat_lt, ℕ, Bool, true, false, List, length, slice_index_or, count_by, sum_by, Option, Some, None, MatchOption}
 use Rattle.heap_model.specs.Bytes.{u32_at}
 use Rattle.heap_model.specs.Chunk.{Chunk, free, movable, fixed, SpelledAll, is_movable, is_fixed, free_size}
 use Rattle.heap_model.specs.Placed.{EveryPlaced, FirstWithout, EveryOne}
-use Rattle.heap_model.specs.Slots.{slot_count, area_start, is_slot, slots_of}
+use Rattle.heap_model.specs.Slots.{area_start, is_slot, slots_of, StandsBehind}
 use Rattle.heap_model.specs.Heap.{Tiles, IsBody, IsCallersIfFixed}
 use Rattle.heap_model.specs.Pairing.{HoldsBody, NamesItsSlot}
 use Rattle.heap_model.specs.Reading.{chunks_of}
@@ -54,10 +54,21 @@ noted None at false = Some at
 
 -- ---- all chunks so far
 
--- the slot of each number is marked where a chunk that names it has its body at the place it holds
+-- the slot behind so many others is marked
+abbrev pub MarkedAt : List Bool → ℕ → Type 0
+MarkedAt marks number = slice_index_or marks number false ≡ true
+
+-- each slot is marked where a chunk that names it has its body at the place it holds
 abbrev pub AreMarks : List ℕ → List Chunk → List Bool → Type 0
-AreMarks image chunks marks =
-    (k : ℕ) → k < slot_count image → ((slice_index_or marks k false ≡ true) ↔ IsBody (area_start image) chunks (16 + 4 * k) (u32_at image (16 + 4 * k)))
+AreMarks image chunks marks = (slot number : ℕ) → StandsBehind image slot number → (MarkedAt marks number ↔ IsBody (area_start image) chunks slot (u32_at image slot))
+
+-- of the slots those are marked that were, and those of which this holds
+abbrev pub AddsMarks : List ℕ → (ℕ → Type 0) → List Bool → List Bool → Type 0
+AddsMarks image P old new = (slot number : ℕ) → StandsBehind image slot number → (MarkedAt new number ↔ (MarkedAt old number ⊎ P slot))
+
+-- the slot is this one and holds the place of the chunk at this offset
+abbrev pub IsHolder : List ℕ → ℕ → ℕ → ℕ → Type 0
+IsHolder image named at slot = (named ≡ slot) × (at + 8 ≡ u32_at image slot)
 
 -- the first chunk without something, if there is one
 abbrev pub IsFirstWithout : (ℕ → Chunk → Type 0) → ℕ → List Chunk → Option ℕ → Type 0
@@ -74,7 +85,7 @@ pub record Surveys (image : List ℕ) (chunks : List Chunk) (survey : Survey) (m
 
 -- a slot in use is marked
 abbrev pub IsMarked : List ℕ → List Bool → ℕ → Type 0
-IsMarked image marks slot = u32_at image slot ≢ 0 → slice_index_or marks ((slot - 16) / 4) false ≡ true
+IsMarked image marks slot = u32_at image slot ≢ 0 → (number : ℕ) → StandsBehind image slot number → MarkedAt marks number
 
 -- the chunks reach the end, and the survey and the marks are those of them all
 pub record IsSurvey (image : List ℕ) (survey : Survey) (marks : List Bool) : Type 0 where

@@ -11,7 +11,7 @@ use crate::head::check_head;
 use crate::slots::find_unmarked;
 use crate::summary::Summary;
 use crate::survey::survey_chunks;
-use master_table::slot_count;
+use master_table::Table;
 use raw_region::Region;
 
 /// The most slots that a table can have, and one mark more.
@@ -51,12 +51,12 @@ fn check_area(region: &Region, marks: &mut [bool]) -> Result<Summary, HeapFault>
     ensures summary { IfOk result (Summarizes region.now.bytes) }
     ensures fault { IfErr result (IsFirstFault region.now.bytes) }
 {
-    let slots = slot_count(region);
-    let survey = match survey_chunks(region, slots, marks) {
+    let table = Table::of(region);
+    let survey = match survey_chunks(region, table, marks) {
         Ok(survey) => survey,
         Err(at) => return Err(HeapFault::BadChunk(at)),
     };
-    if let Some(slot) = find_unmarked(region, slots, marks) {
+    if let Some(slot) = find_unmarked(region, table, marks) {
         return Err(HeapFault::SlotMismatch(slot));
     }
     if let Some(at) = survey.without_slot {
@@ -65,12 +65,12 @@ fn check_area(region: &Region, marks: &mut [bool]) -> Result<Summary, HeapFault>
     if let Some(at) = survey.bad_owner {
         return Err(HeapFault::BadFixedOwner(at));
     }
-    if !has_directory(region, slots) {
+    if !has_directory(region, table) {
         return Err(HeapFault::BadDirectory);
     }
     Ok(Summary {
         size: region.len() as u32,
-        slots: slots as u32,
+        slots: table.count(),
         movable: survey.movable,
         fixed: survey.fixed,
         free: survey.free,

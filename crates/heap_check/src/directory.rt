@@ -1,29 +1,30 @@
 //! The directory word.
 
-ghost use Rattle.std.specs.Prelude.{◌≡◌, ◌≤◌, ◌<◌, ◌+◌, ◌-◌, ◌*◌, ◌^◌, ◌↔◌, length, IsTrue};
-ghost use Rattle.heap_model.specs.Slots.{slot_count};
+ghost use Rattle.std.specs.Prelude.{◌≤◌, ◌<◌, ◌-◌, ◌^◌, ◌↔◌, length, IsTrue};
+ghost use Rattle.heap_model.specs.Slots.{HasTable};
 ghost use Rattle.heap_model.specs.Heap.{HasDirectory};
 ghost use Rattle.heap_model.specs.Reading.{chunk_at, chunks_of};
+ghost use Rattle.master_table.specs.Table.{IsTable};
 ghost use Rattle.heap_check.specs.Survey.{IsPaired, ManagersAt};
 
-use chunk_format::Header;
-use master_table::number_of;
+use chunk_format::{Header, directory};
+use master_table::Table;
 use raw_region::Region;
 
 /// Whether the directory word is 0, or the offset of a slot whose chunk is the manager's.
-pub(crate) fn has_directory(region: &Region, slots: u16) -> bool
+pub(crate) fn has_directory(region: &Region, table: Table) -> bool
     requires small { length region.now.bytes < 2 ^ 24 }
-    requires slots { slots ≡ slot_count region.now.bytes }
-    requires table { 16 + 4 * slots ≤ length region.now.bytes }
+    requires has_table { HasTable region.now }
+    requires table { IsTable region.now.bytes table }
     requires paired { IsPaired region.now.bytes }
     ensures { IsTrue result ↔ HasDirectory region.now.bytes (chunks_of region.now.bytes) }
 {
-    let directory = region.get_u32(12);
-    if directory == 0 {
+    let slot = directory(region);
+    if slot == 0 {
         return true;
     }
-    match number_of(directory, slots) {
-        Some(_) => is_managers(region, region.get_u32(directory as usize)),
+    match table.number(slot) {
+        Some(_) => is_managers(region, region.get_u32(slot as usize)),
         None => false,
     }
 }

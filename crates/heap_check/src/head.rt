@@ -1,62 +1,60 @@
 //! The faults of what stands in front of the chunks, each by a function of its own.
 
-ghost use Rattle.std.specs.Prelude.{◌≡◌, ◌≤◌, ◌+◌, ◌*◌, ◌↔◌, length, IsTrue, IfErr, OnOk};
-ghost use Rattle.heap_model.specs.Bytes.{u32_at};
-ghost use Rattle.heap_model.specs.Slots.{slot_count, area_start};
-ghost use Rattle.heap_model.specs.Heap.{magic, IsHead};
+ghost use Rattle.std.specs.Prelude.{◌≡◌, ◌≤◌, ◌+◌, ◌↔◌, length, IsTrue, IfErr, OnOk};
+ghost use Rattle.heap_model.specs.Memory.{IsWithin};
+ghost use Rattle.heap_model.specs.Frame.{HasFrame};
+ghost use Rattle.heap_model.specs.Slots.{area_start as model_start};
+ghost use Rattle.heap_model.specs.Heap.{IsHead};
 ghost use Rattle.heap_check.specs.Faults.{IsTooShort, HasBadMagic, HasBadSize, HasBadSlotCount, HasBadReserved, HasBadPadding, IsFirstFault};
 
 use crate::fault::HeapFault;
-use master_table::{slot_count, slot_of};
+use chunk_format::{
+    FRAME_SIZE, area_start, has_magic, head_end, is_image_size, reserved, size_field, slot_count,
+};
 use raw_region::Region;
-
-/// The first four bytes of an image, as a number: `PHI1`.
-const MAGIC: u32 = 0x5048_4931;
 
 fn is_too_short(region: &Region) -> bool
     ensures { IsTrue result ↔ IsTooShort region.now.bytes }
 {
     let len = region.len();
-    len < 16 || region.get_u32(0) == MAGIC && region.get_u32(4) as usize > len
+    len < FRAME_SIZE as usize || has_magic(region) && size_field(region) as usize > len
 }
 
 fn has_bad_magic(region: &Region) -> bool
-    requires { 16 ≤ length region.now.bytes }
+    requires { HasFrame region.now }
     ensures { IsTrue result ↔ HasBadMagic region.now.bytes }
 {
-    region.get_u32(0) != MAGIC
+    !has_magic(region)
 }
 
 fn has_bad_size(region: &Region) -> bool
-    requires { 16 ≤ length region.now.bytes }
+    requires { HasFrame region.now }
     ensures { IsTrue result ↔ HasBadSize region.now.bytes }
 {
     let len = region.len();
-    region.get_u32(4) as usize != len || len % 8 != 0 || len < 64 || len > 16_777_208
+    size_field(region) as usize != len || !is_image_size(len)
 }
 
 fn has_bad_slot_count(region: &Region) -> bool
-    requires { 16 ≤ length region.now.bytes }
+    requires { HasFrame region.now }
     ensures { IsTrue result ↔ HasBadSlotCount region.now.bytes }
 {
-    let slots = slot_count(region);
-    slots == 0 || region.len() < chunk_format::area_start(slots) as usize + 8
+    slot_count(region) == 0 || region.len() < area_start(region) as usize + 8
 }
 
 fn has_bad_reserved(region: &Region) -> bool
-    requires { 16 ≤ length region.now.bytes }
+    requires { HasFrame region.now }
     ensures { IsTrue result ↔ HasBadReserved region.now.bytes }
 {
-    region.get_u16(10) != 0
+    reserved(region) != 0
 }
 
 fn has_bad_padding(region: &Region) -> bool
-    requires { area_start region.now.bytes + 8 ≤ length region.now.bytes }
+    requires { IsWithin region.now (model_start region.now.bytes) 8 }
     ensures { IsTrue result ↔ HasBadPadding region.now.bytes }
 {
-    let slots = slot_count(region);
-    let end = slot_of(slots);
-    end != chunk_format::area_start(slots) && region.get_u32(end as usize) != 0
+    let end = head_end(region);
+    end != area_start(region) && region.get_u32(end as usize) != 0
 }
 
 /// Looks for the faults of the head, in their order.

@@ -1,33 +1,37 @@
 //! Whether each slot in use has its chunk.
 
-ghost use Rattle.std.specs.Prelude.{◌≡◌, ◌≤◌, ◌<◌, ◌+◌, ◌*◌, ◌↔◌, length, IsTrue, IfSome, IfNone};
-ghost use Rattle.heap_model.specs.Slots.{slot_count, slots_of};
+ghost use Rattle.std.specs.Prelude.{◌≡◌, ◌≤◌, ◌<◌, ◌↔◌, length, IsTrue, IfSome, IfNone};
+ghost use Rattle.heap_model.specs.Slots.{HasTable, StandsBehind, slots_of};
 ghost use Rattle.heap_model.specs.Placed.{EveryOne, FirstOne};
+ghost use Rattle.master_table.specs.Table.{IsTable};
 ghost use Rattle.heap_check.specs.Survey.{IsMarked};
 
-use master_table::slot_of;
+use master_table::Table;
 use raw_region::Region;
 
-/// Whether the slot of a number is marked, if it is in use.
-fn is_marked(region: &Region, number: u16, marks: &[bool]) -> bool
-    requires table { 16 + 4 * number + 4 ≤ length region.now.bytes }
+/// Whether the slot behind so many others is marked, if it is in use.
+#[inline]
+fn is_marked(region: &Region, slot: u32, number: u32, marks: &[bool]) -> bool
+    requires has_table { HasTable region.now }
+    requires stands { StandsBehind region.now.bytes slot number }
     requires room { number < length marks.now }
-    ensures { IsTrue result ↔ IsMarked region.now.bytes marks.now (16 + 4 * number) }
+    ensures { IsTrue result ↔ IsMarked region.now.bytes marks.now slot }
 {
-    region.get_u32(slot_of(number) as usize) == 0 || marks[number as usize]
+    region.get_u32(slot as usize) == 0 || marks[number as usize]
 }
 
 /// The offset of the first slot that is in use and not marked.
-pub(crate) fn find_unmarked(region: &Region, slots: u16, marks: &[bool]) -> Option<u32>
-    requires slots { slots ≡ slot_count region.now.bytes }
-    requires table { 16 + 4 * slots ≤ length region.now.bytes }
-    requires room { slots ≤ length marks.now }
+pub(crate) fn find_unmarked(region: &Region, table: Table, marks: &[bool]) -> Option<u32>
+    requires has_table { HasTable region.now }
+    requires table { IsTable region.now.bytes table }
+    requires room { table.count ≤ length marks.now }
     ensures none { IfNone result (EveryOne (IsMarked region.now.bytes marks.now) (slots_of region.now.bytes)) }
     ensures some { IfSome result (FirstOne (IsMarked region.now.bytes marks.now) (slots_of region.now.bytes)) }
 {
-    for number in 0..slots {
-        if !is_marked(region, number, marks) {
-            return Some(slot_of(number));
+    for number in 0..table.count() {
+        let slot = table.slot(number);
+        if !is_marked(region, slot, number, marks) {
+            return Some(slot);
         }
     }
     None

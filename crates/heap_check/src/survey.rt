@@ -1,13 +1,14 @@
 //! The one walk over the chunks.
 
-ghost use Rattle.std.specs.Prelude.{◌≡◌, ◌≤◌, ◌<◌, ◌+◌, ◌*◌, ◌^◌, ◌↔◌, ◌⊎◌, ◌==◌, ◌&&◌, ℕ, true, false, length, slice_index_or, is_some, IfSome, IfOk, IfErr};
+ghost use Rattle.std.specs.Prelude.{◌≡◌, ◌≢◌, ◌≤◌, ◌<◌, ◌+◌, ◌^◌, ◌==◌, ◌&&◌, ℕ, false, length, slice_index_or, IfSome, IfNone, OnSome, IfOk, IfErr};
 ghost use Rattle.heap_model.specs.Bytes.{u32_at};
-ghost use Rattle.heap_model.specs.Slots.{slot_count, area_start, is_slot};
+ghost use Rattle.heap_model.specs.Slots.{HasTable, IsSlot, StandsBehind, area_start as model_start, is_slot};
 ghost use Rattle.heap_check.specs.Faults.{IsBadChunk};
-ghost use Rattle.heap_check.specs.Survey.{noted, IsSurvey};
+ghost use Rattle.master_table.specs.Table.{IsTable};
+ghost use Rattle.heap_check.specs.Survey.{noted, AddsMarks, IsHolder, IsSurvey};
 
 use chunk_format::{Header, area_start};
-use master_table::number_of;
+use master_table::Table;
 use raw_region::Region;
 
 /// What a walk has found so far: how many chunks there are of each kind, the free bytes, and the
@@ -45,18 +46,40 @@ fn note_wrong(first: Option<u32>, at: u32) -> Option<u32>
 /// The number of the slot at this offset, if one stands there and holds the place of the chunk at
 /// `at`.
 #[inline]
-fn holder_of(region: &Region, slot: u32, at: u32, slots: u16) -> Option<u16>
-    requires slots { slots ≡ slot_count region.now.bytes }
-    requires table { 16 + 4 * slots ≤ length region.now.bytes }
+fn holder_of(region: &Region, table: Table, slot: u32, at: u32) -> Option<u32>
+    requires has_table { HasTable region.now }
+    requires table { IsTable region.now.bytes table }
     requires small { at < 2 ^ 24 }
-    ensures holds { is_some result ≡ (is_slot region.now.bytes slot && (u32_at region.now.bytes slot == at + 8)) }
-    ensures number { IfSome result (λ number. (number < slots) × (slot ≡ 16 + 4 * number) × (u32_at region.now.bytes slot ≡ at + 8)) }
+    ensures below { IfSome result (λ number. number < table.count) }
+    ensures number { IfSome result (StandsBehind region.now.bytes slot) }
+    ensures holds { OnSome result (u32_at region.now.bytes slot ≡ at + 8) }
+    ensures none { IfNone result (IsSlot region.now.bytes slot → u32_at region.now.bytes slot ≢ at + 8) }
 {
-    let number = number_of(slot, slots)?;
+    let number = table.number(slot)?;
     if region.get_u32(slot as usize) != at + 8 {
         return None;
     }
     Some(number)
+}
+
+/// Marks the slot at an offset if one stands there and holds the place of the chunk at `at`, and says
+/// whether that is so.
+#[inline]
+fn mark_holder(region: &Region, table: Table, slot: u32, at: u32, marks: &mut [bool]) -> bool
+    requires has_table { HasTable region.now }
+    requires table { IsTable region.now.bytes table }
+    requires small { at < 2 ^ 24 }
+    requires room { table.count ≤ length marks.old }
+    ensures holds { result ≡ (is_slot region.now.bytes slot && (u32_at region.now.bytes slot == at + 8)) }
+    ensures marked { AddsMarks region.now.bytes (IsHolder region.now.bytes slot at) marks.old marks.new }
+{
+    match holder_of(region, table, slot, at) {
+        Some(number) => {
+            marks[number as usize] = true;
+            true
+        }
+        None => false,
+    }
 }
 
 impl Survey {
@@ -82,29 +105,25 @@ impl Survey {
 
     /// Adds the chunk at `at`, and marks the slot that holds its place.
     #[inline]
-    fn add(&mut self, region: &Region, at: u32, header: Header, slots: u16, marks: &mut [bool])
-        requires slots { slots ≡ slot_count region.now.bytes }
-        requires table { 16 + 4 * slots ≤ length region.now.bytes }
+    fn add(&mut self, region: &Region, at: u32, header: Header, table: Table, marks: &mut [bool])
+        requires has_table { HasTable region.now }
+        requires table { IsTable region.now.bytes table }
         requires small { at < 2 ^ 24 }
         requires counts { self.old.movable + self.old.fixed + self.old.free + free_by header < 2 ^ 25 }
-        requires room { slots ≤ length marks.old }
+        requires room { table.count ≤ length marks.old }
         ensures movable { self.new.movable ≡ self.old.movable + movable_by header }
         ensures fixed { self.new.fixed ≡ self.old.fixed + fixed_by header }
         ensures free { self.new.free ≡ self.old.free + free_by header }
         ensures without_slot { self.new.without_slot ≡ noted self.old.without_slot at (names_by region.now.bytes at header) }
         ensures bad_owner { self.new.bad_owner ≡ noted self.old.bad_owner at (callers_by header) }
-        ensures marked { (k : ℕ) → k < slot_count region.now.bytes → ((slice_index_or marks.new k false ≡ true)
-            ↔ ((slice_index_or marks.old k false ≡ true) ⊎ BodyBy (16 + 4 * k) (u32_at region.now.bytes (16 + 4 * k)) at header)) }
+        ensures marked { AddsMarks region.now.bytes (λ slot. BodyBy slot (u32_at region.now.bytes slot) at header) marks.old marks.new }
     {
         match header {
             Header::Free { size } => self.free += size,
             Header::Movable { slot, .. } => {
                 self.movable += 1;
-                let holder = holder_of(region, slot, at, slots);
-                if let Some(number) = holder {
-                    marks[number as usize] = true;
-                }
-                self.without_slot = note(self.without_slot, at, holder.is_some());
+                let holds = mark_holder(region, table, slot, at, marks);
+                self.without_slot = note(self.without_slot, at, holds);
             }
             Header::Fixed { owner, .. } => {
                 self.fixed += 1;
@@ -114,24 +133,24 @@ impl Survey {
     }
 }
 
-/// Walks over the chunks of an image with so many slots, and marks the slot of each number that
-/// holds the place of a chunk which names it. The error is the offset of the first chunk out of shape.
-pub(crate) fn survey_chunks(region: &Region, slots: u16, marks: &mut [bool]) -> Result<Survey, u32>
+/// Walks over the chunks of an image with this table, and marks each slot that holds the place of a
+/// chunk which names it. The error is the offset of the first chunk out of shape.
+pub(crate) fn survey_chunks(region: &Region, table: Table, marks: &mut [bool]) -> Result<Survey, u32>
     requires small { length region.now.bytes < 2 ^ 24 }
-    requires slots { slots ≡ slot_count region.now.bytes }
-    requires inside { area_start region.now.bytes ≤ length region.now.bytes }
-    requires room { slots ≤ length marks.old }
-    requires clear { (k : ℕ) → k < slot_count region.now.bytes → slice_index_or marks.old k false ≡ false }
+    requires table { IsTable region.now.bytes table }
+    requires inside { model_start region.now.bytes ≤ length region.now.bytes }
+    requires room { table.count ≤ length marks.old }
+    requires clear { (k : ℕ) → slice_index_or marks.old k false ≡ false }
     ensures surveyed { IfOk result (λ survey. IsSurvey region.now.bytes survey marks.new) }
     ensures stuck { IfErr result (IsBadChunk region.now.bytes) }
 {
     let mut survey = Survey::new();
-    let mut at = area_start(slots);
+    let mut at = area_start(region);
     while (at as usize) < region.len() {
         let Some((header, size)) = Header::read_with_size(region, at) else {
             return Err(at);
         };
-        survey.add(region, at, header, slots, marks);
+        survey.add(region, at, header, table, marks);
         at += size;
     }
     Ok(survey)

@@ -8,7 +8,8 @@ use Rattle.std.specs.List.{list_all}
 use Rattle.heap_model.specs.Bytes.{u16_at, u32_at}
 use Rattle.heap_model.specs.Chunk.{Chunk, free, movable, fixed, total, SpelledAll}
 use Rattle.heap_model.specs.Slots.{IsSlot, slot_count, table_end, head_end, slots_of, area_start, is_slot}
-use Rattle.heap_model.specs.Heap.{magic, IsHead, Tiles, BodyHere, IsCallersIfFixed, ManagersHere, HasDirectory, directory_of, IsHeap, HeapAccepted}
+use Rattle.heap_model.specs.Frame.{magic}
+use Rattle.heap_model.specs.Heap.{IsHead, Tiles, BodyHere, IsCallersIfFixed, ManagersHere, HasDirectory, directory_of, IsHeap, HeapAccepted}
 use Rattle.heap_model.specs.Placed.{EveryPlaced, AnyPlaced, EveryOne}
 use Rattle.heap_model.specs.Pairing.{HoldsBody, NamesItsSlot}
 use Rattle.heap_model.specs.Reading.{chunks_of, head_tests, area_tests, is_body_here, holds_body, names_its_slot, is_callers_if_fixed, is_managers_here, is_accepted}

@@ -1,9 +1,9 @@
 -- Chunks in the middle of an accepted heap are replaced by others of the same size.
-use Rattle.std.proofs.Common.{◌≡◌, ◌≢◌, ℕ, ◌+◌, ◌*◌, ◌/◌, ◌<◌, List, ◌++◌, length, sym, ap, subst, ◌∙◌, arith, inl, inr}
+use Rattle.std.proofs.Common.{◌≡◌, ◌≢◌, ℕ, ◌+◌, ◌<◌, List, ◌++◌, length, sym, ap, subst, ◌∙◌, arith, inl, inr}
 use Rattle.std.specs.Prelude.{◌⊎◌, ◌↔◌}
 use Rattle.heap_model.specs.Bytes.{u32_at}
 use Rattle.heap_model.specs.Chunk.{Chunk, total, SpelledAll}
-use Rattle.heap_model.specs.Slots.{IsSlot, slot_count, table_end, head_end, area_start}
+use Rattle.heap_model.specs.Slots.{IsSlot, slot_count, table_end, head_end, area_start, start_behind}
 use Rattle.heap_model.specs.Heap.{IsHead, BodyHere, IsBody, IsCallersIfFixed, ManagersHere, directory_of, IsHeap}
 use Rattle.heap_model.specs.Placed.{EveryPlaced, AnyPlaced}
 use Rattle.heap_laws.proofs.Frames.{SameBetween, u16_at-same, u32_at-same}
@@ -22,7 +22,7 @@ pub same_count : (old new : List ℕ) → SameHead old new → slot_count new �
 same_count old new same = sym (u16_at-same 8 old new 0 16 same.words (omega arith) (omega arith))
 
 pub same_start : (old new : List ℕ) → SameHead old new → area_start new ≡ area_start old
-same_start old new same = let count = same_count old new same in ap (λ (n : ℕ). 8 * ((16 + 4 * n + 7) / 8)) count
+same_start old new same = let count = same_count old new same in ap start_behind count
 
 pub same_directory : (old new : List ℕ) → SameHead old new → directory_of new ≡ directory_of old
 same_directory old new same = sym (u32_at-same 12 old new 0 16 same.words (omega arith) (omega arith))

@@ -59,6 +59,11 @@ Spelled image at (movable bytes lock owner slot) =
     (h_offset : ℕ) × IsLive image at bytes lock owner h_offset × (lock < fixed_lock) × ((lock ≡ 0) ⊎ (0 < owner)) × (slot ≡ slot_named at h_offset)
 Spelled image at (fixed bytes owner) = IsLive image at bytes fixed_lock owner 0
 
+-- some chunk is spelled in the image at this offset
+pub record HasChunk (image : List ℕ) (at : ℕ) : Type 0 where
+  pub chunk : Chunk
+  pub spelled : Spelled image at chunk
+
 -- the chunks are spelled one behind the other, from one offset up to another
 abbrev pub SpelledAll : List ℕ → ℕ → List Chunk → ℕ → Type 0
 SpelledAll image at [] end = at ≡ end

@@ -3,23 +3,20 @@ use Rattle.std.specs.Prelude.{◌≡◌, ◌≢◌, ◌≤◌, ◌<◌, ◌+◌,
 use Rattle.heap_model.specs.Bytes.{u16_at, u32_at}
 use Rattle.heap_model.specs.Chunk.{Chunk, free, movable, fixed, SpelledAll}
 use Rattle.heap_model.specs.Placed.{EveryPlaced, AnyPlaced}
+use Rattle.heap_model.specs.Frame.{magic, magic_at, size_at, reserved_at, directory_at, least_size, most_size}
 use Rattle.heap_model.specs.Slots.{IsSlot, slot_count, head_end, area_start}
-
--- the first four bytes of an image, as a number: `PHI1`
-abbrev pub magic : ℕ
-magic = 0x50484931
 
 -- What stands in front of the chunks is right: the magic, the size of the whole image, the slot
 -- count, two zero bytes, and zeros behind the table. There is room for one chunk at least.
 pub record IsHead (image : List ℕ) : Type 0 where
-  pub magic_is : u32_at image 0 ≡ magic
-  pub size_is : u32_at image 4 ≡ length image
-  pub least : 64 ≤ length image
-  pub most : length image ≤ 16777208
+  pub magic_is : u32_at image magic_at ≡ magic
+  pub size_is : u32_at image size_at ≡ length image
+  pub least : least_size ≤ length image
+  pub most : length image ≤ most_size
   pub whole : length image % 8 ≡ 0
   pub some_slot : 0 < slot_count image
   pub a_chunk_fits : area_start image + 8 ≤ length image
-  pub reserved : u16_at image 10 ≡ 0
+  pub reserved : u16_at image reserved_at ≡ 0
   pub padding : head_end image ≢ area_start image → u32_at image (head_end image) ≡ 0
 
 -- the image is a head and then these chunks, without gap or rest
@@ -56,7 +53,7 @@ ManagersHere slot at (fixed bytes owner) = ⊥
 
 -- the directory word
 abbrev pub directory_of : List ℕ → ℕ
-directory_of image = u32_at image 12
+directory_of image = u32_at image directory_at
 
 -- there is no directory, or a chunk of the manager's is it
 abbrev pub HasDirectory : List ℕ → List Chunk → Type 0

@@ -1,5 +1,6 @@
 pub mod Memory
 pub mod Bytes
+pub mod Frame
 pub mod Chunk
 pub mod Placed
 pub mod Slots

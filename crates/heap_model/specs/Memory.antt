@@ -1,6 +1,11 @@
 -- What contracts see of a region of memory.
-use Rattle.std.specs.Prelude.{ℕ, List}
+use Rattle.std.specs.Prelude.{◌≤◌, ◌+◌, ℕ, List, length}
 
 -- Its bytes, in order. Each is below 256, which the definitions over lists of bytes don't say again.
 pub record Memory : Type 0 where
   pub bytes : List ℕ
+
+-- So many bytes from an offset on may be read and written: they lie within the memory. Every access
+-- asks for it.
+abbrev pub IsWithin : Memory → ℕ → ℕ → Type 0
+IsWithin memory at count = at + count ≤ length memory.bytes

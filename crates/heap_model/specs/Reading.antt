@@ -8,7 +8,8 @@ use Rattle.heap_model.specs.Bytes.{u16_at, u32_at}
 use Rattle.heap_model.specs.Chunk.{Chunk, free, movable, fixed, fixed_lock, need, size_of, total, slot_named}
 use Rattle.heap_model.specs.Placed.{every_placed, any_placed}
 use Rattle.heap_model.specs.Slots.{slot_count, head_end, area_start, slots_of, is_slot}
-use Rattle.heap_model.specs.Heap.{magic, directory_of}
+use Rattle.heap_model.specs.Frame.{magic, magic_at, size_at, reserved_at, least_size, most_size}
+use Rattle.heap_model.specs.Heap.{directory_of}
 use Rattle.heap_model.specs.Meaning.{ChunkMap}
 
 -- ---- chunks
@@ -96,14 +97,14 @@ held image name = live_under (area_start image) (chunks_of image) name
 -- what stands in front of the chunks is right, test by test
 abbrev pub head_tests : List ℕ → List Bool
 head_tests image =
-    (u32_at image 0 == magic)
-    ∷ (u32_at image 4 == length image)
-    ∷ nat_le 64 (length image)
-    ∷ nat_le (length image) 16777208
+    (u32_at image magic_at == magic)
+    ∷ (u32_at image size_at == length image)
+    ∷ nat_le least_size (length image)
+    ∷ nat_le (length image) most_size
     ∷ (length image % 8 == 0)
     ∷ nat_lt 0 (slot_count image)
     ∷ nat_le (area_start image + 8) (length image)
-    ∷ (u16_at image 10 == 0)
+    ∷ (u16_at image reserved_at == 0)
     ∷ ((head_end image == area_start image) || (u32_at image (head_end image) == 0))
     ∷ []
 

@@ -8,8 +8,8 @@
 mod slots;
 mod table;
 
-pub use slots::{number_of, slot_count, slot_of};
-pub use table::{clear, free_slot, resolve, set, slots_free};
+pub use slots::Table;
+pub use table::{FreeSlot, clear, free_slot, resolve, set, slots_before, slots_free};
 
 #[cfg(test)]
 mod tests;

@@ -1,35 +1,63 @@
-//! Slots by their numbers, counted from 0.
+//! Slots by their numbers: how many stand before each.
 
-ghost use Rattle.std.specs.Prelude.{◌≡◌, ◌≤◌, ◌<◌, ◌+◌, ◌*◌, ◌%◌, length, IfSome, IfNone};
-ghost use Rattle.heap_model.specs.Slots.{slot_count as model_count};
+ghost use Rattle.std.specs.Prelude.{◌≡◌, ◌<◌, ℕ, List, IfSome, IfNone};
+ghost use Rattle.heap_model.specs.Frame.{HasFrame};
+ghost use Rattle.heap_model.specs.Slots.{IsSlot, StandsBehind};
 
+use chunk_format::{FRAME_SIZE, SLOT_SIZE};
 use raw_region::Region;
 
-/// How many slots the table has.
-#[inline]
-pub fn slot_count(region: &Region) -> u16
-    requires { 10 ≤ length region.now.bytes }
-    ensures { result ≡ model_count region.now.bytes }
-{
-    region.get_u16(8)
+/// What an image says of its table, read once for a caller that asks often. It stays right while the
+/// frame does.
+#[derive(Clone, Copy)]
+pub struct Table {
+    count: u16,
 }
 
-/// The offset of the slot of a number.
-#[inline]
-pub fn slot_of(number: u16) -> u32
-    ensures { result ≡ 16 + 4 * number }
-{
-    16 + 4 * number as u32
-}
+impl Table {
+    ghost use Rattle.master_table.specs.Table.{IsTable};
 
-/// The number of the slot at an offset, if one of so many slots stands there.
-#[inline]
-pub fn number_of(slot: u32, slots: u16) -> Option<u16>
-    ensures some { IfSome result (λ number. (number < slots) × (slot ≡ 16 + 4 * number)) }
-    ensures none { IfNone result (((16 ≤ slot) × (slot < 16 + 4 * slots) × (slot % 4 ≡ 0)) → ⊥) }
-{
-    if slot < 16 || slot >= slot_of(slots) || slot % 4 != 0 {
-        return None;
+    /// The table of an image.
+    #[inline]
+    pub fn of(region: &Region) -> Table
+        requires { HasFrame region.now }
+        ensures { IsTable region.now.bytes result }
+    {
+        Table {
+            count: chunk_format::slot_count(region),
+        }
     }
-    Some(((slot - 16) / 4) as u16)
+
+    /// How many slots there are.
+    #[inline]
+    pub fn count(self) -> u32
+        ensures { result ≡ self.count }
+    {
+        self.count as u32
+    }
+
+    /// The slot before which so many stand, by its offset.
+    #[inline]
+    pub fn slot(self, number: u32) -> u32
+        requires { number < self.count }
+        ensures { (image : List ℕ) → IsTable image self → StandsBehind image result number }
+    {
+        FRAME_SIZE + SLOT_SIZE * number
+    }
+
+    /// How many slots stand before the one at an offset, if one stands there.
+    #[inline]
+    pub fn number(self, slot: u32) -> Option<u32>
+        ensures below { IfSome result (λ number. number < self.count) }
+        ensures some { IfSome result (λ number. (image : List ℕ) → IsTable image self → StandsBehind image slot number) }
+        ensures none { IfNone result ((image : List ℕ) → IsTable image self → IsSlot image slot → ⊥) }
+    {
+        if slot < FRAME_SIZE || slot >= FRAME_SIZE + SLOT_SIZE * self.count() {
+            return None;
+        }
+        if slot % SLOT_SIZE != 0 {
+            return None;
+        }
+        Some((slot - FRAME_SIZE) / SLOT_SIZE)
+    }
 }

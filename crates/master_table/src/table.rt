@@ -1,57 +1,97 @@
 //! What slots hold.
 
-ghost use Rattle.std.specs.Prelude.{◌≡◌, ◌≤◌, ◌<◌, ◌+◌, ◌*◌, ◌↔◌, length, MatchOption, IfSome, IsTrue, None};
+ghost use Rattle.std.specs.Prelude.{◌≡◌, ◌<◌, ◌↔◌, ℕ, length, MatchOption, IfSome, IfNone, None};
 ghost use Rattle.heap_model.specs.Bytes.{u32_at, u32_bytes, overwritten};
-ghost use Rattle.heap_model.specs.Slots.{IsSlot, table_end};
+ghost use Rattle.heap_model.specs.Frame.{HasFrame};
+ghost use Rattle.heap_model.specs.Slots.{IsSlot, HasTable, StandsBehind};
 ghost use Rattle.heap_model.specs.Space.{free_slots};
-ghost use Rattle.master_table.specs.Table.{HoldsPlace, HoldsNothing, IsFirstEmpty, UsedBelow};
+ghost use Rattle.master_table.specs.Table.{HoldsPlace, HoldsNothing, IsTable, IsEmptyAt, IsUsedAt, IsFirstEmpty, UsedBefore};
 
-use crate::slots::{number_of, slot_count, slot_of};
+use crate::slots::Table;
 use heap_model::{Name, Place};
 use raw_region::Region;
 
+/// An empty slot, and how many slots stand before it.
+#[derive(Clone, Copy, Debug, PartialEq, Eq)]
+pub struct FreeSlot {
+    pub name: Name,
+    pub before: u32,
+}
+
+/// The word of a slot.
+#[inline]
+fn word_of(region: &Region, slot: u32) -> u32
+    requires table { HasTable region.now }
+    requires slot { IsSlot region.now.bytes slot }
+    ensures { result ≡ u32_at region.now.bytes slot }
+{
+    region.get_u32(slot as usize)
+}
+
+/// How many slots stand before the one of a name. None where no slot stands there.
+pub fn slots_before(region: &Region, name: Name) -> Option<u32>
+    requires { HasFrame region.now }
+    ensures some { IfSome result (StandsBehind region.now.bytes name.0) }
+    ensures none { IfNone result (IsSlot region.now.bytes name.0 → ⊥) }
+{
+    Table::of(region).number(name.0)
+}
+
 /// The place that a slot holds. None where no slot stands there, or an empty one.
 pub fn resolve(region: &Region, name: Name) -> Option<Place>
-    requires { table_end region.now.bytes ≤ length region.now.bytes }
+    requires { HasTable region.now }
     ensures { MatchOption result (HoldsNothing region.now.bytes name.0) (λ place. HoldsPlace region.now.bytes name.0 place.0) }
 {
-    match number_of(name.0, slot_count(region)) {
-        Some(number) => place_at(region, number),
+    match slots_before(region, name) {
+        Some(_) => place_in(region, name),
         None => None,
     }
 }
 
-/// The place that the slot of a number holds, if it isn't empty.
-fn place_at(region: &Region, number: u16) -> Option<Place>
-    requires { 16 + 4 * number + 4 ≤ length region.now.bytes }
-    ensures { MatchOption result (u32_at region.now.bytes (16 + 4 * number) ≡ 0) (λ place. (u32_at region.now.bytes (16 + 4 * number) ≡ place.0) × (0 < place.0)) }
+/// The place that a slot holds, if it isn't empty.
+#[inline]
+fn place_in(region: &Region, slot: Name) -> Option<Place>
+    requires table { HasTable region.now }
+    requires slot { IsSlot region.now.bytes slot.0 }
+    ensures { MatchOption result (HoldsNothing region.now.bytes slot.0) (λ place. HoldsPlace region.now.bytes slot.0 place.0) }
 {
-    match region.get_u32(slot_of(number) as usize) {
+    match word_of(region, slot.0) {
         0 => None,
         place => Some(Place(place)),
     }
 }
 
-/// Whether the slot of a number is empty.
+/// The slot before which so many stand, if it is empty.
 #[inline]
-fn is_empty(region: &Region, number: u16) -> bool
-    requires { 16 + 4 * number + 4 ≤ length region.now.bytes }
-    ensures { IsTrue result ↔ (u32_at region.now.bytes (16 + 4 * number) ≡ 0) }
+fn empty_slot(region: &Region, table: Table, number: u32) -> Option<FreeSlot>
+    requires has_table { HasTable region.now }
+    requires table { IsTable region.now.bytes table }
+    requires below { number < table.count }
+    ensures some { IfSome result (IsEmptyAt region.now.bytes number) }
+    ensures none { IfNone result (IsUsedAt region.now.bytes number) }
 {
-    region.get_u32(slot_of(number) as usize) == 0
+    let slot = table.slot(number);
+    if word_of(region, slot) != 0 {
+        return None;
+    }
+    Some(FreeSlot {
+        name: Name(slot),
+        before: number,
+    })
 }
 
-/// The number of the first empty slot. The caller shows that the slots of all numbers below `from`
-/// are in use, and so spares the search from going over these. None exactly where no slot is free.
-pub fn free_slot(region: &Region, from: u16) -> Option<u16>
-    requires table { table_end region.now.bytes ≤ length region.now.bytes }
-    requires used { UsedBelow region.now.bytes from }
-    ensures some { IfSome result (IsFirstEmpty region.now.bytes) }
+/// The first empty slot. The caller shows that the first `from` slots are in use, and so spares the
+/// search from going over these. None exactly where no slot is free.
+pub fn free_slot(region: &Region, from: u32) -> Option<FreeSlot>
+    requires table { HasTable region.now }
+    requires used { UsedBefore region.now.bytes from }
+    ensures some { IfSome result (λ slot. IsFirstEmpty region.now.bytes slot.name.0 slot.before) }
     ensures none { (result ≡ None) ↔ (free_slots region.now.bytes ≡ 0) }
 {
-    for number in from..slot_count(region) {
-        if is_empty(region, number) {
-            return Some(number);
+    let table = Table::of(region);
+    for number in from..table.count() {
+        if let Some(slot) = empty_slot(region, table, number) {
+            return Some(slot);
         }
     }
     None
@@ -59,12 +99,13 @@ pub fn free_slot(region: &Region, from: u16) -> Option<u16>
 
 /// How many slots are empty.
 pub fn slots_free(region: &Region) -> u32
-    requires { table_end region.now.bytes ≤ length region.now.bytes }
+    requires { HasTable region.now }
     ensures { result ≡ free_slots region.now.bytes }
 {
+    let table = Table::of(region);
     let mut count = 0;
-    for number in 0..slot_count(region) {
-        if is_empty(region, number) {
+    for number in 0..table.count() {
+        if empty_slot(region, table, number).is_some() {
             count += 1;
         }
     }
@@ -73,7 +114,7 @@ pub fn slots_free(region: &Region) -> u32
 
 /// Puts a place into a slot.
 pub fn set(region: &mut Region, slot: Name, place: Place)
-    requires table { table_end region.old.bytes ≤ length region.old.bytes }
+    requires table { HasTable region.old }
     requires slot { IsSlot region.old.bytes slot.0 }
     ensures after { region.new ≡ record region.old { bytes = overwritten region.old.bytes slot.0 (u32_bytes place.0) } }
     ensures len { length region.new.bytes ≡ length region.old.bytes }
@@ -83,7 +124,7 @@ pub fn set(region: &mut Region, slot: Name, place: Place)
 
 /// Empties a slot.
 pub fn clear(region: &mut Region, slot: Name)
-    requires table { table_end region.old.bytes ≤ length region.old.bytes }
+    requires table { HasTable region.old }
     requires slot { IsSlot region.old.bytes slot.0 }
     ensures after { region.new ≡ record region.old { bytes = overwritten region.old.bytes slot.0 (u32_bytes 0) } }
     ensures len { length region.new.bytes ≡ length region.old.bytes }

@@ -1,6 +1,7 @@
 //! The type of a region, whose methods call the functions of `words` on its bytes.
 
-ghost use Rattle.std.specs.Prelude.{◌≡◌, ◌+◌, ◌≤◌, length, slice_range, replicate, IfOk};
+ghost use Rattle.std.specs.Prelude.{◌≡◌, ◌+◌, length, slice_range, replicate, IfOk};
+ghost use Rattle.heap_model.specs.Memory.{IsWithin};
 ghost use Rattle.heap_model.specs.Bytes.{u16_at, u32_at, u16_bytes, u32_bytes, overwritten};
 
 use crate::words;
@@ -53,7 +54,7 @@ impl Region {
     /// The number in the two bytes at `at`.
     #[inline]
     pub fn get_u16(&self, at: usize) -> u16
-        requires { at + 2 ≤ length self.now.bytes }
+        requires { IsWithin self.now at 2 }
         ensures { result ≡ u16_at self.now.bytes at }
     {
         words::get_u16(&self.bytes, at)
@@ -62,7 +63,7 @@ impl Region {
     /// The number in the four bytes at `at`.
     #[inline]
     pub fn get_u32(&self, at: usize) -> u32
-        requires { at + 4 ≤ length self.now.bytes }
+        requires { IsWithin self.now at 4 }
         ensures { result ≡ u32_at self.now.bytes at }
     {
         words::get_u32(&self.bytes, at)
@@ -71,7 +72,7 @@ impl Region {
     /// The `n` bytes at `at`.
     #[inline]
     pub fn slice(&self, at: usize, n: usize) -> &[u8]
-        requires { at + n ≤ length self.now.bytes }
+        requires { IsWithin self.now at n }
         ensures { result.now ≡ slice_range self.now.bytes at (at + n) }
     {
         &self.bytes.as_slice()[at..at + n]
@@ -80,7 +81,7 @@ impl Region {
     /// Writes a number into the two bytes at `at`.
     #[inline]
     pub fn put_u16(&mut self, at: usize, n: u16)
-        requires { at + 2 ≤ length self.old.bytes }
+        requires { IsWithin self.old at 2 }
         ensures after { self.new ≡ record self.old { bytes = overwritten self.old.bytes at (u16_bytes n) } }
         ensures len { length self.new.bytes ≡ length self.old.bytes }
     {
@@ -90,7 +91,7 @@ impl Region {
     /// Writes a number into the four bytes at `at`.
     #[inline]
     pub fn put_u32(&mut self, at: usize, n: u32)
-        requires { at + 4 ≤ length self.old.bytes }
+        requires { IsWithin self.old at 4 }
         ensures after { self.new ≡ record self.old { bytes = overwritten self.old.bytes at (u32_bytes n) } }
         ensures len { length self.new.bytes ≡ length self.old.bytes }
     {
@@ -99,7 +100,7 @@ impl Region {
 
     /// Copies `bytes` into the region, the first of them to `at`.
     pub fn write(&mut self, at: usize, bytes: &[u8])
-        requires { at + length bytes.now ≤ length self.old.bytes }
+        requires { IsWithin self.old at (length bytes.now) }
         ensures after { self.new ≡ record self.old { bytes = overwritten self.old.bytes at bytes.now } }
         ensures len { length self.new.bytes ≡ length self.old.bytes }
     {
@@ -108,7 +109,7 @@ impl Region {
 
     /// Makes each of the `n` bytes at `at` the byte `byte`.
     pub fn fill(&mut self, at: usize, n: usize, byte: u8)
-        requires { at + n ≤ length self.old.bytes }
+        requires { IsWithin self.old at n }
         ensures after { self.new ≡ record self.old { bytes = overwritten self.old.bytes at (replicate n byte) } }
         ensures len { length self.new.bytes ≡ length self.old.bytes }
     {

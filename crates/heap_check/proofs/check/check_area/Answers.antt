@@ -31,4 +31,4 @@ returns-clause-accepted c =
 pub returns-clause-summary : goal.returns-clause-summary
 returns-clause-summary c =
     let s = c.in-Ok.ensures.surveyed.surveys in
-    record { size = c.len.ensures; slots = c.slot_count-slots.ensures ∙ sym (length-slots_of c.args.region.now.bytes); movable = s.movable; fixed = s.fixed; free = s.free }
+    record { size = c.len.ensures; slots = c.count.ensures ∙ c.of-table.ensures ∙ sym (length-slots_of c.args.region.now.bytes); movable = s.movable; fixed = s.fixed; free = s.free }

@@ -1,16 +1,17 @@
-use Rattle.std.proofs.Common.{refl, ◌∙◌, arith}
-use Rattle.std.proofs.lemmas.Bool.{false≢true}
-use Rattle.master_table.proofs.CountLaws.{empty_more, empty_same, empty_all}
+use Rattle.std.proofs.Common.{refl, sym, ◌∙◌, arith}
+use Rattle.master_table.proofs.CountLaws.{counted_some, counted_none, empty_all}
 use Rattle.master_table.proofs.table.slots_free.Goals as goal
-use Rattle.master_table.proofs.table.slots_free.Goals.{then-is_empty, else-is_empty}
+use Rattle.master_table.proofs.table.slots_free.Goals.{then-is_some, else-is_some}
 
 pub loop-number-preserved : goal.loop-number-preserved
 loop-number-preserved c =
     let image = c.args.region.now.bytes in
     let k = c.loop-number.number in
-    elim c.if-is_empty.branch [
-      | then-is_empty w ↦ record { counted = w.count-is ∙ empty_more image k c.loop-number.count c.loop-number.invariant.counted (w.if-is_empty.ensures.0 refl); small = omega arith }
-      | else-is_empty w ↦ record { counted = w.count-is ∙ empty_same image k c.loop-number.count c.loop-number.invariant.counted (λ z. false≢true (w.if-is_empty.ensures.1 z)); small = omega arith }
+    let found = c.empty_slot.result in
+    let counted = c.loop-number.invariant.counted in
+    elim c.if-is_some.branch [
+      | then-is_some w ↦ record { counted = w.count-is ∙ counted_some image k c.loop-number.count found c.empty_slot.ensures.some (sym c.is_some.ensures ∙ w.if-is_some.true) counted; small = omega arith }
+      | else-is_some w ↦ record { counted = w.count-is ∙ counted_none image k c.loop-number.count found (omega arith) c.empty_slot.ensures.none (sym c.is_some.ensures ∙ w.if-is_some.false) counted; small = omega arith }
     ]
 
 pub returns : goal.returns

@@ -1,0 +1,118 @@
+//! The frame of an image: the 16 bytes in front of the master pointer table, what stands in them, and
+//! how small and how large an image may be. Where the table ends and the chunks begin follows from it.
+
+ghost use Rattle.std.specs.Prelude.{◌≡◌, ◌↔◌, ◌<◌, length, IsTrue};
+ghost use Rattle.heap_model.specs.Memory.{IsWithin};
+ghost use Rattle.heap_model.specs.Bytes.{u16_at, u32_at};
+ghost use Rattle.heap_model.specs.Frame.{magic, magic_at, size_at, reserved_at, HasFrame};
+ghost use Rattle.heap_model.specs.Slots.{slot_count as model_count, head_end as model_end, area_start as model_start, start_behind as model_behind};
+ghost use Rattle.heap_model.specs.Heap.{directory_of};
+ghost use Rattle.chunk_format.specs.Blank.{IsRegionSize, framed};
+
+use raw_region::Region;
+
+/// The first four bytes of an image of profile PHI1, as a number.
+const MAGIC: u32 = 0x5048_4931;
+
+/// Where the words of the frame stand, in bytes from the image's start.
+const MAGIC_AT: usize = 0;
+const SIZE_AT: usize = 4;
+const SLOT_COUNT_AT: usize = 8;
+const RESERVED_AT: usize = 10;
+const DIRECTORY_AT: usize = 12;
+
+/// What the frame takes in bytes. The table begins behind it.
+pub const FRAME_SIZE: u32 = 16;
+
+/// What a slot takes in bytes.
+pub const SLOT_SIZE: u32 = 4;
+
+/// The least size of an image, in bytes.
+const LEAST_SIZE: usize = 64;
+
+/// The greatest size of an image, and so of a chunk, in bytes.
+pub(crate) const MOST_SIZE: u32 = 16_777_208;
+
+/// Whether an image may have this size, in bytes.
+pub fn is_image_size(size: usize) -> bool
+    ensures { IsTrue result ↔ IsRegionSize size }
+{
+    size >= LEAST_SIZE && size <= MOST_SIZE as usize && size % 8 == 0
+}
+
+/// Whether the first four bytes are the magic.
+pub fn has_magic(region: &Region) -> bool
+    requires { IsWithin region.now magic_at 4 }
+    ensures { IsTrue result ↔ (u32_at region.now.bytes magic_at ≡ magic) }
+{
+    region.get_u32(MAGIC_AT) == MAGIC
+}
+
+/// The size that the image says it has, in bytes.
+pub fn size_field(region: &Region) -> u32
+    requires { IsWithin region.now size_at 4 }
+    ensures { result ≡ u32_at region.now.bytes size_at }
+{
+    region.get_u32(SIZE_AT)
+}
+
+/// How many slots the table has.
+#[inline]
+pub fn slot_count(region: &Region) -> u16
+    requires { HasFrame region.now }
+    ensures { result ≡ model_count region.now.bytes }
+{
+    region.get_u16(SLOT_COUNT_AT)
+}
+
+/// The two bytes that are to be zero.
+pub fn reserved(region: &Region) -> u16
+    requires { HasFrame region.now }
+    ensures { result ≡ u16_at region.now.bytes reserved_at }
+{
+    region.get_u16(RESERVED_AT)
+}
+
+/// The directory word: 0, or the offset of the directory's slot.
+pub fn directory(region: &Region) -> u32
+    requires { HasFrame region.now }
+    ensures { result ≡ directory_of region.now.bytes }
+{
+    region.get_u32(DIRECTORY_AT)
+}
+
+/// Where the head ends and the padding in front of the chunks begins, in bytes from the image's start.
+pub fn head_end(region: &Region) -> u32
+    requires { HasFrame region.now }
+    ensures { result ≡ model_end region.now.bytes }
+{
+    FRAME_SIZE + SLOT_SIZE * slot_count(region) as u32
+}
+
+/// Where the first chunk begins, in bytes from the image's start.
+#[inline]
+pub fn area_start(region: &Region) -> u32
+    requires { HasFrame region.now }
+    ensures { result ≡ model_start region.now.bytes }
+{
+    start_behind(slot_count(region))
+}
+
+/// Where the first chunk begins behind one table of so many slots.
+#[inline]
+pub(crate) fn start_behind(slots: u16) -> u32
+    ensures { result ≡ model_behind slots }
+{
+    8 * ((FRAME_SIZE + SLOT_SIZE * slots as u32 + 7) / 8)
+}
+
+/// Writes the magic, the size and the slot count.
+pub(crate) fn write_frame(region: &mut Region, size: u32, slots: u16)
+    requires { HasFrame region.old }
+    ensures after { region.new ≡ record region.old { bytes = framed region.old.bytes size slots } }
+    ensures len { length region.new.bytes ≡ length region.old.bytes }
+{
+    region.put_u32(MAGIC_AT, MAGIC);
+    region.put_u32(SIZE_AT, size);
+    region.put_u16(SLOT_COUNT_AT, slots);
+}

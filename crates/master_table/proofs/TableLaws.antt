@@ -1,0 +1,72 @@
+-- Slots by their numbers, and which of them are in use before and after a change.
+use Rattle.std.proofs.Common.{◌≡◌, ◌≢◌, ℕ, ◌+◌, ◌*◌, ◌<◌, ◌≤◌, List, take, sym, ap, subst, ◌∙◌, arith}
+use Rattle.heap_model.specs.Bytes.{u32_at}
+use Rattle.heap_model.specs.Slots.{IsSlot, slot_count, slots_of, first_slots, StandsBehind}
+use Rattle.heap_model.specs.Placed.{EveryOne}
+use Rattle.heap_laws.proofs.Slots.{stands_number, stands_there, stands_slot, number_stands, same_number, each_first_slot, every_first_slot, every_first-more, slot_stands}
+use Rattle.master_table.specs.declared.table.FreeSlot.{FreeSlot}
+use Rattle.master_table.specs.Table.{IsEmptyAt, IsUsedAt, UsedBefore, NotAmong, IsFirstEmpty}
+
+-- the slot of a number, by its offset
+pub stands_at : (image : List ℕ) (slot k count : ℕ) → count ≡ slot_count image → k < count → slot ≡ 16 + 4 * k → StandsBehind image slot k
+stands_at image slot k count is below there = subst (λ (s : ℕ). StandsBehind image s k) (sym there) (stands_number image k (omega arith))
+
+-- the first empty one, where those before it are in use
+pub first_empty : (image : List ℕ) (number : ℕ) (free : FreeSlot) → IsEmptyAt image number free → UsedBefore image number → IsFirstEmpty image free.name.0 free.before
+first_empty image number free e used =
+    let stands : StandsBehind image free.name.0 free.before = subst (λ (k : ℕ). StandsBehind image free.name.0 k) (sym e.count) e.stands in
+    record { stands = stands; is_slot = stands_slot image free.name.0 free.before stands; empty = e.empty; used = subst (λ (k : ℕ). UsedBefore image k) (sym e.count) used }
+
+-- none is asked to be in use
+pub used_none : (image : List ℕ) → UsedBefore image 0
+used_none image = tt
+
+-- one more is in use
+pub used_more : (image : List ℕ) (k : ℕ) → k < slot_count image → UsedBefore image k → IsUsedAt image k → UsedBefore image (k + 1)
+used_more image k below used here =
+    let s = number_stands image k below in
+    every_first-more (λ slot. u32_at image slot ≢ 0) image s.0 k s.1 used (here s.0 s.1)
+
+pub used_fewer : (image : List ℕ) (count fewer : ℕ) → fewer ≤ count → UsedBefore image count → UsedBefore image fewer
+used_fewer image count fewer most used =
+    every_first_slot (λ slot. u32_at image slot ≢ 0) image fewer (λ slot j s below. each_first_slot (λ slot. u32_at image slot ≢ 0) image slot j count s (omega arith) used)
+
+-- ---- names that are none of the first
+
+-- a name that is no slot is none of the first
+pub not_among-no_slot : (image : List ℕ) (count name : ℕ) → (IsSlot image name → ⊥) → NotAmong image count name
+not_among-no_slot image count name none =
+    every_first_slot (λ slot. slot ≢ name) image count (λ slot j s below same. none (subst (λ (t : ℕ). IsSlot image t) same (stands_slot image slot j s)))
+
+-- a slot is none of those before it
+pub not_among-behind : (image : List ℕ) (count name before : ℕ) → StandsBehind image name before → count ≤ before → NotAmong image count name
+not_among-behind image count name before there most =
+    every_first_slot (λ slot. slot ≢ name) image count (λ slot j s below same.
+    let one = same_number image name j before (subst (λ (t : ℕ). StandsBehind image t j) same s) there in
+    omega arith)
+
+-- an empty slot is none of those in use
+pub not_among-first_empty : (image : List ℕ) (slot before : ℕ) → IsFirstEmpty image slot before → NotAmong image before slot
+not_among-first_empty image slot before first = not_among-behind image before slot before first.stands (let same : before ≤ before = omega arith in same)
+
+-- ---- after a change
+
+-- The first so many slots stay in use where each that was in use, whatever its name is, is so still.
+pub used_still : (old new : List ℕ) (count : ℕ) → slots_of new ≡ slots_of old → ((slot : ℕ) → IsSlot old slot → u32_at old slot ≢ 0 → u32_at new slot ≢ 0) → UsedBefore old count → UsedBefore new count
+used_still old new count slots each used =
+    let as_old : first_slots new count ≡ first_slots old count = ap (λ (xs : List ℕ). take count xs) slots in
+    subst (λ (xs : List ℕ). EveryOne (λ slot. u32_at new slot ≢ 0) xs) (sym as_old)
+    (every_first_slot (λ slot. u32_at new slot ≢ 0) old count (λ slot j s below. each slot (stands_slot old slot j s) (each_first_slot (λ slot. u32_at old slot ≢ 0) old slot j count s below used)))
+
+-- And where a name's slot alone changes, which is none of them.
+pub used_apart : (old new : List ℕ) (count name : ℕ) → slots_of new ≡ slots_of old → ((slot : ℕ) → IsSlot old slot → slot ≢ name → u32_at new slot ≡ u32_at old slot) → NotAmong old count name → UsedBefore old count → UsedBefore new count
+used_apart old new count name slots each apart used =
+    let as_old : first_slots new count ≡ first_slots old count = ap (λ (xs : List ℕ). take count xs) slots in
+    subst (λ (xs : List ℕ). EveryOne (λ slot. u32_at new slot ≢ 0) xs) (sym as_old)
+    (every_first_slot (λ slot. u32_at new slot ≢ 0) old count (λ slot j s below empty.
+    each_first_slot (λ slot. u32_at old slot ≢ 0) old slot j count s below used
+    (sym (each slot (stands_slot old slot j s) (each_first_slot (λ slot. slot ≢ name) old slot j count s below apart)) ∙ empty)))
+
+-- And where the first empty one is set.
+pub used_set : (old new : List ℕ) (slot before : ℕ) → IsFirstEmpty old slot before → slots_of new ≡ slots_of old → ((other : ℕ) → IsSlot old other → other ≢ slot → u32_at new other ≡ u32_at old other) → UsedBefore new before
+used_set old new slot before first slots each = used_apart old new before slot slots each (not_among-first_empty old slot before first) first.used

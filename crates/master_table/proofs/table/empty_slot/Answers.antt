@@ -1,0 +1,13 @@
+use Rattle.std.proofs.Common.{◌≡◌, ℕ, subst, sym, ◌∙◌}
+use Rattle.heap_model.specs.Bytes.{u32_at}
+use Rattle.heap_laws.proofs.Slots.{stands_slot, same_slot}
+use Rattle.master_table.proofs.table.empty_slot.Goals as goal
+
+pub word_of-requires-clause-slot : goal.word_of-requires-clause-slot
+word_of-requires-clause-slot c = stands_slot c.args.region.now.bytes c.slot-slot.result c.args.number (c.slot-slot.ensures c.args.region.now.bytes c.requires.table)
+
+pub returns-then-word_of-ne0-clause-none : goal.returns-then-word_of-ne0-clause-none
+returns-then-word_of-ne0-clause-none c = λ slot stands empty.
+    let image = c.args.region.now.bytes in
+    let same = same_slot image slot c.slot-slot.result c.args.number stands (c.slot-slot.ensures image c.requires.table) in
+    c.if-word_of-ne0.true (c.word_of.ensures ∙ subst (λ (s : ℕ). u32_at image s ≡ 0) same empty)
