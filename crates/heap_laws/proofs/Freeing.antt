@@ -16,7 +16,7 @@ use Rattle.heap_model.specs.Placing.{SameFrame, Untouched, ChangesName}
 use Rattle.heap_laws.proofs.Deciding.{cond-true, cond-false}
 use Rattle.heap_laws.proofs.Placed.{AnyPlaced-left, AnyPlaced-right, AnyPlaced-split}
 use Rattle.heap_laws.proofs.Runs.{chunks_of-tiled}
-use Rattle.heap_laws.proofs.Replacing.{SameHead, same_count, same_start, Replaces, replaced_total, replaced_heap, any_replaced, SameSlots, kept_ties, kept_directory}
+use Rattle.heap_laws.proofs.Replacing.{SameHead, same_count, same_start, same_directory, Replaces, replaced_total, replaced_heap, any_replaced, SameSlots, kept_ties, kept_directory}
 use Rattle.heap_laws.proofs.Lives.{or_else, live_under-append, place_under-append, live_replaced, place_replaced, live_under-free, place_under-free, live_placed}
 use Rattle.heap_laws.proofs.Meanings.{held-is, empty_unheld, live_under-there, named_once}
 
@@ -48,7 +48,7 @@ reads_free : (image : List ℕ) (cs : List Chunk) → IsHeap image cs → free_t
 reads_free image cs h = ap (sum_by free_size) (chunks_of-tiled image cs h.tiles)
 
 pub frame_of : (old new : List ℕ) (cs : List Chunk) → SameHead old new → IsHeap new cs → SameFrame old new
-frame_of old new cs same h = record { accepted = (cs, h); len = same.len; count = same_count old new same }
+frame_of old new cs same h = record { accepted = (cs, h); len = same.len; count = same_count old new same; directory = same_directory old new same }
 
 -- ---- free chunks are replaced by free chunks
 

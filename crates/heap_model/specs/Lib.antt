@@ -12,6 +12,7 @@ pub mod Space
 pub mod Placing
 pub mod Numbers
 pub mod Refusals
+pub mod Steps
 pub mod MemorySteps
 pub mod Calls
 pub mod Counted

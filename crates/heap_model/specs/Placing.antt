@@ -3,16 +3,17 @@ use Rattle.std.specs.Prelude.{◌≡◌, ◌≢◌, ◌+◌, ◌++◌, ℕ, List
 use Rattle.heap_model.specs.Bytes.{u32_at}
 use Rattle.heap_model.specs.Chunk.{Chunk, free, movable, fixed, total}
 use Rattle.heap_model.specs.Slots.{IsSlot, slot_count, area_start}
-use Rattle.heap_model.specs.Heap.{HeapAccepted}
+use Rattle.heap_model.specs.Heap.{HeapAccepted, directory_of}
 use Rattle.heap_model.specs.Meaning.{LiveChunk, NamedHere}
 use Rattle.heap_model.specs.Reading.{chunks_of, held}
 use Rattle.heap_model.specs.Space.{free_total, place_of}
 
--- the new image is an accepted heap of the same size, with the same slots
+-- the new image is an accepted heap of the same size, with as many slots and the same directory word
 pub record SameFrame (old new : List ℕ) : Type 0 where
   pub accepted : HeapAccepted new
   pub len : length new ≡ length old
   pub count : slot_count new ≡ slot_count old
+  pub directory : directory_of new ≡ directory_of old
 
 -- every name stands for what it stood for, where it was; as much is free; each slot holds what it held
 pub record Untouched (old new : List ℕ) : Type 0 where
