@@ -1,10 +1,10 @@
 -- The step of a call, whichever manager it is of: one row a manager.
-use Rattle.std.specs.Prelude.{ℕ, List}
+use Rattle.heap_model.specs.Memory.{Memory}
 use Rattle.heap_model.specs.MemorySteps.{Does}
 use Rattle.heap_model.specs.declared.call.Call.{Call}
-use Rattle.heap_model.specs.declared.call.Call.TheVariants.{Memory}
+use Rattle.heap_model.specs.declared.call.Call.TheVariants as calls
 use Rattle.heap_model.specs.declared.call.Reply.{Reply}
 
 -- From an accepted heap the call does a step to an accepted heap that moves nothing locked.
-abbrev pub DoesCall : List ℕ → Call → Reply → List ℕ → Type 0
-DoesCall old (Memory call) reply new = Does old call reply new
+abbrev pub DoesCall : Memory → Call → Reply → Memory → Type 0
+DoesCall old (calls.Memory call) reply new = Does old call reply new

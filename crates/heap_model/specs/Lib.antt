@@ -14,6 +14,7 @@ pub mod Placing
 pub mod Layout
 pub mod Numbers
 pub mod Refusals
+pub mod Steps
 pub mod MemorySteps
 pub mod Calls
 pub mod Counted

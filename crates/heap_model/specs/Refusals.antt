@@ -1,22 +1,33 @@
 -- Checks in their order, and the refusal that the first one brings.
-use Rattle.std.specs.Prelude.{◌≡◌, ◌⊎◌, List, [], ◌∷◌}
+use Rattle.std.specs.Prelude.{◌≡◌, ◌⊎◌, Bool, true, false, List, [], ◌∷◌}
+use Rattle.std.specs.Bool.{OnTrue}
 use Rattle.heap_model.specs.declared.refusal.Refusal.{Refusal}
 
--- a condition, and the refusal that it brings
+-- A condition, and the refusal that it brings wherever it holds, or that it may bring: then the call
+-- may also go on, to later checks or to success.
 pub record Check : Type 1 where
   pub condition : Type 0
   pub refusal : Refusal
+  pub must : Bool
 
 infix 70 ◌brings◌
 abbrev pub ◌brings◌ : Type 0 → Refusal → Check
-◌brings◌ P refusal = record { condition = P; refusal = refusal }
+◌brings◌ P refusal = record { condition = P; refusal = refusal; must = true }
 
--- no condition holds
+infix 70 ◌may_bring◌
+abbrev pub ◌may_bring◌ : Type 0 → Refusal → Check
+◌may_bring◌ P refusal = record { condition = P; refusal = refusal; must = false }
+
+-- a call may go on behind this check
+abbrev pub Passes : Check → Type 0
+Passes check = OnTrue check.must (check.condition → ⊥)
+
+-- a call may go on behind all of these
 abbrev pub NoneHolds : List Check → Type 0
 NoneHolds [] = Unit {0}
-NoneHolds (check ∷ checks) = (check.condition → ⊥) × NoneHolds checks
+NoneHolds (check ∷ checks) = Passes check × NoneHolds checks
 
--- the first condition that holds brings this refusal
+-- a check brings this refusal, and the call may go on behind all before it
 abbrev pub FirstBrings : List Check → Refusal → Type 0
 FirstBrings [] refusal = ⊥
-FirstBrings (check ∷ checks) refusal = (check.condition × (refusal ≡ check.refusal)) ⊎ ((check.condition → ⊥) × FirstBrings checks refusal)
+FirstBrings (check ∷ checks) refusal = (check.condition × (refusal ≡ check.refusal)) ⊎ (Passes check × FirstBrings checks refusal)

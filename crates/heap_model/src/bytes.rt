@@ -1,11 +1,13 @@
 //! Bytes that calls carry and answer.
 
-ghost use Rattle.std.specs.Prelude.{◌≡◌};
+ghost use Rattle.std.specs.Prelude.{◌≡◌, bytes_eq};
+ghost use Rattle.std.specs.Cmp.{partial_equiv_from_equiv};
+ghost use Rattle.std.specs.Cmp.Lexicographic.{nat_list_eq_equiv};
 
 use std::marker::Model;
 
 /// Some bytes. Contracts see them as a list.
-#[derive(Drop)]
+#[derive(Drop, Debug)]
 pub struct Bytes {
     bytes: Vec<u8>,
 }
@@ -32,4 +34,18 @@ impl Bytes {
     {
         &self.bytes
     }
+}
+
+impl PartialEq for Bytes {
+    ghost eq = { λ a b. bytes_eq a b };
+
+    ghost laws = { partial_equiv_from_equiv nat_list_eq_equiv };
+
+    fn eq(&self, other: &Bytes) -> bool {
+        self.as_slice() == other.as_slice()
+    }
+}
+
+impl Eq for Bytes {
+    ghost laws = { nat_list_eq_equiv };
 }

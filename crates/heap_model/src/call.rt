@@ -6,7 +6,7 @@ use crate::refusal::Refusal;
 
 /// A call of the memory manager (Palm OS Programmer's API Reference, "Memory Manager"). Sizes and
 /// offsets within a chunk count bytes.
-#[derive(Drop)]
+#[derive(Drop, Debug, PartialEq, Eq)]
 pub enum MemoryCall {
     HandleNew {
         size: u32,
@@ -59,13 +59,13 @@ pub enum MemoryCall {
 }
 
 /// A call of any manager.
-#[derive(Drop)]
+#[derive(Drop, Debug, PartialEq, Eq)]
 pub enum Call {
     Memory(MemoryCall),
 }
 
 /// What a call answers: a refusal, or a value of its own.
-#[derive(Drop)]
+#[derive(Drop, Debug, PartialEq, Eq)]
 pub enum Reply {
     Refused(Refusal),
     Done,

@@ -17,7 +17,8 @@
 //! | `Maps` | the changes of a map that calls make |
 //! | `Space` | free chunks and free slots: how much there is, and where |
 //! | `Refusals` | checks in order, and the refusal that the first one brings |
-//! | `MemorySteps` | what each call of the memory manager answers and does |
+//! | `Steps` | what a row says of a call, and the step that it makes, whatever the call acts on |
+//! | `MemorySteps` | the row of each call of the memory manager: what it refuses, answers and does |
 //! | `Calls` | the step of a call, whichever manager it is of |
 //! | `Counted` | what contracts see of a writer whose faults are counted |
 //!

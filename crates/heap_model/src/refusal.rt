@@ -3,29 +3,41 @@
 ghost use Rattle.std.specs.Prelude.{◌≡◌};
 ghost use Rattle.heap_model.specs.Numbers.{number_of, name_of};
 
+use thiserror::Error;
+
 /// Why a call was refused. A refused call leaves what the heap means as it was. The numbers are this
 /// project's own, whatever a device answers.
-#[derive(Clone, Copy, Debug, PartialEq, Eq)]
+#[derive(Clone, Copy, Debug, PartialEq, Eq, Error)]
 pub enum Refusal {
     /// The name is no caller's chunk, nor a database's.
+    #[error("InvalidHandle")]
     InvalidHandle,
     /// The chunk is a database's.
+    #[error("OwnedByDatabase")]
     OwnedByDatabase,
     /// The chunk is locked.
+    #[error("ChunkLocked")]
     ChunkLocked,
     /// The chunk has no lock.
+    #[error("ChunkNotLocked")]
     ChunkNotLocked,
     /// The chunk has 14 locks already.
+    #[error("LockOverflow")]
     LockOverflow,
     /// The chunk is fixed.
+    #[error("ChunkFixed")]
     ChunkFixed,
     /// The owner isn't 1 to 14.
+    #[error("InvalidOwner")]
     InvalidOwner,
     /// No slot or not enough free space is left.
+    #[error("NotEnoughSpace")]
     NotEnoughSpace,
     /// The range reaches beyond the chunk's end.
+    #[error("OutOfBounds")]
     OutOfBounds,
     /// Memory for the answer was refused.
+    #[error("OutOfMemory")]
     OutOfMemory,
 }
 

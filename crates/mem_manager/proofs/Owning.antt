@@ -4,12 +4,13 @@ use Rattle.std.proofs.lemmas.Bool.{cases_eq, eqb-true, eq-eqb}
 use Rattle.std.proofs.lemmas.Bool.Decides.{nat_tests}
 use Rattle.std.proofs.lemmas.List.Sums.{sum_by-append, sum_by-cons}
 use Rattle.std.specs.Prelude.{◌==◌, count_by, IsSome}
+use Rattle.heap_model.specs.Memory.{Memory}
 use Rattle.heap_model.specs.Chunk.{Chunk, free, movable, fixed, fixed_lock, size_of, total, Spelled, SpelledAll}
 use Rattle.heap_model.specs.Slots.{area_start}
 use Rattle.heap_model.specs.Heap.{IsHeap, HeapAccepted}
 use Rattle.heap_model.specs.Meaning.{LiveChunk, NamedHere}
 use Rattle.heap_model.specs.Reading.{chunks_of, held}
-use Rattle.heap_model.specs.Maps.{callers_map, not_owned, without_owner}
+use Rattle.heap_model.specs.Maps.{not_owned}
 use Rattle.heap_model.specs.MemorySteps.{Does, IsNoCaller, is_owned_by}
 use Rattle.heap_model.specs.declared.call.MemoryCall.TheVariants.{FreeByOwner}
 use Rattle.heap_model.specs.declared.call.Reply.TheVariants.{Number}
@@ -23,6 +24,7 @@ use Rattle.chunk_format.specs.Header.{header_of, size_by, HasHeader}
 use Rattle.heap_place.specs.Search.{IsCallersChunk, GivesBack, Joins, free_first, behind_free_first}
 use Rattle.mem_manager.specs.Lookup.{Passed}
 use Rattle.mem_manager.specs.Owned.{owned_by, NoneOwned, FreesSome, FreedOwned, Freeing}
+use Rattle.mem_manager.proofs.Stepping.{only_bytes, frame_same, frame_then}
 use Rattle.mem_manager.proofs.Passing.{passed_there, passed_at, passed_parts, passed_more, passed_all}
 
 -- ---- an owner's chunk
@@ -98,14 +100,14 @@ none_more owner front c none not_own = counted_one owner front c [] ∙ (let one
 
 pub freeing_start : (image : List ℕ) (owner : ℕ) → (p : Passed image (NoneOwned owner) (area_start image)) → HeapAccepted image → Freeing image image owner (area_start image) 0
 freeing_start image owner p h = record {
-  frees = record { accepted = h; len = refl; slots = refl; map = λ name. refl; stays = λ name live e. e; places = λ name live e. refl };
+  frees = record { frame = frame_same image h; map = λ name. refl; stays = λ name live e. e; places = λ name live e. refl };
   passed = p;
   counted = omega arith;
   few = omega arith;
 }
 
 pub freeing_there : (old now : List ℕ) (owner at count : ℕ) → Freeing old now owner at count → at < length now → (c : Chunk) × Spelled now at c
-freeing_there old now owner at count f inside = passed_there now (NoneOwned owner) at f.frees.accepted f.passed inside
+freeing_there old now owner at count f inside = passed_there now (NoneOwned owner) at f.frees.frame.accepted f.passed inside
 
 pub freeing_kept : (old now : List ℕ) (owner at count : ℕ) (header : Header) (size : ℕ) → Freeing old now owner at count → HasHeader now at header → owned_by header owner ≡ false → size ≡ size_by header → Freeing old now owner (at + size) count
 freeing_kept old now owner at count header size f has not_own is =
@@ -162,9 +164,7 @@ gave now new owner at size header h p has is gives joins =
 
 gave_frees : (old now new : List ℕ) (owner at size : ℕ) → FreesSome old now owner → Gave now new owner at size → FreesSome old new owner
 gave_frees old now new owner at size f g = record {
-  accepted = g.changes.frame.accepted;
-  len = g.changes.frame.len ∙ f.len;
-  slots = g.changes.frame.count ∙ f.slots;
+  frame = frame_then old now new f.frame g.changes.frame;
   map = λ n. elim (cases_eq n g.name) [
     | inl same ↦ ap (not_owned owner) (ap (held new) same ∙ g.changes.here) ∙ sym (ap (not_owned owner) (ap (held now) same ∙ g.known) ∙ cond-true (g.live.owner == owner) _ _ (eq-eqb g.live.owner owner g.owner_is)) ∙ f.map n
     | inr apart ↦ ap (not_owned owner) (g.changes.others n apart) ∙ f.map n
@@ -191,7 +191,7 @@ gave_there now new owner at size g =
 pub freeing_more : (old now new : List ℕ) (owner at count size : ℕ) (header : Header) → Freeing old now owner at count → HasHeader now at header → owned_by header owner ≡ true → GivesBack now new (at + 8 - 8) → Joins now new (at + 8 - 8) size
     → Freeing old new owner (at + size) (count + 1) × (at + size ≤ length now) × (8 ≤ size)
 freeing_more old now new owner at count size header f has is gives joins =
-    let g = gave now new owner at size header f.frees.accepted f.passed has is gives joins in
+    let g = gave now new owner at size header f.frees.frame.accepted f.passed has is gives joins in
     let t = gave_there now new owner at size g in
     let least = (Spelled-size new at (free size) t.1).0 in
     let inside = (Spelled-size new at (free size) t.1).1 in
@@ -219,11 +219,11 @@ freeing_more old now new owner at count size header f has is gives joins =
 
 pub freeing_all : (old now : List ℕ) (owner at count : ℕ) → Freeing old now owner at count → length now ≤ at → FreedOwned old now owner count
 freeing_all old now owner at count f beyond =
-    let none : NoneOwned owner (chunks_of now) = passed_all now (NoneOwned owner) at f.frees.accepted f.passed beyond in
+    let none : NoneOwned owner (chunks_of now) = passed_all now (NoneOwned owner) at f.frees.frame.accepted f.passed beyond in
     let counted = f.counted in
     record { frees = f.frees; none_left = none; counted = (let zero_left : owned owner (chunks_of now) ≡ 0 = none in omega arith) }
 
--- ---- what callers may name
+-- ---- the map
 
 -- no chunk of the owner's is held
 none_held_of : (image : List ℕ) (owner name : ℕ) → HeapAccepted image → NoneOwned owner (chunks_of image) → not_owned owner (held image name) ≡ held image name
@@ -240,29 +240,17 @@ none_held_of image owner name h none = kept (held image name) refl where
     | inr apart ↦ cond-false (live.owner == owner) _ _ (grind (arith, nat_tests))
   ]
 
-either : (m n : ℕ) (x : Option LiveChunk) → not_owned m (not_owned n x) ≡ not_owned n (not_owned m x)
-either m n None = refl
-either m n (Some live) = by_tests (live.owner == m) (live.owner == n) refl refl where
-  by_tests : (a b : Bool) → (live.owner == m) ≡ a → (live.owner == n) ≡ b → not_owned m (not_owned n (Some live)) ≡ not_owned n (not_owned m (Some live))
-  by_tests true true e f = ap (not_owned m) (cond-true (live.owner == n) _ _ f) ∙ sym (ap (not_owned n) (cond-true (live.owner == m) _ _ e))
-  by_tests true false e f = ap (not_owned m) (cond-false (live.owner == n) _ _ f) ∙ cond-true (live.owner == m) _ _ e ∙ sym (ap (not_owned n) (cond-true (live.owner == m) _ _ e))
-  by_tests false true e f = ap (not_owned m) (cond-true (live.owner == n) _ _ f) ∙ sym (ap (not_owned n) (cond-false (live.owner == m) _ _ e) ∙ cond-true (live.owner == n) _ _ f)
-  by_tests false false e f = ap (not_owned m) (cond-false (live.owner == n) _ _ f) ∙ cond-false (live.owner == m) _ _ e ∙ sym (ap (not_owned n) (cond-false (live.owner == m) _ _ e) ∙ cond-false (live.owner == n) _ _ f)
-
-pub freed_map : (old new : List ℕ) (owner count name : ℕ) → FreedOwned old new owner count → callers_map new name ≡ without_owner (callers_map old) owner name
-freed_map old new owner count name f =
-    ap (not_owned 0) (sym (none_held_of new owner name f.frees.accepted f.none_left) ∙ f.frees.map name) ∙ either 0 owner (held old name)
-
 -- ---- the step
 
-pub owner_freed : (old new : List ℕ) (owner count : ℕ) → HeapAccepted old → (IsNoCaller owner → ⊥) → FreedOwned old new owner count → Does old (FreeByOwner owner) (Number count) new
+pub owner_freed : (old new : Memory) (owner count : ℕ) → HeapAccepted old.bytes → (IsNoCaller owner → ⊥) → FreedOwned old.bytes new.bytes owner count → Does old (FreeByOwner owner) (Number count) new
 owner_freed old new owner count h caller f = record {
   before = h;
-  step = ((caller, tt), (f.counted, λ name. freed_map old new owner count name f));
-  accepted = f.frees.accepted;
-  still = λ name live held_there locked is_there. places name (held new name) refl is_there;
+  step = ((caller, tt), (f.counted, λ name. sym (none_held_of new.bytes owner name f.frees.frame.accepted f.none_left) ∙ f.frees.map name));
+  frame = f.frees.frame;
+  still = λ name live held_there locked is_there. places name (held new.bytes name) refl is_there;
   asks = tt;
+  rest = only_bytes old new;
 } where
-  places : (name : ℕ) (x : Option LiveChunk) → held new name ≡ x → IsSome x → place_of new name ≡ place_of old name
+  places : (name : ℕ) (x : Option LiveChunk) → held new.bytes name ≡ x → IsSome x → place_of new.bytes name ≡ place_of old.bytes name
   places name None e some = absurd cc
   places name (Some live) e some = f.frees.places name live e

@@ -4,6 +4,7 @@ use Rattle.std.proofs.lemmas.Bool.{cases_eq}
 use Rattle.std.proofs.lemmas.Bool.Decides.{nat_tests}
 use Rattle.std.specs.Prelude.{◌==◌, nat_lt}
 use Rattle.std.specs.Option.{option_map}
+use Rattle.heap_model.specs.Memory.{Memory}
 use Rattle.heap_model.specs.Chunk.{Chunk, free, movable, fixed, total}
 use Rattle.heap_model.specs.Slots.{area_start}
 use Rattle.heap_model.specs.Heap.{BodyHere, IsHeap, HeapAccepted}
@@ -30,8 +31,7 @@ use Rattle.master_table.specs.Table.{HoldsPlace}
 use Rattle.mem_manager.specs.declared.lookup.Found.{Found}
 use Rattle.mem_manager.specs.Lookup.{IsFound, IsThere, NoSlotHolds, NoneFixedAs, callers_slot_by}
 use Rattle.mem_manager.proofs.Passing.{slot_header}
-use Rattle.mem_manager.proofs.Stepping.{known, of_known, as_before}
-use Rattle.mem_manager.proofs.Altering.{unchanged}
+use Rattle.mem_manager.proofs.Stepping.{known, of_known, unchanged, refused}
 
 pub low_holds_none : (image : List ℕ) (place : ℕ) → HeapAccepted image → place < 8 → NoSlotHolds image place
 low_holds_none image place h low name holds = let behind = (in_slot image name place h holds.is_slot holds.held holds.some).behind_header in absurd (omega arith)
@@ -140,10 +140,10 @@ nowhere image place h slots none_fixed name of = none (callers_map image name) r
 
 -- ---- what recover answers
 
-pub recovered : (image : List ℕ) (place : Place) (name : Name) → HeapAccepted image → IsThere image place.0 name.0 → Does image (Recover place) (Named name) image
-recovered image place name h t = unchanged image (Recover place) (Named name) h (((λ none. none name.0 of, tt)), (of, λ n. refl)) where
-  of : Of (callers_map image name.0) (λ live. place_of image name.0 ≡ Some place.0)
-  of = of_known (callers_map image name.0) (λ live. place_of image name.0 ≡ Some place.0) t.live t.known t.there
+pub recovered : (region : Memory) (place : Place) (name : Name) → HeapAccepted region.bytes → IsThere region.bytes place.0 name.0 → Does region (Recover place) (Named name) region
+recovered region place name h t = unchanged region (Recover place) (Named name) h (((λ none. none name.0 of, tt)), (of, λ n. refl)) where
+  of : Of (callers_map region.bytes name.0) (λ live. place_of region.bytes name.0 ≡ Some place.0)
+  of = of_known (callers_map region.bytes name.0) (λ live. place_of region.bytes name.0 ≡ Some place.0) t.live t.known t.there
 
-pub not_recovered : (image : List ℕ) (place : Place) → HeapAccepted image → IsNowhere image (callers_map image) place.0 → Does image (Recover place) (Refused InvalidHandle) image
-not_recovered image place h none = unchanged image (Recover place) (Refused InvalidHandle) h (inl (none, refl), as_before image)
+pub not_recovered : (region : Memory) (place : Place) → HeapAccepted region.bytes → IsNowhere region.bytes (callers_map region.bytes) place.0 → Does region (Recover place) (Refused InvalidHandle) region
+not_recovered region place h none = refused region (Recover place) InvalidHandle h (inl (none, refl))

@@ -1,13 +1,12 @@
 -- What freeing all chunks of an owner leaves.
-use Rattle.std.specs.Prelude.{◌≡◌, ◌≤◌, ◌+◌, ◌*◌, ◌==◌, ℕ, Bool, false, List, length, count_by, Some}
+use Rattle.std.specs.Prelude.{◌≡◌, ◌≤◌, ◌+◌, ◌*◌, ◌==◌, ℕ, Bool, false, List, count_by, Some}
 use Rattle.heap_model.specs.Chunk.{Chunk}
-use Rattle.heap_model.specs.Slots.{slot_count}
-use Rattle.heap_model.specs.Heap.{HeapAccepted}
 use Rattle.heap_model.specs.Meaning.{LiveChunk}
 use Rattle.heap_model.specs.Maps.{without_owner}
 use Rattle.heap_model.specs.MemorySteps.{is_owned_by}
 use Rattle.heap_model.specs.Reading.{chunks_of, held}
 use Rattle.heap_model.specs.Space.{place_of}
+use Rattle.heap_model.specs.Placing.{SameFrame}
 use Rattle.chunk_format.specs.declared.header.Header.{Header}
 use Rattle.chunk_format.specs.declared.header.Header.TheVariants as headers
 use Rattle.mem_manager.specs.Lookup.{Passed}
@@ -24,9 +23,7 @@ NoneOwned owner chunks = count_by (is_owned_by owner) chunks ≡ 0
 
 -- some chunks of an owner were freed, and every other chunk stands for what it stood for, where it was
 pub record FreesSome (old new : List ℕ) (owner : ℕ) : Type 0 where
-  pub accepted : HeapAccepted new
-  pub len : length new ≡ length old
-  pub slots : slot_count new ≡ slot_count old
+  pub frame : SameFrame old new
   pub map : (name : ℕ) → without_owner (held new) owner name ≡ without_owner (held old) owner name
   pub stays : (name : ℕ) (live : LiveChunk) → held new name ≡ Some live → held old name ≡ Some live
   pub places : (name : ℕ) (live : LiveChunk) → held new name ≡ Some live → place_of new name ≡ place_of old name

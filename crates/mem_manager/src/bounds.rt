@@ -1,30 +1,46 @@
 //! Arguments of calls: owners, ranges of bytes within a body, and texts that end at a zero byte.
 
-ghost use Rattle.std.specs.Prelude.{◌≡◌, ◌<◌, ◌+◌, ◌↔◌, ◌==◌, IsTrue, not, length};
+ghost use Rattle.std.specs.Prelude.{◌≡◌, ◌<◌, ◌+◌, ◌==◌, Err, OnOk, OnErr, IfErr, not};
 ghost use Rattle.std.specs.List.{take_while};
 ghost use Rattle.heap_model.specs.MemorySteps.{IsNoCaller};
 
+use heap_model::Refusal;
 use memchr::memchr;
 
-/// Whether an owner is none that a caller may give: those are 1 to 14.
-pub(crate) fn is_no_caller(owner: u8) -> bool
-    ensures { IsTrue result ↔ IsNoCaller owner }
+/// Refuses an owner that no caller may give: those are 1 to 14.
+pub(crate) fn check_owner(owner: u8) -> Result<(), Refusal>
+    ensures ok { OnOk result (IsNoCaller owner → ⊥) }
+    ensures err { OnErr result (IsNoCaller owner) }
+    ensures refusal { IfErr result (λ refusal. refusal ≡ Refusal.InvalidOwner) }
 {
-    owner == 0 || owner > 14
+    if owner == 0 || owner > 14 {
+        return Err(Refusal::InvalidOwner);
+    }
+    Ok(())
 }
 
-/// Whether `count` bytes from `at` on reach beyond the end of a body of `length` bytes.
-pub(crate) fn reaches_beyond(at: u32, count: usize, length: u32) -> bool
-    ensures { IsTrue result ↔ (length < at + count) }
+/// Refuses `count` bytes from `at` on that reach beyond the end of a body of `length` bytes.
+pub(crate) fn check_range(at: u32, count: usize, length: u32) -> Result<(), Refusal>
+    ensures ok { OnOk result (length < at + count → ⊥) }
+    ensures err { OnErr result (length < at + count) }
+    ensures refusal { IfErr result (λ refusal. refusal ≡ Refusal.OutOfBounds) }
 {
-    count > length as usize || at as usize > length as usize - count
+    if count > length as usize || at as usize > length as usize - count {
+        return Err(Refusal::OutOfBounds);
+    }
+    Ok(())
 }
 
 /// The same of `count` bytes and one more.
-pub(crate) fn ends_beyond(at: u32, count: usize, length: u32) -> bool
-    ensures { IsTrue result ↔ (length < at + (count + 1)) }
+pub(crate) fn check_ended_range(at: u32, count: usize, length: u32) -> Result<(), Refusal>
+    ensures ok { OnOk result (length < at + (count + 1) → ⊥) }
+    ensures err { OnErr result (length < at + (count + 1)) }
+    ensures refusal { IfErr result (λ refusal. refusal ≡ Refusal.OutOfBounds) }
 {
-    count >= length as usize || at as usize > length as usize - count - 1
+    if count >= length as usize || at as usize > length as usize - count - 1 {
+        return Err(Refusal::OutOfBounds);
+    }
+    Ok(())
 }
 
 /// The bytes in front of the first zero byte, all if there is none.

@@ -1,6 +1,6 @@
 //! What a name stands for.
 
-ghost use Rattle.std.specs.Prelude.{◌≡◌, ◌≤◌, ◌-◌, ℕ, IfSome, IfNone, MatchOption, None};
+ghost use Rattle.std.specs.Prelude.{◌≡◌, ◌≢◌, ◌≤◌, ◌-◌, ℕ, IfSome, IfNone, IfOk, OnOk, IfErr, OnErr, MatchOption, None, Err};
 ghost use Rattle.heap_model.specs.Heap.{HeapAccepted};
 ghost use Rattle.heap_model.specs.Maps.{callers_map};
 ghost use Rattle.heap_model.specs.MemorySteps.{IsNowhere};
@@ -10,7 +10,7 @@ ghost use Rattle.mem_manager.specs.Lookup.{IsFound, IsThere, NoSlotHolds, caller
 
 use crate::walks::find_fixed;
 use chunk_format::Header;
-use heap_model::{Name, Place};
+use heap_model::{Name, Place, Refusal};
 use master_table::resolve;
 use raw_region::Region;
 
@@ -29,17 +29,59 @@ pub(crate) struct Found {
     pub(crate) owner: u8,
 }
 
+impl Found {
+    /// Refuses a chunk of a database.
+    #[inline]
+    pub(crate) fn check_callers(self) -> Result<(), Refusal>
+        ensures ok { OnOk result (self.owner ≢ 15) }
+        ensures err { OnErr result (self.owner ≡ 15) }
+        ensures refusal { IfErr result (λ refusal. refusal ≡ Refusal.OwnedByDatabase) }
+    {
+        if self.owner == DATABASE {
+            return Err(Refusal::OwnedByDatabase);
+        }
+        Ok(())
+    }
+
+    /// Refuses a fixed chunk.
+    #[inline]
+    pub(crate) fn check_movable(self) -> Result<(), Refusal>
+        ensures ok { OnOk result (self.lock ≢ 15) }
+        ensures err { OnErr result (self.lock ≡ 15) }
+        ensures refusal { IfErr result (λ refusal. refusal ≡ Refusal.ChunkFixed) }
+    {
+        if self.lock == FIXED_LOCK {
+            return Err(Refusal::ChunkFixed);
+        }
+        Ok(())
+    }
+
+    /// Refuses a chunk that has no lock; a fixed one counts as locked.
+    #[inline]
+    pub(crate) fn check_locked(self) -> Result<(), Refusal>
+        ensures ok { OnOk result (self.lock ≢ 0) }
+        ensures err { OnErr result (self.lock ≡ 0) }
+        ensures refusal { IfErr result (λ refusal. refusal ≡ Refusal.ChunkNotLocked) }
+    {
+        if self.lock == 0 {
+            return Err(Refusal::ChunkNotLocked);
+        }
+        Ok(())
+    }
+}
+
 /// The caller's chunk that a name stands for. The manager's own are no caller's.
 #[inline]
-pub(crate) fn find(region: &Region, name: Name) -> Option<Found>
+pub(crate) fn find(region: &Region, name: Name) -> Result<Found, Refusal>
     requires accepted { HeapAccepted region.now.bytes }
-    ensures found { IfSome result (IsFound region.now.bytes name.0) }
-    ensures callers { IfSome result (λ found. 1 ≤ found.owner) }
-    ensures none { IfNone result (callers_map region.now.bytes name.0 ≡ None) }
+    ensures found { IfOk result (IsFound region.now.bytes name.0) }
+    ensures callers { IfOk result (λ found. 1 ≤ found.owner) }
+    ensures none { OnErr result (callers_map region.now.bytes name.0 ≡ None) }
+    ensures refusal { IfErr result (λ refusal. refusal ≡ Refusal.InvalidHandle) }
 {
     match find_any(region, name) {
-        Some(found) if found.owner > 0 => Some(found),
-        _ => None,
+        Some(found) if found.owner > 0 => Ok(found),
+        _ => Err(Refusal::InvalidHandle),
     }
 }
 
@@ -92,16 +134,17 @@ fn as_movable(header: Header, place: Place) -> Option<Found>
 /// The name of the caller's chunk whose body is at a place. The header that seems to stand in front of
 /// it is believed only where the slot that it names holds the place; a fixed chunk is looked for among
 /// all chunks.
-pub(crate) fn name_at(region: &Region, place: Place) -> Option<Name>
+pub(crate) fn name_at(region: &Region, place: Place) -> Result<Name, Refusal>
     requires accepted { HeapAccepted region.now.bytes }
-    ensures some { IfSome result (λ name. IsThere region.now.bytes place.0 name.0) }
-    ensures none { IfNone result (IsNowhere region.now.bytes (callers_map region.now.bytes) place.0) }
+    ensures there { IfOk result (λ name. IsThere region.now.bytes place.0 name.0) }
+    ensures none { OnErr result (IsNowhere region.now.bytes (callers_map region.now.bytes) place.0) }
+    ensures refusal { IfErr result (λ refusal. refusal ≡ Refusal.InvalidHandle) }
 {
     match slot_at(region, place) {
-        Some(name) => Some(name),
+        Some(name) => Ok(name),
         None => match find_fixed(region, Name(place.0)) {
-            Some(_) => Some(Name(place.0)),
-            None => None,
+            Some(_) => Ok(Name(place.0)),
+            None => Err(Refusal::InvalidHandle),
         },
     }
 }

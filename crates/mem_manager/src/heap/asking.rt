@@ -5,7 +5,7 @@ ghost use Rattle.heap_model.specs.MemorySteps.{Does, reply_of};
 ghost use Rattle.heap_model.specs.declared.call.MemoryCall.{MemoryCall};
 ghost use Rattle.heap_model.specs.declared.call.Reply.{Reply};
 
-use crate::bounds::reaches_beyond;
+use crate::bounds::check_range;
 use crate::heap::Heap;
 use crate::lookup::{find, name_at};
 use crate::walks;
@@ -13,65 +13,61 @@ use heap_model::{Name, Place, Refusal};
 
 impl Heap {
     /// The size of a chunk's body in bytes, as it was asked for.
+    ///
+    /// Refused: `InvalidHandle`.
     pub fn size(&self, name: Name) -> Result<u32, Refusal>
-        ensures { Does self.now.bytes (MemoryCall.Size name) (reply_of (λ size. Reply.Number size) result) self.now.bytes }
+        ensures { Does self.now (MemoryCall.Size name) (reply_of (λ size. Reply.Number size) result) self.now }
     {
-        match find(self.space.region(), name) {
-            Some(found) => Ok(found.length),
-            None => Err(Refusal::InvalidHandle),
-        }
+        let found = find(self.space.region(), name)?;
+        Ok(found.length)
     }
 
     /// The owner of a chunk.
+    ///
+    /// Refused: `InvalidHandle`.
     pub fn owner(&self, name: Name) -> Result<u8, Refusal>
-        ensures { Does self.now.bytes (MemoryCall.Owner name) (reply_of (λ owner. Reply.Number owner) result) self.now.bytes }
+        ensures { Does self.now (MemoryCall.Owner name) (reply_of (λ owner. Reply.Number owner) result) self.now }
     {
-        match find(self.space.region(), name) {
-            Some(found) => Ok(found.owner),
-            None => Err(Refusal::InvalidHandle),
-        }
+        let found = find(self.space.region(), name)?;
+        Ok(found.owner)
     }
 
     /// The lock count of a chunk, up to 14; that of a fixed chunk is 15.
+    ///
+    /// Refused: `InvalidHandle`.
     pub fn locks(&self, name: Name) -> Result<u8, Refusal>
-        ensures { Does self.now.bytes (MemoryCall.Locks name) (reply_of (λ count. Reply.Number count) result) self.now.bytes }
+        ensures { Does self.now (MemoryCall.Locks name) (reply_of (λ count. Reply.Number count) result) self.now }
     {
-        match find(self.space.region(), name) {
-            Some(found) => Ok(found.lock),
-            None => Err(Refusal::InvalidHandle),
-        }
+        let found = find(self.space.region(), name)?;
+        Ok(found.lock)
     }
 
-    /// `count` bytes of a chunk, from `at` within it on, as they lie in the image.
+    /// `count` bytes of a chunk, from `at` within it on, as they lie in the image. Takes no memory.
+    ///
+    /// Refused: `InvalidHandle`, `OutOfBounds`.
     pub fn read(&self, name: Name, at: u32, count: u32) -> Result<&[u8], Refusal>
-        ensures does { Does self.now.bytes (MemoryCall.Read name at count) (reply_of (λ bytes. Reply.Data bytes.now) result) self.now.bytes }
+        ensures does { Does self.now (MemoryCall.Read name at count) (reply_of (λ bytes. Reply.Data bytes.now) result) self.now }
         ensures takes_no_memory { result ≢ Err Refusal.OutOfMemory }
     {
-        let found = match find(self.space.region(), name) {
-            Some(found) => found,
-            None => return Err(Refusal::InvalidHandle),
-        };
-        if reaches_beyond(at, count as usize, found.length) {
-            return Err(Refusal::OutOfBounds);
-        }
+        let found = find(self.space.region(), name)?;
+        check_range(at, count as usize, found.length)?;
         let start = found.place.0 as usize + at as usize;
         Ok(self.space.region().slice(start, count as usize))
     }
 
     /// The name of the caller's chunk whose body is at a place. Bytes of a body that look like a header
     /// name nothing.
+    ///
+    /// Refused: `InvalidHandle`, where no caller's chunk has its body there.
     pub fn recover(&self, place: Place) -> Result<Name, Refusal>
-        ensures { Does self.now.bytes (MemoryCall.Recover place) (reply_of (λ name. Reply.Named name) result) self.now.bytes }
+        ensures { Does self.now (MemoryCall.Recover place) (reply_of (λ name. Reply.Named name) result) self.now }
     {
-        match name_at(self.space.region(), place) {
-            Some(name) => Ok(name),
-            None => Err(Refusal::InvalidHandle),
-        }
+        name_at(self.space.region(), place)
     }
 
     /// The sizes of the free chunks together, in bytes.
     pub fn free_bytes(&self) -> u32
-        ensures { Does self.now.bytes MemoryCall.FreeBytes (Reply.Number result) self.now.bytes }
+        ensures { Does self.now MemoryCall.FreeBytes (Reply.Number result) self.now }
     {
         walks::free_bytes(self.space.region())
     }

@@ -6,9 +6,9 @@ ghost use Rattle.heap_model.specs.declared.call.MemoryCall.{MemoryCall};
 ghost use Rattle.heap_model.specs.declared.call.Reply.{Reply};
 ghost use Rattle.mem_manager.specs.Lookup.{NoSlotBelow};
 
-use crate::bounds::is_no_caller;
+use crate::bounds::check_owner;
 use crate::heap::Heap;
-use crate::lookup::{DATABASE, FIXED_LOCK, find};
+use crate::lookup::{FIXED_LOCK, find};
 use crate::owned::free_owned;
 use chunk_format::chunk_size;
 use heap_model::{Name, Refusal};
@@ -16,65 +16,44 @@ use master_table::{free_slot, number_of, slot_count, slot_of};
 use raw_region::Region;
 
 impl Heap {
-    /// Makes a movable chunk of `size` zeros, without a lock. Refused where no slot is free, or no run
-    /// of neighbouring free chunks has the room.
+    /// Makes a movable chunk of `size` zeros, without a lock.
+    ///
+    /// Refused: `InvalidOwner`; `NotEnoughSpace`, where no slot is free, or no run of neighbouring free
+    /// chunks has the room.
     pub fn handle_new(&mut self, size: u32, owner: u8) -> Result<Name, Refusal>
-        ensures { Does self.old.bytes (MemoryCall.HandleNew size owner) (reply_of (λ name. Reply.Named name) result) self.new.bytes }
+        ensures { Does self.old (MemoryCall.HandleNew size owner) (reply_of (λ name. Reply.Named name) result) self.new }
     {
-        let region = self.space.region();
-        if is_no_caller(owner) {
-            return Err(Refusal::InvalidOwner);
-        }
-        let number = match free_slot(region, self.lowest) {
-            Some(number) => number,
-            None => return Err(Refusal::NotEnoughSpace),
-        };
-        let needed = match chunk_size(size) {
-            Some(needed) => needed,
-            None => return Err(Refusal::NotEnoughSpace),
-        };
-        let place = match self.space.place(needed) {
-            Some(place) => place,
-            None => return Err(Refusal::NotEnoughSpace),
-        };
+        check_owner(owner)?;
+        let number = free_slot(self.space.region(), self.lowest).ok_or(Refusal::NotEnoughSpace)?;
+        let needed = chunk_size(size).ok_or(Refusal::NotEnoughSpace)?;
+        let place = self.space.place(needed).ok_or(Refusal::NotEnoughSpace)?;
         let name = Name(slot_of(number));
         self.space.claim(place, name, size, owner);
         self.lowest = number;
         Ok(name)
     }
 
-    /// Makes a fixed chunk of `size` zeros. Refused where no run of neighbouring free chunks has the
-    /// room.
+    /// Makes a fixed chunk of `size` zeros.
+    ///
+    /// Refused: `InvalidOwner`; `NotEnoughSpace`, where no run of neighbouring free chunks has the room.
     pub fn ptr_new(&mut self, size: u32, owner: u8) -> Result<Name, Refusal>
-        ensures { Does self.old.bytes (MemoryCall.PtrNew size owner) (reply_of (λ name. Reply.Named name) result) self.new.bytes }
+        ensures { Does self.old (MemoryCall.PtrNew size owner) (reply_of (λ name. Reply.Named name) result) self.new }
     {
-        let space = &mut self.space;
-        if is_no_caller(owner) {
-            return Err(Refusal::InvalidOwner);
-        }
-        let needed = match chunk_size(size) {
-            Some(needed) => needed,
-            None => return Err(Refusal::NotEnoughSpace),
-        };
-        let place = match space.place(needed) {
-            Some(place) => place,
-            None => return Err(Refusal::NotEnoughSpace),
-        };
-        space.claim_fixed(place, size, owner);
+        check_owner(owner)?;
+        let needed = chunk_size(size).ok_or(Refusal::NotEnoughSpace)?;
+        let place = self.space.place(needed).ok_or(Refusal::NotEnoughSpace)?;
+        self.space.claim_fixed(place, size, owner);
         Ok(Name(place.0))
     }
 
     /// Frees a chunk that is a caller's and has no lock; a fixed one may be freed.
+    ///
+    /// Refused: `InvalidHandle`, `OwnedByDatabase`, `ChunkLocked`.
     pub fn free(&mut self, name: Name) -> Result<(), Refusal>
-        ensures { Does self.old.bytes (MemoryCall.Free name) (reply_of (λ done. Reply.Done) result) self.new.bytes }
+        ensures { Does self.old (MemoryCall.Free name) (reply_of (λ done. Reply.Done) result) self.new }
     {
-        let found = match find(self.space.region(), name) {
-            Some(found) => found,
-            None => return Err(Refusal::InvalidHandle),
-        };
-        if found.owner == DATABASE {
-            return Err(Refusal::OwnedByDatabase);
-        }
+        let found = find(self.space.region(), name)?;
+        found.check_callers()?;
         if found.lock > 0 && found.lock < FIXED_LOCK {
             return Err(Refusal::ChunkLocked);
         }
@@ -84,14 +63,13 @@ impl Heap {
     }
 
     /// Frees all chunks of an owner, 1 to 14, locked and fixed ones too, and answers how many there were.
+    ///
+    /// Refused: `InvalidOwner`.
     pub fn free_by_owner(&mut self, owner: u8) -> Result<u32, Refusal>
-        ensures { Does self.old.bytes (MemoryCall.FreeByOwner owner) (reply_of (λ count. Reply.Number count) result) self.new.bytes }
+        ensures { Does self.old (MemoryCall.FreeByOwner owner) (reply_of (λ count. Reply.Number count) result) self.new }
     {
-        let space = &mut self.space;
-        if is_no_caller(owner) {
-            return Err(Refusal::InvalidOwner);
-        }
-        let count = free_owned(space, owner);
+        check_owner(owner)?;
+        let count = free_owned(&mut self.space, owner);
         self.lowest = 0;
         Ok(count)
     }
