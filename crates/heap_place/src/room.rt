@@ -9,7 +9,6 @@ ghost use Rattle.heap_place.specs.Search.{run_by};
 ghost use Rattle.chunk_format.specs.Header.{size_by};
 
 use chunk_format::{Header, area_start};
-use master_table::slot_count;
 use raw_region::Region;
 
 /// Where a run of neighbouring free chunks begins, as an offset from the image's start, and how many
@@ -29,13 +28,10 @@ pub(crate) fn find_room(region: &Region, size: u32) -> Option<Room>
     ensures none { IfNone result (NoRun (chunks_of region.now.bytes) size) }
 {
     let end = region.len() as u32;
-    let mut at = area_start(slot_count(region));
+    let mut at = area_start(region);
     let mut run_size = 0;
     while at < end {
-        let (header, taken) = match Header::read_with_size(region, at) {
-            Some(both) => both,
-            None => unreachable!(),
-        };
+        let (header, taken) = Header::at_with_size(region, at);
         at += taken;
         run_size = run_with(run_size, header);
         if run_size >= size {

@@ -10,7 +10,6 @@ ghost use Rattle.heap_place.specs.Search.{free_by};
 use crate::found::{Found, as_fixed};
 use chunk_format::{Header, area_start};
 use heap_model::{Name, Place};
-use master_table::slot_count;
 use raw_region::Region;
 
 /// The fixed chunk that a name stands for: the name is the offset of its body.
@@ -22,12 +21,9 @@ pub(crate) fn find_fixed(region: &Region, name: Name) -> Option<Found>
     ensures none { IfNone result (NoneFixedAs region.now.bytes name.0 (chunks_of region.now.bytes)) }
 {
     let end = region.len() as u32;
-    let mut at = area_start(slot_count(region));
+    let mut at = area_start(region);
     while at < end {
-        let (header, taken) = match Header::read_with_size(region, at) {
-            Some(both) => both,
-            None => unreachable!(),
-        };
+        let (header, taken) = Header::at_with_size(region, at);
         if let Some(found) = as_fixed(header, Place(at + 8), name) {
             return Some(found);
         }
@@ -42,13 +38,10 @@ pub(crate) fn free_bytes(region: &Region) -> u32
     ensures { result ≡ free_total region.now.bytes }
 {
     let end = region.len() as u32;
-    let mut at = area_start(slot_count(region));
+    let mut at = area_start(region);
     let mut count = 0;
     while at < end {
-        let (header, taken) = match Header::read_with_size(region, at) {
-            Some(both) => both,
-            None => unreachable!(),
-        };
+        let (header, taken) = Header::at_with_size(region, at);
         count += size_if_free(header);
         at += taken;
     }

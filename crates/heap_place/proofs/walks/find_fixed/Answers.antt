@@ -5,24 +5,24 @@ use Rattle.heap_place.proofs.WalkLaws.{passed_there, passed_size, passed_all}
 use Rattle.heap_place.proofs.LookupLaws.{fixed_found, fixed_there, fixed_passed}
 use Rattle.heap_place.proofs.walks.find_fixed.Goals as goal
 
-pub unreachable-requires : goal.unreachable-requires
-unreachable-requires c =
+pub at_with_size-header-requires-clause-chunk : goal.at_with_size-header-requires-clause-chunk
+at_with_size-header-requires-clause-chunk c =
     let chunk = passed_there c.args.region.now.bytes (NoneFixedAs c.args.region.now.bytes c.args.name.0) c.loop-at.at c.requires.accepted c.loop-at.invariant (omega arith) in
-    c.in-None.ensures.none chunk.0 chunk.1
+    record { chunk = chunk.0; spelled = chunk.1 }
 
-pub returns-in-Some-as_fixed-clause-found : goal.returns-in-Some-as_fixed-clause-found
-returns-in-Some-as_fixed-clause-found c =
-    fixed_found c.args.region.now.bytes (NoneFixedAs c.args.region.now.bytes c.args.name.0) c.loop-at.at c.args.name c.in-Some.both.0 c.in-Some-as_fixed.found c.requires.accepted c.loop-at.invariant c.in-Some.ensures.found
-    (sym c.as_fixed.ensures ∙ c.in-Some-as_fixed.is)
+pub returns-in-Some-clause-found : goal.returns-in-Some-clause-found
+returns-in-Some-clause-found c =
+    fixed_found c.args.region.now.bytes (NoneFixedAs c.args.region.now.bytes c.args.name.0) c.loop-at.at c.args.name c.at_with_size-header.result.0 c.in-Some.found c.requires.accepted c.loop-at.invariant c.at_with_size-header.ensures.header
+    (sym c.as_fixed.ensures ∙ c.in-Some.is)
 
 pub loop-at-preserved : goal.loop-at-preserved
 loop-at-preserved c =
-    subst (λ n. Passed c.args.region.now.bytes (NoneFixedAs c.args.region.now.bytes c.args.name.0) (c.loop-at.at + n)) (sym c.in-Some.ensures.size)
-    (fixed_passed c.args.region.now.bytes c.loop-at.at c.args.name c.in-Some.both.0 c.loop-at.invariant c.in-Some.ensures.found (sym c.as_fixed.ensures ∙ c.in_default.is))
+    subst (λ n. Passed c.args.region.now.bytes (NoneFixedAs c.args.region.now.bytes c.args.name.0) (c.loop-at.at + n)) (sym c.at_with_size-header.ensures.size)
+    (fixed_passed c.args.region.now.bytes c.loop-at.at c.args.name c.at_with_size-header.result.0 c.loop-at.invariant c.at_with_size-header.ensures.header (sym c.as_fixed.ensures ∙ c.in_default.is))
 
 pub returns-clause-none : goal.returns-clause-none
 returns-clause-none c = passed_all c.args.region.now.bytes (NoneFixedAs c.args.region.now.bytes c.args.name.0) c.loop-at.at c.requires.accepted c.loop-at.invariant (omega arith)
 
-pub returns-in-Some-as_fixed-clause-there : goal.returns-in-Some-as_fixed-clause-there
-returns-in-Some-as_fixed-clause-there c =
-    fixed_there c.loop-at.at c.args.name c.in-Some.both.0 c.in-Some-as_fixed.found c.args.region.now.bytes c.in-Some.ensures.found (sym c.as_fixed.ensures ∙ c.in-Some-as_fixed.is)
+pub returns-in-Some-clause-there : goal.returns-in-Some-clause-there
+returns-in-Some-clause-there c =
+    fixed_there c.loop-at.at c.args.name c.at_with_size-header.result.0 c.in-Some.found c.args.region.now.bytes c.at_with_size-header.ensures.header (sym c.as_fixed.ensures ∙ c.in-Some.is)

@@ -3,25 +3,25 @@ use Rattle.heap_place.specs.Search.{Passed, AreFree, free_by}
 use Rattle.heap_place.proofs.WalkLaws.{passed_there, passed_size, passed_all, free_fits, free_fits_by, free_passed}
 use Rattle.heap_place.proofs.walks.free_bytes.Goals as goal
 
-pub unreachable-requires : goal.unreachable-requires
-unreachable-requires c =
+pub at_with_size-header-requires-clause-chunk : goal.at_with_size-header-requires-clause-chunk
+at_with_size-header-requires-clause-chunk c =
     let chunk = passed_there c.args.region.now.bytes (AreFree c.loop-at.count) c.loop-at.at c.requires.accepted c.loop-at.invariant (omega arith) in
-    c.in-None.ensures.none chunk.0 chunk.1
+    record { chunk = chunk.0; spelled = chunk.1 }
 
 pub overflow_add-count : goal.overflow_add-count
 overflow_add-count c =
     let most = c.requires.accepted.1.tiles.head.most in
     let fits = free_fits c.args.region.now.bytes c.loop-at.count c.loop-at.at c.loop-at.invariant in
-    let size = passed_size c.args.region.now.bytes c.loop-at.at c.in-Some.both.0 c.in-Some.ensures.found in
+    let size = passed_size c.args.region.now.bytes c.loop-at.at c.at_with_size-header.result.0 c.at_with_size-header.ensures.header in
     let inside = size.1 in
-    let within = free_fits_by c.in-Some.both.0 in
+    let within = free_fits_by c.at_with_size-header.result.0 in
     omega arith
 
 pub loop-at-preserved : goal.loop-at-preserved
 loop-at-preserved c =
-    subst (λ n. Passed c.args.region.now.bytes (AreFree (c.loop-at.count + n)) (c.loop-at.at + c.in-Some.both.1)) (sym c.size_if_free-count.ensures)
-    (subst (λ n. Passed c.args.region.now.bytes (AreFree (c.loop-at.count + free_by c.in-Some.both.0)) (c.loop-at.at + n)) (sym c.in-Some.ensures.size)
-    (free_passed c.args.region.now.bytes c.loop-at.count c.loop-at.at c.in-Some.both.0 c.loop-at.invariant c.in-Some.ensures.found))
+    subst (λ n. Passed c.args.region.now.bytes (AreFree (c.loop-at.count + n)) (c.loop-at.at + c.at_with_size-header.result.1)) (sym c.size_if_free-count.ensures)
+    (subst (λ n. Passed c.args.region.now.bytes (AreFree (c.loop-at.count + free_by c.at_with_size-header.result.0)) (c.loop-at.at + n)) (sym c.at_with_size-header.ensures.size)
+    (free_passed c.args.region.now.bytes c.loop-at.count c.loop-at.at c.at_with_size-header.result.0 c.loop-at.invariant c.at_with_size-header.ensures.header))
 
 pub returns : goal.returns
 returns c = sym (passed_all c.args.region.now.bytes (AreFree c.loop-at.count) c.loop-at.at c.requires.accepted c.loop-at.invariant (omega arith))
