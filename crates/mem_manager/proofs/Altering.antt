@@ -19,7 +19,7 @@ use Rattle.heap_laws.proofs.Finding.{finds_spelled, finds_one}
 use Rattle.heap_place.specs.Alter.{IsMovableThere, HasBytes}
 use Rattle.mem_manager.specs.declared.lookup.Found.{Found}
 use Rattle.mem_manager.specs.Lookup.{IsFound}
-use Rattle.mem_manager.proofs.Stepping.{known, of_known, not_of_known, is_known, second, third, passes, unchanged, refused, Altered, altered}
+use Rattle.mem_manager.proofs.Stepping.{known, of_known, not_of_known, is_known, unchanged, refused, Altered, altered}
 
 -- ---- the chunk that is there
 
@@ -76,8 +76,8 @@ locked old new name found count h f positive loose few is ch =
     record {
       before = h;
       step = (
-        passes _ name.0 f.live (λ live. live.lock ≡ fixed_lock) (λ live. live.lock ≡ 14) _ _ k (λ e. loose (l ∙ e)) (λ e. few (l ∙ e)),
-        ((of_known (callers_map old.bytes name.0) (λ live. count ≡ live.lock + 1) f.live k count_is, ch.place), a.map),
+        (is_known k, (not_of_known (λ live. live.lock ≡ fixed_lock) k (λ e. loose (l ∙ e)), (not_of_known (λ live. live.lock ≡ 14) k (λ e. few (l ∙ e)), tt))),
+        ((of_known (λ live. count ≡ live.lock + 1) k count_is, ch.place), a.map),
       );
       frame = a.frame;
       still = a.still;
@@ -95,8 +95,8 @@ unlocked old new name found count h f positive loose some is ch =
     record {
       before = h;
       step = (
-        passes _ name.0 f.live (λ live. live.lock ≡ fixed_lock) (λ live. live.lock ≡ 0) _ _ k (λ e. loose (l ∙ e)) (λ e. some (l ∙ e)),
-        (of_known (callers_map old.bytes name.0) (λ live. count ≡ live.lock - 1) f.live k count_is, a.map),
+        (is_known k, (not_of_known (λ live. live.lock ≡ fixed_lock) k (λ e. loose (l ∙ e)), (not_of_known (λ live. live.lock ≡ 0) k (λ e. some (l ∙ e)), tt))),
+        (of_known (λ live. count ≡ live.lock - 1) k count_is, a.map),
       );
       frame = a.frame;
       still = a.still;
@@ -107,8 +107,9 @@ unlocked old new name found count h f positive loose some is ch =
 may_write : (image : List ℕ) (name : Name) (found : Found) (at count : ℕ) → HeapAccepted image → (f : IsFound image name.0 found) → 1 ≤ found.owner → found.lock ≢ 0 → (found.length < at + count → ⊥)
     → NoneHolds (unknown (callers_map image) name.0 ∷ where_it (callers_map image) name.0 (λ live. live.lock ≡ 0) ChunkNotLocked ∷ where_it (callers_map image) name.0 (ReachesBeyond at count) OutOfBounds ∷ [])
 may_write image name found at count h f positive some inside =
+    let k = known image name.0 found h f positive in
     let n = f.count in
-    passes (callers_map image) name.0 f.live (λ live. live.lock ≡ 0) (ReachesBeyond at count) ChunkNotLocked OutOfBounds (known image name.0 found h f positive) (λ e. some (f.lock_is ∙ e)) (λ beyond. inside (omega arith))
+    (is_known k, (not_of_known (λ live. live.lock ≡ 0) k (λ e. some (f.lock_is ∙ e)), (not_of_known (ReachesBeyond at count) k (λ beyond. inside (omega arith)), tt)))
 
 pub wrote : (old new : Memory) (name : Name) (found : Found) (at : ℕ) (bytes : List ℕ) → HeapAccepted old.bytes → (f : IsFound old.bytes name.0 found) → 1 ≤ found.owner → found.lock ≢ 0 → (found.length < at + length bytes → ⊥)
     → ChangesName old.bytes new.bytes name.0 (Some (record f.live { bytes = overwritten f.live.bytes at bytes })) (Some found.place.0) → Does old (Write name at bytes) Done new
@@ -142,7 +143,7 @@ reowned_done old new name found owner h f positive other caller ch =
     let a = altered old new name.0 found (λ live. record live { owner = owner }) h f ch in
     record {
       before = h;
-      step = ((is_known (callers_map old.bytes name.0) f.live k, (not_of_known (callers_map old.bytes name.0) (λ live. live.owner ≡ 15) f.live k (λ e. other (f.owner_is ∙ e)), (caller, tt))), (tt, a.map));
+      step = ((is_known k, (not_of_known (λ live. live.owner ≡ 15) k (λ e. other (f.owner_is ∙ e)), (caller, tt))), (tt, a.map));
       frame = a.frame;
       still = a.still;
       asks = tt;
@@ -152,61 +153,63 @@ reowned_done old new name found owner h f positive other caller ch =
 -- ---- each call, where it is refused
 
 pub lock_fixed : (region : Memory) (name : Name) (found : Found) → HeapAccepted region.bytes → IsFound region.bytes name.0 found → 1 ≤ found.owner → found.lock ≡ fixed_lock → Does region (Lock name) (Refused ChunkFixed) region
-lock_fixed region name found h f positive is = refused region (Lock name) ChunkFixed h (second _ name.0 f.live _ _ _ (known region.bytes name.0 found h f positive) (sym f.lock_is ∙ is))
+lock_fixed region name found h f positive is = refused region (Lock name) ChunkFixed h (let k = known region.bytes name.0 found h f positive in inr (is_known k, inl (of_known (λ live. live.lock ≡ fixed_lock) k (sym f.lock_is ∙ is), refl)))
 
 pub lock_full : (region : Memory) (name : Name) (found : Found) → HeapAccepted region.bytes → IsFound region.bytes name.0 found → 1 ≤ found.owner → found.lock ≡ 14 → Does region (Lock name) (Refused LockOverflow) region
 lock_full region name found h f positive is =
     let l = f.lock_is in
-    refused region (Lock name) LockOverflow h (third _ name.0 f.live (λ live. live.lock ≡ fixed_lock) _ _ _ _ (known region.bytes name.0 found h f positive) (λ e. let g : f.live.lock ≡ fixed_lock = e in omega arith) (sym l ∙ is))
+    refused region (Lock name) LockOverflow h (let k = known region.bytes name.0 found h f positive in inr (is_known k, inr (not_of_known (λ live. live.lock ≡ fixed_lock) k (λ e. let g : f.live.lock ≡ fixed_lock = e in omega arith), inl (of_known (λ live. live.lock ≡ 14) k (sym l ∙ is), refl))))
 
 pub unlock_fixed : (region : Memory) (name : Name) (found : Found) → HeapAccepted region.bytes → IsFound region.bytes name.0 found → 1 ≤ found.owner → found.lock ≡ fixed_lock → Does region (Unlock name) (Refused ChunkFixed) region
-unlock_fixed region name found h f positive is = refused region (Unlock name) ChunkFixed h (second _ name.0 f.live _ _ _ (known region.bytes name.0 found h f positive) (sym f.lock_is ∙ is))
+unlock_fixed region name found h f positive is = refused region (Unlock name) ChunkFixed h (let k = known region.bytes name.0 found h f positive in inr (is_known k, inl (of_known (λ live. live.lock ≡ fixed_lock) k (sym f.lock_is ∙ is), refl)))
 
 pub unlock_none : (region : Memory) (name : Name) (found : Found) → HeapAccepted region.bytes → IsFound region.bytes name.0 found → 1 ≤ found.owner → found.lock ≡ 0 → Does region (Unlock name) (Refused ChunkNotLocked) region
 unlock_none region name found h f positive is =
     let l = f.lock_is in
-    refused region (Unlock name) ChunkNotLocked h (third _ name.0 f.live (λ live. live.lock ≡ fixed_lock) _ _ _ _ (known region.bytes name.0 found h f positive) (λ e. let g : f.live.lock ≡ fixed_lock = e in omega arith) (sym l ∙ is))
+    refused region (Unlock name) ChunkNotLocked h (let k = known region.bytes name.0 found h f positive in inr (is_known k, inr (not_of_known (λ live. live.lock ≡ fixed_lock) k (λ e. let g : f.live.lock ≡ fixed_lock = e in omega arith), inl (of_known (λ live. live.lock ≡ 0) k (sym l ∙ is), refl))))
 
 pub read_beyond : (region : Memory) (name : Name) (at count : ℕ) (found : Found) → HeapAccepted region.bytes → IsFound region.bytes name.0 found → 1 ≤ found.owner → found.length < at + count → Does region (Read name at count) (Refused OutOfBounds) region
 read_beyond region name at count found h f positive beyond =
+    let k = known region.bytes name.0 found h f positive in
     let n = f.count in
-    refused region (Read name at count) OutOfBounds h (second _ name.0 f.live (ReachesBeyond at count) _ _ (known region.bytes name.0 found h f positive) (omega arith))
+    refused region (Read name at count) OutOfBounds h (inr (is_known k, inl (of_known (ReachesBeyond at count) k (omega arith), refl)))
 
 pub unlocked_write : (image : List ℕ) (name : Name) (found : Found) (at count : ℕ) → HeapAccepted image → IsFound image name.0 found → 1 ≤ found.owner → found.lock ≡ 0
     → FirstBrings (unknown (callers_map image) name.0 ∷ where_it (callers_map image) name.0 (λ live. live.lock ≡ 0) ChunkNotLocked ∷ where_it (callers_map image) name.0 (ReachesBeyond at count) OutOfBounds ∷ []) ChunkNotLocked
 unlocked_write image name found at count h f positive is =
-    second (callers_map image) name.0 f.live (λ live. live.lock ≡ 0) ChunkNotLocked (where_it (callers_map image) name.0 (ReachesBeyond at count) OutOfBounds ∷ []) (known image name.0 found h f positive) (sym f.lock_is ∙ is)
+    let k = known image name.0 found h f positive in inr (is_known k, inl (of_known (λ live. live.lock ≡ 0) k (sym f.lock_is ∙ is), refl))
 
 pub write_beyond : (image : List ℕ) (name : Name) (found : Found) (at count : ℕ) → HeapAccepted image → IsFound image name.0 found → 1 ≤ found.owner → found.lock ≢ 0 → found.length < at + count
     → FirstBrings (unknown (callers_map image) name.0 ∷ where_it (callers_map image) name.0 (λ live. live.lock ≡ 0) ChunkNotLocked ∷ where_it (callers_map image) name.0 (ReachesBeyond at count) OutOfBounds ∷ []) OutOfBounds
 write_beyond image name found at count h f positive some beyond =
+    let k = known image name.0 found h f positive in
     let n = f.count in
-    third (callers_map image) name.0 f.live (λ live. live.lock ≡ 0) (ReachesBeyond at count) ChunkNotLocked OutOfBounds [] (known image name.0 found h f positive) (λ e. some (f.lock_is ∙ e)) (omega arith)
+    inr (is_known k, inr (not_of_known (λ live. live.lock ≡ 0) k (λ e. some (f.lock_is ∙ e)), inl (of_known (ReachesBeyond at count) k (omega arith), refl)))
 
 pub set_owner_database : (region : Memory) (name : Name) (owner : ℕ) (found : Found) → HeapAccepted region.bytes → IsFound region.bytes name.0 found → found.owner ≡ 15 → Does region (SetOwner name owner) (Refused OwnedByDatabase) region
-set_owner_database region name owner found h f is = refused region (SetOwner name owner) OwnedByDatabase h (second _ name.0 f.live _ _ _ (known region.bytes name.0 found h f (omega arith)) (sym f.owner_is ∙ is))
+set_owner_database region name owner found h f is = refused region (SetOwner name owner) OwnedByDatabase h (let k = known region.bytes name.0 found h f (omega arith) in inr (is_known k, inl (of_known (λ live. live.owner ≡ 15) k (sym f.owner_is ∙ is), refl)))
 
 pub set_owner_no_caller : (region : Memory) (name : Name) (owner : ℕ) (found : Found) → HeapAccepted region.bytes → IsFound region.bytes name.0 found → 1 ≤ found.owner → found.owner ≢ 15 → IsNoCaller owner → Does region (SetOwner name owner) (Refused InvalidOwner) region
 set_owner_no_caller region name owner found h f positive other none =
     let k = known region.bytes name.0 found h f positive in
-    refused region (SetOwner name owner) InvalidOwner h (inr (is_known (callers_map region.bytes name.0) f.live k, inr (not_of_known (callers_map region.bytes name.0) (λ live. live.owner ≡ 15) f.live k (λ e. other (f.owner_is ∙ e)), inl (none, refl))))
+    refused region (SetOwner name owner) InvalidOwner h (inr (is_known k, inr (not_of_known (λ live. live.owner ≡ 15) k (λ e. other (f.owner_is ∙ e)), inl (none, refl))))
 
 -- ---- each call that asks
 
 pub size_known : (region : Memory) (name : Name) (found : Found) → HeapAccepted region.bytes → IsFound region.bytes name.0 found → 1 ≤ found.owner → Does region (Size name) (Number found.length) region
 size_known region name found h f positive =
     let k = known region.bytes name.0 found h f positive in
-    unchanged region (Size name) (Number found.length) h ((is_known (callers_map region.bytes name.0) f.live k, tt), (of_known (callers_map region.bytes name.0) (λ live. found.length ≡ length live.bytes) f.live k f.count, λ n. refl))
+    unchanged region (Size name) (Number found.length) h ((is_known k, tt), (of_known (λ live. found.length ≡ length live.bytes) k f.count, λ n. refl))
 
 pub owner_known : (region : Memory) (name : Name) (found : Found) → HeapAccepted region.bytes → IsFound region.bytes name.0 found → 1 ≤ found.owner → Does region (Owner name) (Number found.owner) region
 owner_known region name found h f positive =
     let k = known region.bytes name.0 found h f positive in
-    unchanged region (Owner name) (Number found.owner) h ((is_known (callers_map region.bytes name.0) f.live k, tt), (of_known (callers_map region.bytes name.0) (λ live. found.owner ≡ live.owner) f.live k f.owner_is, λ n. refl))
+    unchanged region (Owner name) (Number found.owner) h ((is_known k, tt), (of_known (λ live. found.owner ≡ live.owner) k f.owner_is, λ n. refl))
 
 pub locks_known : (region : Memory) (name : Name) (found : Found) → HeapAccepted region.bytes → IsFound region.bytes name.0 found → 1 ≤ found.owner → Does region (Locks name) (Number found.lock) region
 locks_known region name found h f positive =
     let k = known region.bytes name.0 found h f positive in
-    unchanged region (Locks name) (Number found.lock) h ((is_known (callers_map region.bytes name.0) f.live k, tt), (of_known (callers_map region.bytes name.0) (λ live. found.lock ≡ live.lock) f.live k f.lock_is, λ n. refl))
+    unchanged region (Locks name) (Number found.lock) h ((is_known k, tt), (of_known (λ live. found.lock ≡ live.lock) k f.lock_is, λ n. refl))
 
 pub read_known : (region : Memory) (name : Name) (at count : ℕ) (found : Found) (bytes : List ℕ) → HeapAccepted region.bytes → IsFound region.bytes name.0 found → 1 ≤ found.owner → (found.length < at + count → ⊥)
     → bytes ≡ slice_range region.bytes (found.place.0 + at) (found.place.0 + at + count) → Does region (Read name at count) (Data bytes) region
@@ -216,9 +219,9 @@ read_known region name at count found bytes h f positive inside is =
     let n = f.count in
     let fits : at + count ≤ found.length = omega arith in
     unchanged region (Read name at count) (Data bytes) h (
-      (is_known (callers_map region.bytes name.0) f.live k, (not_of_known (callers_map region.bytes name.0) (ReachesBeyond at count) f.live k (λ beyond. inside (omega arith)), (tt, tt))),
+      (is_known k, (not_of_known (ReachesBeyond at count) k (λ beyond. inside (omega arith)), (tt, tt))),
       (
-        of_known (callers_map region.bytes name.0) (λ live. bytes ≡ slice_range live.bytes at (at + count)) f.live k (is ∙ sym (slice-of_slice region.bytes found.place.0 found.length at count fits) ∙ ap (λ (x : List ℕ). slice_range x at (at + count)) b.1),
+        of_known (λ live. bytes ≡ slice_range live.bytes at (at + count)) k (is ∙ sym (slice-of_slice region.bytes found.place.0 found.length at count fits) ∙ ap (λ (x : List ℕ). slice_range x at (at + count)) b.1),
         λ q. refl,
       ),
     )

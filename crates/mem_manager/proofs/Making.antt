@@ -22,23 +22,24 @@ use Rattle.heap_laws.proofs.Accepted.{heap_of_read}
 use Rattle.mem_manager.specs.declared.lookup.Found.{Found}
 use Rattle.mem_manager.specs.Lookup.{IsFound, IsManaged, NoSlotBelow}
 use Rattle.mem_manager.proofs.Passing.{free_within}
-use Rattle.mem_manager.proofs.Stepping.{known, passes, second, third, refused, frame_then, only_bytes, held_updated, still_others, slot_as}
+use Rattle.mem_manager.proofs.Stepping.{known, of_known, not_of_known, is_known, refused, frame_then, only_bytes, held_updated, still_others, slot_as}
 
 -- ---- free
 
 pub free_database : (region : Memory) (name : Name) (found : Found) → HeapAccepted region.bytes → IsFound region.bytes name.0 found → found.owner ≡ 15 → Does region (Free name) (Refused OwnedByDatabase) region
-free_database region name found h f is = refused region (Free name) OwnedByDatabase h (second _ name.0 f.live _ _ _ (known region.bytes name.0 found h f (omega arith)) (sym f.owner_is ∙ is))
+free_database region name found h f is = refused region (Free name) OwnedByDatabase h (let k = known region.bytes name.0 found h f (omega arith) in inr (is_known k, inl (of_known (λ live. live.owner ≡ 15) k (sym f.owner_is ∙ is), refl)))
 
 pub free_locked : (region : Memory) (name : Name) (found : Found) → HeapAccepted region.bytes → IsFound region.bytes name.0 found → 1 ≤ found.owner → found.owner ≢ 15 → 0 < found.lock → found.lock < 15 → Does region (Free name) (Refused ChunkLocked) region
 free_locked region name found h f positive other some below =
+    let k = known region.bytes name.0 found h f positive in
     let l = f.lock_is in
-    refused region (Free name) ChunkLocked h (third _ name.0 f.live (λ live. live.owner ≡ 15) IsLocked _ _ _ (known region.bytes name.0 found h f positive) (λ e. other (f.owner_is ∙ e)) (omega arith, omega arith))
+    refused region (Free name) ChunkLocked h (inr (is_known k, inr (not_of_known (λ live. live.owner ≡ 15) k (λ e. other (f.owner_is ∙ e)), inl (of_known IsLocked k (omega arith, omega arith), refl))))
 
 pub freed : (old new : Memory) (name : Name) (found : Found) → HeapAccepted old.bytes → IsFound old.bytes name.0 found → 1 ≤ found.owner → found.owner ≢ 15 → (0 < found.lock → found.lock < 15 → ⊥) → ChangesName old.bytes new.bytes name.0 None None → Does old (Free name) Done new
 freed old new name found h f positive other unlocked ch = record {
   before = h;
   step = (
-    passes _ name.0 f.live (λ live. live.owner ≡ 15) IsLocked _ _ (known old.bytes name.0 found h f positive) (λ e. other (f.owner_is ∙ e)) (λ locked. locks f.live.lock f.lock_is locked),
+    (is_known k, (not_of_known (λ live. live.owner ≡ 15) k (λ e. other (f.owner_is ∙ e)), (not_of_known IsLocked k (λ locked. locks f.live.lock f.lock_is locked), tt))),
     (tt, held_updated old.bytes new.bytes name.0 None None ch),
   );
   frame = ch.frame;
@@ -46,6 +47,9 @@ freed old new name found h f positive other unlocked ch = record {
   asks = tt;
   rest = only_bytes old new;
 } where
+  k : callers_map old.bytes name.0 ≡ Some f.live
+  k = known old.bytes name.0 found h f positive
+
   locks : (lock : ℕ) → found.lock ≡ lock → (0 < lock) × (lock < fixed_lock) → ⊥
   locks lock e l = let some = l.0 in let below = l.1 in unlocked (omega arith) (omega arith)
 

@@ -143,7 +143,7 @@ nowhere image place h slots none_fixed name of = none (callers_map image name) r
 pub recovered : (region : Memory) (place : Place) (name : Name) → HeapAccepted region.bytes → IsThere region.bytes place.0 name.0 → Does region (Recover place) (Named name) region
 recovered region place name h t = unchanged region (Recover place) (Named name) h (((λ none. none name.0 of, tt)), (of, λ n. refl)) where
   of : Of (callers_map region.bytes name.0) (λ live. place_of region.bytes name.0 ≡ Some place.0)
-  of = of_known (callers_map region.bytes name.0) (λ live. place_of region.bytes name.0 ≡ Some place.0) t.live t.known t.there
+  of = of_known (λ live. place_of region.bytes name.0 ≡ Some place.0) t.known t.there
 
 pub not_recovered : (region : Memory) (place : Place) → HeapAccepted region.bytes → IsNowhere region.bytes (callers_map region.bytes) place.0 → Does region (Recover place) (Refused InvalidHandle) region
 not_recovered region place h none = refused region (Recover place) InvalidHandle h (inl (none, refl))

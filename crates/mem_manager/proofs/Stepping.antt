@@ -1,25 +1,26 @@
--- The words of the steps: what callers may name, which check brings a refusal, and what is left where
--- one name is changed.
-use Rattle.std.proofs.Common.{◌≡◌, ◌≢◌, ℕ, ◌+◌, ◌-◌, ◌*◌, ◌<◌, ◌≤◌, List, [], ◌∷◌, Bool, true, false, Option, Some, None, refl, sym, ap, subst, ◌∙◌, arith, inl, inr}
+-- The words of the steps: what callers may name, calls that leave the region as it is, and what there is
+-- where one name is changed.
+use Rattle.std.proofs.Common.{◌≡◌, ◌≢◌, ℕ, ◌+◌, ◌-◌, ◌*◌, ◌<◌, ◌≤◌, List, Bool, true, false, Option, Some, None, refl, sym, ap, subst, ◌∙◌, arith, inl, inr}
 use Rattle.std.proofs.lemmas.Bool.{cases_eq, eq-eqb}
 use Rattle.std.proofs.lemmas.Bool.Decides.{nat_tests}
-use Rattle.std.specs.Prelude.{◌==◌, ◌⊎◌, IsSome}
+use Rattle.std.specs.Prelude.{◌==◌, ◌⊎◌, IsSome, Result, Ok, Err}
+use Rattle.std.specs.Option.{ok_or}
+use Rattle.std.specs.Result.{IsErr, IsErrAnd}
 use Rattle.std.specs.Bool.{OnTrue}
 use Rattle.heap_model.specs.Memory.{Memory}
 use Rattle.heap_model.specs.Slots.{IsSlot, slot_count, table_end}
 use Rattle.heap_model.specs.Heap.{HeapAccepted}
-use Rattle.heap_model.specs.Meaning.{LiveChunk, ChunkMap}
+use Rattle.heap_model.specs.Meaning.{LiveChunk}
 use Rattle.heap_model.specs.Reading.{chunks_of, held}
 use Rattle.heap_model.specs.Maps.{callers_map, updated, changed, changed_at}
 use Rattle.heap_model.specs.Space.{Still, place_of}
 use Rattle.heap_model.specs.Placing.{SameFrame, ChangesName}
-use Rattle.heap_model.specs.Refusals.{Check, NoneHolds, FirstBrings}
-use Rattle.heap_model.specs.MemorySteps.{Does, MemoryStep, Of, AsBefore, row_of, unknown, where_it}
+use Rattle.heap_model.specs.Refusals.{FirstBrings}
+use Rattle.heap_model.specs.MemorySteps.{Does, MemoryStep, Of, row_of, reply_of}
 use Rattle.heap_model.specs.declared.call.MemoryCall.{MemoryCall}
 use Rattle.heap_model.specs.declared.call.Reply.{Reply}
 use Rattle.heap_model.specs.declared.call.Reply.TheVariants.{Refused}
 use Rattle.heap_model.specs.declared.refusal.Refusal.{Refusal}
-use Rattle.heap_model.specs.declared.refusal.Refusal.TheVariants.{InvalidHandle}
 use Rattle.heap_laws.proofs.Deciding.{cond-true, cond-false}
 use Rattle.heap_laws.proofs.Meanings.{held-is, empty_unheld}
 use Rattle.heap_laws.proofs.Slots.{slot_of_number}
@@ -33,34 +34,21 @@ use Rattle.mem_manager.specs.Lookup.{IsFound, IsManaged}
 
 -- what was found in a region that is this one
 pub found_in : {region here : Memory} {name : ℕ} {found : Found} → region ≡ here → IsFound region.bytes name found → IsFound here.bytes name found
-found_in e f = subst (λ (m : Memory). IsFound m.bytes _ _) e f
+found_in {region} {here} {name} {found} e f = subst (λ (m : Memory). IsFound m.bytes name found) e f
 
 -- a name's chunk, as the store has it
 pub known : (image : List ℕ) (name : ℕ) (found : Found) → HeapAccepted image → (f : IsFound image name found) → 1 ≤ found.owner → callers_map image name ≡ Some f.live
 known image name found h f positive =
     callers_some image name f.live (finds_held image name f.live f.chunk (found.place.0 - 8) h f.finds) (let e = f.owner_is in λ none. let n : f.live.owner ≡ 0 = none in omega arith)
 
-pub of_known : (map : Option LiveChunk) (P : LiveChunk → Type 0) (live : LiveChunk) → map ≡ Some live → P live → Of map P
-of_known map P live e p = subst (λ (x : Option LiveChunk). Of x P) (sym e) p
+pub of_known : {map : Option LiveChunk} {live : LiveChunk} (P : LiveChunk → Type 0) → map ≡ Some live → P live → Of map P
+of_known P e p = subst (λ (x : Option LiveChunk). Of x P) (sym e) p
 
-pub not_of_known : (map : Option LiveChunk) (P : LiveChunk → Type 0) (live : LiveChunk) → map ≡ Some live → (P live → ⊥) → Of map P → ⊥
-not_of_known map P live e none of = none (subst (λ (x : Option LiveChunk). Of x P) e of)
+pub not_of_known : {map : Option LiveChunk} {live : LiveChunk} (P : LiveChunk → Type 0) → map ≡ Some live → (P live → ⊥) → Of map P → ⊥
+not_of_known P e none of = none (subst (λ (x : Option LiveChunk). Of x P) e of)
 
-pub is_known : (map : Option LiveChunk) (live : LiveChunk) → map ≡ Some live → map ≡ None → ⊥
-is_known map live e none = let n = sym e ∙ none in absurd cc
-
--- ---- which check brings the refusal
-
-pub second : (map : ChunkMap) (name : ℕ) (live : LiveChunk) (P : LiveChunk → Type 0) (refusal : Refusal) (rest : List Check) → map name ≡ Some live → P live → FirstBrings (unknown map name ∷ where_it map name P refusal ∷ rest) refusal
-second map name live P refusal rest k holds = inr (is_known (map name) live k, inl (of_known (map name) P live k holds, refl))
-
-pub third : (map : ChunkMap) (name : ℕ) (live : LiveChunk) (P Q : LiveChunk → Type 0) (before refusal : Refusal) (rest : List Check) → map name ≡ Some live → (P live → ⊥) → Q live
-    → FirstBrings (unknown map name ∷ where_it map name P before ∷ where_it map name Q refusal ∷ rest) refusal
-third map name live P Q before refusal rest k none holds = inr (is_known (map name) live k, inr (not_of_known (map name) P live k none, inl (of_known (map name) Q live k holds, refl)))
-
-pub passes : (map : ChunkMap) (name : ℕ) (live : LiveChunk) (P Q : LiveChunk → Type 0) (one two : Refusal) → map name ≡ Some live → (P live → ⊥) → (Q live → ⊥)
-    → NoneHolds (unknown map name ∷ where_it map name P one ∷ where_it map name Q two ∷ [])
-passes map name live P Q one two k none neither = (is_known (map name) live k, (not_of_known (map name) P live k none, (not_of_known (map name) Q live k neither, tt)))
+pub is_known : {map : Option LiveChunk} {live : LiveChunk} → map ≡ Some live → map ≡ None → ⊥
+is_known e none = let n = sym e ∙ none in absurd cc
 
 -- ---- calls that leave the region as it is
 
@@ -89,6 +77,21 @@ unchanged region call reply h step = record {
 
 pub refused : (region : Memory) (call : MemoryCall) (refusal : Refusal) → HeapAccepted region.bytes → FirstBrings (row_of region call).refusals refusal → Does region call (Refused refusal) region
 refused region call refusal h brings = unchanged region call (Refused refusal) h (brings, record { map = λ name. refl; free = refl; slots = refl })
+
+-- what a method that hands a refusal on answers
+pub answered : {A : Type 0} {old new : Memory} {call : MemoryCall} {brought refusal : Refusal} (f : A → Reply) (result : Result A Refusal) → IsErr result × IsErrAnd result (λ answer. answer ≡ brought) → brought ≡ refusal → Does old call (Refused refusal) new → Does old call (reply_of f result) new
+answered f (Ok answer) is same does = let no = is.0 in absurd cc
+answered {A} {old} {new} {call} f (Err answer) is same does = subst (λ (r : Refusal). Does old call (Refused r) new) (sym (is.1 ∙ same)) does
+
+-- the same of a region that is the heap's value
+pub handed_on : {A : Type 0} {inside value : Memory} {call : MemoryCall} {brought refusal : Refusal} (f : A → Reply) (result : Result A Refusal) → inside ≡ value → IsErr result × IsErrAnd result (λ answer. answer ≡ brought) → brought ≡ refusal → Does inside call (Refused refusal) inside
+    → Does value call (reply_of f result) value
+handed_on {A} {inside} {value} {call} f result view is same does = subst (λ (m : Memory). Does m call (reply_of f result) m) view (answered f result is same does)
+
+-- where there is none, this is refused
+pub for_none : {A : Type 0} {brought refusal : Refusal} (found : Option A) → Err brought ≡ ok_or found refusal → found ≡ None → brought ≡ refusal
+for_none None is none = cc
+for_none (Some value) is none = absurd cc
 
 -- ---- one name is changed
 

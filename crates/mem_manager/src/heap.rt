@@ -13,7 +13,9 @@ use heap_check::{HeapFault, check_heap};
 use heap_model::Place;
 use heap_place::Space;
 use raw_region::Region;
+use std::fmt;
 use std::marker::Model;
+use thiserror::Error;
 
 /// A region that is an accepted heap.
 #[derive(Drop)]
@@ -42,10 +44,19 @@ pub struct Locked {
 }
 
 /// A region that is no accepted heap, unchanged, and what is wrong first.
-#[derive(Drop)]
+#[derive(Drop, Error)]
+#[error("{fault}")]
 pub struct NotAHeap {
     pub fault: HeapFault,
     pub region: Region,
+}
+
+impl fmt::Debug for NotAHeap {
+    fn fmt<W: fmt::Write>(&self, f: &mut fmt::Formatter<W>) -> fmt::Result {
+        f.debug_struct("NotAHeap")
+            .field("fault", &self.fault)
+            .finish()
+    }
 }
 
 impl Heap {

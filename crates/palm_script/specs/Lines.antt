@@ -2,6 +2,7 @@
 use Rattle.std.specs.Prelude.{◌≡◌, ◌≢◌, ◌<◌, ◌++◌, ◌==◌, ℕ, Bool, List, [], ◌∷◌, Option, Some, take, get_or, slice_get, if◌then◌else◌, codes, decimal, true, false, ◌≤◌, length}
 use Rattle.std.specs.Io.KnownBytes.{Appends}
 use Rattle.hex.specs.Hex.{encode_lower}
+use Rattle.heap_model.specs.Memory.{Memory as Region}
 use Rattle.heap_model.specs.Calls.{DoesCall}
 use Rattle.heap_model.specs.Counted.{Writing, Writes}
 use Rattle.heap_model.specs.Numbers.{number_of, name_of}
@@ -108,29 +109,29 @@ reply_line line reply = reply_text (is_silent line) reply
 -- ---- the run of lines
 
 -- The call of a line does its step. A line takes no memory, so it is never refused for want of it.
-pub record LineStep (old : List ℕ) (names : Bindings) (line : Line) (reply : Reply) (new : List ℕ) : Type 0 where
+pub record LineStep (old : Region) (names : Bindings) (line : Line) (reply : Reply) (new : Region) : Type 0 where
   pub does : DoesCall old (call_of names line) reply new
   pub takes_no_memory : reply ≢ Refused OutOfMemory
 
--- The lines in their order, from an image and the names that labels stand for: each is one call, its
+-- The lines in their order, from a region and the names that labels stand for: each is one call, its
 -- reply line comes behind the text of those before it, and what it binds is bound for those behind it.
-abbrev pub Lines : List ℕ → Bindings → List Line → List ℕ → List ℕ → Bindings → Type 0
+abbrev pub Lines : Region → Bindings → List Line → List ℕ → Region → Bindings → Type 0
 Lines old names [] text new after = (text ≡ []) × (new ≡ old) × (after ≡ names)
 Lines old names (line ∷ lines) text new after =
-    (reply : Reply) × (mid : List ℕ) × (rest : List ℕ)
+    (reply : Reply) × (mid : Region) × (rest : List ℕ)
     × LineStep old names line reply mid
     × (text ≡ reply_line line reply ++ rest)
     × Lines mid (bound_after names line reply) lines rest new after
 
 -- One line: its call is done, what it binds is bound, and its reply line goes to a writer.
-pub record DoesLine {W : Type 0} (contents : W → Option (List ℕ)) (line : Line) (old : List ℕ) (names : Bindings) (out : Writing W) (new : List ℕ) (names_after : Bindings) (out_after : Writing W) (ok : Bool) : Type 0 where
+pub record DoesLine {W : Type 0} (contents : W → Option (List ℕ)) (line : Line) (old : Region) (names : Bindings) (out : Writing W) (new : Region) (names_after : Bindings) (out_after : Writing W) (ok : Bool) : Type 0 where
   pub reply : Reply
   pub step : LineStep old names line reply new
   pub binds : names_after ≡ bound_after names line reply
   pub written : Writes contents out out_after (reply_line line reply) ok
 
 -- All lines were run, and all of their text was written.
-pub record RunsThrough {W : Type 0} (contents : W → Option (List ℕ)) (lines : List Line) (old : List ℕ) (out : Writing W) (new : List ℕ) (out_after : Writing W) : Type 0 where
+pub record RunsThrough {W : Type 0} (contents : W → Option (List ℕ)) (lines : List Line) (old : Region) (out : Writing W) (new : Region) (out_after : Writing W) : Type 0 where
   pub text : List ℕ
   pub after : Bindings
   pub ran : Lines old unbound lines text new after
@@ -138,10 +139,10 @@ pub record RunsThrough {W : Type 0} (contents : W → Option (List ℕ)) (lines 
 
 -- A write failed in the reply line of some line: the text of the lines before it was written, and a
 -- front of that reply line. The line's call was done, and no other behind it.
-pub record BreaksOff {W : Type 0} (contents : W → Option (List ℕ)) (lines : List Line) (old : List ℕ) (out : Writing W) (new : List ℕ) (out_after : Writing W) : Type 0 where
+pub record BreaksOff {W : Type 0} (contents : W → Option (List ℕ)) (lines : List Line) (old : Region) (out : Writing W) (new : Region) (out_after : Writing W) : Type 0 where
   pub count : ℕ
   pub text : List ℕ
-  pub mid : List ℕ
+  pub mid : Region
   pub names : Bindings
   pub before : Lines old unbound (take count lines) text mid names
   pub line : Line

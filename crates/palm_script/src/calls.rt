@@ -16,7 +16,7 @@ use std::alloc::{AllocError, Global};
 /// where it is refused, so is the call.
 pub fn do_call(alloc: Global, heap: &mut Heap, call: &Call) -> Reply
     requires { IsTrue (is_there call.now) }
-    ensures { DoesCall heap.old.bytes call.now result heap.new.bytes }
+    ensures { DoesCall heap.old call.now result heap.new }
 {
     match call {
         Call::Memory(call) => memory_call(alloc, heap, call),
@@ -25,7 +25,7 @@ pub fn do_call(alloc: Global, heap: &mut Heap, call: &Call) -> Reply
 
 fn memory_call(alloc: Global, heap: &mut Heap, call: &MemoryCall) -> Reply
     requires { IsTrue (is_there (Call.Memory call.now)) }
-    ensures { Does heap.old.bytes call.now result heap.new.bytes }
+    ensures { Does heap.old call.now result heap.new }
 {
     match call {
         MemoryCall::HandleNew { size, owner } => named(heap.handle_new(*size, *owner)),
@@ -57,7 +57,7 @@ fn memory_call(alloc: Global, heap: &mut Heap, call: &MemoryCall) -> Reply
 
 /// The bytes of a chunk, copied.
 pub(crate) fn read<M: Memory>(memory: &M, heap: &Heap, name: Name, at: u32, count: u32) -> Reply
-    ensures { Does heap.now.bytes (MemoryCall.Read name at count) result heap.now.bytes }
+    ensures { Does heap.now (MemoryCall.Read name at count) result heap.now }
 {
     match heap.read(name, at, count) {
         Ok(bytes) => match copied(memory, bytes) {

@@ -22,8 +22,8 @@ pub(crate) fn do_line<W: Write>(
     out: &mut Counted<W>,
 ) -> Result<(), WriteFault>
     requires { label_end line.now ≤ length names.old }
-    ensures { DoesLine W.contents line.now heap.old.bytes (table names.old) out.old
-        heap.new.bytes (table names.new) out.new (is_ok result) }
+    ensures { DoesLine W.contents line.now heap.old (table names.old) out.old
+        heap.new (table names.new) out.new (is_ok result) }
 {
     if let Line::Read { .. } = line {
         return read_line(heap, names, line, out);
@@ -36,7 +36,7 @@ pub(crate) fn do_line<W: Write>(
 /// What the manager answers to a line that isn't a `read`.
 fn reply_to(heap: &mut Heap, names: &[Name], line: &Line) -> Reply
     requires { is_read line.now ≡ false }
-    ensures { LineStep heap.old.bytes (table names.now) line.now result heap.new.bytes }
+    ensures { LineStep heap.old (table names.now) line.now result heap.new }
 {
     match line {
         Line::Bind { name, .. } => number(heap.size(Name(*name))),
@@ -75,8 +75,8 @@ fn read_line<W: Write>(
     out: &mut Counted<W>,
 ) -> Result<(), WriteFault>
     requires { is_read line.now ≡ true }
-    ensures { DoesLine W.contents line.now heap.now.bytes (table names.now) out.old
-        heap.now.bytes (table names.now) out.new (is_ok result) }
+    ensures { DoesLine W.contents line.now heap.now (table names.now) out.old
+        heap.now (table names.now) out.new (is_ok result) }
 {
     match line {
         Line::Read { label, at, count } => {

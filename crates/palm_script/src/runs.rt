@@ -36,9 +36,9 @@ pub fn run<W: Write>(
 ) -> Result<Vec<Bytes>, RunFault>
     ensures files { IfOk result (λ files. files.items ≡ []) }
     ensures ok { OnOk result (RunsThrough W.contents script.now
-        heap.old.bytes out.old heap.new.bytes out.new) }
+        heap.old out.old heap.new out.new) }
     ensures write { result ≡ Err RunFault.Write → BreaksOff W.contents script.now
-        heap.old.bytes out.old heap.new.bytes out.new }
+        heap.old out.old heap.new out.new }
     ensures memory { result ≡ Err RunFault.OutOfMemory
         → (heap.new ≡ heap.old) × (out.new ≡ out.old) }
 {
@@ -56,9 +56,9 @@ pub(crate) fn run_from<M: Memory, W: Write>(
     out: &mut Counted<W>,
 ) -> Result<(), RunFault>
     ensures ok { OnOk result (RunsThrough W.contents script.now
-        heap.old.bytes out.old heap.new.bytes out.new) }
+        heap.old out.old heap.new out.new) }
     ensures write { result ≡ Err RunFault.Write → BreaksOff W.contents script.now
-        heap.old.bytes out.old heap.new.bytes out.new }
+        heap.old out.old heap.new out.new }
     ensures memory { result ≡ Err RunFault.OutOfMemory
         → (heap.new ≡ heap.old) × (out.new ≡ out.old) }
 {

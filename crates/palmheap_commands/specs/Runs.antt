@@ -1,5 +1,6 @@
 -- What `run` prints and writes. Where a definition ends in a `Bool`, it says whether all got through.
 use Rattle.std.specs.Prelude.{◌≡◌, ◌⊎◌, ◌++◌, ℕ, Bool, true, false, List, Option, Some, codes, decimal, Ok, Err}
+use Rattle.heap_model.specs.Memory.{Memory}
 use Rattle.heap_model.specs.Counted.{Writing}
 use Rattle.heap_model.specs.Heap.{HeapAccepted}
 use Rattle.script_lines.specs.Reading.{read_script}
@@ -27,35 +28,39 @@ PutsRefusal image script contents old new ok =
 
 -- The lines of a script were run, all of their text was written and no write failed, and then the writer
 -- was flushed, which got through or didn't.
-pub record RunsAndFlushes {V : Type 0} (contents : V → Option (List ℕ)) (lines : List Line) (image : List ℕ) (old : Writing V) (image_after : List ℕ) (new : Writing V) (ok : Bool) : Type 0 where
-  pub ran : RunsThrough contents lines image old image_after new
+pub record RunsAndFlushes {V : Type 0} (contents : V → Option (List ℕ)) (lines : List Line) (region : Memory) (old : Writing V) (region_after : Memory) (new : Writing V) (ok : Bool) : Type 0 where
+  pub ran : RunsThrough contents lines region old region_after new
   pub flushed : new.flushed ≡ Some ok
 
--- A write failed in the reply line of some line of a script, which leaves this image; or the lines were
+-- A write failed in the reply line of some line of a script, which leaves this region; or the lines were
 -- run, all of their text was written, no write failed, and the flush behind it did.
-abbrev pub PrintingFails : {V : Type 0} → (V → Option (List ℕ)) → List Line → List ℕ → Writing V → List ℕ → Writing V → Type 0
-PrintingFails contents lines image old image_after new =
-    BreaksOff contents lines image old image_after new
-    ⊎ RunsAndFlushes contents lines image old image_after new false
+abbrev pub PrintingFails : {V : Type 0} → (V → Option (List ℕ)) → List Line → Memory → Writing V → Memory → Writing V → Type 0
+PrintingFails contents lines region old region_after new =
+    BreaksOff contents lines region old region_after new
+    ⊎ RunsAndFlushes contents lines region old region_after new false
 
--- The script of a text was run on an accepted heap, and its text printed and flushed; and the heap that
--- came of it was written.
+-- The script of a text was run on a region of these bytes, an accepted heap, and its text printed and
+-- flushed; and the heap that came of it was written.
 pub record RunsScript {W V : Type 0} (image script : List ℕ) (contents : V → Option (List ℕ)) (old new : Writing V) (image_contents : W → Option (List ℕ)) (image_old image_new : Writing W) (ok : Bool) : Type 0 where
   pub lines : List Line
-  pub image_after : List ℕ
+  pub region : Memory
+  pub region_after : Memory
+  pub image_is : region.bytes ≡ image
   pub before : HeapAccepted image
   pub read : read_script script ≡ Ok lines
-  pub prints : RunsAndFlushes contents lines image old image_after new true
-  pub accepted : HeapAccepted image_after
-  pub written : Puts image_contents image_old image_new image_after ok
+  pub prints : RunsAndFlushes contents lines region old region_after new true
+  pub accepted : HeapAccepted region_after.bytes
+  pub written : Puts image_contents image_old image_new region_after.bytes ok
 
--- The script of a text was run on an accepted heap, and printing its text failed.
+-- The script of a text was run on a region of these bytes, an accepted heap, and printing its text failed.
 pub record StopsPrinting {V : Type 0} (image script : List ℕ) (contents : V → Option (List ℕ)) (old new : Writing V) : Type 0 where
   pub lines : List Line
-  pub image_after : List ℕ
+  pub region : Memory
+  pub region_after : Memory
+  pub image_is : region.bytes ≡ image
   pub before : HeapAccepted image
   pub read : read_script script ≡ Ok lines
-  pub fails : PrintingFails contents lines image old image_after new
+  pub fails : PrintingFails contents lines region old region_after new
 
 -- A write or a flush failed in `run`, and nothing was written after it: it was one of the line for a
 -- refusal, or of the text of the script's lines, and no image was written; or it was one of the image,

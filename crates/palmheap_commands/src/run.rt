@@ -77,12 +77,12 @@ fn print_replies<V: Write>(
     out: &mut Counted<V>,
 ) -> Result<Vec<Bytes>, Status>
     ensures ok { OnOk result (RunsAndFlushes V.contents script.now
-        heap.old.bytes out.old heap.new.bytes out.new true) }
+        heap.old out.old heap.new out.new true) }
     ensures files { IfOk result (λ files. files.items ≡ []) }
     ensures faults { IfErr result (λ status.
         (status ≡ Status.WriteFault) ⊎ (status ≡ Status.NoMemory)) }
     ensures write { result ≡ Err Status.WriteFault → PrintingFails V.contents script.now
-        heap.old.bytes out.old heap.new.bytes out.new }
+        heap.old out.old heap.new out.new }
     ensures memory { result ≡ Err Status.NoMemory → out.new ≡ out.old }
 {
     match run(alloc, heap, script, inputs, out) {

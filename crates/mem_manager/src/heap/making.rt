@@ -23,8 +23,9 @@ impl Heap {
     pub fn handle_new(&mut self, size: u32, owner: u8) -> Result<Name, Refusal>
         ensures { Does self.old (MemoryCall.HandleNew size owner) (reply_of (λ name. Reply.Named name) result) self.new }
     {
+        let region = self.space.region();
         check_owner(owner)?;
-        let number = free_slot(self.space.region(), self.lowest).ok_or(Refusal::NotEnoughSpace)?;
+        let number = free_slot(region, self.lowest).ok_or(Refusal::NotEnoughSpace)?;
         let needed = chunk_size(size).ok_or(Refusal::NotEnoughSpace)?;
         let place = self.space.place(needed).ok_or(Refusal::NotEnoughSpace)?;
         let name = Name(slot_of(number));
@@ -39,10 +40,11 @@ impl Heap {
     pub fn ptr_new(&mut self, size: u32, owner: u8) -> Result<Name, Refusal>
         ensures { Does self.old (MemoryCall.PtrNew size owner) (reply_of (λ name. Reply.Named name) result) self.new }
     {
+        let space = &mut self.space;
         check_owner(owner)?;
         let needed = chunk_size(size).ok_or(Refusal::NotEnoughSpace)?;
-        let place = self.space.place(needed).ok_or(Refusal::NotEnoughSpace)?;
-        self.space.claim_fixed(place, size, owner);
+        let place = space.place(needed).ok_or(Refusal::NotEnoughSpace)?;
+        space.claim_fixed(place, size, owner);
         Ok(Name(place.0))
     }
 
@@ -68,8 +70,9 @@ impl Heap {
     pub fn free_by_owner(&mut self, owner: u8) -> Result<u32, Refusal>
         ensures { Does self.old (MemoryCall.FreeByOwner owner) (reply_of (λ count. Reply.Number count) result) self.new }
     {
+        let space = &mut self.space;
         check_owner(owner)?;
-        let count = free_owned(&mut self.space, owner);
+        let count = free_owned(space, owner);
         self.lowest = 0;
         Ok(count)
     }

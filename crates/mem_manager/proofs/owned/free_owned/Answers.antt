@@ -8,14 +8,14 @@ use Rattle.mem_manager.proofs.owned.free_owned.Goals as goal
 
 pub unreachable-requires : goal.unreachable-requires
 unreachable-requires c =
-    let len = c.loop-at.invariant.frees.len in
+    let len = c.loop-at.invariant.frees.frame.len in
     let end : c.len-end.result ≡ length c.args.space.now.bytes = c.len-end.ensures ∙ ap (λ (m : Memory). length m.bytes) c.region.ensures in
     let there = freeing_there c.args.space.now.bytes c.loop-at.space.bytes c.args.owner c.loop-at.at c.loop-at.count c.loop-at.invariant (omega arith) in
     c.in-None.ensures.none there.0 (subst (λ (m : Memory). Spelled m.bytes c.loop-at.at there.0) (sym c.region-in-loop-at.ensures) there.1)
 
 pub give_back-at-requires-clause-live : goal.give_back-at-requires-clause-live
 give_back-at-requires-clause-live c =
-    owned_callers c.loop-at.space.bytes (NoneOwned c.args.owner) c.loop-at.at c.args.owner c.in-Some.both.0 c.loop-at.invariant.frees.accepted c.loop-at.invariant.passed
+    owned_callers c.loop-at.space.bytes (NoneOwned c.args.owner) c.loop-at.at c.args.owner c.in-Some.both.0 c.loop-at.invariant.frees.frame.accepted c.loop-at.invariant.passed
     (subst (λ (m : Memory). HasHeader m.bytes c.loop-at.at c.in-Some.both.0) c.region-in-loop-at.ensures c.in-Some.ensures.found) (sym c.is_owned.ensures ∙ c.if-is_owned.true) c.requires.some_owner
 
 pub overflow_add-at-then-is_owned : goal.overflow_add-at-then-is_owned
@@ -23,7 +23,7 @@ overflow_add-at-then-is_owned c =
     let m = freeing_more c.args.space.now.bytes c.loop-at.space.bytes c.give_back-at.new.self.bytes c.args.owner c.loop-at.at c.loop-at.count c.give_back-at.result c.in-Some.both.0 c.loop-at.invariant
     (subst (λ (m : Memory). HasHeader m.bytes c.loop-at.at c.in-Some.both.0) c.region-in-loop-at.ensures c.in-Some.ensures.found) (sym c.is_owned.ensures ∙ c.if-is_owned.true) c.give_back-at.ensures.gone c.give_back-at.ensures.joined in
     let inside = m.1 in
-    let most = c.loop-at.invariant.frees.accepted.1.tiles.head.most in
+    let most = c.loop-at.invariant.frees.frame.accepted.1.tiles.head.most in
     omega arith
 
 pub loop-at-smaller-then-is_owned : goal.loop-at-smaller-then-is_owned
@@ -32,7 +32,7 @@ loop-at-smaller-then-is_owned c =
     (subst (λ (m : Memory). HasHeader m.bytes c.loop-at.at c.in-Some.both.0) c.region-in-loop-at.ensures c.in-Some.ensures.found) (sym c.is_owned.ensures ∙ c.if-is_owned.true) c.give_back-at.ensures.gone c.give_back-at.ensures.joined in
     let inside = m.1 in
     let least = m.2 in
-    let len = c.loop-at.invariant.frees.len in
+    let len = c.loop-at.invariant.frees.frame.len in
     omega arith
 
 pub loop-at-preserved-then-is_owned : goal.loop-at-preserved-then-is_owned
@@ -47,6 +47,6 @@ loop-at-preserved c =
 
 pub returns : goal.returns
 returns c =
-    let len = c.loop-at.invariant.frees.len in
+    let len = c.loop-at.invariant.frees.frame.len in
     let end : c.len-end.result ≡ length c.args.space.now.bytes = c.len-end.ensures ∙ ap (λ (m : Memory). length m.bytes) c.region.ensures in
     freeing_all c.args.space.now.bytes c.loop-at.space.bytes c.args.owner c.loop-at.at c.loop-at.count c.loop-at.invariant (omega arith)

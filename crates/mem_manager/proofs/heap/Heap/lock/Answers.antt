@@ -1,49 +1,49 @@
-use Rattle.std.proofs.Common.{◌≢◌, ◌+◌, refl, subst, ◌∙◌, arith}
+use Rattle.std.proofs.Common.{◌≢◌, ◌+◌, refl, sym, subst, arith}
 use Rattle.heap_model.specs.Memory.{Memory}
-use Rattle.heap_model.specs.Heap.{HeapAccepted}
 use Rattle.heap_model.specs.MemorySteps.{Does}
 use Rattle.heap_model.specs.declared.call.MemoryCall.TheVariants.{Lock}
-use Rattle.heap_model.specs.declared.call.Reply.TheVariants.{Locked}
-use Rattle.mem_manager.specs.Lookup.{IsFound}
-use Rattle.mem_manager.proofs.Altering.{lock_fixed, lock_full, lock_small, movable_there, used_altered, locked}
+use Rattle.heap_model.specs.declared.call.Reply.{Reply}
+use Rattle.heap_model.specs.declared.refusal.Refusal.{Refusal}
+use Rattle.mem_manager.proofs.Stepping.{found_in, handed_on, used_altered}
+use Rattle.mem_manager.proofs.Altering.{lock_fixed, lock_full, lock_small, movable_there, locked}
 use Rattle.mem_manager.proofs.heap.Heap.lock.Goals as goal
 
-pub returns-then-found-eq-FIXED_LOCK : goal.returns-then-found-eq-FIXED_LOCK
-returns-then-found-eq-FIXED_LOCK c =
-    lock_fixed c.args.self.now.bytes c.args.name c.in-Some.found (subst (λ (m : Memory). HeapAccepted m.bytes) c.self.view_is c.self.invariant.accepted)
-    (subst (λ (m : Memory). IsFound m.bytes c.args.name.0 c.in-Some.found) (c.region.ensures ∙ c.self.view_is) c.in-Some.ensures.found) c.in-Some.ensures.callers c.if-found-eq-FIXED_LOCK.true
+pub returns-in_err-check_movable : goal.returns-in_err-check_movable
+returns-in_err-check_movable c =
+    handed_on (λ locked. Reply.Locked locked.place locked.count) c.from_residual-in_err-check_movable.result c.self.view_is (let e = c.from_residual-in_err-check_movable.ensures in (e.0, e.1)) c.in_err-check_movable.ensures.refusal
+    (lock_fixed c.self.inside.space c.args.name c.in_ok-found.found c.self.invariant.accepted (found_in c.region.ensures c.in_ok-found.ensures.found) c.in_ok-found.ensures.callers c.in_err-check_movable.ensures.err)
 
 pub returns-then-found-eq-MOST_LOCKS : goal.returns-then-found-eq-MOST_LOCKS
 returns-then-found-eq-MOST_LOCKS c =
-    lock_full c.args.self.now.bytes c.args.name c.in-Some.found (subst (λ (m : Memory). HeapAccepted m.bytes) c.self.view_is c.self.invariant.accepted)
-    (subst (λ (m : Memory). IsFound m.bytes c.args.name.0 c.in-Some.found) (c.region.ensures ∙ c.self.view_is) c.in-Some.ensures.found) c.in-Some.ensures.callers c.if-found-eq-MOST_LOCKS.true
+    subst (λ (m : Memory). Does m (Lock c.args.name) (Reply.Refused Refusal.LockOverflow) m) c.self.view_is (lock_full c.self.inside.space c.args.name c.in_ok-found.found c.self.invariant.accepted (found_in c.region.ensures c.in_ok-found.ensures.found) c.in_ok-found.ensures.callers c.if-found-eq-MOST_LOCKS.true)
 
 pub overflow_add-count : goal.overflow_add-count
 overflow_add-count c =
-    let most = lock_small c.self.inside.space.bytes c.args.name.0 c.in-Some.found c.self.invariant.accepted (subst (λ (m : Memory). IsFound m.bytes c.args.name.0 c.in-Some.found) c.region.ensures c.in-Some.ensures.found) in
-    let loose : c.in-Some.found.lock ≢ 15 = c.if-found-eq-FIXED_LOCK.false in
+    let most = lock_small c.self.inside.space.bytes c.args.name.0 c.in_ok-found.found c.self.invariant.accepted (found_in c.region.ensures c.in_ok-found.ensures.found) in
+    let loose = c.in_ok-check_movable.ensures.ok in
     omega arith
 
 pub relock-requires-clause-movable : goal.relock-requires-clause-movable
 relock-requires-clause-movable c =
-    let most = lock_small c.self.inside.space.bytes c.args.name.0 c.in-Some.found c.self.invariant.accepted (subst (λ (m : Memory). IsFound m.bytes c.args.name.0 c.in-Some.found) c.region.ensures c.in-Some.ensures.found) in
-    let loose : c.in-Some.found.lock ≢ 15 = c.if-found-eq-FIXED_LOCK.false in
-    movable_there c.self.inside.space.bytes c.args.name.0 c.in-Some.found c.self.invariant.accepted (subst (λ (m : Memory). IsFound m.bytes c.args.name.0 c.in-Some.found) c.region.ensures c.in-Some.ensures.found) (omega arith)
+    let f = found_in c.region.ensures c.in_ok-found.ensures.found in
+    let most = lock_small c.self.inside.space.bytes c.args.name.0 c.in_ok-found.found c.self.invariant.accepted f in
+    let loose = c.in_ok-check_movable.ensures.ok in
+    movable_there c.self.inside.space.bytes c.args.name.0 c.in_ok-found.found c.self.invariant.accepted f (omega arith)
 
 pub relock-requires-clause-lock : goal.relock-requires-clause-lock
 relock-requires-clause-lock c =
-    let most = lock_small c.self.inside.space.bytes c.args.name.0 c.in-Some.found c.self.invariant.accepted (subst (λ (m : Memory). IsFound m.bytes c.args.name.0 c.in-Some.found) c.region.ensures c.in-Some.ensures.found) in
-    let loose : c.in-Some.found.lock ≢ 15 = c.if-found-eq-FIXED_LOCK.false in
-    let few : c.in-Some.found.lock ≢ 14 = c.if-found-eq-MOST_LOCKS.false in
+    let most = lock_small c.self.inside.space.bytes c.args.name.0 c.in_ok-found.found c.self.invariant.accepted (found_in c.region.ensures c.in_ok-found.ensures.found) in
+    let loose = c.in_ok-check_movable.ensures.ok in
+    let few : c.in_ok-found.found.lock ≢ 14 = c.if-found-eq-MOST_LOCKS.false in
     omega arith
 
 pub invariant_of-self : goal.invariant_of-self
 invariant_of-self c =
-    let f = subst (λ (m : Memory). IsFound m.bytes c.args.name.0 c.in-Some.found) c.region.ensures c.in-Some.ensures.found in
+    let f = found_in c.region.ensures c.in_ok-found.ensures.found in
     used_altered c.self.inside.space.bytes c.relock.new.self.bytes c.self.inside.lowest c.args.name.0 _ _ c.self.invariant (c.relock.ensures c.args.name.0 f.live f.chunk f.finds)
 
 pub returns : goal.returns
 returns c =
-    let f = subst (λ (m : Memory). IsFound m.bytes c.args.name.0 c.in-Some.found) c.region.ensures c.in-Some.ensures.found in
-    subst (λ (m : Memory). Does m.bytes (Lock c.args.name) (Locked c.in-Some.found.place (c.in-Some.found.lock + 1)) c.relock.new.self.bytes) c.self.view_is
-    (locked c.self.inside.space.bytes c.relock.new.self.bytes c.args.name c.in-Some.found (c.in-Some.found.lock + 1) c.self.invariant.accepted f c.in-Some.ensures.callers c.if-found-eq-FIXED_LOCK.false c.if-found-eq-MOST_LOCKS.false refl (c.relock.ensures c.args.name.0 f.live f.chunk f.finds))
+    let f = found_in c.region.ensures c.in_ok-found.ensures.found in
+    subst (λ (m : Memory). Does m (Lock c.args.name) (Reply.Locked c.in_ok-found.found.place (c.in_ok-found.found.lock + 1)) c.relock.new.self) c.self.view_is
+    (locked c.self.inside.space c.relock.new.self c.args.name c.in_ok-found.found (c.in_ok-found.found.lock + 1) c.self.invariant.accepted f c.in_ok-found.ensures.callers c.in_ok-check_movable.ensures.ok c.if-found-eq-MOST_LOCKS.false refl (c.relock.ensures c.args.name.0 f.live f.chunk f.finds))

@@ -1,11 +1,11 @@
-use Rattle.std.proofs.Common.{subst, ◌∙◌}
+use Rattle.std.proofs.Common.{subst}
 use Rattle.heap_model.specs.Memory.{Memory}
-use Rattle.heap_model.specs.Heap.{HeapAccepted}
-use Rattle.mem_manager.specs.Lookup.{IsFound}
+use Rattle.heap_model.specs.MemorySteps.{Does}
+use Rattle.heap_model.specs.declared.call.MemoryCall.TheVariants.{Locks}
+use Rattle.heap_model.specs.declared.call.Reply.TheVariants.{Number}
+use Rattle.mem_manager.proofs.Stepping.{found_in}
 use Rattle.mem_manager.proofs.Altering.{locks_known}
 use Rattle.mem_manager.proofs.heap.Heap.locks.Goals as goal
 
-pub returns-in-Some : goal.returns-in-Some
-returns-in-Some c =
-    locks_known c.args.self.now.bytes c.args.name c.in-Some.found (subst (λ (m : Memory). HeapAccepted m.bytes) c.self.view_is c.self.invariant.accepted)
-    (subst (λ (m : Memory). IsFound m.bytes c.args.name.0 c.in-Some.found) (c.region.ensures ∙ c.self.view_is) c.in-Some.ensures.found) c.in-Some.ensures.callers
+pub returns : goal.returns
+returns c = subst (λ (m : Memory). Does m (Locks c.args.name) (Number c.in_ok-found.found.lock) m) c.self.view_is (locks_known c.self.inside.space c.args.name c.in_ok-found.found c.self.invariant.accepted (found_in c.region.ensures c.in_ok-found.ensures.found) c.in_ok-found.ensures.callers)
