@@ -14,7 +14,7 @@ use Rattle.heap_laws.proofs.Placed.{TakesBytes}
 
 -- ---- lists that are put together
 
-onto_twice : (m n : ℕ) (cs : List Chunk) → free_onto (m + n) cs ≡ free_onto m (free_onto n cs)
+pub onto_twice : (m n : ℕ) (cs : List Chunk) → free_onto (m + n) cs ≡ free_onto m (free_onto n cs)
 onto_twice m n [] = refl
 onto_twice m n (free k ∷ cs) = ap (λ (x : ℕ). free x ∷ cs) (let e : m + n + k ≡ m + (n + k) = omega arith in e)
 onto_twice m n (movable bytes lock owner slot ∷ cs) = refl

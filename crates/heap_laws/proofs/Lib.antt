@@ -18,3 +18,4 @@ pub mod Finding
 pub mod Altering
 pub mod Exchanging
 pub mod Changing
+pub mod Owning

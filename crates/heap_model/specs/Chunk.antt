@@ -1,5 +1,5 @@
 -- Chunks: what each is, how it is spelled in an image, and runs of them without a gap.
-use Rattle.std.specs.Prelude.{◌≡◌, ◌≤◌, ◌<◌, ◌+◌, ◌-◌, ◌*◌, ◌/◌, ◌%◌, ◌^◌, ◌⊎◌, ℕ, Bool, true, false, List, [], ◌∷◌, length, slice_range}
+use Rattle.std.specs.Prelude.{◌≡◌, ◌≤◌, ◌<◌, ◌+◌, ◌-◌, ◌*◌, ◌/◌, ◌%◌, ◌^◌, ◌⊎◌, ◌==◌, ℕ, Bool, true, false, List, [], ◌∷◌, length, slice_range}
 use Rattle.heap_model.specs.Bytes.{u32_at}
 
 -- A chunk is free, and has a size; or movable, with bytes, a lock count below 15, an owner and the
@@ -91,3 +91,9 @@ abbrev pub is_fixed : Chunk → Bool
 is_fixed (free size) = false
 is_fixed (movable bytes lock owner slot) = false
 is_fixed (fixed bytes owner) = true
+
+-- the chunk has this owner
+abbrev pub is_owned_by : ℕ → Chunk → Bool
+is_owned_by owner (free size) = false
+is_owned_by owner (movable bytes lock own slot) = own == owner
+is_owned_by owner (fixed bytes own) = own == owner

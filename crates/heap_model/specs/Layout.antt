@@ -3,7 +3,7 @@
 -- contracts say which layout stands afterwards, and leave open how runs of free chunks are split.
 use Rattle.std.specs.Prelude.{◌≡◌, ◌≤◌, ◌<◌, ◌+◌, ◌-◌, ◌++◌, ◌==◌, if◌then◌else◌, ℕ, zero, suc, List, [], ◌∷◌, length, All}
 use Rattle.heap_model.specs.Bytes.{overwritten}
-use Rattle.heap_model.specs.Chunk.{Chunk, free, movable, fixed, size_of, total, free_size}
+use Rattle.heap_model.specs.Chunk.{Chunk, free, movable, fixed, size_of, total, free_size, is_owned_by}
 use Rattle.heap_model.specs.Space.{AllFree}
 use Rattle.heap_model.specs.Slots.{area_start}
 use Rattle.heap_model.specs.Reading.{chunks_of}
@@ -82,6 +82,11 @@ abbrev pub with_bytes : ℕ → List ℕ → Chunk → Chunk
 with_bytes at part (free size) = free size
 with_bytes at part (movable bytes lock owner slot) = movable (overwritten bytes at part) lock owner slot
 with_bytes at part (fixed bytes owner) = fixed (overwritten bytes at part) owner
+
+-- some chunks, with each one of an owner's made free
+abbrev pub owned_freed : ℕ → List Chunk → List Chunk
+owned_freed owner [] = []
+owned_freed owner (chunk ∷ chunks) = (if is_owned_by owner chunk then freed chunk else chunk) ∷ owned_freed owner chunks
 
 -- ---- where free chunks are
 

@@ -2,7 +2,7 @@
 use Rattle.std.specs.Prelude.{◌≡◌, ◌<◌, ◌+◌, ◌-◌, ◌++◌, ◌⊎◌, ◌==◌, ℕ, Bool, true, false, List, [], ◌∷◌, length, not, slice_range, replicate, count_by, Option, Some, None, Result, Ok, Err}
 use Rattle.std.specs.Bool.{OnTrue}
 use Rattle.std.specs.List.{take_while}
-use Rattle.heap_model.specs.Chunk.{Chunk, free, movable, fixed, fixed_lock, need}
+use Rattle.heap_model.specs.Chunk.{fixed_lock, need, is_owned_by}
 use Rattle.heap_model.specs.Memory.{Memory}
 use Rattle.heap_model.specs.Heap.{HeapAccepted}
 use Rattle.heap_model.specs.Meaning.{LiveChunk, ChunkMap}
@@ -45,12 +45,6 @@ text_of bytes = take_while (λ byte. not (byte == 0)) bytes ++ 0 ∷ []
 -- no name has its chunk at this place
 abbrev pub IsNowhere : List ℕ → ChunkMap → ℕ → Type 0
 IsNowhere image map place = (name : ℕ) → Of (map name) (λ live. place_of image name ≡ Some place) → ⊥
-
--- the chunk has this owner
-abbrev pub is_owned_by : ℕ → Chunk → Bool
-is_owned_by owner (free size) = false
-is_owned_by owner (movable bytes lock own slot) = own == owner
-is_owned_by owner (fixed bytes own) = own == owner
 
 -- ---- the rows
 
