@@ -5,3 +5,4 @@ pub mod RoomLaws
 pub mod CutLaws
 pub mod ReleaseLaws
 pub mod AlterLaws
+pub mod OwnedLaws

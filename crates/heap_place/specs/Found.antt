@@ -64,3 +64,9 @@ NoneFixedAs image name chunks = EveryPlaced (NotFixedAs name) (area_start image)
 -- no slot holds the place
 abbrev pub NoSlotHolds : List ℕ → ℕ → Type 0
 NoSlotHolds image place = (name : ℕ) → HoldsPlace image name place → ⊥
+
+-- what a header says of a chunk of an owner whose body is at a place
+abbrev pub owned_by : Header → Place → ℕ → Option Found
+owned_by (headers.Free size) place owner = None
+owned_by (headers.Movable length lock own slot) place owner = if own == owner then Some (record { name = record { 0 = slot }; place = place; length = length; lock = lock; owner = owner }) else None
+owned_by (headers.Fixed length own) place owner = if own == owner then Some (record { name = record { 0 = place.0 }; place = place; length = length; lock = fixed_lock; owner = owner }) else None

@@ -1,11 +1,12 @@
 -- Runs of neighbouring free chunks, and the search for one.
-use Rattle.std.specs.Prelude.{◌≡◌, ◌≢◌, ◌<◌, ◌≤◌, ◌+◌, ◌-◌, ◌^◌, ◌++◌, ◌⊎◌, ℕ, List, [], ◌∷◌, length, sum_by, Option, Some, None}
+use Rattle.std.specs.Prelude.{◌≡◌, ◌≢◌, ◌<◌, ◌≤◌, ◌+◌, ◌-◌, ◌*◌, ◌^◌, ◌++◌, ◌⊎◌, ℕ, List, [], ◌∷◌, length, sum_by, count_by, Option, Some, None}
 use Rattle.heap_model.specs.Bytes.{u32_bytes, overwritten}
-use Rattle.heap_model.specs.Chunk.{Chunk, free, movable, fixed, total, free_size, SpelledAll}
+use Rattle.heap_model.specs.Chunk.{Chunk, free, movable, fixed, total, free_size, is_owned_by, SpelledAll}
 use Rattle.heap_model.specs.Slots.{area_start}
 use Rattle.heap_model.specs.Reading.{chunk_at, chunks_of}
 use Rattle.heap_model.specs.Space.{AllFree}
-use Rattle.heap_model.specs.Layout.{merged, layout_of}
+use Rattle.heap_model.specs.Layout.{merged, layout_of, owned_freed}
+use Rattle.heap_model.specs.Placing.{SameFrame}
 use Rattle.chunk_format.specs.Header.{HasHeader}
 use Rattle.chunk_format.specs.declared.header.Header.{Header}
 use Rattle.chunk_format.specs.declared.header.Header.TheVariants as headers
@@ -92,3 +93,16 @@ abbrev pub Emptied : List ℕ → Chunk → List ℕ → Type 0
 Emptied mid (free size) new = new ≡ mid
 Emptied mid (movable bytes lock owner slot) new = new ≡ overwritten mid slot (u32_bytes 0)
 Emptied mid (fixed bytes owner) new = new ≡ mid
+
+-- none of the chunks is the owner's
+abbrev pub NoneOwned : ℕ → List Chunk → Type 0
+NoneOwned owner chunks = count_by (is_owned_by owner) chunks ≡ 0
+
+-- A walk has come to an offset, and has made so many chunks of an owner free: with those that are left
+-- made free too, the layout is the old one with all of them free.
+pub record Freeing (old now : List ℕ) (owner at count : ℕ) : Type 0 where
+  pub frame : SameFrame old now
+  pub same : merged (owned_freed owner (chunks_of now)) ≡ merged (owned_freed owner (layout_of old))
+  pub passed : Passed now (NoneOwned owner) at
+  pub counted : count + count_by (is_owned_by owner) (chunks_of now) ≡ count_by (is_owned_by owner) (layout_of old)
+  pub few : 8 * count ≤ at

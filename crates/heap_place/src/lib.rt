@@ -16,6 +16,7 @@
 //! | `room` | finds room for a chunk |
 //! | `claim` | makes a live chunk at the front of room |
 //! | `release` | makes a live chunk free |
+//! | `owned` | makes all chunks of an owner free |
 //! | `alter` | writes another header for a live chunk |
 #![tactic(auto)]
 
@@ -23,6 +24,7 @@ mod alter;
 mod claim;
 mod found;
 mod lookup;
+mod owned;
 mod release;
 mod room;
 mod space;

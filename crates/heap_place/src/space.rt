@@ -1,19 +1,20 @@
 //! The type that owns a heap's region.
 
-ghost use Rattle.std.specs.Prelude.{◌≡◌, ◌≢◌, ◌≤◌, ◌<◌, ◌+◌, ◌-◌, ◌++◌, ◌∷◌, ◌⊎◌, ◌^◌, [], length, replicate, IfSome, IfNone, None};
+ghost use Rattle.std.specs.Prelude.{◌≡◌, ◌≢◌, ◌≤◌, ◌<◌, ◌+◌, ◌-◌, ◌++◌, ◌∷◌, ◌⊎◌, ◌^◌, [], length, replicate, count_by, IfSome, IfNone, None};
 ghost use Rattle.heap_model.specs.Bytes.{u32_at};
-ghost use Rattle.heap_model.specs.Chunk.{movable, fixed, need, fixed_lock};
+ghost use Rattle.heap_model.specs.Chunk.{movable, fixed, need, fixed_lock, is_owned_by};
 ghost use Rattle.heap_model.specs.Slots.{IsSlot};
 ghost use Rattle.heap_model.specs.Heap.{HeapAccepted, directory_of};
 ghost use Rattle.heap_model.specs.Reading.{chunks_of, held};
 ghost use Rattle.heap_model.specs.Space.{NoRun, free_total};
-ghost use Rattle.heap_model.specs.Layout.{Exchanges, Alters, in_front, freed, with_lock, with_owner, with_bytes, FreeUpTo, IsRoom};
+ghost use Rattle.heap_model.specs.Layout.{Becomes, layout_of, owned_freed, Exchanges, Alters, in_front, freed, with_lock, with_owner, with_bytes, FreeUpTo, IsRoom};
 ghost use Rattle.heap_place.specs.Found.{IsFound, IsOne, NothingAt, CanGoTo};
 
 use crate::alter::{relock_at, reown_at};
 use crate::claim::{claim_fixed_at, claim_movable, cut};
 use crate::found::Found;
 use crate::lookup::{find_named, find_placed};
+use crate::owned::release_owned;
 use crate::release::release;
 use crate::room::{Room, find_room};
 use crate::walks::free_bytes;
@@ -143,6 +144,18 @@ impl Space {
         ensures rest { self.new ≡ record self.old { bytes = self.new.bytes } }
     {
         release(&mut self.region, found)
+    }
+
+    /// Makes all chunks of an owner but the manager free, locked and fixed ones too, in one walk, and
+    /// answers how many there were.
+    pub fn give_back_owned(&mut self, owner: u8) -> u32
+        requires accepted { HeapAccepted self.old.bytes }
+        requires some_owner { 0 < owner }
+        ensures gone { Becomes self.old.bytes self.new.bytes (owned_freed owner (layout_of self.old.bytes)) }
+        ensures count { result ≡ count_by (is_owned_by owner) (layout_of self.old.bytes) }
+        ensures rest { self.new ≡ record self.old { bytes = self.new.bytes } }
+    {
+        release_owned(&mut self.region, owner)
     }
 
     /// Gives a movable chunk another lock count. One of the manager's, whose owner is 0, has none.

@@ -1,0 +1,263 @@
+-- The walk that makes an owner's chunks free.
+use Rattle.std.proofs.Common.{◌≡◌, ◌≢◌, ℕ, ◌+◌, ◌-◌, ◌*◌, ◌<◌, ◌≤◌, Bool, true, false, cond, List, [], ◌∷◌, ◌++◌, length, Option, Some, None, refl, sym, ap, subst, ◌∙◌, append_assoc, arith, inl, inr}
+use Rattle.std.proofs.lemmas.Bool.{cases_eq, eqb-true, eq-eqb}
+use Rattle.std.proofs.lemmas.Bool.Decides.{nat_tests}
+use Rattle.std.proofs.lemmas.List.Sums.{sum_by-append, sum_by-cons}
+use Rattle.std.specs.Prelude.{◌==◌, count_by}
+use Rattle.heap_model.specs.Chunk.{Chunk, free, movable, fixed, fixed_lock, size_of, total, is_owned_by, Spelled, SpelledAll}
+use Rattle.heap_model.specs.Slots.{area_start}
+use Rattle.heap_model.specs.Heap.{directory_of, HeapAccepted}
+use Rattle.heap_model.specs.Placed.{EveryPlaced, AnyPlaced}
+use Rattle.heap_model.specs.Meaning.{LiveChunk, NamedHere}
+use Rattle.heap_model.specs.Reading.{chunks_of}
+use Rattle.heap_model.specs.Space.{AllFree}
+use Rattle.heap_model.specs.Placing.{Finds}
+use Rattle.heap_model.specs.Layout.{merged, layout_of, Becomes, Alters, FreeUpTo, freed, owned_freed}
+use Rattle.heap_model.specs.declared.names.Place.{Place}
+use Rattle.heap_laws.proofs.Deciding.{cond-true, cond-false, true_or_false}
+use Rattle.heap_laws.proofs.Chunks.{total-append, SpelledAll-split, SpelledAll-end}
+use Rattle.heap_laws.proofs.Placed.{TakesBytes, SpelledAll-takes, AnyPlaced-left, AnyPlaced-split, EveryPlaced-split}
+use Rattle.heap_laws.proofs.Finding.{read_heap, finds_held}
+use Rattle.heap_laws.proofs.Layouts.{any-merged}
+use Rattle.heap_laws.proofs.Becoming.{same_frame, frame_then, becomes_start}
+use Rattle.heap_laws.proofs.Exchanging.{exchanges_parts}
+use Rattle.heap_laws.proofs.Changing.{named_live_chunk}
+use Rattle.heap_laws.proofs.Owning.{owned, counted_one, owned-merged, freed_if, owned_freed-append, owned_freed-merged, owned_freed-layout, owned_freed-none, not_directory}
+use Rattle.chunk_format.specs.declared.header.Header.{Header}
+use Rattle.chunk_format.specs.declared.header.Header.TheVariants as headers
+use Rattle.chunk_format.specs.Header.{header_of, size_by, HasHeader}
+use Rattle.heap_place.specs.declared.found.Found.{Found}
+use Rattle.heap_place.specs.Found.{IsOne, owned_by}
+use Rattle.heap_place.specs.Search.{Passed, NoneOwned, Freeing}
+use Rattle.heap_place.proofs.WalkLaws.{passed_start, passed_there, passed_at, passed_more, passed_all, passed_parts}
+use Rattle.heap_place.proofs.LookupLaws.{placed}
+
+-- ---- an owner's chunk
+
+-- what the header of an owner's chunk says of it
+record OwnedAs (at owner : ℕ) (c : Chunk) (found : Found) : Type 0 where
+  live : LiveChunk
+  named : NamedHere found.name.0 live at c
+  place : found.place.0 ≡ at + 8
+  count : found.length ≡ length live.bytes
+  lock_is : found.lock ≡ live.lock
+  owner_is : found.owner ≡ live.owner
+  own : found.owner ≡ owner
+  is : is_owned_by owner c ≡ true
+
+owned_named : (at owner : ℕ) (header : Header) (c : Chunk) (found : Found) → header ≡ header_of c → owned_by header (placed (at + 8)) owner ≡ Some found → OwnedAs at owner c found
+owned_named at owner header (free size) found e f = let g : owned_by (headers.Free size) (placed (at + 8)) owner ≡ Some found = subst (λ (h : Header). owned_by h (placed (at + 8)) owner ≡ Some found) e f in absurd cc
+owned_named at owner header (movable bytes lock own slot) found e f = by_test (own == owner) refl g where
+  chunk : Found
+  chunk = record { name = record { 0 = slot }; place = placed (at + 8); length = length bytes; lock = lock; owner = owner }
+
+  g : owned_by (headers.Movable (length bytes) lock own slot) (placed (at + 8)) owner ≡ Some found
+  g = subst (λ (h : Header). owned_by h (placed (at + 8)) owner ≡ Some found) e f
+
+  made : own ≡ owner → OwnedAs at owner (movable bytes lock own slot) chunk
+  made same = record { live = record { bytes = bytes; lock = lock; owner = own }; named = (refl, refl); place = refl; count = refl; lock_is = refl; owner_is = sym same; own = refl; is = eq-eqb own owner same }
+
+  one : Some chunk ≡ Some found → chunk ≡ found
+  one s = cc
+
+  by_test : (t : Bool) → (own == owner) ≡ t → cond t (Some chunk) None ≡ Some found → OwnedAs at owner (movable bytes lock own slot) found
+  by_test true is s = subst (λ (x : Found). OwnedAs at owner (movable bytes lock own slot) x) (one s) (made (eqb-true own owner is))
+  by_test false is s = absurd cc
+owned_named at owner header (fixed bytes own) found e f = by_test (own == owner) refl g where
+  chunk : Found
+  chunk = record { name = record { 0 = at + 8 }; place = placed (at + 8); length = length bytes; lock = fixed_lock; owner = owner }
+
+  g : owned_by (headers.Fixed (length bytes) own) (placed (at + 8)) owner ≡ Some found
+  g = subst (λ (h : Header). owned_by h (placed (at + 8)) owner ≡ Some found) e f
+
+  made : own ≡ owner → OwnedAs at owner (fixed bytes own) chunk
+  made same = record { live = record { bytes = bytes; lock = fixed_lock; owner = own }; named = (refl, refl); place = refl; count = refl; lock_is = refl; owner_is = sym same; own = refl; is = eq-eqb own owner same }
+
+  one : Some chunk ≡ Some found → chunk ≡ found
+  one s = cc
+
+  by_test : (t : Bool) → (own == owner) ≡ t → cond t (Some chunk) None ≡ Some found → OwnedAs at owner (fixed bytes own) found
+  by_test true is s = subst (λ (x : Found). OwnedAs at owner (fixed bytes own) x) (one s) (made (eqb-true own owner is))
+  by_test false is s = absurd cc
+
+-- any other chunk is not the owner's
+not_owned_named : (at owner : ℕ) (c : Chunk) → owned_by (header_of c) (placed (at + 8)) owner ≡ None → is_owned_by owner c ≡ false
+not_owned_named at owner (free size) e = refl
+not_owned_named at owner (movable bytes lock own slot) e = by_test (own == owner) e where
+  chunk : Option Found
+  chunk = Some (record { name = record { 0 = slot }; place = placed (at + 8); length = length bytes; lock = lock; owner = owner })
+
+  by_test : (t : Bool) → cond t chunk None ≡ None → t ≡ false
+  by_test true s = absurd cc
+  by_test false s = refl
+not_owned_named at owner (fixed bytes own) e = by_test (own == owner) e where
+  chunk : Option Found
+  chunk = Some (record { name = record { 0 = at + 8 }; place = placed (at + 8); length = length bytes; lock = fixed_lock; owner = owner })
+
+  by_test : (t : Bool) → cond t chunk None ≡ None → t ≡ false
+  by_test true s = absurd cc
+  by_test false s = refl
+
+-- it is found where the walk has come to
+pub owned_one : (image : List ℕ) (P : List Chunk → Type 0) (at owner : ℕ) (header : Header) (found : Found) → HeapAccepted image → Passed image P at → HasHeader image at header → owned_by header (placed (at + 8)) owner ≡ Some found → IsOne image found
+owned_one image P at owner header found h p has is =
+    let o = owned_named at owner header has.chunk found has.header_is is in
+    let parts = passed_parts image P at header h p has in
+    let place = o.place in
+    let back : found.place.0 - 8 ≡ at = omega arith in
+    let finds : Finds image found.name.0 o.live has.chunk at = record { before = p.front; after = parts.0; chunks = parts.1; there = passed_at image P at p; named = o.named } in
+    record { live = o.live; chunk = has.chunk; finds = subst (λ (n : ℕ). Finds image found.name.0 o.live has.chunk n) (sym back) finds; behind_header = omega arith; name_is = refl; count = o.count; lock_is = o.lock_is; owner_is = o.owner_is }
+
+pub owned_place : (image : List ℕ) (at owner : ℕ) (header : Header) (found : Found) → HasHeader image at header → owned_by header (placed (at + 8)) owner ≡ Some found → found.place.0 ≡ at + 8
+owned_place image at owner header found has is = (owned_named at owner header has.chunk found has.header_is is).place
+
+-- and is not the directory
+pub owned_apart : (image : List ℕ) (at owner : ℕ) (header : Header) (found : Found) → HeapAccepted image → (f : IsOne image found) → HasHeader image at header → owned_by header (placed (at + 8)) owner ≡ Some found → 0 < owner → found.name.0 ≢ directory_of image
+owned_apart image at owner header found h f has is some =
+    let own = (owned_named at owner header has.chunk found has.header_is is).own in
+    let owner_is = f.owner_is in
+    not_directory image found.name.0 f.live h (finds_held image found.name.0 f.live f.chunk (found.place.0 - 8) h f.finds) (λ none. let z : f.live.owner ≡ 0 = none in omega arith)
+
+-- ---- how many there are
+
+none_free : (owner : ℕ) (run : List Chunk) → AllFree run → NoneOwned owner run
+none_free owner [] f = refl
+none_free owner (free size ∷ run) f = let e : owned owner (free size ∷ run) ≡ 0 + owned owner run = sum_by-cons (λ (x : Chunk). cond (is_owned_by owner x) 1 0) (free size) run in let ih : owned owner run ≡ 0 = none_free owner run f in omega arith
+none_free owner (movable bytes lock own slot ∷ run) f = absurd f
+none_free owner (fixed bytes own ∷ run) f = absurd f
+
+-- the owner's chunk begins in front of an offset
+abbrev OwnedBelow : ℕ → ℕ → ℕ → Chunk → Type 0
+OwnedBelow owner limit at c = (at < limit) × (is_owned_by owner c ≡ true)
+
+owned_any : (owner limit at : ℕ) (cs : List Chunk) → EveryPlaced TakesBytes at cs → at + total cs ≤ limit → (NoneOwned owner cs → ⊥) → AnyPlaced (OwnedBelow owner limit) at cs
+owned_any owner limit at [] takes inside some = absurd (some refl)
+owned_any owner limit at (c ∷ cs) takes inside some =
+    let least = takes.0 in
+    elim (true_or_false (is_owned_by owner c)) [
+      | inl is ↦ inl (omega arith, is)
+      | inr other ↦ inr (owned_any owner limit (at + size_of c) cs takes.1 (omega arith) (λ none. some (none_front owner c cs other none)))
+    ] where
+      none_front : (owner : ℕ) (c : Chunk) (cs : List Chunk) → is_owned_by owner c ≡ false → NoneOwned owner cs → NoneOwned owner (c ∷ cs)
+      none_front owner c cs other none = let one : cond {A = ℕ} (is_owned_by owner c) 1 0 ≡ 0 = cond-false (is_owned_by owner c) 1 0 other in let rest : owned owner cs ≡ 0 = none in counted_one owner [] c cs ∙ (let zero_front : owned owner [] ≡ 0 = refl in omega arith)
+
+none_any : (owner limit at : ℕ) (cs : List Chunk) → NoneOwned owner cs → AnyPlaced (OwnedBelow owner limit) at cs → ⊥
+none_any owner limit at [] none h = h
+none_any owner limit at (c ∷ cs) none h =
+    let e : owned owner (c ∷ cs) ≡ cond {A = ℕ} (is_owned_by owner c) 1 0 + owned owner cs = sum_by-cons (λ (x : Chunk). cond (is_owned_by owner x) 1 0) c cs in
+    let all : owned owner (c ∷ cs) ≡ 0 = none in
+    elim h [
+      | inl here ↦ let one : cond {A = ℕ} (is_owned_by owner c) 1 0 ≡ 1 = cond-true (is_owned_by owner c) 1 0 here.1 in omega arith
+      | inr later ↦ none_any owner limit (at + size_of c) cs (let z : owned owner cs ≡ 0 = omega arith in z) later
+    ]
+
+none_beyond : (owner limit at : ℕ) (cs : List Chunk) → limit ≤ at → AnyPlaced (OwnedBelow owner limit) at cs → ⊥
+none_beyond owner limit at [] past h = h
+none_beyond owner limit at (c ∷ cs) past h = elim h [ inl here ↦ let low = here.0 in omega arith | inr later ↦ none_beyond owner limit (at + size_of c) cs (omega arith) later ]
+
+-- of a layout none of the owner's chunks begins in front of an offset, where none did
+none_in_front : (now new : List ℕ) (owner at : ℕ) (front rest before after : List Chunk) → Becomes now new (front ++ rest) → at ≡ area_start now + total front → NoneOwned owner front → chunks_of new ≡ before ++ after → area_start new + total before ≤ at → NoneOwned owner before
+none_in_front now new owner at front rest before after b there none parts low = elim (cases_eq (owned owner before) 0) [ inl zero_there ↦ zero_there | inr some ↦ absurd (not_one some) ] where
+  start : area_start new ≡ area_start now
+  start = becomes_start now new (front ++ rest) b
+
+  takes : EveryPlaced TakesBytes (area_start new) (before ++ after)
+  takes = subst (λ (cs : List Chunk). EveryPlaced TakesBytes (area_start new) cs) parts (SpelledAll-takes new (area_start new) (chunks_of new) (length new) (read_heap new b.frame.accepted).tiles.area)
+
+  P : ℕ → Chunk → Type 0
+  P = OwnedBelow owner at
+
+  not_free : (k size : ℕ) → OwnedBelow owner at k (free size) → ⊥
+  not_free k size h = let e = h.1 in absurd cc
+
+  not_one : (NoneOwned owner before → ⊥) → ⊥
+  not_one some =
+      let one : AnyPlaced (OwnedBelow owner at) (area_start new) (before ++ after) = AnyPlaced-left (OwnedBelow owner at) (area_start new) before after (owned_any owner at (area_start new) before (EveryPlaced-split TakesBytes (area_start new) before after takes).0 low some) in
+      let read : AnyPlaced (OwnedBelow owner at) (area_start now) (chunks_of new) = subst (λ (n : ℕ). AnyPlaced (OwnedBelow owner at) n (chunks_of new)) start (subst (λ (cs : List Chunk). AnyPlaced (OwnedBelow owner at) (area_start new) cs) (sym parts) one) in
+      let laid : AnyPlaced (OwnedBelow owner at) (area_start now) (merged (front ++ rest)) = subst (λ (cs : List Chunk). AnyPlaced (OwnedBelow owner at) (area_start now) cs) b.layout ((any-merged (OwnedBelow owner at) not_free (area_start now) (chunks_of new)).1 read) in
+      elim (AnyPlaced-split (OwnedBelow owner at) (area_start now) front rest ((any-merged (OwnedBelow owner at) not_free (area_start now) (front ++ rest)).0 laid)) [
+        | inl left ↦ none_any owner at (area_start now) front none left
+        | inr right ↦ none_beyond owner at (area_start now + total front) rest (omega arith) right
+      ]
+
+-- where there are none, one chunk more that is not the owner's changes nothing
+none_more : (owner : ℕ) (front : List Chunk) (c : Chunk) → NoneOwned owner front → is_owned_by owner c ≡ false → NoneOwned owner (front ++ c ∷ [])
+none_more owner front c none not_own = counted_one owner front c [] ∙ (let one : cond {A = ℕ} (is_owned_by owner c) 1 0 ≡ 0 = cond-false (is_owned_by owner c) 1 0 not_own in let end : owned owner [] ≡ 0 = refl in let before : owned owner front ≡ 0 = none in omega arith)
+
+-- ---- the walk
+
+pub freeing_start : (image : List ℕ) (owner : ℕ) → HeapAccepted image → Freeing image image owner (area_start image) 0
+freeing_start image owner h = record {
+  frame = same_frame image h;
+  same = sym (owned_freed-merged owner (chunks_of image));
+  passed = passed_start image (NoneOwned owner) h refl;
+  counted = let e = owned-merged owner (chunks_of image) in omega arith;
+  few = omega arith;
+}
+
+pub freeing_there : (old now : List ℕ) (owner at count : ℕ) → Freeing old now owner at count → at < length now → (c : Chunk) × Spelled now at c
+freeing_there old now owner at count f inside = passed_there now (NoneOwned owner) at f.frame.accepted f.passed inside
+
+pub freeing_kept : (old now : List ℕ) (owner at count : ℕ) (header : Header) (size : ℕ) → Freeing old now owner at count → HasHeader now at header → owned_by header (placed (at + 8)) owner ≡ None → size ≡ size_by header → Freeing old now owner (at + size) count
+freeing_kept old now owner at count header size f has not_own is =
+    let other = not_owned_named at owner has.chunk (subst (λ (h : Header). owned_by h (placed (at + 8)) owner ≡ None) has.header_is not_own) in
+    subst (λ (n : ℕ). Freeing old now owner (at + n) count) (sym is) record {
+      frame = f.frame;
+      same = f.same;
+      passed = passed_more now (NoneOwned owner) (NoneOwned owner) at header f.passed has (none_more owner f.passed.front has.chunk f.passed.holds other);
+      counted = f.counted;
+      few = let few = f.few in omega arith;
+    }
+
+-- one more was given back
+pub freeing_more : (old now new : List ℕ) (owner at count size : ℕ) (header : Header) (found : Found) → Freeing old now owner at count → (has : HasHeader now at header) → owned_by header (placed (at + 8)) owner ≡ Some found → Alters now new (found.place.0 - 8) freed
+    → FreeUpTo new (found.place.0 - 8) (found.place.0 - 8 + size) → Freeing old new owner (at + size) (count + 1) × (at + size ≤ length now) × (8 ≤ size)
+freeing_more old now new owner at count size header found f has is x v =
+    let o = owned_named at owner header has.chunk found has.header_is is in
+    let place = o.place in
+    let back : found.place.0 - 8 ≡ at = omega arith in
+    let parts = passed_parts now (NoneOwned owner) at header f.frame.accepted f.passed has in
+    let there = passed_at now (NoneOwned owner) at f.passed in
+    let front : List Chunk = f.passed.front in
+    let after : List Chunk = parts.0 in
+    let c : Chunk = has.chunk in
+    let b = (exchanges_parts now new at (λ chunk. freed chunk ∷ []) front c after f.frame.accepted (named_live_chunk found.name.0 at o.live c o.named) parts.1 there).0 (subst (λ (n : ℕ). Alters now new n freed) back x) in
+    let one : cond {A = ℕ} (is_owned_by owner c) 1 0 ≡ 1 = cond-true (is_owned_by owner c) 1 0 o.is in
+    let before_is : owned owner (chunks_of now) ≡ owned owner front + (cond {A = ℕ} (is_owned_by owner c) 1 0 + owned owner after) = ap (owned owner) parts.1 ∙ counted_one owner front c after in
+    let now_is : owned owner (chunks_of new) ≡ owned owner front + (0 + owned owner after) = sym (owned-merged owner (chunks_of new)) ∙ ap (owned owner) b.layout ∙ owned-merged owner (front ++ freed c ∷ after) ∙ counted_one owner front (freed c) after in
+    let counted = f.counted in
+    let few = f.few in
+    let u : FreeUpTo new at (at + size) = subst (λ (n : ℕ). FreeUpTo new n (n + size)) back v in
+    let least = u.least in
+    let to = u.to in
+    let len = b.frame.len in
+    let sizes = total-append u.before u.run in
+    let split : chunks_of new ≡ (u.before ++ u.run) ++ u.after = u.chunks ∙ sym (append_assoc u.before u.run u.after) in
+    let area : SpelledAll new (area_start new) ((u.before ++ u.run) ++ u.after) (length new) = subst (λ (cs : List Chunk). SpelledAll new (area_start new) cs (length new)) split (read_heap new b.frame.accepted).tiles.area in
+    let s = SpelledAll-split new (area_start new) (u.before ++ u.run) u.after (length new) area in
+    let end = SpelledAll-end new (area_start new + total (u.before ++ u.run)) u.after (length new) s.1 in
+    let none_before : owned owner u.before ≡ 0 = none_in_front now new owner at front (freed c ∷ after) u.before (u.run ++ u.after) b there f.passed.holds u.chunks u.from in
+    let none_run : owned owner u.run ≡ 0 = none_free owner u.run u.all_free in
+    let freed_c : freed_if owner c ≡ freed c = cond-true (is_owned_by owner c) (freed c) c o.is in
+    let lists : owned_freed owner (front ++ freed c ∷ after) ≡ owned_freed owner (front ++ c ∷ after) = owned_freed-append owner front (freed c ∷ after) ∙ ap (λ (d : Chunk). owned_freed owner front ++ d ∷ owned_freed owner after) (sym freed_c) ∙ sym (owned_freed-append owner front (c ∷ after)) in (
+      record {
+        frame = frame_then old now new f.frame b.frame;
+        same = owned_freed-layout owner (chunks_of new) (front ++ freed c ∷ after) b.layout ∙ ap merged lists ∙ sym (ap (λ (cs : List Chunk). merged (owned_freed owner cs)) parts.1) ∙ f.same;
+        passed = record {
+          front = u.before ++ u.run;
+          spelled = subst (λ (n : ℕ). SpelledAll new (area_start new) (u.before ++ u.run) n) (let e : area_start new + total (u.before ++ u.run) ≡ at + size = omega arith in e) s.0;
+          inside = omega arith;
+          holds = sum_by-append (λ (d : Chunk). cond (is_owned_by owner d) 1 0) u.before u.run ∙ (let e : owned owner u.before + owned owner u.run ≡ 0 = omega arith in e);
+        };
+        counted = omega arith;
+        few = omega arith;
+      },
+      omega arith,
+      omega arith,
+    )
+
+pub freeing_all : (old now : List ℕ) (owner at count : ℕ) → Freeing old now owner at count → length now ≤ at → Becomes old now (owned_freed owner (layout_of old)) × (count ≡ owned owner (layout_of old))
+freeing_all old now owner at count f beyond =
+    let none : owned owner (chunks_of now) ≡ 0 = passed_all now (NoneOwned owner) at f.frame.accepted f.passed beyond in
+    let counted = f.counted in
+    (record { frame = f.frame; layout = ap merged (sym (owned_freed-none owner (chunks_of now) none)) ∙ f.same }, omega arith)
