@@ -14,3 +14,4 @@ pub mod Freeing
 pub mod Writing
 pub mod Finding
 pub mod Altering
+pub mod Callers
