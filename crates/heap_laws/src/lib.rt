@@ -11,6 +11,7 @@
 //! | `Shapes`, `Runs` | chunks that are read and chunks that are spelled |
 //! | `Slots`, `Bodies` | slots by their number, and the two halves of the ties |
 //! | `Accepted`, `Meanings` | the test of an accepted heap, and the map that it holds |
+//! | `Callers` | changes of what callers may name, from changes of all that is held |
 //!
 //! The tests read the chunks and the map off the images of docs/FORMAT.md, and off the smallest
 //! image that breaks each part of the definition of an accepted heap alone.
