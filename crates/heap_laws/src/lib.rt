@@ -12,8 +12,7 @@
 //! | `Slots`, `Bodies` | slots by their number, and the two halves of the ties |
 //! | `Accepted`, `Meanings` | the test of an accepted heap, and the map that it holds |
 //!
-//! The tests read the chunks and the map off the images of docs/FORMAT.md, and off the smallest
-//! image that breaks each part of the definition of an accepted heap alone.
+//! `heap_format_tests` tries the definitions on images.
 #![tactic(auto)]
 
 mod laws;
@@ -22,6 +21,3 @@ pub use laws::{
     acceptance_is_decided, chunks_are_read, holds_one_map, need_is_whole, slots_are_listed,
     tied_one_to_one, tiled_once, tiles_are_read, zero_names_nothing,
 };
-
-#[cfg(test)]
-mod tests;
