@@ -16,9 +16,13 @@ const MAGIC: u32 = 0x5048_4931;
 
 /// Where the words of the frame stand, in bytes from the image's start.
 const MAGIC_AT: usize = 0;
+
 const SIZE_AT: usize = 4;
+
 const SLOT_COUNT_AT: usize = 8;
+
 const RESERVED_AT: usize = 10;
+
 const DIRECTORY_AT: usize = 12;
 
 /// What the frame takes in bytes. The table begins behind it.

@@ -1,6 +1,6 @@
 -- A survey of one chunk more.
-use Rattle.std.proofs.Common.{◌≡◌, ℕ, ◌+◌, ◌*◌, ◌<◌, ◌≤◌, Bool, true, false, cond, List, [], ◌∷◌, ◌++◌, length, Option, Some, None, refl, sym, ap, subst, ◌∙◌, arith, inl, inr}
-use Rattle.std.specs.Prelude.{◌⊎◌, ◌↔◌, slice_index_or, count_by}
+use Rattle.std.proofs.Common.{◌≡◌, ℕ, ◌+◌, ◌≤◌, Bool, true, false, cond, List, [], ◌∷◌, ◌++◌, length, Option, Some, None, refl, sym, ap, subst, ◌∙◌, arith, inl, inr}
+use Rattle.std.specs.Prelude.{slice_index_or, count_by}
 use Rattle.std.specs.Bool.{Decides}
 use Rattle.std.proofs.lemmas.Bool.{false≢true}
 use Rattle.std.proofs.lemmas.List.Sums.{sum_by_push}
@@ -130,6 +130,8 @@ walked_more image at header old new before_marks after_marks was found adds =
     let here : at ≡ area_start image + total was.chunks = SpelledAll-end image (area_start image) was.chunks at was.spelled in
     let counts = was.counts in
     let within = counts_within c takes.0 in
+    let whole = was.whole in
+    let takes_whole = takes.2 in
     let m : new.movable ≡ old.movable + movable_by (header_of c) = adds.movable ∙ ap (λ (h : Header). old.movable + movable_by h) found.header_is in
     let f : new.fixed ≡ old.fixed + fixed_by (header_of c) = adds.fixed ∙ ap (λ (h : Header). old.fixed + fixed_by h) found.header_is in
     let s : new.free ≡ old.free + free_by (header_of c) = adds.free ∙ ap (λ (h : Header). old.free + free_by h) found.header_is in
@@ -139,6 +141,7 @@ walked_more image at header old new before_marks after_marks was found adds =
       surveys = surveys_more image was.chunks c at header old new before_marks after_marks here found.header_is was.surveys adds;
       counts = omega arith;
       inside = omega arith;
+      whole = omega arith;
     }
 
 -- at the end all chunks are surveyed

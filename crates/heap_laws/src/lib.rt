@@ -13,8 +13,7 @@
 //! | `Accepted`, `Meanings` | the test of an accepted heap, and the map that it holds |
 //! | `Callers` | changes of what callers may name, from changes of all that is held |
 //!
-//! The tests read the chunks and the map off the images of docs/FORMAT.md, and off the smallest
-//! image that breaks each part of the definition of an accepted heap alone.
+//! `heap_format_tests` tries the definitions on images.
 #![tactic(auto)]
 
 mod laws;
@@ -23,6 +22,3 @@ pub use laws::{
     acceptance_is_decided, chunks_are_read, holds_one_map, need_is_whole, slots_are_listed,
     tied_one_to_one, tiled_once, tiles_are_read, zero_names_nothing,
 };
-
-#[cfg(test)]
-mod tests;
