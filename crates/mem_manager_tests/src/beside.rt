@@ -12,54 +12,36 @@ use std::test::*;
 /// An image, and beside it the store of all that it holds.
 #[derive(Drop)]
 pub(crate) struct Beside {
-    region: Region,
+    pub(crate) image: Vec<u8>,
     store: PlainStore,
 }
 
 impl Beside {
-    pub(crate) fn new(alloc: Global, region: Region) -> Result<Beside, Fail> {
-        let store = PlainStore::of(alloc, &image_of(alloc, &region)?)?;
-        Ok(Beside { region, store })
+    pub(crate) fn new(alloc: Global, image: Vec<u8>) -> Result<Beside, Fail> {
+        let store = PlainStore::of(alloc, &Image::decode(alloc, &image)?)?;
+        Ok(Beside { image, store })
     }
 
-    /// The image, taken apart.
-    pub(crate) fn image(&self, alloc: Global) -> Result<Image<'_>, Fail> {
-        image_of(alloc, &self.region)
-    }
-
-    /// The bytes of the image.
-    pub(crate) fn bytes(&self) -> &[u8] {
-        bytes_of(&self.region)
-    }
-
-    /// Does a call on both. The replies must be the same, the image must hold just what the store has,
-    /// and the call must keep to its rules.
+    /// Does a call on both, and checks what came of it.
     pub(crate) fn call(
-        self,
+        &mut self,
         rt: &(impl Abort + AllocGlobal),
         spot: &str,
         call: &MemoryCall,
-    ) -> Result<(Beside, Reply), Fail> {
+    ) -> Result<Reply, Fail> {
         let alloc = rt.alloc();
-        let before = Vec::from_slice(alloc, bytes_of(&self.region))?;
-        let Beside { region, mut store } = self;
-        let mut heap = adopt(region)?;
+        let mut heap = adopt(alloc, &self.image)?;
         let reply = do_call(alloc, &mut heap, call)?;
         let region = heap.into_region();
-        check(
-            rt,
-            spot,
-            &mut store,
-            call,
-            &reply,
-            &before,
-            bytes_of(&region),
-        )?;
-        Ok((Beside { region, store }, reply))
+        let after = Vec::from_slice(alloc, bytes_of(&region))?;
+        check(rt, spot, &mut self.store, call, &reply, &self.image, &after)?;
+        self.image = after;
+        Ok(reply)
     }
 }
 
-/// Does a call on the model, and compares what came of it with what the heap answered and left.
+/// Does a call on the model. The replies must be the same, the image must hold just what the store has,
+/// and the call must have kept to its rules.
 fn check(
     rt: &(impl Abort + AllocGlobal),
     spot: &str,
@@ -77,14 +59,17 @@ fn check(
         .ok_or("no call of a heap's")?;
     let (said, right) = (text_of(alloc, reply)?, text_of(alloc, &expected)?);
     assert_eq!(rt; said.as_str(), right.as_str(), "{spot}");
-    assert_eq!(rt; store.difference(&after), None, "{spot}");
-    assert_eq!(rt; broken_rule(call, reply, &before, &after), None, "{spot}");
+    let odd = (
+        store.difference(&after),
+        broken_rule(call, reply, &before, &after),
+    );
+    assert_eq!(rt; odd, (None, None), "{spot}");
     Ok(())
 }
 
 /// The heap of an image.
-pub(crate) fn adopt(region: Region) -> Result<Heap, Fail> {
-    match Heap::adopt(region) {
+pub(crate) fn adopt(alloc: Global, image: &[u8]) -> Result<Heap, Fail> {
+    match Heap::adopt(Region::from_bytes(alloc, image)?) {
         Ok(heap) => Ok(heap),
         Err(_) => Err("no heap")?,
     }
@@ -93,8 +78,4 @@ pub(crate) fn adopt(region: Region) -> Result<Heap, Fail> {
 /// The bytes of a region.
 pub(crate) fn bytes_of(region: &Region) -> &[u8] {
     region.slice(0, region.len())
-}
-
-fn image_of(alloc: Global, region: &Region) -> Result<Image<'_>, Fail> {
-    Ok(Image::decode(alloc, bytes_of(region))?)
 }

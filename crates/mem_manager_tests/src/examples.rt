@@ -4,20 +4,18 @@
 use crate::beside::Beside;
 use crate::images::{five, image, small};
 use crate::notation::{call_of, text_of};
-use raw_region::Region;
 use std::process::Abort;
 use std::test::*;
 
 /// Does the calls of some lines, one after the other.
-fn check_lines(rt: &(impl Abort + AllocGlobal), region: Region, lines: &str) -> Result<(), Fail> {
+fn check_lines(rt: &(impl Abort + AllocGlobal), image: Vec<u8>, lines: &str) -> Result<(), Fail> {
     let alloc = rt.alloc();
-    let mut beside = Beside::new(alloc, region)?;
+    let mut beside = Beside::new(alloc, image)?;
     for line in lines.lines() {
         let (call, right) = line.trim().split_once(" = ").ok_or("no reply")?;
-        let (next, reply) = beside.call(rt, line, &call_of(alloc, call)?)?;
+        let reply = beside.call(rt, line, &call_of(alloc, call)?)?;
         let said = text_of(alloc, &reply)?;
         assert_eq!(rt; said.as_str(), right, "{line}");
-        beside = next;
     }
     Ok(())
 }
@@ -114,9 +112,9 @@ fn chunks_of_the_manager_and_of_databases(rt: HostRuntime) -> Result<(), Fail> {
         unlock 24 = refused InvalidHandle
         locks 24 = refused InvalidHandle
         read 24 0 1 = refused InvalidHandle
-        write 24 0 41 = refused InvalidHandle
+        write 24 0: 41 = refused InvalidHandle
         set 24 0 1 1 = refused InvalidHandle
-        str_copy 24 0 - = refused InvalidHandle
+        str_copy 24 0 = refused InvalidHandle
         set_owner 24 1 = refused InvalidHandle
         recover 88 = refused InvalidHandle
         owner 16 = 15
@@ -124,8 +122,8 @@ fn chunks_of_the_manager_and_of_databases(rt: HostRuntime) -> Result<(), Fail> {
         set_owner 16 0 = refused OwnedByDatabase
         lock 16 = at 40 locks 1
         free 16 = refused OwnedByDatabase
-        write 16 0 41 = done
-        read 16 0 2 = bytes 4100
+        write 16 0: 41 = done
+        read 16 0 2 = x4100
         recover 40 = named 16
         free 20 = refused ChunkLocked
         set_owner 20 14 = done
@@ -163,14 +161,14 @@ fn a_body_of_no_bytes(rt: HostRuntime) -> Result<(), Fail> {
         small(rt.alloc())?,
         "handle_new 0 1 = named 16
         size 16 = 0
-        read 16 0 0 = bytes -
+        read 16 0 0 = x
         read 16 1 0 = refused OutOfBounds
-        write 16 0 41 = refused ChunkNotLocked
+        write 16 0: 41 = refused ChunkNotLocked
         lock 16 = at 40 locks 1
-        write 16 0 41 = refused OutOfBounds
-        write 16 0 - = done
+        write 16 0: 41 = refused OutOfBounds
+        write 16 0 = done
         set 16 0 0 7 = done
-        str_copy 16 0 - = refused OutOfBounds
+        str_copy 16 0 = refused OutOfBounds
         free_bytes = 88",
     )
 }
@@ -183,18 +181,18 @@ fn bytes_end_at_the_length(rt: HostRuntime) -> Result<(), Fail> {
         small(rt.alloc())?,
         "handle_new 10 1 = named 16
         lock 16 = at 40 locks 1
-        write 16 9 41 = done
-        write 16 9 4142 = refused OutOfBounds
-        read 16 0 10 = bytes 00000000000000000041
-        str_copy 16 8 78 = done
-        str_copy 16 9 78 = refused OutOfBounds
-        read 16 0 10 = bytes 00000000000000007800
-        str_copy 16 0 6162006364 = done
-        read 16 0 6 = bytes 616200000000
+        write 16 9: 41 = done
+        write 16 9: 4142 = refused OutOfBounds
+        read 16 0 10 = x00000000000000000041
+        str_copy 16 8: 78 = done
+        str_copy 16 9: 78 = refused OutOfBounds
+        read 16 0 10 = x00000000000000007800
+        str_copy 16 0: 6162006364 = done
+        read 16 0 6 = x616200000000
         set 16 2 3 65 = done
         set 16 8 3 65 = refused OutOfBounds
-        read 16 0 10 = bytes 61624141410000007800
-        read 16 10 0 = bytes -
+        read 16 0 10 = x61624141410000007800
+        read 16 10 0 = x
         read 16 11 0 = refused OutOfBounds
         read 16 10 1 = refused OutOfBounds
         read 16 0 11 = refused OutOfBounds
@@ -220,11 +218,11 @@ fn a_fixed_chunk_has_no_lock_count(rt: HostRuntime) -> Result<(), Fail> {
         free_bytes = 88
         ptr_new 81 1 = refused NotEnoughSpace
         ptr_new 80 2 = named 48
-        write 48 72 3132333435363738 = done
-        write 48 73 3132333435363738 = refused OutOfBounds
+        write 48 72: 3132333435363738 = done
+        write 48 73: 3132333435363738 = refused OutOfBounds
         set_owner 48 9 = done
         owner 48 = 9
-        read 48 72 8 = bytes 3132333435363738
+        read 48 72 8 = x3132333435363738
         free 48 = done
         free_bytes = 88",
     )
@@ -268,8 +266,8 @@ fn a_place_gives_its_name_back(rt: HostRuntime) -> Result<(), Fail> {
         small(rt.alloc())?,
         "handle_new 32 1 = named 16
         lock 16 = at 40 locks 1
-        write 16 0 0000001001fffff4 = done
-        write 16 16 00000010f1000000 = done
+        write 16 0: 0000001001fffff4 = done
+        write 16 16: 00000010f1000000 = done
         recover 40 = named 16
         recover 48 = refused InvalidHandle
         recover 64 = refused InvalidHandle

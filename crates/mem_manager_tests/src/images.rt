@@ -1,7 +1,7 @@
 //! Images that tests start from.
 
+use crate::beside::bytes_of;
 use chunk_format::blank;
-use raw_region::Region;
 use std::alloc::Global;
 use std::test::*;
 
@@ -11,7 +11,7 @@ pub(crate) fn image(
     size: u32,
     slots: u16,
     words: &[(usize, u32)],
-) -> Result<Region, Fail> {
+) -> Result<Vec<u8>, Fail> {
     let mut region = blank(alloc, size, slots)?;
     for (at, word) in words {
         if *at > region.len() || region.len() - *at < 4 {
@@ -19,17 +19,17 @@ pub(crate) fn image(
         }
         region.put_u32(*at, *word);
     }
-    Ok(region)
+    Ok(Vec::from_slice(alloc, bytes_of(&region))?)
 }
 
 /// A blank image of 128 bytes with 4 slots.
-pub(crate) fn small(alloc: Global) -> Result<Region, Fail> {
+pub(crate) fn small(alloc: Global) -> Result<Vec<u8>, Fail> {
     image(alloc, 128, 4, &[])
 }
 
 /// Five chunks behind each other: one of a database's under the slot at 16, one with two locks under
 /// the slot at 20, a fixed one at 72, the directory under the slot at 24, and 32 free bytes.
-pub(crate) fn five(alloc: Global) -> Result<Region, Fail> {
+pub(crate) fn five(alloc: Global) -> Result<Vec<u8>, Fail> {
     let words = [
         (12, 24),
         (16, 40),
@@ -51,7 +51,7 @@ pub(crate) fn five(alloc: Global) -> Result<Region, Fail> {
 
 /// An image of 1024 bytes with 12 slots: from 64 on a chunk of a database's with slack, a free one, a
 /// fixed one with slack, the directory, one with 14 locks, and the rest free.
-pub(crate) fn large(alloc: Global) -> Result<Region, Fail> {
+pub(crate) fn large(alloc: Global) -> Result<Vec<u8>, Fail> {
     let words = [
         (12, 24),
         (16, 72),
@@ -75,7 +75,7 @@ pub(crate) fn large(alloc: Global) -> Result<Region, Fail> {
 /// that aren't joined, bits and bytes in free chunks that mean nothing, slack that isn't zero, slots in
 /// another order than their chunks. From 40 on: two free chunks, a locked one of a database's, a header
 /// of the manager's, a free one, the directory, one of no bytes, and the rest free.
-pub(crate) fn odd(alloc: Global) -> Result<Region, Fail> {
+pub(crate) fn odd(alloc: Global) -> Result<Vec<u8>, Fail> {
     let words = [
         (12, 32),
         (16, 176),

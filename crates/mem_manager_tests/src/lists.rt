@@ -4,20 +4,19 @@ use crate::beside::{Beside, adopt, bytes_of};
 use crate::images::{five, image, large, odd};
 use crate::notation::{do_call, text_of};
 use heap_model::{Bytes, MemoryCall, Name, Place, Reply};
-use plain_model::Piece;
+use plain_model::{Image, Piece};
 use rand::RngExt;
 use rand::seq::IndexedRandom;
 use rand_pcg::Pcg32;
-use raw_region::Region;
 use std::alloc::Global;
 use std::process::Abort;
 use std::test::*;
 
-/// A name: most often that of a chunk in the image, else one that was answered before, a slot's, one
-/// between slots or in the chunks, or one beyond the image.
-fn any_name(random: &mut Pcg32, pieces: &[Piece], answered: &[Name]) -> Name {
+/// A name: most often that of a chunk in the image, else a slot's, one between slots or in the chunks,
+/// or one beyond the image.
+fn any_name(random: &mut Pcg32, pieces: &[Piece]) -> Name {
     match random.random_range(0u32..8) {
-        0..=3 => match pieces.choose(random) {
+        0..=4 => match pieces.choose(random) {
             Some(
                 Piece {
                     live: Some(live),
@@ -25,10 +24,6 @@ fn any_name(random: &mut Pcg32, pieces: &[Piece], answered: &[Name]) -> Name {
                 },
             ) => live.name,
             Some(piece) => Name(piece.place.0),
-            None => Name(0),
-        },
-        4 => match answered.choose(random) {
-            Some(name) => *name,
             None => Name(0),
         },
         5 => Name(16 + 4 * random.random_range(0u32..24)),
@@ -77,13 +72,8 @@ fn any_bytes(random: &mut Pcg32, alloc: Global) -> Result<Bytes, Fail> {
 }
 
 /// A call of those that a heap has.
-fn any_call(
-    random: &mut Pcg32,
-    alloc: Global,
-    pieces: &[Piece],
-    answered: &[Name],
-) -> Result<MemoryCall, Fail> {
-    let name = any_name(random, pieces, answered);
+fn any_call(random: &mut Pcg32, alloc: Global, pieces: &[Piece]) -> Result<MemoryCall, Fail> {
+    let name = any_name(random, pieces);
     match random.random_range(0u32..32) {
         0..=6 => call_on_bytes(random, alloc, name),
         7..=8 => Ok(MemoryCall::Recover(any_place(random, pieces))),
@@ -150,49 +140,49 @@ fn call_on_chunk(random: &mut Pcg32, name: Name) -> MemoryCall {
 #[derive(Drop)]
 struct Done {
     call: MemoryCall,
-    reply: String,
+    reply: Reply,
 }
 
-/// Does a list of calls that a seed gives, each on the image that the one before left. Then does the
-/// list again, on one heap from end to end: it must answer the same and leave the same bytes.
+/// Does a list of calls that a seed gives, each on the image that the one before left.
 fn run_list(
     rt: &(impl Abort + AllocGlobal),
-    region: Region,
+    image: Vec<u8>,
     seed: u64,
     count: u32,
 ) -> Result<(), Fail> {
     let alloc = rt.alloc();
-    let again = Region::from_bytes(alloc, bytes_of(&region))?;
+    let first = image.clone()?;
     let mut random = Pcg32::new(seed, 1);
-    let mut answered = Vec::new(alloc);
     let mut list = Vec::new(alloc);
-    let mut beside = Beside::new(alloc, region)?;
+    let mut beside = Beside::new(alloc, image)?;
     for number in 0..count {
-        let call = any_call(&mut random, alloc, &beside.image(alloc)?.pieces, &answered)?;
+        let call = any_call(
+            &mut random,
+            alloc,
+            &Image::decode(alloc, &beside.image)?.pieces,
+        )?;
         let spot = format!(in alloc; "call {number} of list {seed}")?;
-        let (next, reply) = beside.call(rt, spot.as_str(), &call)?;
-        beside = next;
-        if let Reply::Named(name) = reply {
-            answered.push(name)?;
-        }
-        let reply = text_of(alloc, &reply)?;
+        let reply = beside.call(rt, spot.as_str(), &call)?;
         list.push(Done { call, reply })?;
     }
-    let mut heap = adopt(again)?;
-    for done in &list {
-        let reply = text_of(alloc, &do_call(alloc, &mut heap, &done.call)?)?;
-        assert_eq!(rt;
-            reply.as_str(),
-            done.reply.as_str(),
-            "list {seed} on one heap"
-        );
+    check_again(rt, &list, &first, &beside.image)
+}
+
+/// Does a list again, on one heap from end to end: it must answer the same and leave the same bytes.
+fn check_again(
+    rt: &(impl Abort + AllocGlobal),
+    list: &[Done],
+    first: &[u8],
+    last: &[u8],
+) -> Result<(), Fail> {
+    let alloc = rt.alloc();
+    let mut heap = adopt(alloc, first)?;
+    for done in list {
+        let said = text_of(alloc, &do_call(alloc, &mut heap, &done.call)?)?;
+        let right = text_of(alloc, &done.reply)?;
+        assert_eq!(rt; said.as_str(), right.as_str(), "on one heap");
     }
-    let region = heap.into_region();
-    assert_eq!(rt;
-        bytes_of(&region),
-        beside.bytes(),
-        "list {seed} on one heap"
-    );
+    assert_eq!(rt; bytes_of(&heap.into_region()), last, "on one heap");
     Ok(())
 }
 

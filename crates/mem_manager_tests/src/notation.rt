@@ -1,70 +1,88 @@
-//! Calls and replies as text: `lock 16 = at 40 locks 1`. Bytes are in hex, `-` for none.
+//! Calls and replies as text: `lock 16 = at 40 locks 1`, `write 16 0: 4142 = done`, `read 16 0 2 = x4142`.
 
 use heap_model::{Bytes, MemoryCall, Name, Place, Reply};
 use mem_manager::{Heap, Locked};
 use std::alloc::{AllocError, Global};
 use std::test::*;
 
-/// The call that a line is.
+/// The call that a line is: a word, numbers, and bytes in hex behind a colon, if there are some.
 pub(crate) fn call_of(alloc: Global, line: &str) -> Result<MemoryCall, Fail> {
-    let words: Vec<&str> = line.split_whitespace().collect(alloc)?;
-    let call = match words.as_slice() {
-        ["handle_new", size, owner] => MemoryCall::HandleNew {
-            size: size.parse::<u32>()?,
-            owner: owner.parse::<u8>()?,
+    let (front, digits) = line.split_once(": ").unwrap_or((line, ""));
+    let (word, rest) = front.split_once(" ").unwrap_or((front, ""));
+    let mut numbers = Vec::new(alloc);
+    for number in rest.split_whitespace() {
+        numbers.push(number.parse::<u32>()?)?;
+    }
+    let bytes = Bytes::of(hex::decode(alloc, digits)?);
+    let call = match numbers.as_slice() {
+        [] if word == "free_bytes" => MemoryCall::FreeBytes,
+        [number] => call_on(word, *number)?,
+        [first, second] => call_with(word, *first, *second, bytes)?,
+        [name, at, count] => MemoryCall::Read {
+            name: Name(*name),
+            at: *at,
+            count: *count,
         },
-        ["ptr_new", size, owner] => MemoryCall::PtrNew {
-            size: size.parse::<u32>()?,
-            owner: owner.parse::<u8>()?,
+        [name, at, count, byte] => MemoryCall::Set {
+            name: Name(*name),
+            at: *at,
+            count: *count,
+            byte: as_u8(*byte),
         },
-        ["free", name] => MemoryCall::Free(name_of(name)?),
-        ["lock", name] => MemoryCall::Lock(name_of(name)?),
-        ["unlock", name] => MemoryCall::Unlock(name_of(name)?),
-        ["size", name] => MemoryCall::Size(name_of(name)?),
-        ["owner", name] => MemoryCall::Owner(name_of(name)?),
-        ["locks", name] => MemoryCall::Locks(name_of(name)?),
-        ["read", name, at, count] => MemoryCall::Read {
-            name: name_of(name)?,
-            at: at.parse::<u32>()?,
-            count: count.parse::<u32>()?,
-        },
-        ["write", name, at, bytes] => MemoryCall::Write {
-            name: name_of(name)?,
-            at: at.parse::<u32>()?,
-            bytes: bytes_of(alloc, bytes)?,
-        },
-        ["set", name, at, count, byte] => MemoryCall::Set {
-            name: name_of(name)?,
-            at: at.parse::<u32>()?,
-            count: count.parse::<u32>()?,
-            byte: byte.parse::<u8>()?,
-        },
-        ["str_copy", name, at, text] => MemoryCall::StrCopy {
-            name: name_of(name)?,
-            at: at.parse::<u32>()?,
-            text: bytes_of(alloc, text)?,
-        },
-        ["set_owner", name, owner] => MemoryCall::SetOwner {
-            name: name_of(name)?,
-            owner: owner.parse::<u8>()?,
-        },
-        ["recover", place] => MemoryCall::Recover(Place(place.parse::<u32>()?)),
-        ["free_by_owner", owner] => MemoryCall::FreeByOwner(owner.parse::<u8>()?),
-        ["free_bytes"] => MemoryCall::FreeBytes,
         _ => return Err("no call")?,
     };
     Ok(call)
 }
 
-fn name_of(word: &str) -> Result<Name, Fail> {
-    Ok(Name(word.parse::<u32>()?))
+/// A call with one number.
+fn call_on(word: &str, number: u32) -> Result<MemoryCall, Fail> {
+    let name = Name(number);
+    let call = match word {
+        "free" => MemoryCall::Free(name),
+        "lock" => MemoryCall::Lock(name),
+        "unlock" => MemoryCall::Unlock(name),
+        "size" => MemoryCall::Size(name),
+        "owner" => MemoryCall::Owner(name),
+        "locks" => MemoryCall::Locks(name),
+        "recover" => MemoryCall::Recover(Place(number)),
+        "free_by_owner" => MemoryCall::FreeByOwner(as_u8(number)),
+        _ => return Err("no call")?,
+    };
+    Ok(call)
 }
 
-fn bytes_of(alloc: Global, word: &str) -> Result<Bytes, Fail> {
-    if word == "-" {
-        return Ok(Bytes::of(Vec::new(alloc)));
-    }
-    Ok(Bytes::of(hex::decode(alloc, word)?))
+/// A call with two numbers, and bytes if it takes some.
+fn call_with(word: &str, first: u32, second: u32, bytes: Bytes) -> Result<MemoryCall, Fail> {
+    let call = match word {
+        "handle_new" => MemoryCall::HandleNew {
+            size: first,
+            owner: as_u8(second),
+        },
+        "ptr_new" => MemoryCall::PtrNew {
+            size: first,
+            owner: as_u8(second),
+        },
+        "set_owner" => MemoryCall::SetOwner {
+            name: Name(first),
+            owner: as_u8(second),
+        },
+        "write" => MemoryCall::Write {
+            name: Name(first),
+            at: second,
+            bytes,
+        },
+        "str_copy" => MemoryCall::StrCopy {
+            name: Name(first),
+            at: second,
+            text: bytes,
+        },
+        _ => return Err("no call")?,
+    };
+    Ok(call)
+}
+
+fn as_u8(number: u32) -> u8 {
+    u8::try_from(number).unwrap_or(u8::MAX)
 }
 
 /// A reply as text.
@@ -78,10 +96,9 @@ pub(crate) fn text_of(alloc: Global, reply: &Reply) -> Result<String, AllocError
             place: Place(place),
             count,
         } => format!(in alloc; "at {place} locks {count}"),
-        Reply::Data(bytes) if bytes.as_slice().is_empty() => format!(in alloc; "bytes -"),
         Reply::Data(bytes) => {
             let digits = hex::encode(alloc, bytes.as_slice())?;
-            format!(in alloc; "bytes {digits}")
+            format!(in alloc; "x{digits}")
         }
     }
 }
