@@ -1,5 +1,5 @@
-//! The calls of the memory manager, each as docs/CALLS.md words it: its refusals in their order, what it
-//! does and what it answers.
+//! The calls of the memory manager, each by the words of docs/SCRIPTS.md: its refusals in their order,
+//! what it does and what it answers.
 
 use crate::image::{Image, Kind};
 use crate::store::{Chunk, PlainStore};
@@ -267,7 +267,7 @@ fn check_owner(owner: u8) -> Result<(), Refusal> {
 }
 
 /// What a chunk of so many bytes takes: 8 for its header, and its bytes rounded up to a multiple of 8.
-fn need(size: u32) -> u64 {
+pub(crate) fn need(size: u32) -> u64 {
     8 + u64::from(size).next_multiple_of(8)
 }
 

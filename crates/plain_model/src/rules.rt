@@ -1,5 +1,6 @@
 //! What a call leaves alone, whatever it answers.
 
+use crate::calls::need;
 use crate::image::{Image, Kind, u32_at};
 use heap_model::{MemoryCall, Name, Refusal, Reply};
 
@@ -36,7 +37,7 @@ pub fn broken_rule(
     if matches!(reply, Reply::Refused(_)) && !has_same_room {
         return Some(Rule::Room);
     }
-    match first_moved(makes(call), before, after) {
+    match first_moved(finds_room(call, before), before, after) {
         Some(name) => Some(Rule::Moved(name)),
         None => odd_free_header(before, after).map(Rule::FreeHeader),
     }
@@ -61,12 +62,14 @@ fn leaves_bytes(call: &MemoryCall, reply: &Reply) -> bool {
     asks || refused
 }
 
-/// Whether a call makes a chunk, which it does without moving any.
-fn makes(call: &MemoryCall) -> bool {
-    matches!(
-        call,
-        MemoryCall::HandleNew { .. } | MemoryCall::PtrNew { .. }
-    )
+/// Whether a call makes a chunk for which a run of free chunks has room, so that none has to move.
+fn finds_room(call: &MemoryCall, before: &Image) -> bool {
+    match call {
+        MemoryCall::HandleNew { size, .. } | MemoryCall::PtrNew { size, .. } => {
+            before.first_room(need(*size)).is_some()
+        }
+        _ => false,
+    }
 }
 
 /// The first chunk that is still live and not where it was, of those that are locked or fixed, or of
