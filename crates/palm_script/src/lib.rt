@@ -23,4 +23,6 @@ mod tests;
 
 pub use calls::do_call;
 pub use runs::{RunFault, run};
-pub use script_lines::{ChunkLabel, Line, LineFault, Script, ScriptFault, parse};
+pub use script_lines::{
+    ChunkCall, ChunkLabel, HeapCall, Line, LineFault, NewCall, Script, ScriptFault, parse,
+};

@@ -7,7 +7,7 @@ ghost use Rattle.script_lines.specs.Reading.{read_script, words_in};
 ghost use Rattle.script_lines.specs.Views.{numbering, words_read};
 ghost use Rattle.script_lines.specs.Words.{words_of};
 
-use crate::command::{find_command, kinds_of, make_line};
+use crate::command::{find_command, make_line, row_of};
 use crate::fault::{LineFault, ScriptFault};
 use crate::label::Labels;
 use crate::line::{Line, Script};
@@ -70,7 +70,7 @@ fn read_command<'a, M: Memory>(
     let Some(command) = find_command(word) else {
         return Err(ScriptFault::UnknownCommand);
     };
-    let kinds = kinds_of(command);
+    let kinds = row_of(command).kinds;
     if kinds.len() != count {
         return Err(ScriptFault::WrongCount);
     }

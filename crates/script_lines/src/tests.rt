@@ -23,36 +23,38 @@ fn put_bytes(text: &mut String, bytes: &Bytes) -> Result<(), AllocError> {
 fn put_line(text: &mut String, line: &Line) -> Result<(), AllocError> {
     match line {
         Line::Bind { label, name } => write!(text, "bind {} {name}", label.0),
-        Line::New { label, size, owner } => write!(text, "new {} {size} {owner}", label.0),
-        Line::PtrNew { label, size, owner } => write!(text, "ptrnew {} {size} {owner}", label.0),
-        Line::Free(label) => write!(text, "free {}", label.0),
-        Line::SetOwner { label, owner } => write!(text, "setowner {} {owner}", label.0),
-        Line::Lock(label) => write!(text, "lock {}", label.0),
-        Line::Unlock(label) => write!(text, "unlock {}", label.0),
-        Line::Size(label) => write!(text, "size {}", label.0),
-        Line::Owner(label) => write!(text, "owner {}", label.0),
-        Line::Locks(label) => write!(text, "locks {}", label.0),
-        Line::Read { label, at, count } => write!(text, "read {} {at} {count}", label.0),
-        Line::Write { label, at, bytes } => {
-            write!(text, "write {} {at} ", label.0)?;
+        Line::New(label, NewCall::Handle { size, owner }) => {
+            write!(text, "new {} {size} {owner}", label.0)
+        }
+        Line::New(label, NewCall::Ptr { size, owner }) => {
+            write!(text, "ptrnew {} {size} {owner}", label.0)
+        }
+        Line::On(label, call) => put_call(text, label.0, call),
+        Line::Whole(HeapCall::FreeByOwner(owner)) => write!(text, "freeowner {owner}"),
+        Line::Whole(HeapCall::FreeBytes) => write!(text, "freebytes"),
+    }
+}
+
+/// A call on a chunk, as its command, its label's number and what else stands in its line.
+fn put_call(text: &mut String, label: usize, call: &ChunkCall) -> Result<(), AllocError> {
+    match call {
+        ChunkCall::Free => write!(text, "free {label}"),
+        ChunkCall::SetOwner(owner) => write!(text, "setowner {label} {owner}"),
+        ChunkCall::Lock => write!(text, "lock {label}"),
+        ChunkCall::Unlock => write!(text, "unlock {label}"),
+        ChunkCall::Size => write!(text, "size {label}"),
+        ChunkCall::Owner => write!(text, "owner {label}"),
+        ChunkCall::Locks => write!(text, "locks {label}"),
+        ChunkCall::Read { at, count } => write!(text, "read {label} {at} {count}"),
+        ChunkCall::Write { at, bytes } => {
+            write!(text, "write {label} {at} ")?;
             put_bytes(text, bytes)
         }
-        Line::Set {
-            label,
-            at,
-            count,
-            byte,
-        } => write!(text, "set {} {at} {count} {byte}", label.0),
-        Line::StrCopy {
-            label,
-            at,
-            text: copied,
-        } => {
-            write!(text, "strcopy {} {at} ", label.0)?;
+        ChunkCall::Set { at, count, byte } => write!(text, "set {label} {at} {count} {byte}"),
+        ChunkCall::StrCopy { at, text: copied } => {
+            write!(text, "strcopy {label} {at} ")?;
             put_bytes(text, copied)
         }
-        Line::FreeByOwner(owner) => write!(text, "freeowner {owner}"),
-        Line::FreeBytes => write!(text, "freebytes"),
     }
 }
 
