@@ -5,6 +5,6 @@
 #![tactic(auto)]
 
 #[cfg(test)]
-mod images;
+mod found;
 #[cfg(test)]
 mod tests;

@@ -1,6 +1,5 @@
 //! Calls of the memory manager on heaps of 128 bytes with 4 slots.
 
-use chunk_format::blank;
 use heap_check::HeapFault;
 use heap_model::{Name, Refusal};
 use mem_manager::Heap;
@@ -8,19 +7,9 @@ use raw_region::Region;
 use std::alloc::Global;
 use std::test::*;
 
-/// A blank image in which words are changed: each by its offset.
-pub(crate) fn image(alloc: Global, words: &[(usize, u32)]) -> Result<Region, Fail> {
-    let mut region = blank(alloc, 128, 4)?;
-    for (at, word) in words {
-        if *at > region.len() || region.len() - *at < 4 {
-            return Err("a word beyond the end")?;
-        }
-        region.put_u32(*at, *word);
-    }
-    Ok(region)
-}
+pub(crate) use test_images::changed_words as image;
 
-/// The same as a heap.
+/// A blank heap of 128 bytes with 4 slots in which words are changed.
 pub(crate) fn heap(alloc: Global, words: &[(usize, u32)]) -> Result<Heap, Fail> {
     match Heap::adopt(image(alloc, words)?) {
         Ok(heap) => Ok(heap),

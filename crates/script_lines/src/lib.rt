@@ -5,14 +5,13 @@
 //! line stand for, `Commands` the commands, one row each: the word, the kinds of the words behind it and
 //! the line that they make; and `Numbering` which number a label has.
 //! `parse` answers that script or its first faulty line, and nothing else unless memory is refused.
-//! Each growth asks a `Memory` first.
+//! Each growth asks an `Allowance` of heap_model first.
 #![tactic(auto)]
 
 mod command;
 mod fault;
 mod label;
 mod line;
-mod memory;
 mod reading;
 mod spelling;
 mod text;
@@ -20,8 +19,4 @@ mod value;
 
 pub use fault::{LineFault, ScriptFault};
 pub use line::{ChunkCall, ChunkLabel, HeapCall, Line, NewCall, Script};
-pub use memory::Memory;
-pub use reading::parse;
-
-#[cfg(test)]
-mod tests;
+pub use reading::{parse, parse_from};

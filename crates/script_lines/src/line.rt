@@ -3,8 +3,7 @@
 ghost use Rattle.std.specs.Prelude.{◌≡◌, ◌++◌, ◌∷◌, [], OnOk, IfSome};
 ghost use Rattle.script_lines.specs.Labels.{HasLabelsBelow, label_count, label_end};
 
-use crate::memory::Memory;
-use heap_model::Bytes;
+use heap_model::{Allowance, Bytes};
 use std::alloc::{AllocError, Global};
 use std::marker::Model;
 
@@ -102,7 +101,7 @@ impl Script {
     }
 
     /// Puts a line behind the others. There is no script with the label `usize::MAX`.
-    pub(crate) fn push<M: Memory>(&mut self, memory: &M, line: Line) -> Result<(), AllocError>
+    pub(crate) fn push<A: Allowance>(&mut self, memory: &A, line: Line) -> Result<(), AllocError>
         ensures ok { OnOk result (self.new ≡ self.old ++ (line ∷ [])) }
     {
         let Some(end) = line.label_end() else {
