@@ -4,7 +4,7 @@ ghost use Rattle.std.specs.Prelude.{◌≤◌, ◌<◌, ◌%◌, ◌≡◌, IfOk
 ghost use Rattle.heap_model.specs.Heap.{HeapAccepted};
 ghost use Rattle.heap_place.specs.Search.{IsCallersChunk};
 
-use chunk_format::{Header, area_start, blank, chunk_size};
+use chunk_format::{Header, area_start, chunk_size};
 use heap_check::check_heap;
 use heap_model::{Name, Place};
 use heap_place::Space;
@@ -13,19 +13,9 @@ use raw_region::Region;
 use std::alloc::Global;
 use std::test::Fail;
 
-/// A blank image of 128 bytes with 4 slots in which words are changed: each by its offset.
-pub(crate) fn image(alloc: Global, words: &[(usize, u32)]) -> Result<Region, Fail> {
-    let mut region = blank(alloc, 128, 4)?;
-    for (at, word) in words {
-        if *at > region.len() || region.len() - *at < 4 {
-            return Err("a word beyond the end")?;
-        }
-        region.put_u32(*at, *word);
-    }
-    Ok(region)
-}
+pub(crate) use test_images::changed_words as image;
 
-/// The same as a heap, which the checker accepts.
+/// A blank heap of 128 bytes with 4 slots in which words are changed, which the checker accepts.
 pub(crate) fn heap(alloc: Global, words: &[(usize, u32)]) -> Result<Space, Fail>
     ensures { IfOk result (λ space. HeapAccepted space.bytes) }
 {
