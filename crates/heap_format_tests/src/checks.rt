@@ -1,11 +1,12 @@
 //! Each fault, the order of faults, and what is accepted.
 
-use crate::images::{BLANK, DATABASE, ONE_CHUNK, bytes_of, found, image};
+use crate::found::found;
 use chunk_format::blank;
 use heap_check::{HeapFault, Summary, check_heap};
 use raw_region::Region;
 use std::process::Abort;
 use std::test::*;
+use test_images::{BLANK, DATABASE, ONE_CHUNK, bytes_of, image};
 
 /// Each case has changes of the listing's image, and the text of what the checker finds then.
 fn check_changed(

@@ -10,11 +10,11 @@ mod checks;
 #[cfg(test)]
 mod definitions;
 #[cfg(test)]
+mod found;
+#[cfg(test)]
 mod frames;
 #[cfg(test)]
 mod headers;
-#[cfg(test)]
-mod images;
 #[cfg(test)]
 mod regions;
 #[cfg(test)]

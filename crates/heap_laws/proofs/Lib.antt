@@ -19,4 +19,3 @@ pub mod Altering
 pub mod Exchanging
 pub mod Changing
 pub mod Owning
-pub mod Callers

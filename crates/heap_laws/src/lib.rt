@@ -11,7 +11,6 @@
 //! | `Shapes`, `Runs` | chunks that are read and chunks that are spelled |
 //! | `Slots`, `Bodies` | slots by their number, and the two halves of the ties |
 //! | `Accepted`, `Meanings` | the test of an accepted heap, and the map that it holds |
-//! | `Callers` | changes of what callers may name, from changes of all that is held |
 //!
 //! `heap_format_tests` tries the definitions on images.
 #![tactic(auto)]
