@@ -84,22 +84,6 @@ impl Header {
         ensures size { IfSome result (λ both. both.1 ≡ size_by both.0) }
         ensures none { IfNone result ((chunk : Chunk) → Spelled region.now.bytes at chunk → ⊥) }
     {
-        if at as usize + 8 > region.len() {
-            return None;
-        }
-        Header::read_within(region, at)
-    }
-
-    /// The header of the chunk at `at`, from which 8 bytes are known to be left, and the size of that
-    /// chunk, as `read_with_size` answers them.
-    #[inline]
-    pub fn read_within(region: &Region, at: u32) -> Option<(Header, u32)>
-        requires inside { IsWithin region.now at 8 }
-        requires small { length region.now.bytes < 2 ^ 24 }
-        ensures found { IfSome result (λ both. HasHeader region.now.bytes at both.0) }
-        ensures size { IfSome result (λ both. both.1 ≡ size_by both.0) }
-        ensures none { IfNone result ((chunk : Chunk) → Spelled region.now.bytes at chunk → ⊥) }
-    {
         decode(region, at)
     }
 
@@ -175,7 +159,6 @@ impl Header {
 /// the size.
 #[inline]
 fn decode(region: &Region, at: u32) -> Option<(Header, u32)>
-    requires within { IsWithin region.now at 8 }
     requires small { length region.now.bytes < 2 ^ 24 }
     ensures found { IfSome result (λ both. Spelled region.now.bytes at (chunk_with region.now.bytes at both.0)) }
     ensures inside { IfSome result (λ both. at + size_by both.0 ≤ length region.now.bytes) }
@@ -183,9 +166,13 @@ fn decode(region: &Region, at: u32) -> Option<(Header, u32)>
     ensures none { IfNone result ((chunk : Chunk) → Spelled region.now.bytes at chunk → ⊥) }
 {
     let offset = at as usize;
+    let end = region.len();
+    if offset + 8 > end {
+        return None;
+    }
     let first = region.get_u32(offset);
     let size = first % ABOVE_24_BITS;
-    if size < 8 || size % 8 != 0 || size as usize > region.len() - offset {
+    if size < 8 || size % 8 != 0 || size as usize > end - offset {
         return None;
     }
     if first >= FREE_BIT {

@@ -130,8 +130,6 @@ walked_more image at header old new before_marks after_marks was found adds =
     let here : at ≡ area_start image + total was.chunks = SpelledAll-end image (area_start image) was.chunks at was.spelled in
     let counts = was.counts in
     let within = counts_within c takes.0 in
-    let whole = was.whole in
-    let takes_whole = takes.2 in
     let m : new.movable ≡ old.movable + movable_by (header_of c) = adds.movable ∙ ap (λ (h : Header). old.movable + movable_by h) found.header_is in
     let f : new.fixed ≡ old.fixed + fixed_by (header_of c) = adds.fixed ∙ ap (λ (h : Header). old.fixed + fixed_by h) found.header_is in
     let s : new.free ≡ old.free + free_by (header_of c) = adds.free ∙ ap (λ (h : Header). old.free + free_by h) found.header_is in
@@ -141,7 +139,6 @@ walked_more image at header old new before_marks after_marks was found adds =
       surveys = surveys_more image was.chunks c at header old new before_marks after_marks here found.header_is was.surveys adds;
       counts = omega arith;
       inside = omega arith;
-      whole = omega arith;
     }
 
 -- at the end all chunks are surveyed

@@ -1,5 +1,5 @@
 -- What a walk over chunks has found, and what one header adds to it.
-use Rattle.std.specs.Prelude.{◌≡◌, ◌≢◌, ◌+◌, ◌%◌, ◌==◌, ◌&&◌, ◌↔◌, ◌⊎◌, ◌≤◌, nat_lt, ℕ, Bool, true, false, List, length, slice_index_or, count_by, sum_by, Option, Some, None, MatchOption}
+use Rattle.std.specs.Prelude.{◌≡◌, ◌≢◌, ◌+◌, ◌==◌, ◌&&◌, ◌↔◌, ◌⊎◌, ◌≤◌, nat_lt, ℕ, Bool, true, false, List, length, slice_index_or, count_by, sum_by, Option, Some, None, MatchOption}
 use Rattle.heap_model.specs.Bytes.{u32_at}
 use Rattle.heap_model.specs.Chunk.{Chunk, free, movable, fixed, SpelledAll, is_movable, is_fixed, free_size}
 use Rattle.heap_model.specs.Placed.{EveryPlaced, FirstWithout, EveryOne}
@@ -99,7 +99,6 @@ pub record HasSurveyed (image : List ℕ) (at : ℕ) (survey : Survey) (marks : 
   pub surveys : Surveys image chunks survey marks
   pub counts : survey.movable + survey.fixed + survey.free ≤ at
   pub inside : at ≤ length image
-  pub whole : at % 8 ≡ 0
 
 -- the image is tiled, and its slots and movable chunks are paired, in both halves
 pub record IsPaired (image : List ℕ) : Type 0 where

@@ -1,6 +1,6 @@
 //! The one walk over the chunks.
 
-ghost use Rattle.std.specs.Prelude.{◌≡◌, ◌≢◌, ◌≤◌, ◌<◌, ◌+◌, ◌%◌, ◌^◌, ◌==◌, ◌&&◌, ℕ, false, length, slice_index_or, IfSome, IfNone, OnSome, IfOk, IfErr};
+ghost use Rattle.std.specs.Prelude.{◌≡◌, ◌≢◌, ◌≤◌, ◌<◌, ◌+◌, ◌^◌, ◌==◌, ◌&&◌, ℕ, false, length, slice_index_or, IfSome, IfNone, OnSome, IfOk, IfErr};
 ghost use Rattle.heap_model.specs.Bytes.{u32_at};
 ghost use Rattle.heap_model.specs.Slots.{HasTable, IsSlot, StandsBehind, area_start as model_start, is_slot};
 ghost use Rattle.heap_check.specs.Faults.{IsBadChunk};
@@ -143,7 +143,6 @@ pub(crate) fn survey_chunks(
     requires small { length region.now.bytes < 2 ^ 24 }
     requires table { IsTable region.now.bytes table }
     requires inside { model_start region.now.bytes ≤ length region.now.bytes }
-    requires whole { length region.now.bytes % 8 ≡ 0 }
     requires room { table.count ≤ length marks.old }
     requires clear { (k : ℕ) → slice_index_or marks.old k false ≡ false }
     ensures surveyed { IfOk result (λ survey. IsSurvey region.now.bytes survey marks.new) }
@@ -152,7 +151,7 @@ pub(crate) fn survey_chunks(
     let mut survey = Survey::new();
     let mut at = area_start(region);
     while (at as usize) < region.len() {
-        let Some((header, size)) = Header::read_within(region, at) else {
+        let Some((header, size)) = Header::read_with_size(region, at) else {
             return Err(at);
         };
         survey.add(region, at, header, table, marks);
