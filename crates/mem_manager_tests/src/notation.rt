@@ -1,4 +1,5 @@
-//! Calls and replies as text: `lock 16 = at 40 locks 1`, `write 16 0: 4142 = done`, `read 16 0 2 = x4142`.
+//! Calls and replies as text: `lock 16 = at 40 locks 1`, `write 16 0: 4142 = done`,
+//! `read 16 0 2 = x4142`.
 
 use heap_model::{Bytes, MemoryCall, Name, Place, Reply};
 use mem_manager::{Heap, Locked};

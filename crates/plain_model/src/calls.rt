@@ -244,8 +244,8 @@ impl Chunk {
         }
     }
 
-    /// So many bytes from an offset on, to be written over, which a chunk without a lock doesn't allow. A
-    /// fixed chunk counts as locked.
+    /// So many bytes from an offset on, to be written over, which a chunk without a lock doesn't allow.
+    /// A fixed chunk counts as locked.
     fn part_mut(&mut self, at: u32, count: usize) -> Result<&mut [u8], Refusal> {
         if self.kind == (Kind::Movable { locks: 0 }) {
             return Err(Refusal::ChunkNotLocked);
