@@ -12,7 +12,6 @@ use master_table::{free_slot, resolve, slot_count, slot_of};
 use raw_region::Region;
 use std::alloc::Global;
 use std::test::Fail;
-
 pub(crate) use test_images::changed_words as image;
 
 /// A blank heap of 128 bytes with 4 slots in which words are changed, which the checker accepts.

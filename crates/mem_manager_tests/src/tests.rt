@@ -6,7 +6,6 @@ use mem_manager::Heap;
 use raw_region::Region;
 use std::alloc::Global;
 use std::test::*;
-
 pub(crate) use test_images::changed_words as image;
 
 /// A blank heap of 128 bytes with 4 slots in which words are changed.
