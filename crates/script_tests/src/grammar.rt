@@ -6,6 +6,7 @@ use crate::fakes::RefusesOne;
 use heap_model::Bytes;
 use script_lines::{ChunkCall, HeapCall, Line, LineFault, NewCall, ScriptFault, parse, parse_from};
 use std::alloc::{AllocError, Global};
+use std::process::Abort;
 use std::test::*;
 
 /// Bytes in hex, behind a `/`.
@@ -71,6 +72,14 @@ fn shown(alloc: Global, script: &[u8]) -> Result<String, AllocError> {
     Ok(text)
 }
 
+/// Each case has a script, and what it reads as.
+fn check(rt: &(impl Abort + AllocGlobal), cases: &[(&[u8], &str)]) -> Result<(), Fail> {
+    for (script, want) in cases {
+        assert_eq!(rt; shown(rt.alloc(), script)?.as_str(), *want);
+    }
+    Ok(())
+}
+
 #[test]
 fn commands(rt: HostRuntime) -> Result<(), Fail> {
     let cases: [(&[u8], &str); 26] = [
@@ -102,10 +111,7 @@ fn commands(rt: HostRuntime) -> Result<(), Fail> {
         (b"frob \"a\"", "line 1 UnknownCommand"),
         (b"\"#\"", "line 1 UnknownCommand"),
     ];
-    for (script, want) in cases {
-        assert_eq!(rt; shown(rt.alloc(), script)?.as_str(), want);
-    }
-    Ok(())
+    check(&rt, &cases)
 }
 
 #[test]
@@ -144,10 +150,7 @@ fn numbers(rt: HostRuntime) -> Result<(), Fail> {
         (b"bind a 0xfFfFfFfF", "bind 0 4294967295;"),
         (b"read a 0 0x1G", "line 1 BadWord 4"),
     ];
-    for (script, want) in cases {
-        assert_eq!(rt; shown(rt.alloc(), script)?.as_str(), want);
-    }
-    Ok(())
+    check(&rt, &cases)
 }
 
 #[test]
@@ -183,10 +186,7 @@ fn labels(rt: HostRuntime) -> Result<(), Fail> {
         ),
         (b"free new", "free 0;"),
     ];
-    for (script, want) in cases {
-        assert_eq!(rt; shown(rt.alloc(), script)?.as_str(), want);
-    }
-    Ok(())
+    check(&rt, &cases)
 }
 
 #[test]
@@ -221,10 +221,7 @@ fn bytes_and_texts(rt: HostRuntime) -> Result<(), Fail> {
         (b"strcopy a 0 7e", "line 1 BadWord 4"),
         (b"strcopy a 0 a\"b\"", "line 1 BadWord 4"),
     ];
-    for (script, want) in cases {
-        assert_eq!(rt; shown(rt.alloc(), script)?.as_str(), want);
-    }
-    Ok(())
+    check(&rt, &cases)
 }
 
 #[test]
@@ -255,10 +252,7 @@ fn lines_and_their_ends(rt: HostRuntime) -> Result<(), Fail> {
         (b"frob\n\"", "line 1 UnknownCommand"),
         (b"free a\n\n\n\n\n\n\n\n\nread a 0 x", "line 10 BadWord 4"),
     ];
-    for (script, want) in cases {
-        assert_eq!(rt; shown(rt.alloc(), script)?.as_str(), want);
-    }
-    Ok(())
+    check(&rt, &cases)
 }
 
 #[test]
@@ -289,10 +283,7 @@ fn words_and_their_quotes(rt: HostRuntime) -> Result<(), Fail> {
         (b"strcopy a 0 a\"b\"c", "line 1 BadWord 4"),
         (b"free\" a", "line 1 UnknownCommand"),
     ];
-    for (script, want) in cases {
-        assert_eq!(rt; shown(rt.alloc(), script)?.as_str(), want);
-    }
-    Ok(())
+    check(&rt, &cases)
 }
 
 #[test]
@@ -320,10 +311,7 @@ fn the_first_fault_of_a_line(rt: HostRuntime) -> Result<(), Fail> {
         (b"new a x 256", "line 1 BadWord 3"),
         (b"new a 1 256", "line 1 BadWord 4"),
     ];
-    for (script, want) in cases {
-        assert_eq!(rt; shown(rt.alloc(), script)?.as_str(), want);
-    }
-    Ok(())
+    check(&rt, &cases)
 }
 
 #[test]
