@@ -19,3 +19,4 @@ pub mod Altering
 pub mod Exchanging
 pub mod Changing
 pub mod Owning
+pub mod Openness

@@ -6,6 +6,8 @@ use Rattle.heap_model.specs.Placed.{EveryOne}
 use Rattle.heap_model.specs.Heap.{Tiles, IsBody, Tied, HeapAccepted}
 use Rattle.heap_model.specs.Meaning.{ChunkMap, Holds}
 use Rattle.heap_model.specs.Reading.{chunk_at, chunks_of, held, is_accepted}
+use Rattle.heap_model.specs.Space.{free_total, rooms, NoRun, place_of}
+use Rattle.heap_model.specs.Layout.{layout_of}
 
 -- an image is tiled by one list of chunks at most
 abbrev pub TiledOnce : Type 0
@@ -52,3 +54,15 @@ pub record IsNeed (count : ℕ) : Type 0 where
 
 abbrev pub NeedIsWhole : Type 0
 NeedIsWhole = (count : ℕ) → IsNeed count
+
+-- two images hold the same in the same places, and have the same room
+pub record AreAlike (image other : List ℕ) : Type 0 where
+  pub holds : (name : ℕ) → held image name ≡ held other name
+  pub places : (name : ℕ) → place_of image name ≡ place_of other name
+  pub free_bytes : free_total image ≡ free_total other
+  pub room : rooms image ≡ rooms other
+  pub runs : (size : ℕ) → NoRun (chunks_of image) size ↔ NoRun (chunks_of other) size
+
+-- accepted heaps are alike where their chunks begin at one offset and have one layout
+abbrev pub LayoutTells : Type 0
+LayoutTells = (image other : List ℕ) → HeapAccepted image → HeapAccepted other → area_start image ≡ area_start other → layout_of image ≡ layout_of other → AreAlike image other

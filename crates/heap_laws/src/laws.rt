@@ -1,6 +1,6 @@
 //! The laws, each as the promise of a function.
 
-ghost use Rattle.heap_laws.specs.Laws.{TiledOnce, ChunksAreRead, TilesAreRead, SlotsAreListed, AcceptanceIsDecided, TiesPairOneToOne, HoldsOneMap, ZeroNamesNothing, NeedIsWhole};
+ghost use Rattle.heap_laws.specs.Laws.{TiledOnce, ChunksAreRead, TilesAreRead, SlotsAreListed, AcceptanceIsDecided, TiesPairOneToOne, HoldsOneMap, ZeroNamesNothing, NeedIsWhole, LayoutTells};
 
 /// An image is tiled by one list of chunks at most.
 pub fn tiled_once()
@@ -45,4 +45,10 @@ pub fn zero_names_nothing()
 /// What a chunk takes is a multiple of 8, and at least 8.
 pub fn need_is_whole()
     ensures { NeedIsWhole }
+{}
+
+/// What a heap holds, where, and what room it has follow from its layout and from where its chunks
+/// begin.
+pub fn layout_tells()
+    ensures { LayoutTells }
 {}

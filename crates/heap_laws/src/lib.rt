@@ -5,12 +5,23 @@
 //!
 //! | file | laws of |
 //! |---|---|
-//! | `Frames` | numbers and parts of two lists of bytes that agree, and writes |
+//! | `Frames`, `Writing` | where two lists of bytes agree, and what a write leaves |
+//! | `Deciding` | tests and the facts that they decide |
 //! | `Chunks` | runs of chunks, which are put together, taken apart and framed |
 //! | `Placed` | what holds of every chunk where it stands, or of some one |
-//! | `Shapes`, `Runs` | chunks that are read and chunks that are spelled |
+//! | `Shapes`, `Runs` | chunks that are read and chunks that are spelled, one or all from an offset on |
 //! | `Slots`, `Bodies` | slots by their number, and the two halves of the ties |
 //! | `Accepted`, `Meanings` | the test of an accepted heap, and the map that it holds |
+//! | `Finding` | the chunk that a name stands for, among the chunks |
+//! | `Lives` | what names stand for, and where, in lists that are put together |
+//! | `Layouts` | lists in which free neighbours are made one: what is the same of them |
+//! | `Becoming` | an image that has become another: what it holds, and where, by the layout alone |
+//! | `Replacing` | chunks of a heap replaced by others of their size: it stays accepted |
+//! | `Freeing`, `Altering` | the same: free chunks split, joined and claimed, live ones freed and altered |
+//! | `Exchanging` | a chunk of a layout exchanged for others: by parts, and what all names stand for |
+//! | `Changing` | the same by what is done: what its name stands for afterwards |
+//! | `Owning` | all chunks of an owner made free |
+//! | `Openness` | what contracts over layouts leave open, by bodies that split and join otherwise |
 //!
 //! `heap_format_tests` tries the definitions on images.
 #![tactic(auto)]
@@ -18,6 +29,6 @@
 mod laws;
 
 pub use laws::{
-    acceptance_is_decided, chunks_are_read, holds_one_map, need_is_whole, slots_are_listed,
-    tied_one_to_one, tiled_once, tiles_are_read, zero_names_nothing,
+    acceptance_is_decided, chunks_are_read, holds_one_map, layout_tells, need_is_whole,
+    slots_are_listed, tied_one_to_one, tiled_once, tiles_are_read, zero_names_nothing,
 };

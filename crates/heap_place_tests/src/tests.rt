@@ -2,46 +2,26 @@
 
 ghost use Rattle.heap_model.specs.Heap.{HeapAccepted};
 
-use crate::heaps::{bytes, give_back, give_back_fixed, heap, image, make, place};
+use crate::heaps::{bytes, give_back, give_back_owned, heap, image, make, make_fixed, relock};
 use heap_model::{Name, Place};
-use heap_place::Space;
+use heap_place::{Found, Room, Space};
 use std::test::*;
 
-/// The other bits of a free chunk's first word may be any. Those of both parts are zero.
+/// The other bits of a free chunk's first word may be any, and finding room changes nothing.
 #[test]
-fn a_place_is_the_front_of_a_free_chunk(rt: HostRuntime) -> Result<(), Fail> {
-    let mut space = heap(rt.alloc(), &[(32, 0xFF00_0060), (36, 0x1234_5678)])?;
-    assert_eq!(rt; place(&mut space, 24), Some(Place(40)));
-    let after = image(
-        rt.alloc(),
-        &[(32, 0x8000_0018), (36, 0x1234_5678), (56, 0x8000_0048)],
-    )?;
-    assert_eq!(rt; bytes(space.region()), bytes(&after));
-    Ok(())
-}
-
-#[test]
-fn a_place_may_be_a_whole_free_chunk(rt: HostRuntime) -> Result<(), Fail> {
-    for (size, rest) in [
-        (96, &[][..]),
-        (88, &[(32, 0x8000_0058), (120, 0x8000_0008)]),
+fn room_is_a_free_chunk(rt: HostRuntime) -> Result<(), Fail> {
+    let words = [(32, 0xFF00_0060), (36, 0x1234_5678)];
+    let space = heap(rt.alloc(), &words)?;
+    let whole = Room { at: 32, size: 96 };
+    for (size, room) in [
+        (8, Some(whole)),
+        (96, Some(whole)),
+        (104, None),
+        (0xFFFF_FFF8, None),
     ] {
-        let mut space = heap(rt.alloc(), &[])?;
-        assert_eq!(rt; place(&mut space, size), Some(Place(40)), "{size} bytes");
-        let after = image(rt.alloc(), rest)?;
-        assert_eq!(rt; bytes(space.region()), bytes(&after), "{size} bytes");
+        assert_eq!(rt; space.place(size), room, "{size} bytes");
     }
-    Ok(())
-}
-
-#[test]
-fn no_place_is_found_where_one_unit_is_missing(rt: HostRuntime) -> Result<(), Fail> {
-    for size in [104, 128, 0xFFFF_FFF8] {
-        let mut space = heap(rt.alloc(), &[(32, 0xFF00_0060)])?;
-        assert_eq!(rt; place(&mut space, size), None, "{size} bytes");
-        let before = image(rt.alloc(), &[(32, 0xFF00_0060)])?;
-        assert_eq!(rt; bytes(space.region()), bytes(&before), "{size} bytes");
-    }
+    assert_eq!(rt; bytes(space.region()), bytes(&image(rt.alloc(), &words)?));
     Ok(())
 }
 
@@ -57,18 +37,26 @@ fn a_live_chunk_ends_a_run(rt: HostRuntime) -> Result<(), Fail> {
         (104, 0x8000_0018),
     ];
     let mut space = heap(rt.alloc(), &words)?;
-    assert_eq!(rt; place(&mut space, 56), None);
-    assert_eq!(rt; bytes(space.region()), bytes(&image(rt.alloc(), &words)?));
-    assert_eq!(rt; place(&mut space, 40), Some(Place(88)));
+    for (size, room) in [
+        (24, Some(Room { at: 32, size: 24 })),
+        (32, Some(Room { at: 80, size: 48 })),
+        (48, Some(Room { at: 80, size: 48 })),
+        (56, None),
+    ] {
+        assert_eq!(rt; space.place(size), room, "{size} bytes");
+    }
+    assert_eq!(rt; space.free_bytes(), 72);
+    assert_eq!(rt; make(&mut space, 32, 1), Some(Name(20)));
     let after = image(
         rt.alloc(),
         &[
             (16, 64),
+            (20, 88),
             (32, 0x8000_0018),
             (56, 0x0000_0018),
             (60, 0x01FF_FFEC),
-            (80, 0x8000_0028),
-            (104, 0x8000_0018),
+            (80, 0x0000_0028),
+            (84, 0x01FF_FFE2),
             (120, 0x8000_0008),
         ],
     )?;
@@ -142,20 +130,8 @@ fn chunks_are_made_one_behind_the_other(rt: HostRuntime) -> Result<(), Fail> {
 fn chunks_given_back_from_the_back_are_joined(rt: HostRuntime) -> Result<(), Fail> {
     let mut space = heap(rt.alloc(), &[])?;
     assert!(rt; with_two(&mut space));
-    assert!(rt; give_back(&mut space, Name(20)));
-    let after = image(
-        rt.alloc(),
-        &[
-            (16, 40),
-            (32, 0x0000_0018),
-            (36, 0x01FF_FFF8),
-            (56, 0x8000_0048),
-            (60, 0x02FF_FFEE),
-            (96, 0x8000_0020),
-        ],
-    )?;
-    assert_eq!(rt; bytes(space.region()), bytes(&after));
-    assert!(rt; give_back(&mut space, Name(16)));
+    assert_eq!(rt; give_back(&mut space, Name(20)), Some(72));
+    assert_eq!(rt; give_back(&mut space, Name(16)), Some(96));
     let after = image(
         rt.alloc(),
         &[
@@ -167,90 +143,46 @@ fn chunks_given_back_from_the_back_are_joined(rt: HostRuntime) -> Result<(), Fai
         ],
     )?;
     assert_eq!(rt; bytes(space.region()), bytes(&after));
-    assert!(rt; !give_back(&mut space, Name(16)));
+    assert_eq!(rt; give_back(&mut space, Name(16)), None);
     Ok(())
 }
 
 /// The front chunk is given back first: behind it stands a live chunk, and then a free one that isn't
-/// joined with it. A place of all their bytes joins them.
+/// joined with it. They are one run all the same.
 #[test]
 fn free_neighbours_are_found_as_one_run(rt: HostRuntime) -> Result<(), Fail> {
     let mut space = heap(rt.alloc(), &[])?;
     assert!(rt; with_two(&mut space));
-    assert!(rt; give_back(&mut space, Name(16)));
-    let after = image(
-        rt.alloc(),
-        &[
-            (20, 64),
-            (32, 0x8000_0018),
-            (36, 0x01FF_FFF8),
-            (56, 0x0000_0028),
-            (60, 0x02FF_FFEE),
-            (96, 0x8000_0020),
-        ],
-    )?;
-    assert_eq!(rt; bytes(space.region()), bytes(&after));
-    assert!(rt; give_back(&mut space, Name(20)));
-    let after = image(
-        rt.alloc(),
-        &[
-            (32, 0x8000_0018),
-            (36, 0x01FF_FFF8),
-            (56, 0x8000_0048),
-            (60, 0x02FF_FFEE),
-            (96, 0x8000_0020),
-        ],
-    )?;
-    assert_eq!(rt; bytes(space.region()), bytes(&after));
-    assert_eq!(rt; place(&mut space, 96), Some(Place(40)));
-    let after = image(
-        rt.alloc(),
-        &[
-            (32, 0x8000_0060),
-            (36, 0x01FF_FFF8),
-            (56, 0x8000_0048),
-            (60, 0x02FF_FFEE),
-            (96, 0x8000_0020),
-        ],
-    )?;
-    assert_eq!(rt; bytes(space.region()), bytes(&after));
+    assert_eq!(rt; give_back(&mut space, Name(16)), Some(24));
+    assert_eq!(rt; give_back(&mut space, Name(20)), Some(72));
+    assert_eq!(rt; space.place(24), Some(Room { at: 32, size: 24 }));
+    assert_eq!(rt; space.place(32), Some(Room { at: 32, size: 96 }));
+    assert_eq!(rt; space.free_bytes(), 96);
     Ok(())
 }
 
 /// A fixed chunk of 10 bytes with a movable one behind it, and then with a free one.
 #[test]
 fn a_fixed_chunk_is_given_back(rt: HostRuntime) -> Result<(), Fail> {
-    let fixed = [(32, 0x0600_0018), (36, 0xF100_0000), (40, 0x4142_4344)];
-    let behind = [(16, 64), (56, 0x0000_0048), (60, 0x01FF_FFEC)];
-    let mut space = heap(
-        rt.alloc(),
-        &[
-            fixed[0], fixed[1], fixed[2], behind[0], behind[1], behind[2],
-        ],
-    )?;
-    assert!(rt; give_back_fixed(&mut space));
+    let mut space = heap(rt.alloc(), &[])?;
+    assert_eq!(rt; make_fixed(&mut space, 10), Some(Name(40)));
+    assert_eq!(rt; make(&mut space, 16, 1), Some(Name(16)));
     let after = image(
         rt.alloc(),
         &[
-            (32, 0x8000_0018),
-            fixed[1],
-            fixed[2],
-            behind[0],
-            behind[1],
-            behind[2],
+            (16, 64),
+            (32, 0x0600_0018),
+            (36, 0xFE00_0000),
+            (56, 0x0000_0018),
+            (60, 0x01FF_FFEC),
+            (80, 0x8000_0030),
         ],
     )?;
     assert_eq!(rt; bytes(space.region()), bytes(&after));
-    let mut space = heap(
-        rt.alloc(),
-        &[fixed[0], fixed[1], fixed[2], (56, 0x8000_0048)],
-    )?;
-    assert!(rt; give_back_fixed(&mut space));
-    let after = image(
-        rt.alloc(),
-        &[(32, 0x8000_0060), fixed[1], fixed[2], (56, 0x8000_0048)],
-    )?;
-    assert_eq!(rt; bytes(space.region()), bytes(&after));
+    assert_eq!(rt; give_back(&mut space, Name(40)), Some(24));
+    assert_eq!(rt; make_fixed(&mut space, 10), Some(Name(40)));
+    assert_eq!(rt; give_back(&mut space, Name(16)), Some(72));
+    assert_eq!(rt; give_back(&mut space, Name(40)), Some(96));
     Ok(())
 }
 
@@ -263,7 +195,7 @@ fn the_first_empty_slot_is_taken(rt: HostRuntime) -> Result<(), Fail> {
     assert_eq!(rt; make(&mut space, 8, 3), Some(Name(24)));
     assert_eq!(rt; make(&mut space, 8, 4), Some(Name(28)));
     assert_eq!(rt; make(&mut space, 8, 1), None);
-    assert!(rt; give_back(&mut space, Name(24)));
+    assert_eq!(rt; give_back(&mut space, Name(24)), Some(16));
     assert_eq!(rt; make(&mut space, 0, 1), Some(Name(24)));
     assert_eq!(rt; space.region().len(), 128);
     Ok(())
@@ -275,5 +207,83 @@ fn a_region_comes_back(rt: HostRuntime) -> Result<(), Fail> {
     let before = image(rt.alloc(), &[(40, 7)])?;
     let region = Space::new(image(rt.alloc(), &[(40, 7)])?).into_region();
     assert_eq!(rt; bytes(&region), bytes(&before));
+    Ok(())
+}
+
+/// A heap of a database's kind: the directory, whose owner is 0, of the slot 16, and a chunk of owner 15
+/// of the slot 20, whose body reads as the header of a movable chunk of that slot.
+const WITH_DIRECTORY: [(usize, u32); 11] = [
+    (12, 16),
+    (16, 40),
+    (20, 56),
+    (32, 0x0400_0010),
+    (36, 0x00FF_FFF8),
+    (40, 0x4142_4344),
+    (48, 0x0000_0018),
+    (52, 0x0FFF_FFF2),
+    (56, 0x0000_0010),
+    (60, 0x01FF_FFEE),
+    (72, 0x8000_0038),
+];
+
+const DIRECTORY: Found = Found {
+    name: Name(16),
+    place: Place(40),
+    length: 4,
+    lock: 0,
+    owner: 0,
+};
+
+const RECORD: Found = Found {
+    name: Name(20),
+    place: Place(56),
+    length: 16,
+    lock: 0,
+    owner: 15,
+};
+
+#[test]
+fn chunks_of_every_owner_are_found(rt: HostRuntime) -> Result<(), Fail> {
+    let space = heap(rt.alloc(), &WITH_DIRECTORY)?;
+    for (name, found) in [
+        (16, Some(DIRECTORY)),
+        (20, Some(RECORD)),
+        (24, None),
+        (40, None),
+        (0, None),
+    ] {
+        assert_eq!(rt; space.find(Name(name)), found, "the name {name}");
+    }
+    for (place, found) in [
+        (40, Some(DIRECTORY)),
+        (56, Some(RECORD)),
+        (64, None),
+        (80, None),
+        (4, None),
+        (0xFFFF_FFF8, None),
+    ] {
+        assert_eq!(rt; space.find_at(Place(place)), found, "the place {place}");
+    }
+    Ok(())
+}
+
+/// The directory word and the directory's chunk stay, whatever is done with the record.
+#[test]
+fn chunks_of_owner_15_change(rt: HostRuntime) -> Result<(), Fail> {
+    let mut space = heap(rt.alloc(), &WITH_DIRECTORY)?;
+    assert_eq!(rt; relock(&mut space, Name(16), 1), None);
+    assert_eq!(rt; relock(&mut space, Name(20), 14), Some(()));
+    let mut locked = WITH_DIRECTORY;
+    locked[7] = (52, 0xEFFF_FFF2);
+    assert_eq!(rt; bytes(space.region()), bytes(&image(rt.alloc(), &locked)?));
+    assert_eq!(rt; give_back(&mut space, Name(16)), None);
+    assert_eq!(rt; give_back_owned(&mut space, 14), 0);
+    assert_eq!(rt; bytes(space.region()), bytes(&image(rt.alloc(), &locked)?));
+    assert_eq!(rt; make(&mut space, 8, 15), Some(Name(24)));
+    assert_eq!(rt; make(&mut space, 8, 0), Some(Name(28)));
+    assert_eq!(rt; give_back_owned(&mut space, 15), 2);
+    assert_eq!(rt; space.find(Name(16)), Some(DIRECTORY));
+    assert_eq!(rt; space.find(Name(20)), None);
+    assert_eq!(rt; space.free_bytes(), 64);
     Ok(())
 }
