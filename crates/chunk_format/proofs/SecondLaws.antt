@@ -4,7 +4,7 @@ use Rattle.heap_model.specs.Memory.{Memory}
 use Rattle.heap_model.specs.Bytes.{u32_at, u32_bytes, overwritten}
 use Rattle.heap_model.specs.Chunk.{need, IsLive}
 use Rattle.heap_laws.proofs.Frames.{SameBetween, length-u32_bytes, length-overwritten, overwritten-above, slice-same, u32_at-written, u32_at-below}
-use Rattle.chunk_format.specs.Header.{MayStand, with_lock_field, with_owner_field, Relocks, Reowns}
+use Rattle.chunk_format.specs.Header.{with_lock_field, with_owner_field, Relocks, Reowns}
 
 -- a live chunk whose second word says another lock and owner
 second_written : (old : List ℕ) (at : ℕ) (bytes : List ℕ) (was_lock was_owner lock owner h_offset word : ℕ) → IsLive old at bytes was_lock was_owner h_offset → lock < 16 → owner < 16

@@ -1,5 +1,5 @@
 -- Blank images.
-use Rattle.std.specs.Prelude.{◌≡◌, ◌≤◌, ◌<◌, ◌+◌, ◌-◌, ◌*◌, ◌/◌, ◌%◌, ℕ, List, [], ◌∷◌, length, slice_index, None}
+use Rattle.std.specs.Prelude.{◌≡◌, ◌≤◌, ◌<◌, ◌+◌, ◌-◌, ◌%◌, ℕ, List, [], ◌∷◌, length, slice_index, None}
 use Rattle.heap_model.specs.Chunk.{free}
 use Rattle.heap_model.specs.Bytes.{u16_bytes, u32_bytes, overwritten}
 use Rattle.heap_model.specs.Frame.{magic, magic_at, size_at, slot_count_at, least_size, most_size}

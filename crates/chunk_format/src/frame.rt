@@ -14,11 +14,19 @@ use raw_region::Region;
 /// The first four bytes of an image of profile PHI1, as a number.
 const MAGIC: u32 = 0x5048_4931;
 
-/// Where the words of the frame stand, in bytes from the image's start.
+/// Where the magic stands, in bytes from the image's start.
 const MAGIC_AT: usize = 0;
+
+/// Where the size of the image stands.
 const SIZE_AT: usize = 4;
+
+/// Where the slot count stands.
 const SLOT_COUNT_AT: usize = 8;
+
+/// Where two bytes stand that are zero.
 const RESERVED_AT: usize = 10;
+
+/// Where the directory word stands.
 const DIRECTORY_AT: usize = 12;
 
 /// What the frame takes in bytes. The table begins behind it.

@@ -21,11 +21,9 @@ mod image;
 mod walk;
 
 pub use frame::{
-    FRAME_SIZE, SLOT_SIZE, area_start, directory, has_magic, head_end, is_image_size, reserved, size_field, slot_count,
+    FRAME_SIZE, SLOT_SIZE, area_start, directory, has_magic, head_end, is_image_size, reserved,
+    size_field, slot_count,
 };
 pub use header::{Header, chunk_size, put_lock, put_owner};
 pub use image::{BlankFault, blank};
 pub use walk::Walk;
-
-#[cfg(test)]
-mod tests;

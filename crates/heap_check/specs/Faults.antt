@@ -1,5 +1,5 @@
 -- The faults of a heap image, in the order in which they are looked for.
-use Rattle.std.specs.Prelude.{◌≡◌, ◌≢◌, ◌<◌, ◌+◌, ◌%◌, ◌⊎◌, ℕ, List, [], ◌∷◌, length}
+use Rattle.std.specs.Prelude.{◌≡◌, ◌≢◌, ◌<◌, ◌+◌, ◌⊎◌, ℕ, List, [], ◌∷◌, length}
 use Rattle.heap_model.specs.Bytes.{u16_at, u32_at}
 use Rattle.heap_model.specs.Chunk.{Chunk, Spelled, SpelledAll}
 use Rattle.heap_model.specs.Placed.{FirstWithout, FirstOne}

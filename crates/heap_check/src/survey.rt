@@ -135,7 +135,11 @@ impl Survey {
 
 /// Walks over the chunks of an image with this table, and marks each slot that holds the place of a
 /// chunk which names it. The error is the offset of the first chunk out of shape.
-pub(crate) fn survey_chunks(region: &Region, table: Table, marks: &mut [bool]) -> Result<Survey, u32>
+pub(crate) fn survey_chunks(
+    region: &Region,
+    table: Table,
+    marks: &mut [bool],
+) -> Result<Survey, u32>
     requires small { length region.now.bytes < 2 ^ 24 }
     requires table { IsTable region.now.bytes table }
     requires inside { model_start region.now.bytes ≤ length region.now.bytes }

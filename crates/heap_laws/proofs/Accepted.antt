@@ -8,7 +8,7 @@ use Rattle.std.specs.List.{list_all}
 use Rattle.heap_model.specs.Bytes.{u16_at, u32_at}
 use Rattle.heap_model.specs.Chunk.{Chunk, free, movable, fixed, total, SpelledAll}
 use Rattle.heap_model.specs.Slots.{IsSlot, slot_count, table_end, head_end, slots_of, area_start, is_slot}
-use Rattle.heap_model.specs.Frame.{magic}
+use Rattle.heap_model.specs.Frame.{magic, most_size}
 use Rattle.heap_model.specs.Heap.{IsHead, Tiles, BodyHere, IsCallersIfFixed, ManagersHere, HasDirectory, directory_of, IsHeap, HeapAccepted}
 use Rattle.heap_model.specs.Placed.{EveryPlaced, AnyPlaced, EveryOne}
 use Rattle.heap_model.specs.Pairing.{HoldsBody, NamesItsSlot}
@@ -44,7 +44,7 @@ head_then image others q = Decides-like _ (λ h. (
     (Decides-and _ _ (Decides-eqb (u32_at image 0) magic)
     (Decides-and _ _ (Decides-eqb (u32_at image 4) (length image))
     (Decides-and _ _ (Decides-nat_le 64 (length image))
-    (Decides-and _ _ (Decides-nat_le (length image) 16777208)
+    (Decides-and _ _ (Decides-nat_le (length image) most_size)
     (Decides-and _ _ (Decides-eqb (length image % 8) 0)
     (Decides-and _ _ (Decides-ltb 0 (slot_count image))
     (Decides-and _ _ (Decides-nat_le (area_start image + 8) (length image))

@@ -19,5 +19,4 @@ pub mod Altering
 pub mod Exchanging
 pub mod Changing
 pub mod Owning
-pub mod Callers
 pub mod Openness

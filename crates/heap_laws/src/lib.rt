@@ -21,11 +21,9 @@
 //! | `Exchanging` | a chunk of a layout exchanged for others: by parts, and what all names stand for |
 //! | `Changing` | the same by what is done: what its name stands for afterwards |
 //! | `Owning` | all chunks of an owner made free |
-//! | `Callers` | changes of what callers may name, from changes of all that is held |
 //! | `Openness` | what contracts over layouts leave open, by bodies that split and join otherwise |
 //!
-//! The tests read the chunks and the map off the images of docs/FORMAT.md, and off the smallest
-//! image that breaks each part of the definition of an accepted heap alone.
+//! `heap_format_tests` tries the definitions on images.
 #![tactic(auto)]
 
 mod laws;
@@ -34,6 +32,3 @@ pub use laws::{
     acceptance_is_decided, chunks_are_read, holds_one_map, layout_tells, need_is_whole,
     slots_are_listed, tied_one_to_one, tiled_once, tiles_are_read, zero_names_nothing,
 };
-
-#[cfg(test)]
-mod tests;

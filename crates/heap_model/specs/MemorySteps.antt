@@ -59,31 +59,49 @@ where_it map name P refusal = Of (map name) P brings refusal
 abbrev pub row : Memory → ChunkMap → MemoryCall → Row ChunkMap
 row old map (HandleNew size owner) = record {
   only_asks = false;
-  refusals = (IsNoCaller owner brings InvalidOwner) ∷ (((free_slots old.bytes ≡ 0) ⊎ NoRun (chunks_of old.bytes) (need size)) brings NotEnoughSpace) ∷ [];
+  refusals =
+      (IsNoCaller owner brings InvalidOwner)
+      ∷ (((free_slots old.bytes ≡ 0) ⊎ NoRun (chunks_of old.bytes) (need size)) brings NotEnoughSpace)
+      ∷ [];
   answers = named (λ name. held old.bytes name.0 ≡ None);
   effect = becomes_named (λ name all. made all name.0 size owner 0);
 }
 row old map (PtrNew size owner) = record {
   only_asks = false;
-  refusals = (IsNoCaller owner brings InvalidOwner) ∷ (NoRun (chunks_of old.bytes) (need size) brings NotEnoughSpace) ∷ [];
+  refusals =
+      (IsNoCaller owner brings InvalidOwner)
+      ∷ (NoRun (chunks_of old.bytes) (need size) brings NotEnoughSpace)
+      ∷ [];
   answers = named (λ name. held old.bytes name.0 ≡ None);
   effect = becomes_named (λ name all. made all name.0 size owner fixed_lock);
 }
 row old map (Free name) = record {
   only_asks = false;
-  refusals = unknown map name.0 ∷ where_it map name.0 (λ live. live.owner ≡ 15) OwnedByDatabase ∷ where_it map name.0 IsLocked ChunkLocked ∷ [];
+  refusals =
+      unknown map name.0
+      ∷ where_it map name.0 (λ live. live.owner ≡ 15) OwnedByDatabase
+      ∷ where_it map name.0 IsLocked ChunkLocked
+      ∷ [];
   answers = done;
   effect = becomes (λ all. gone all name.0);
 }
 row old map (Lock name) = record {
   only_asks = false;
-  refusals = unknown map name.0 ∷ where_it map name.0 (λ live. live.lock ≡ fixed_lock) ChunkFixed ∷ where_it map name.0 (λ live. live.lock ≡ 14) LockOverflow ∷ [];
+  refusals =
+      unknown map name.0
+      ∷ where_it map name.0 (λ live. live.lock ≡ fixed_lock) ChunkFixed
+      ∷ where_it map name.0 (λ live. live.lock ≡ 14) LockOverflow
+      ∷ [];
   answers = locked (λ place count new. Of (map name.0) (λ live. count ≡ live.lock + 1) × (place_of new.bytes name.0 ≡ Some place.0));
   effect = becomes (λ all. relocked all name.0 (λ lock. lock + 1));
 }
 row old map (Unlock name) = record {
   only_asks = false;
-  refusals = unknown map name.0 ∷ where_it map name.0 (λ live. live.lock ≡ fixed_lock) ChunkFixed ∷ where_it map name.0 (λ live. live.lock ≡ 0) ChunkNotLocked ∷ [];
+  refusals =
+      unknown map name.0
+      ∷ where_it map name.0 (λ live. live.lock ≡ fixed_lock) ChunkFixed
+      ∷ where_it map name.0 (λ live. live.lock ≡ 0) ChunkNotLocked
+      ∷ [];
   answers = number (λ count. Of (map name.0) (λ live. count ≡ live.lock - 1));
   effect = becomes (λ all. relocked all name.0 (λ lock. lock - 1));
 }
@@ -107,40 +125,63 @@ row old map (Locks name) = record {
 }
 row old map (Read name at count) = record {
   only_asks = true;
-  refusals = unknown map name.0 ∷ where_it map name.0 (ReachesBeyond at count) OutOfBounds ∷ (Unit {0} may_bring OutOfMemory) ∷ [];
+  refusals =
+      unknown map name.0
+      ∷ where_it map name.0 (ReachesBeyond at count) OutOfBounds
+      ∷ (Unit {0} may_bring OutOfMemory)
+      ∷ [];
   answers = data_of (λ bytes. Of (map name.0) (λ live. bytes ≡ slice_range live.bytes at (at + count)));
   effect = stays;
 }
 row old map (Write name at bytes) = record {
   only_asks = false;
-  refusals = unknown map name.0 ∷ where_it map name.0 (λ live. live.lock ≡ 0) ChunkNotLocked ∷ where_it map name.0 (ReachesBeyond at (length bytes)) OutOfBounds ∷ [];
+  refusals =
+      unknown map name.0
+      ∷ where_it map name.0 (λ live. live.lock ≡ 0) ChunkNotLocked
+      ∷ where_it map name.0 (ReachesBeyond at (length bytes)) OutOfBounds
+      ∷ [];
   answers = done;
   effect = becomes (λ all. put all name.0 at bytes);
 }
 row old map (Set name at count byte) = record {
   only_asks = false;
-  refusals = unknown map name.0 ∷ where_it map name.0 (λ live. live.lock ≡ 0) ChunkNotLocked ∷ where_it map name.0 (ReachesBeyond at count) OutOfBounds ∷ [];
+  refusals =
+      unknown map name.0
+      ∷ where_it map name.0 (λ live. live.lock ≡ 0) ChunkNotLocked
+      ∷ where_it map name.0 (ReachesBeyond at count) OutOfBounds
+      ∷ [];
   answers = done;
   effect = becomes (λ all. put all name.0 at (replicate count byte));
 }
 row old map (StrCopy name at text) = record {
   only_asks = false;
-  refusals = unknown map name.0 ∷ where_it map name.0 (λ live. live.lock ≡ 0) ChunkNotLocked ∷ where_it map name.0 (ReachesBeyond at (length (text_of text))) OutOfBounds ∷ [];
+  refusals =
+      unknown map name.0
+      ∷ where_it map name.0 (λ live. live.lock ≡ 0) ChunkNotLocked
+      ∷ where_it map name.0 (ReachesBeyond at (length (text_of text))) OutOfBounds
+      ∷ [];
   answers = done;
   effect = becomes (λ all. put all name.0 at (text_of text));
 }
 row old map (Resize name size) = record {
   only_asks = false;
   refusals =
-      unknown map name.0 ∷ where_it map name.0 (λ live. live.owner ≡ 15) OwnedByDatabase ∷ where_it map name.0 (λ live. live.lock ≡ fixed_lock) ChunkFixed
+      unknown map name.0
+      ∷ where_it map name.0 (λ live. live.owner ≡ 15) OwnedByDatabase
+      ∷ where_it map name.0 (λ live. live.lock ≡ fixed_lock) ChunkFixed
       ∷ where_it map name.0 (λ live. IsLocked live × (need (length live.bytes) + free_behind old.bytes name.0 < need size)) ChunkLocked
-      ∷ where_it map name.0 (λ live. (live.lock ≡ 0) × (need (length live.bytes) < need size) × ShortFor old.bytes name.0 (need size)) NotEnoughSpace ∷ [];
+      ∷ where_it map name.0 (λ live. (live.lock ≡ 0) × (need (length live.bytes) < need size) × ShortFor old.bytes name.0 (need size)) NotEnoughSpace
+      ∷ [];
   answers = done;
   effect = becomes (λ all. sized all name.0 size);
 }
 row old map (SetOwner name owner) = record {
   only_asks = false;
-  refusals = unknown map name.0 ∷ where_it map name.0 (λ live. live.owner ≡ 15) OwnedByDatabase ∷ (IsNoCaller owner brings InvalidOwner) ∷ [];
+  refusals =
+      unknown map name.0
+      ∷ where_it map name.0 (λ live. live.owner ≡ 15) OwnedByDatabase
+      ∷ (IsNoCaller owner brings InvalidOwner)
+      ∷ [];
   answers = done;
   effect = becomes (λ all. reowned all name.0 owner);
 }

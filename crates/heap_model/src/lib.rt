@@ -27,6 +27,7 @@
 //! around the chunks, profile PHI1, is this project's own (docs/FORMAT.md).
 #![tactic(auto)]
 
+mod allowance;
 mod bytes;
 mod call;
 mod counted;
@@ -34,6 +35,7 @@ mod names;
 mod refusal;
 mod tally;
 
+pub use allowance::Allowance;
 pub use bytes::Bytes;
 pub use call::{Call, MemoryCall, Reply};
 pub use counted::Counted;

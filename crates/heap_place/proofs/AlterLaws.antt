@@ -30,7 +30,6 @@ wrote_words old new at count lock owner way inside is =
     let eight = live_words_length count lock owner way in
     subst (λ (n : ℕ). WroteWithin old new at (at + n)) eight (wrote_part old new at (live_words count lock owner way) is (omega arith))
 
-
 -- ---- another lock count and another owner
 
 -- a chunk can have these, where this is the directory word

@@ -147,7 +147,7 @@ gave_back old mid new at all name live chunk accepted own f sums is header empti
     let alike : merged (g.before ++ free all ∷ g.rest) ≡ merged (g.before ++ free (size_of chunk) ∷ (g.run ++ g.rest)) =
     merged-middle g.before (free all ∷ []) (free (size_of chunk) ∷ g.run) g.rest (runs-merged (free all ∷ []) (free (size_of chunk) ∷ g.run) tt g.all_free (omega arith) (omega arith)) in (
       (exchanges_parts old new at (λ c. freed c ∷ []) g.before chunk (g.run ++ g.rest) accepted (named_live_chunk name at live chunk f.named) g.chunks there).1
-      (becomes_alike old new (g.before ++ free all ∷ g.rest) (g.before ++ free (size_of chunk) ∷ (g.run ++ g.rest)) alike (becomes_heap old new (g.before ++ free all ∷ g.rest) replaces.head heap)),
+          (becomes_alike old new (g.before ++ free all ∷ g.rest) (g.before ++ free (size_of chunk) ∷ (g.run ++ g.rest)) alike (becomes_heap old new (g.before ++ free all ∷ g.rest) replaces.head heap)),
       record { before = g.before; run = free all ∷ []; after = g.rest; chunks = chunks_of-tiled new (g.before ++ free all ∷ g.rest) heap.tiles; all_free = tt; from = omega arith; to = omega arith; least = omega arith },
     )
 

@@ -3,7 +3,7 @@
 ghost use Rattle.std.specs.Prelude.{◌<◌, IfOk};
 ghost use Rattle.heap_model.specs.Heap.{HeapAccepted};
 
-use chunk_format::{blank, chunk_size, directory};
+use chunk_format::{chunk_size, directory};
 use heap_check::check_heap;
 use heap_model::Name;
 use heap_place::Space;
@@ -11,20 +11,9 @@ use master_table::free_slot;
 use raw_region::Region;
 use std::alloc::Global;
 use std::test::Fail;
+pub(crate) use test_images::changed_words as image;
 
-/// A blank image of 128 bytes with 4 slots in which words are changed: each by its offset.
-pub(crate) fn image(alloc: Global, words: &[(usize, u32)]) -> Result<Region, Fail> {
-    let mut region = blank(alloc, 128, 4)?;
-    for (at, word) in words {
-        if *at > region.len() || region.len() - *at < 4 {
-            return Err("a word beyond the end")?;
-        }
-        region.put_u32(*at, *word);
-    }
-    Ok(region)
-}
-
-/// The same as a heap, which the checker accepts.
+/// A blank heap of 128 bytes with 4 slots in which words are changed, which the checker accepts.
 pub(crate) fn heap(alloc: Global, words: &[(usize, u32)]) -> Result<Space, Fail>
     ensures { IfOk result (λ space. HeapAccepted space.bytes) }
 {

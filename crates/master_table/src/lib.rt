@@ -10,6 +10,3 @@ mod table;
 
 pub use slots::Table;
 pub use table::{FreeSlot, clear, free_slot, resolve, set, slots_before, slots_free};
-
-#[cfg(test)]
-mod tests;

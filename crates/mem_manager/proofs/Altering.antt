@@ -1,13 +1,14 @@
 -- The steps of calls that ask of one chunk, or change it where it stands.
 use Rattle.std.proofs.Common.{◌≡◌, ◌≢◌, ℕ, ◌+◌, ◌-◌, ◌<◌, ◌≤◌, List, [], ◌∷◌, length, replicate, Some, refl, sym, ap, subst, ◌∙◌, arith, inl, inr}
+use Rattle.std.proofs.lemmas.Bool.{cases_eq, cases_lt}
 use Rattle.std.specs.Prelude.{slice_range}
 use Rattle.heap_model.specs.Memory.{Memory}
 use Rattle.heap_model.specs.Bytes.{overwritten}
 use Rattle.heap_model.specs.Chunk.{Chunk, free, movable, fixed, fixed_lock, IsLive, Spelled}
-use Rattle.heap_model.specs.Heap.{HeapAccepted}
+use Rattle.heap_model.specs.Heap.{directory_of, HeapAccepted}
 use Rattle.heap_model.specs.Meaning.{LiveChunk, NamedHere}
 use Rattle.heap_model.specs.Maps.{callers_map}
-use Rattle.heap_model.specs.Placing.{ChangesName}
+use Rattle.heap_model.specs.Layout.{Alters, with_lock, with_owner, with_bytes}
 use Rattle.heap_model.specs.Refusals.{NoneHolds, FirstBrings}
 use Rattle.heap_model.specs.MemorySteps.{Does, IsNoCaller, ReachesBeyond, text_of, unknown, where_it}
 use Rattle.heap_model.specs.declared.names.Name.{Name}
@@ -15,10 +16,12 @@ use Rattle.heap_model.specs.declared.call.MemoryCall.TheVariants.{Lock, Unlock, 
 use Rattle.heap_model.specs.declared.call.Reply.TheVariants.{Refused, Done, Number, Locked, Data}
 use Rattle.heap_model.specs.declared.refusal.Refusal.TheVariants.{OwnedByDatabase, ChunkNotLocked, LockOverflow, ChunkFixed, InvalidOwner, OutOfBounds}
 use Rattle.heap_laws.proofs.Frames.{slice-of_slice}
-use Rattle.heap_laws.proofs.Finding.{finds_spelled, finds_one}
-use Rattle.heap_place.specs.Alter.{IsMovableThere, HasBytes}
-use Rattle.mem_manager.specs.declared.lookup.Found.{Found}
-use Rattle.mem_manager.specs.Lookup.{IsFound}
+use Rattle.heap_laws.proofs.Finding.{finds_held, finds_spelled}
+use Rattle.heap_laws.proofs.Exchanging.{ChangesName}
+use Rattle.heap_laws.proofs.Changing.{lock_changes, owner_changes, bytes_changes}
+use Rattle.heap_laws.proofs.Owning.{not_directory}
+use Rattle.heap_place.specs.declared.found.Found.{Found}
+use Rattle.heap_place.specs.Found.{IsFound, CanGoTo}
 use Rattle.mem_manager.proofs.Stepping.{known, of_known, not_of_known, is_known, unchanged, refused, Altered, altered}
 
 -- ---- the chunk that is there
@@ -29,18 +32,6 @@ lock_small image name found h f = let l = f.lock_is in let most = lock_most f.ch
   lock_most (free size) n s = absurd n
   lock_most (movable bytes lock owner slot) n s = let e : lock ≡ f.live.lock = ap (λ (x : LiveChunk). x.lock) n.1 in let fits = s.1.lock_fits in omega arith
   lock_most (fixed bytes owner) n s = let e : fixed_lock ≡ f.live.lock = ap (λ (x : LiveChunk). x.lock) n.1 in omega arith
-
-pub movable_there : (image : List ℕ) (name : ℕ) (found : Found) → HeapAccepted image → IsFound image name found → found.lock < fixed_lock → IsMovableThere image found.place.0
-movable_there image name found h f low n live chunk g =
-    let same = ap (λ (x : LiveChunk). x.lock) (finds_one image name n f.live live f.chunk chunk (found.place.0 - 8) h f.finds g) in
-    let l = f.lock_is in
-    omega arith
-
-pub bytes_there : (image : List ℕ) (name : ℕ) (found : Found) (count : ℕ) → HeapAccepted image → IsFound image name found → count ≤ found.length → HasBytes image found.place.0 count
-bytes_there image name found count h f within n live chunk g =
-    let same : length f.live.bytes ≡ length live.bytes = ap (λ (x : LiveChunk). length x.bytes) (finds_one image name n f.live live f.chunk chunk (found.place.0 - 8) h f.finds g) in
-    let len = f.count in
-    omega arith
 
 -- its body lies in the image
 pub body_there : (image : List ℕ) (name : ℕ) (found : Found) → HeapAccepted image → (f : IsFound image name found) → (found.place.0 + found.length ≤ length image) × (slice_range image found.place.0 (found.place.0 + found.length) ≡ f.live.bytes)
@@ -63,6 +54,38 @@ body_there image name found h f = there f.chunk f.finds.named (finds_spelled ima
   there (free size) n s = absurd n
   there (movable bytes lock owner slot) n s = body bytes lock owner s.0 (ap (λ (x : LiveChunk). x.bytes) n.1) s.1
   there (fixed bytes owner) n s = body bytes fixed_lock owner 0 (ap (λ (x : LiveChunk). x.bytes) n.1) s
+
+-- ---- what changes of it
+
+pub relock_changes : (old new : List ℕ) (name : ℕ) (found : Found) (count : ℕ) → HeapAccepted old → (f : IsFound old name found) → found.lock ≢ fixed_lock → Alters old new (found.place.0 - 8) (with_lock count) → ChangesName old new name (Some (record f.live { lock = count })) (Some found.place.0)
+relock_changes old new name found count h f loose x = lock_changes old new name found.place.0 count f.live f.chunk h f.behind_header f.finds (λ e. loose (f.lock_is ∙ e)) x
+
+pub reown_changes : (old new : List ℕ) (name : ℕ) (found : Found) (owner : ℕ) → HeapAccepted old → (f : IsFound old name found) → Alters old new (found.place.0 - 8) (with_owner owner) → ChangesName old new name (Some (record f.live { owner = owner })) (Some found.place.0)
+reown_changes old new name found owner h f x = owner_changes old new name found.place.0 owner f.live f.chunk h f.behind_header f.finds x
+
+pub write_changes : (old new : List ℕ) (name : ℕ) (found : Found) (at : ℕ) (bytes : List ℕ) → HeapAccepted old → (f : IsFound old name found) → at + length bytes ≤ found.length → Alters old new (found.place.0 - 8) (with_bytes at bytes)
+    → ChangesName old new name (Some (record f.live { bytes = overwritten f.live.bytes at bytes })) (Some found.place.0)
+write_changes old new name found at bytes h f within x = let n = f.count in bytes_changes old new name found.place.0 at bytes f.live f.chunk h f.behind_header f.finds (omega arith) x
+
+-- a caller's chunk is not the directory
+pub not_the_directory : (image : List ℕ) (name : ℕ) (found : Found) → HeapAccepted image → IsFound image name found → 1 ≤ found.owner → found.name.0 ≢ directory_of image
+not_the_directory image name found h f positive at_directory =
+    let own = f.owner_is in
+    not_directory image name f.live h (finds_held image name f.live f.chunk (found.place.0 - 8) h f.finds) (λ none. let z : f.live.owner ≡ 0 = none in omega arith) (sym f.name_is ∙ at_directory)
+
+-- a caller's chunk may go to a caller
+pub can_go_to : (image : List ℕ) (name : ℕ) (found : Found) (owner : ℕ) → HeapAccepted image → IsFound image name found → 1 ≤ found.owner → (IsNoCaller owner → ⊥) → CanGoTo image found owner
+can_go_to image name found owner h f positive caller = record {
+  fits = let most = high in omega arith;
+  locked = λ some. low;
+  fixed = λ is. high;
+  directory = λ at_directory. absurd (not_the_directory image name found h f positive at_directory);
+} where
+  low : 0 < owner
+  low = elim (cases_eq owner 0) [ inl none ↦ absurd (caller (inl none)) | inr some ↦ omega arith ]
+
+  high : owner < 15
+  high = elim (cases_lt 14 owner) [ inl above ↦ absurd (caller (inr above)) | inr below ↦ omega arith ]
 
 -- ---- each call, where it is done
 

@@ -1,7 +1,5 @@
-pub mod Passing
 pub mod Stepping
 pub mod Altering
 pub mod Making
 pub mod Texts
 pub mod Recovering
-pub mod Owning

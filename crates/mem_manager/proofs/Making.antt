@@ -1,28 +1,36 @@
 -- The steps of calls that make chunks and free them.
 use Rattle.std.proofs.Common.{◌≡◌, ◌≢◌, ℕ, ◌+◌, ◌-◌, ◌*◌, ◌<◌, ◌≤◌, List, ◌++◌, length, replicate, Option, Some, None, refl, sym, ap, subst, ◌∙◌, arith, inl, inr}
+use Rattle.std.proofs.lemmas.List.{length-replicate}
+use Rattle.std.specs.Prelude.{count_by}
 use Rattle.heap_model.specs.Memory.{Memory}
-use Rattle.heap_model.specs.Chunk.{Chunk, fixed_lock, need}
+use Rattle.heap_model.specs.Chunk.{Chunk, movable, fixed, fixed_lock, need, is_owned_by}
 use Rattle.heap_model.specs.Slots.{slot_count, area_start}
 use Rattle.heap_model.specs.Heap.{IsHeap, HeapAccepted}
 use Rattle.heap_model.specs.Meaning.{LiveChunk}
 use Rattle.heap_model.specs.Reading.{chunks_of, held}
 use Rattle.heap_model.specs.Maps.{callers_map}
 use Rattle.heap_model.specs.Space.{NoRun, free_slots}
-use Rattle.heap_model.specs.Placing.{Untouched, ChangesName}
+use Rattle.heap_model.specs.Layout.{layout_of, Becomes, Exchanges, in_front, owned_freed, IsRoom}
 use Rattle.heap_model.specs.MemorySteps.{Does, Of, IsNoCaller, IsLocked}
 use Rattle.heap_model.specs.declared.names.Name.{Name}
-use Rattle.heap_model.specs.declared.call.MemoryCall.TheVariants.{HandleNew, PtrNew, Free}
-use Rattle.heap_model.specs.declared.call.Reply.TheVariants.{Refused, Done, Named}
+use Rattle.heap_model.specs.declared.call.MemoryCall.TheVariants.{HandleNew, PtrNew, Free, FreeByOwner}
+use Rattle.heap_model.specs.declared.call.Reply.TheVariants.{Refused, Done, Named, Number}
 use Rattle.heap_model.specs.declared.refusal.Refusal.TheVariants.{OwnedByDatabase, ChunkLocked, NotEnoughSpace}
-use Rattle.master_table.specs.Table.{IsFirstEmpty}
+use Rattle.master_table.specs.Table.{IsFirstEmpty, NotAmong}
+use Rattle.master_table.proofs.TableLaws.{used_fewer, used_apart, used_set}
 use Rattle.heap_laws.proofs.Meanings.{held-is, empty_unheld}
-use Rattle.heap_laws.proofs.Slots.{slot_of_number}
+use Rattle.heap_laws.proofs.Slots.{same_slots}
 use Rattle.heap_laws.proofs.Chunks.{total-append, SpelledAll-end}
 use Rattle.heap_laws.proofs.Accepted.{heap_of_read}
-use Rattle.mem_manager.specs.declared.lookup.Found.{Found}
-use Rattle.mem_manager.specs.Lookup.{IsFound, IsManaged, NoSlotBelow}
-use Rattle.mem_manager.proofs.Passing.{free_within}
-use Rattle.mem_manager.proofs.Stepping.{known, of_known, not_of_known, is_known, refused, frame_then, only_bytes, held_updated, still_others, slot_as}
+use Rattle.heap_laws.proofs.Freeing.{free_sum}
+use Rattle.heap_laws.proofs.Exchanging.{ChangesName}
+use Rattle.heap_laws.proofs.Changing.{claim_changes, room_unheld}
+use Rattle.heap_laws.proofs.Owning.{owned-merged, owned_held, owned_place}
+use Rattle.heap_place.specs.declared.found.Found.{Found}
+use Rattle.heap_place.specs.Found.{IsFound}
+use Rattle.heap_place.proofs.WalkLaws.{free_within}
+use Rattle.mem_manager.specs.Lookup.{IsManaged}
+use Rattle.mem_manager.proofs.Stepping.{known, of_known, not_of_known, is_known, refused, only_bytes, held_updated, still_others}
 
 -- ---- free
 
@@ -53,14 +61,11 @@ freed old new name found h f positive other unlocked ch = record {
   locks : (lock : ℕ) → found.lock ≡ lock → (0 < lock) × (lock < fixed_lock) → ⊥
   locks lock e l = let some = l.0 in let below = l.1 in unlocked (omega arith) (omega arith)
 
--- the slots below a number are in use still, where the name's is not one of them
-pub used_still : (old new : List ℕ) (lowest number name : ℕ) → IsManaged old lowest → number ≤ lowest → NoSlotBelow old name number → ChangesName old new name None None → IsManaged new number
-used_still old new lowest number name m below apart ch = record {
+-- the first so many slots are in use still, where the name's is not one of them
+pub used_freed : (old new : List ℕ) (used fewer name : ℕ) → IsManaged old used → fewer ≤ used → NotAmong old fewer name → ChangesName old new name None None → IsManaged new fewer
+used_freed old new used fewer name m most apart ch = record {
   accepted = ch.frame.accepted;
-  used = λ k low inside empty.
-      let count = ch.frame.count in
-      let there : k < slot_count old = omega arith in
-      m.used k (omega arith) there (sym (ch.slots (16 + 4 * k) (slot_of_number old k there) (apart k low there)) ∙ empty);
+  in_use = used_apart old new fewer name (same_slots old new ch.frame.count) ch.slots apart (used_fewer old used fewer most m.in_use);
 }
 
 -- ---- a new handle
@@ -82,17 +87,6 @@ no_run_so_big image size h big before run after parts f =
     let within = free_within run in
     omega arith
 
--- room is made, and then a chunk
-pub then_changes : (old mid new : List ℕ) (name : ℕ) (now : Option LiveChunk) (there : Option ℕ) → Untouched old mid → ChangesName mid new name now there → ChangesName old new name now there
-then_changes old mid new name now there u ch = record {
-  frame = frame_then old mid new u.frame ch.frame;
-  here = ch.here;
-  others = λ other apart. ch.others other apart ∙ u.map other;
-  place = ch.place;
-  places = λ other apart. ch.places other apart ∙ u.places other;
-  slots = λ slot is_slot apart. ch.slots slot (slot_as old mid slot u.frame.count is_slot) apart ∙ u.slots slot is_slot;
-}
-
 -- a chunk of zeros
 abbrev pub zeros : ℕ → ℕ → ℕ → LiveChunk
 zeros size lock owner = record { bytes = replicate size 0; lock = lock; owner = owner }
@@ -108,23 +102,30 @@ new_made old new size owner name there h caller slots run empty ch = record {
   rest = only_bytes old new;
 }
 
+-- what changes is its name, which stood for nothing
+pub new_changes : (old new : List ℕ) (at room size owner slot : ℕ) → HeapAccepted old → IsRoom old at room → need size ≤ room → held old slot ≡ None → Exchanges old new at (in_front (movable (replicate size 0) 0 owner slot)) → ChangesName old new slot (Some (zeros size 0 owner)) (Some (at + 8))
+new_changes old new at room size owner slot h r fits none x =
+    let takes : need (length (replicate {A = ℕ} size 0)) ≡ need size = ap need (length-replicate size 0) in
+    claim_changes old new at room slot (zeros size 0 owner) (movable (replicate size 0) 0 owner slot) h (omega arith) r none x (omega arith) (refl, refl)
+
+-- a run that has the size is one
+pub is_run : (image : List ℕ) (at room size : ℕ) → IsRoom image at room → size ≤ room → NoRun (chunks_of image) size → ⊥
+is_run image at room size r enough none =
+    let short = none r.before r.run r.after r.chunks r.all_free in
+    let sum = free_sum r.run r.all_free in
+    let sums = r.sums in
+    omega arith
+
 -- ---- the slot of a new handle
 
-pub slot_unheld : (image : List ℕ) (number : ℕ) → HeapAccepted image → IsFirstEmpty image number → held image (16 + 4 * number) ≡ None
-slot_unheld image number h first =
+pub slot_unheld : (image : List ℕ) (slot before : ℕ) → HeapAccepted image → IsFirstEmpty image slot before → held image slot ≡ None
+slot_unheld image slot before h first =
     let heap = heap_of_read image h.0 h.1 in
-    held-is image (chunks_of image) (16 + 4 * number) heap ∙ empty_unheld image (chunks_of image) (16 + 4 * number) heap (slot_of_number image number first.there) first.empty
+    held-is image (chunks_of image) slot heap ∙ empty_unheld image (chunks_of image) slot heap first.is_slot first.empty
 
--- the slots below it stay in use
-pub used_below : (old new : List ℕ) (number name : ℕ) (now : Option LiveChunk) (there : Option ℕ) → IsFirstEmpty old number → name ≡ 16 + 4 * number → ChangesName old new name now there → IsManaged new number
-used_below old new number name now there first is ch = record {
-  accepted = ch.frame.accepted;
-  used = λ k low inside empty.
-      let count = ch.frame.count in
-      let in_old : k < slot_count old = omega arith in
-      let other : 16 + 4 * k ≢ name = λ e. let same : 16 + 4 * k ≡ name = e in omega arith in
-      first.used k (omega arith) in_old (sym (ch.slots (16 + 4 * k) (slot_of_number old k in_old) other) ∙ empty);
-}
+-- the slots before it stay in use
+pub used_made : (old new : List ℕ) (slot before : ℕ) (now : Option LiveChunk) (there : Option ℕ) → IsFirstEmpty old slot before → ChangesName old new slot now there → IsManaged new before
+used_made old new slot before now there first ch = record { accepted = ch.frame.accepted; in_use = used_set old new slot before first (same_slots old new ch.frame.count) ch.slots }
 
 -- ---- a new fixed chunk
 
@@ -138,6 +139,23 @@ ptr_made old new size owner name there h caller run empty ch = record {
   step = ((caller, (run, tt)), (empty, held_updated old.bytes new.bytes name.0 (Some (zeros size fixed_lock owner)) there ch));
   frame = ch.frame;
   still = still_others old.bytes new.bytes name.0 (Some (zeros size fixed_lock owner)) there ch (inl empty);
+  asks = tt;
+  rest = only_bytes old new;
+}
+
+pub ptr_changes : (old new : List ℕ) (at room size owner : ℕ) → HeapAccepted old → IsRoom old at room → need size ≤ room → Exchanges old new at (in_front (fixed (replicate size 0) owner)) → ChangesName old new (at + 8) (Some (zeros size fixed_lock owner)) (Some (at + 8))
+ptr_changes old new at room size owner h r fits x =
+    let takes : need (length (replicate {A = ℕ} size 0)) ≡ need size = ap need (length-replicate size 0) in
+    claim_changes old new at room (at + 8) (zeros size fixed_lock owner) (fixed (replicate size 0) owner) h (omega arith) r (room_unheld old at room h (omega arith) r) x (omega arith) (refl, refl)
+
+-- ---- all chunks of an owner
+
+pub owner_freed : (old new : Memory) (owner count : ℕ) → HeapAccepted old.bytes → (IsNoCaller owner → ⊥) → Becomes old.bytes new.bytes (owned_freed owner (layout_of old.bytes)) → count ≡ count_by (is_owned_by owner) (layout_of old.bytes) → Does old (FreeByOwner owner) (Number count) new
+owner_freed old new owner count h caller b counted = record {
+  before = h;
+  step = ((caller, tt), (counted ∙ owned-merged owner (chunks_of old.bytes), λ name. owned_held old.bytes new.bytes owner name h b));
+  frame = b.frame;
+  still = λ name live held_there locked is_there. owned_place old.bytes new.bytes owner name h b is_there;
   asks = tt;
   rest = only_bytes old new;
 }

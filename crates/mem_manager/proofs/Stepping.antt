@@ -14,7 +14,7 @@ use Rattle.heap_model.specs.Meaning.{LiveChunk}
 use Rattle.heap_model.specs.Reading.{chunks_of, held}
 use Rattle.heap_model.specs.Maps.{callers_map, updated, changed, changed_at}
 use Rattle.heap_model.specs.Space.{Still, place_of}
-use Rattle.heap_model.specs.Placing.{SameFrame, ChangesName}
+use Rattle.heap_model.specs.Placing.{SameFrame}
 use Rattle.heap_model.specs.Refusals.{FirstBrings}
 use Rattle.heap_model.specs.MemorySteps.{Does, MemoryStep, Of, row_of, reply_of}
 use Rattle.heap_model.specs.declared.call.MemoryCall.{MemoryCall}
@@ -23,18 +23,22 @@ use Rattle.heap_model.specs.declared.call.Reply.TheVariants.{Refused}
 use Rattle.heap_model.specs.declared.refusal.Refusal.{Refusal}
 use Rattle.heap_laws.proofs.Deciding.{cond-true, cond-false}
 use Rattle.heap_laws.proofs.Meanings.{held-is, empty_unheld}
-use Rattle.heap_laws.proofs.Slots.{slot_of_number}
+use Rattle.heap_laws.proofs.Slots.{same_slots}
 use Rattle.heap_laws.proofs.Accepted.{heap_of_read}
 use Rattle.heap_laws.proofs.Finding.{finds_held, callers_some}
 use Rattle.heap_laws.proofs.Altering.{finds_place}
-use Rattle.mem_manager.specs.declared.lookup.Found.{Found}
-use Rattle.mem_manager.specs.Lookup.{IsFound, IsManaged}
+use Rattle.heap_laws.proofs.Becoming.{same_frame}
+use Rattle.heap_laws.proofs.Exchanging.{ChangesName}
+use Rattle.master_table.proofs.TableLaws.{used_still}
+use Rattle.heap_place.specs.declared.found.Found.{Found}
+use Rattle.heap_place.specs.Found.{IsFound, IsOne}
+use Rattle.mem_manager.specs.Lookup.{IsManaged}
 
 -- ---- what callers may name
 
--- what was found in a region that is this one
-pub found_in : {region here : Memory} {name : ℕ} {found : Found} → region ≡ here → IsFound region.bytes name found → IsFound here.bytes name found
-found_in {region} {here} {name} {found} e f = subst (λ (m : Memory). IsFound m.bytes name found) e f
+-- what was found is the chunk of its own name
+pub one_of : {image : List ℕ} {name : ℕ} {found : Found} → IsFound image name found → IsOne image found
+one_of {image} {name} {found} f = subst (λ (n : ℕ). IsFound image n found) (sym f.name_is) f
 
 -- a name's chunk, as the store has it
 pub known : (image : List ℕ) (name : ℕ) (found : Found) → HeapAccepted image → (f : IsFound image name found) → 1 ≤ found.owner → callers_map image name ≡ Some f.live
@@ -55,12 +59,6 @@ is_known e none = let n = sym e ∙ none in absurd cc
 pub only_bytes : (old new : Memory) → new ≡ record old { bytes = new.bytes }
 only_bytes old new = refl
 
-pub frame_same : (image : List ℕ) → HeapAccepted image → SameFrame image image
-frame_same image h = record { accepted = h; len = refl; count = refl; directory = refl }
-
-pub frame_then : (old mid new : List ℕ) → SameFrame old mid → SameFrame mid new → SameFrame old new
-frame_then old mid new one two = record { accepted = two.accepted; len = two.len ∙ one.len; count = two.count ∙ one.count; directory = two.directory ∙ one.directory }
-
 asks_same : {A : Type 0} (asks : Bool) (x : A) → OnTrue asks (x ≡ x)
 asks_same true x = refl
 asks_same false x = tt
@@ -69,7 +67,7 @@ pub unchanged : (region : Memory) (call : MemoryCall) (reply : Reply) → HeapAc
 unchanged region call reply h step = record {
   before = h;
   step = step;
-  frame = frame_same region.bytes h;
+  frame = same_frame region.bytes h;
   still = λ name live held_there locked there. refl;
   asks = asks_same (row_of region call).only_asks region;
   rest = only_bytes region region;
@@ -147,20 +145,16 @@ slot_as old new slot count s =
     let high : slot < table_end old = s.in_table in
     record { behind_head = s.behind_head; in_table = omega arith; whole = s.whole }
 
--- the slots below a number stay in use where a name stands for something afterwards
-pub used_altered : (old new : List ℕ) (lowest name : ℕ) (now : LiveChunk) (there : Option ℕ) → IsManaged old lowest → ChangesName old new name (Some now) there → IsManaged new lowest
-used_altered old new lowest name now there m ch = record {
+-- the slots that are in use stay so where a name stands for something afterwards
+pub used_altered : (old new : List ℕ) (used name : ℕ) (now : LiveChunk) (there : Option ℕ) → IsManaged old used → ChangesName old new name (Some now) there → IsManaged new used
+used_altered old new used name now there m ch = record {
   accepted = ch.frame.accepted;
-  used = λ k low inside empty.
-      let count = ch.frame.count in
-      let in_old : k < slot_count old = omega arith in
-      let s : IsSlot old (16 + 4 * k) = slot_of_number old k in_old in
-      elim (cases_eq (16 + 4 * k) name) [
-        | inl same ↦
-            let heap = heap_of_read new ch.frame.accepted.0 ch.frame.accepted.1 in
-            let none = held-is new (chunks_of new) (16 + 4 * k) heap ∙ empty_unheld new (chunks_of new) (16 + 4 * k) heap (slot_as old new (16 + 4 * k) count s) empty in
-            let some = sym ch.here ∙ ap (held new) (sym same) ∙ none in
-            absurd cc
-        | inr apart ↦ m.used k low in_old (sym (ch.slots (16 + 4 * k) s apart) ∙ empty)
-      ];
+  in_use = used_still old new used (same_slots old new ch.frame.count) (λ slot s some empty. elim (cases_eq slot name) [
+    | inl same ↦
+        let heap = heap_of_read new ch.frame.accepted.0 ch.frame.accepted.1 in
+        let none = held-is new (chunks_of new) slot heap ∙ empty_unheld new (chunks_of new) slot heap (slot_as old new slot ch.frame.count s) empty in
+        let there = sym ch.here ∙ ap (held new) (sym same) ∙ none in
+        absurd cc
+    | inr apart ↦ some (sym (ch.slots slot s apart) ∙ empty)
+  ]) m.in_use;
 }

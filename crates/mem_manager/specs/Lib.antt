@@ -1,2 +1,1 @@
 pub mod Lookup
-pub mod Owned

@@ -21,8 +21,8 @@ use thiserror::Error;
 #[derive(Drop)]
 pub struct Heap {
     space: Space,
-    /// The slots of all numbers below this one are in use.
-    lowest: u16,
+    /// The first so many slots are in use, so that no search for an empty one goes over them.
+    used: u32,
 }
 
 impl Model for Heap {
@@ -33,7 +33,7 @@ impl Model for Heap {
 
     ghost view = { λ heap. heap.space };
 
-    ghost invariant = { λ heap. IsManaged heap.space.bytes heap.lowest };
+    ghost invariant = { λ heap. IsManaged heap.space.bytes heap.used };
 }
 
 /// Where the body of a chunk is that was locked, and its lock count now.
@@ -71,7 +71,7 @@ impl Heap {
         match check_heap(&region) {
             Ok(_) => Ok(Heap {
                 space: Space::new(region),
-                lowest: 0,
+                used: 0,
             }),
             Err(fault) => Err(NotAHeap { fault, region }),
         }

@@ -9,7 +9,5 @@
 mod bounds;
 mod heap;
 mod lookup;
-mod owned;
-mod walks;
 
 pub use heap::{Heap, Locked, NotAHeap};

@@ -3,12 +3,14 @@
 #![tactic(auto)]
 
 #[cfg(test)]
+mod adopted;
+#[cfg(test)]
 mod beside;
+#[cfg(test)]
+mod examples;
+#[cfg(test)]
+mod images;
 #[cfg(test)]
 mod lists;
 #[cfg(test)]
-mod locks;
-#[cfg(test)]
-mod seen;
-#[cfg(test)]
-mod tests;
+mod notation;

@@ -9,12 +9,17 @@ use Rattle.heap_model.specs.Numbers.{number_of, name_of}
 use Rattle.heap_model.specs.declared.names.Name.{Name}
 use Rattle.heap_model.specs.declared.call.Call.{Call}
 use Rattle.heap_model.specs.declared.call.Call.TheVariants.{Memory}
-use Rattle.heap_model.specs.declared.call.MemoryCall.TheVariants.{HandleNew, PtrNew as PtrNewCall, Free as FreeCall, Lock as LockCall, Unlock as UnlockCall, Size as SizeCall, Owner as OwnerCall, Locks as LocksCall, Read as ReadCall, Write as WriteCall, Set as SetCall, StrCopy as StrCopyCall, SetOwner as SetOwnerCall, FreeByOwner as FreeByOwnerCall, FreeBytes as FreeBytesCall}
+use Rattle.heap_model.specs.declared.call.MemoryCall.{MemoryCall}
+use Rattle.heap_model.specs.declared.call.MemoryCall.TheVariants as calls
 use Rattle.heap_model.specs.declared.call.Reply.{Reply}
 use Rattle.heap_model.specs.declared.call.Reply.TheVariants.{Refused, Number, Named, Locked, Data}
 use Rattle.heap_model.specs.declared.refusal.Refusal.TheVariants.{OutOfMemory}
 use Rattle.script_lines.specs.declared.line.Line.{Line}
-use Rattle.script_lines.specs.declared.line.Line.TheVariants.{Bind, New, PtrNew, Free, SetOwner, Lock, Unlock, Size, Owner, Locks, Read, Write, Set, StrCopy, FreeByOwner, FreeBytes}
+use Rattle.script_lines.specs.declared.line.Line.TheVariants.{Bind, New, On, Whole}
+use Rattle.script_lines.specs.declared.line.NewCall.TheVariants.{Handle, Ptr}
+use Rattle.script_lines.specs.declared.line.ChunkCall.{ChunkCall}
+use Rattle.script_lines.specs.declared.line.ChunkCall.TheVariants.{Free, SetOwner, Lock, Unlock, Size, Owner, Locks, Read, Write, Set, StrCopy}
+use Rattle.script_lines.specs.declared.line.HeapCall.TheVariants.{FreeByOwner, FreeBytes}
 
 -- ---- what labels stand for
 
@@ -40,27 +45,31 @@ table names label = get_or names label no_name
 
 -- ---- the call of each line
 
+-- a call on the chunk of a name
+abbrev pub call_on : Name → ChunkCall → MemoryCall
+call_on name Free = calls.Free name
+call_on name (SetOwner owner) = calls.SetOwner name owner
+call_on name Lock = calls.Lock name
+call_on name Unlock = calls.Unlock name
+call_on name Size = calls.Size name
+call_on name Owner = calls.Owner name
+call_on name Locks = calls.Locks name
+call_on name (Read at count) = calls.Read name at count
+call_on name (Write at bytes) = calls.Write name at bytes
+call_on name (Set at count byte) = calls.Set name at count byte
+call_on name (StrCopy at text) = calls.StrCopy name at text
+
 abbrev pub call_of : Bindings → Line → Call
-call_of names (Bind label name) = Memory (SizeCall (record { 0 = name }))
-call_of names (New label size owner) = Memory (HandleNew size owner)
-call_of names (PtrNew label size owner) = Memory (PtrNewCall size owner)
-call_of names (Free label) = Memory (FreeCall (names label.0))
-call_of names (SetOwner label owner) = Memory (SetOwnerCall (names label.0) owner)
-call_of names (Lock label) = Memory (LockCall (names label.0))
-call_of names (Unlock label) = Memory (UnlockCall (names label.0))
-call_of names (Size label) = Memory (SizeCall (names label.0))
-call_of names (Owner label) = Memory (OwnerCall (names label.0))
-call_of names (Locks label) = Memory (LocksCall (names label.0))
-call_of names (Read label at count) = Memory (ReadCall (names label.0) at count)
-call_of names (Write label at bytes) = Memory (WriteCall (names label.0) at bytes)
-call_of names (Set label at count byte) = Memory (SetCall (names label.0) at count byte)
-call_of names (StrCopy label at text) = Memory (StrCopyCall (names label.0) at text)
-call_of names (FreeByOwner owner) = Memory (FreeByOwnerCall owner)
-call_of names FreeBytes = Memory FreeBytesCall
+call_of names (Bind label name) = Memory (calls.Size (record { 0 = name }))
+call_of names (New label (Handle size owner)) = Memory (calls.HandleNew size owner)
+call_of names (New label (Ptr size owner)) = Memory (calls.PtrNew size owner)
+call_of names (On label call) = Memory (call_on (names label.0) call)
+call_of names (Whole (FreeByOwner owner)) = Memory (calls.FreeByOwner owner)
+call_of names (Whole FreeBytes) = Memory calls.FreeBytes
 
 -- a line that asks for bytes
 abbrev pub is_read : Line → Bool
-is_read (Read label at count) = true
+is_read (On label (Read at count)) = true
 is_read line = false
 
 -- ---- what each line binds
@@ -75,8 +84,7 @@ bound_to names label reply = names
 abbrev pub bound_after : Bindings → Line → Reply → Bindings
 bound_after names line (Refused refusal) = names
 bound_after names (Bind label name) reply = bind names label.0 (record { 0 = name })
-bound_after names (New label size owner) reply = bound_to names label.0 reply
-bound_after names (PtrNew label size owner) reply = bound_to names label.0 reply
+bound_after names (New label call) reply = bound_to names label.0 reply
 bound_after names line reply = names
 
 -- ---- what is printed

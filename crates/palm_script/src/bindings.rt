@@ -27,9 +27,8 @@ pub(crate) fn bind_line(names: &mut [Name], line: &Line, reply: &Reply)
     }
     match line {
         Line::Bind { label, name } => bind_label(names, *label, Name(*name)),
-        Line::New { label, .. } => bind_answer(names, *label, reply),
-        Line::PtrNew { label, .. } => bind_answer(names, *label, reply),
-        _ => {}
+        Line::New(label, _) => bind_answer(names, *label, reply),
+        Line::On(..) | Line::Whole(_) => {}
     }
 }
 

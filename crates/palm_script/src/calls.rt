@@ -7,9 +7,8 @@ ghost use Rattle.heap_model.specs.declared.call.Call.{Call};
 ghost use Rattle.palm_script.specs.Calls.{is_there};
 
 use crate::replies::{done, locked, named, number, small_number};
-use heap_model::{Bytes, Call, MemoryCall, Name, Refusal, Reply};
+use heap_model::{Allowance, Bytes, Call, MemoryCall, Name, Refusal, Reply};
 use mem_manager::Heap;
-use script_lines::Memory;
 use std::alloc::{AllocError, Global};
 
 /// Does one call and answers its reply. Memory is taken for the bytes that `read` answers alone;
@@ -18,12 +17,20 @@ pub fn do_call(alloc: Global, heap: &mut Heap, call: &Call) -> Reply
     requires { IsTrue (is_there call.now) }
     ensures { DoesCall heap.old call.now result heap.new }
 {
+    do_call_from(&alloc, heap, call)
+}
+
+/// `do_call`, where the growth asks for a grant.
+pub fn do_call_from<A: Allowance>(memory: &A, heap: &mut Heap, call: &Call) -> Reply
+    requires { IsTrue (is_there call.now) }
+    ensures { DoesCall heap.old call.now result heap.new }
+{
     match call {
-        Call::Memory(call) => memory_call(alloc, heap, call),
+        Call::Memory(call) => memory_call(memory, heap, call),
     }
 }
 
-fn memory_call(alloc: Global, heap: &mut Heap, call: &MemoryCall) -> Reply
+fn memory_call<A: Allowance>(memory: &A, heap: &mut Heap, call: &MemoryCall) -> Reply
     requires { IsTrue (is_there (Call.Memory call.now)) }
     ensures { Does heap.old call.now result heap.new }
 {
@@ -36,7 +43,7 @@ fn memory_call(alloc: Global, heap: &mut Heap, call: &MemoryCall) -> Reply
         MemoryCall::Size(name) => number(heap.size(*name)),
         MemoryCall::Owner(name) => small_number(heap.owner(*name)),
         MemoryCall::Locks(name) => small_number(heap.locks(*name)),
-        MemoryCall::Read { name, at, count } => read(&alloc, heap, *name, *at, *count),
+        MemoryCall::Read { name, at, count } => read(memory, heap, *name, *at, *count),
         MemoryCall::Write { name, at, bytes } => done(heap.write(*name, *at, bytes.as_slice())),
         MemoryCall::Set {
             name,
@@ -56,7 +63,7 @@ fn memory_call(alloc: Global, heap: &mut Heap, call: &MemoryCall) -> Reply
 }
 
 /// The bytes of a chunk, copied.
-pub(crate) fn read<M: Memory>(memory: &M, heap: &Heap, name: Name, at: u32, count: u32) -> Reply
+fn read<A: Allowance>(memory: &A, heap: &Heap, name: Name, at: u32, count: u32) -> Reply
     ensures { Does heap.now (MemoryCall.Read name at count) result heap.now }
 {
     match heap.read(name, at, count) {
@@ -68,7 +75,7 @@ pub(crate) fn read<M: Memory>(memory: &M, heap: &Heap, name: Name, at: u32, coun
     }
 }
 
-fn copied<M: Memory>(memory: &M, bytes: &[u8]) -> Result<Bytes, AllocError>
+fn copied<A: Allowance>(memory: &A, bytes: &[u8]) -> Result<Bytes, AllocError>
     ensures { IfOk result (λ copy. copy ≡ bytes.now) }
 {
     Ok(Bytes::of(Vec::from_slice(memory.grant()?, bytes)?))

@@ -18,9 +18,9 @@ mod calls;
 mod lines;
 mod replies;
 mod runs;
-#[cfg(test)]
-mod tests;
 
-pub use calls::do_call;
-pub use runs::{RunFault, run};
-pub use script_lines::{ChunkLabel, Line, LineFault, Script, ScriptFault, parse};
+pub use calls::{do_call, do_call_from};
+pub use runs::{RunFault, run, run_from};
+pub use script_lines::{
+    ChunkCall, ChunkLabel, HeapCall, Line, LineFault, NewCall, Script, ScriptFault, parse,
+};

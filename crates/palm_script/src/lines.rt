@@ -1,7 +1,9 @@
 //! One line of a script.
 
-ghost use Rattle.std.specs.Prelude.{◌≡◌, ◌≤◌, true, false, is_ok, length};
+ghost use Rattle.std.specs.Prelude.{◌≡◌, ◌≤◌, false, is_ok, length};
 ghost use Rattle.script_lines.specs.Labels.{label_end};
+ghost use Rattle.script_lines.specs.declared.line.Line.{Line};
+ghost use Rattle.script_lines.specs.declared.line.ChunkCall.{ChunkCall};
 ghost use Rattle.palm_script.specs.Lines.{is_read, table, DoesLine, LineStep};
 
 use crate::bindings::{bind_line, name_of};
@@ -11,7 +13,7 @@ use crate::replies::{
 use heap_model::{Counted, Name, Reply};
 use mem_manager::Heap;
 use palm_text::WriteFault;
-use script_lines::Line;
+use script_lines::{ChunkCall, ChunkLabel, HeapCall, Line, NewCall};
 use std::io::Write;
 
 /// Does the call of a line, binds what it binds and prints its reply line. Nothing takes memory.
@@ -25,8 +27,8 @@ pub(crate) fn do_line<W: Write>(
     ensures { DoesLine W.contents line.now heap.old (table names.old) out.old
         heap.new (table names.new) out.new (is_ok result) }
 {
-    if let Line::Read { .. } = line {
-        return read_line(heap, names, line, out);
+    if let Line::On(label, ChunkCall::Read { at, count }) = line {
+        return read_line(heap, names, *label, *at, *count, out);
     }
     let reply = reply_to(heap, names, line);
     bind_line(names, line, &reply);
@@ -40,30 +42,33 @@ fn reply_to(heap: &mut Heap, names: &[Name], line: &Line) -> Reply
 {
     match line {
         Line::Bind { name, .. } => number(heap.size(Name(*name))),
-        Line::New { size, owner, .. } => named(heap.handle_new(*size, *owner)),
-        Line::PtrNew { size, owner, .. } => named(heap.ptr_new(*size, *owner)),
-        Line::Free(label) => done(heap.free(name_of(names, *label))),
-        Line::SetOwner { label, owner } => done(heap.set_owner(name_of(names, *label), *owner)),
-        Line::Lock(label) => locked(heap.lock(name_of(names, *label))),
-        Line::Unlock(label) => small_number(heap.unlock(name_of(names, *label))),
-        Line::Size(label) => number(heap.size(name_of(names, *label))),
-        Line::Owner(label) => small_number(heap.owner(name_of(names, *label))),
-        Line::Locks(label) => small_number(heap.locks(name_of(names, *label))),
-        Line::Write { label, at, bytes } => {
-            done(heap.write(name_of(names, *label), *at, bytes.as_slice()))
-        }
-        Line::Set {
-            label,
-            at,
-            count,
-            byte,
-        } => done(heap.set(name_of(names, *label), *at, *count, *byte)),
-        Line::StrCopy { label, at, text } => {
-            done(heap.str_copy(name_of(names, *label), *at, text.as_slice()))
-        }
-        Line::FreeByOwner(owner) => number(heap.free_by_owner(*owner)),
-        Line::FreeBytes => Reply::Number(heap.free_bytes()),
-        Line::Read { .. } => unreachable!(),
+        Line::New(_, NewCall::Handle { size, owner }) => named(heap.handle_new(*size, *owner)),
+        Line::New(_, NewCall::Ptr { size, owner }) => named(heap.ptr_new(*size, *owner)),
+        Line::On(label, call) => reply_on(heap, names, *label, call),
+        Line::Whole(HeapCall::FreeByOwner(owner)) => number(heap.free_by_owner(*owner)),
+        Line::Whole(HeapCall::FreeBytes) => Reply::Number(heap.free_bytes()),
+    }
+}
+
+/// What the manager answers to a call that isn't a `read`, on the chunk that a label stands for.
+fn reply_on(heap: &mut Heap, names: &[Name], label: ChunkLabel, call: &ChunkCall) -> Reply
+    requires { is_read (Line.On label call.now) ≡ false }
+    ensures { LineStep heap.old (table names.now) (Line.On label call.now)
+        result heap.new }
+{
+    let name = name_of(names, label);
+    match call {
+        ChunkCall::Free => done(heap.free(name)),
+        ChunkCall::SetOwner(owner) => done(heap.set_owner(name, *owner)),
+        ChunkCall::Lock => locked(heap.lock(name)),
+        ChunkCall::Unlock => small_number(heap.unlock(name)),
+        ChunkCall::Size => number(heap.size(name)),
+        ChunkCall::Owner => small_number(heap.owner(name)),
+        ChunkCall::Locks => small_number(heap.locks(name)),
+        ChunkCall::Write { at, bytes } => done(heap.write(name, *at, bytes.as_slice())),
+        ChunkCall::Set { at, count, byte } => done(heap.set(name, *at, *count, *byte)),
+        ChunkCall::StrCopy { at, text } => done(heap.str_copy(name, *at, text.as_slice())),
+        ChunkCall::Read { .. } => unreachable!(),
     }
 }
 
@@ -71,20 +76,17 @@ fn reply_to(heap: &mut Heap, names: &[Name], line: &Line) -> Reply
 fn read_line<W: Write>(
     heap: &Heap,
     names: &[Name],
-    line: &Line,
+    label: ChunkLabel,
+    at: u32,
+    count: u32,
     out: &mut Counted<W>,
 ) -> Result<(), WriteFault>
-    requires { is_read line.now ≡ true }
-    ensures { DoesLine W.contents line.now heap.now (table names.now) out.old
+    ensures { DoesLine W.contents (Line.On label (ChunkCall.Read at count))
+        heap.now (table names.now) out.old
         heap.now (table names.now) out.new (is_ok result) }
 {
-    match line {
-        Line::Read { label, at, count } => {
-            match heap.read(name_of(names, *label), *at, *count) {
-                Ok(bytes) => put_bytes(out, bytes),
-                Err(refusal) => put_refusal(out, refusal),
-            }
-        }
-        _ => unreachable!(),
+    match heap.read(name_of(names, label), at, count) {
+        Ok(bytes) => put_bytes(out, bytes),
+        Err(refusal) => put_refusal(out, refusal),
     }
 }

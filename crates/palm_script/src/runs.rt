@@ -4,9 +4,9 @@ ghost use Rattle.std.specs.Prelude.{◌≡◌, [], Err, IfOk, OnOk, replicate};
 ghost use Rattle.palm_script.specs.Lines.{BreaksOff, RunsThrough, no_name};
 
 use crate::lines::do_line;
-use heap_model::{Bytes, Counted, Name};
+use heap_model::{Allowance, Bytes, Counted, Name};
 use mem_manager::Heap;
-use script_lines::{Memory, Script};
+use script_lines::Script;
 use std::alloc::{AllocError, Global};
 use std::io::Write;
 use thiserror::Error;
@@ -48,9 +48,9 @@ pub fn run<W: Write>(
     }
 }
 
-/// `run`, from any memory.
-pub(crate) fn run_from<M: Memory, W: Write>(
-    memory: &M,
+/// `run`, where the growth asks for a grant.
+pub fn run_from<A: Allowance, W: Write>(
+    memory: &A,
     heap: &mut Heap,
     script: &Script,
     out: &mut Counted<W>,
@@ -76,7 +76,7 @@ pub(crate) fn run_from<M: Memory, W: Write>(
 }
 
 /// A table of so many labels, none of them bound.
-fn unbound_names<M: Memory>(memory: &M, count: usize) -> Result<Vec<Name>, AllocError>
+fn unbound_names<A: Allowance>(memory: &A, count: usize) -> Result<Vec<Name>, AllocError>
     ensures { IfOk result (λ names. names.items ≡ replicate count no_name) }
 {
     vec![in memory.grant()?; Name(0); count]

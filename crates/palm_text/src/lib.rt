@@ -7,8 +7,6 @@
 
 mod output;
 mod pieces;
-#[cfg(test)]
-mod tests;
 
 pub use output::{WriteFault, put_all};
 pub use pieces::{Piece, put_pieces};

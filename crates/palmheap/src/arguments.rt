@@ -38,7 +38,8 @@ Exit status:
   3  a file could not be read or written, or is longer than 16777216 bytes; or standard output
      could not be written
   4  there was not enough memory
-On 3 and 4 standard error says what failed: 'fault read', 'fault write' or 'fault memory'.";
+On 3 and 4 the first line on standard error is 'fault read', 'fault write' or 'fault memory'; behind
+the first two a second line names the file and says why.";
 
 const NEW_SLOTS: &str = "How many slots its table has, 1 to 65535: the most chunks that can be \
 movable at a time. A slot takes 4 bytes";

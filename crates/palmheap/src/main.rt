@@ -1,9 +1,10 @@
 //! The program `palmheap`, which makes, checks and changes heap images.
 //!
-//! `main` alone meets the system: it takes the words, reads the input files, prints, and has the
-//! output file put in place. What a command does stands in the crate `palmheap_commands`, whose
-//! contracts say which status comes when and what was written by then. The module `arguments` reads
-//! the words of the command line, and has the texts of the help.
+//! `main` alone meets the system: it takes the words, reads the input files, prints, has the output
+//! file put in place, and says on standard error which file failed and why. What a command does
+//! stands in the crate `palmheap_commands`, whose contracts say which status comes when and what was
+//! written by then. The module `arguments` reads the words of the command line, and has the texts of
+//! the help.
 #![tactic(auto)]
 
 mod arguments;
@@ -11,26 +12,26 @@ mod arguments;
 use arguments::Request;
 use clap::error::ErrorKind;
 use heap_model::Counted;
-use palmheap_commands::{InputFault, OutputFile, Status, cmd_check, cmd_new, cmd_run, read_input};
+use palmheap_commands::{cmd_check, cmd_new, cmd_run};
+use program_io::{InputFault, Noted, OutputFile, Status, read_input};
 use std::fs::File;
 use std::io::BufWriter;
 use std::process::ExitCode;
 use std::rt::{Env, Files};
 use std::{env, io};
 
+/// What standard output is called where it fails.
+const STANDARD_OUTPUT: &str = "standard output";
+
 fn main(rt: HostRuntime) -> ExitCode {
-    let status = run(&rt);
-    if let Some(fault) = status.fault() {
-        let _ = eprintln!(rt; "fault {fault}");
-    }
-    ExitCode::from(status.code())
+    ExitCode::from(run(&rt).code())
 }
 
-/// Does what the words of the command line ask for.
+/// Does what the words of the command line ask for. What broke it off is on standard error then.
 fn run<R: Env + Files + Print + Eprint + AllocGlobal>(rt: &R) -> Status {
     let words = match words(rt) {
         Ok(words) => words,
-        Err(status) => return status,
+        Err(status) => return say_fault(rt, status),
     };
     match arguments::parse(rt.alloc(), words.as_slice()) {
         Ok(Request::New { size, slots, out }) => new(rt, size, slots, out),
@@ -56,43 +57,86 @@ fn words<R: Env + Eprint + AllocGlobal>(rt: &R) -> Result<Vec<String>, Status> {
 /// version that they ask for.
 fn answer<R: Print + Eprint>(rt: &R, error: &clap::Error) -> Status {
     if error.kind() == ErrorKind::OutOfMemory {
-        return Status::NoMemory;
+        return say_fault(rt, Status::NoMemory);
     }
-    let printed = error.print(rt);
-    if error.use_stderr() {
-        Status::BadWords
-    } else if printed.is_err() {
-        Status::WriteFault
-    } else {
-        Status::Done
+    match error.print(rt) {
+        _ if error.use_stderr() => Status::BadWords,
+        Ok(()) => Status::Done,
+        Err(reason) => say_write_fault(rt, STANDARD_OUTPUT, reason),
     }
 }
 
-/// Runs `new`.
-fn new<R: Files + Print + AllocGlobal>(rt: &R, size: u32, slots: u16, path: &str) -> Status {
-    let Ok(image_out) = OutputFile::new(rt, path) else {
-        return Status::NoMemory;
-    };
-    let mut image_out = Counted::new(image_out);
-    let mut out = Counted::new(io::writer(rt));
-    let status = cmd_new(rt.alloc(), size, slots, &mut image_out, &mut out);
-    image_out.into_inner().close();
+/// Says `fault` and its word on standard error, if that is what a run came to. Behind `fault read`
+/// and `fault write` a line with the file and the reason is to follow.
+fn say_fault<R: Eprint>(rt: &R, status: Status) -> Status {
+    if let Some(fault) = status.fault() {
+        let _ = eprintln!(rt; "fault {fault}");
+    }
     status
 }
 
-/// Runs `check`.
-fn check<R: Files + Print + AllocGlobal>(rt: &R, path: &str) -> Status {
-    match read_file(rt, path) {
-        Ok(image) => {
-            let mut out = Counted::new(io::writer(rt));
-            cmd_check(rt.alloc(), image.as_slice(), &mut out)
-        }
-        Err(fault) => Status::from(fault),
+/// Says which file couldn't be read and why, or that there was no memory for it.
+fn say_input_fault<R: Eprint>(rt: &R, file: &str, fault: InputFault) -> Status {
+    let status = say_fault(rt, Status::from(fault));
+    if status == Status::ReadFault {
+        let _ = eprintln!(rt; "{file}: {fault}");
     }
+    status
+}
+
+/// Says which file couldn't be written, and why.
+fn say_write_fault<R: Eprint>(rt: &R, file: &str, reason: io::Error) -> Status {
+    let status = say_fault(rt, Status::WriteFault);
+    let _ = eprintln!(rt; "{file}: {reason}");
+    status
+}
+
+/// Says what broke a command off, where something did. Of the outputs, each with the first error of
+/// its writer, the first that has one is named.
+fn finish<R: Eprint>(rt: &R, status: Status, outputs: &[(&str, Option<io::Error>)]) -> Status {
+    if status == Status::WriteFault {
+        for (file, fault) in outputs {
+            if let Some(reason) = fault {
+                return say_write_fault(rt, file, *reason);
+            }
+        }
+    }
+    say_fault(rt, status)
+}
+
+/// Runs `new`.
+fn new<R: Files + Print + Eprint + AllocGlobal>(
+    rt: &R,
+    size: u32,
+    slots: u16,
+    path: &str,
+) -> Status {
+    let Ok(image_out) = OutputFile::new(rt, path) else {
+        return say_fault(rt, Status::NoMemory);
+    };
+    let mut image_out = Counted::new(Noted::new(image_out));
+    let mut out = Counted::new(Noted::new(io::writer(rt)));
+    let status = cmd_new(rt.alloc(), size, slots, &mut image_out, &mut out);
+    let (image_out, image_fault) = image_out.into_inner().into_parts();
+    image_out.close();
+    let (_, fault) = out.into_inner().into_parts();
+    finish(rt, status, &[(path, image_fault), (STANDARD_OUTPUT, fault)])
+}
+
+/// Runs `check`.
+fn check<R: Files + Print + Eprint + AllocGlobal>(rt: &R, path: &str) -> Status {
+    let image = match read_file(rt, path) {
+        Ok(image) => image,
+        Err(status) => return status,
+    };
+    let mut out = Counted::new(Noted::new(io::writer(rt)));
+    let status = cmd_check(rt.alloc(), image.as_slice(), &mut out);
+    let (_, fault) = out.into_inner().into_parts();
+    finish(rt, status, &[(STANDARD_OUTPUT, fault)])
 }
 
 /// Runs `run`. Both files are read before the image is looked at.
-fn run_script<R: Files + Print + AllocGlobal>(
+fn run_script<R: Files + Print + Eprint + AllocGlobal>(
     rt: &R,
     image: &str,
     script: &str,
@@ -100,19 +144,19 @@ fn run_script<R: Files + Print + AllocGlobal>(
 ) -> Status {
     let image = match read_file(rt, image) {
         Ok(image) => image,
-        Err(fault) => return Status::from(fault),
+        Err(status) => return status,
     };
     let script = match read_file(rt, script) {
         Ok(script) => script,
-        Err(fault) => return Status::from(fault),
+        Err(status) => return status,
     };
-    let Ok(out) = BufWriter::new(rt.alloc(), io::writer(rt)) else {
-        return Status::NoMemory;
+    let Ok(out) = BufWriter::new(rt.alloc(), Noted::new(io::writer(rt))) else {
+        return say_fault(rt, Status::NoMemory);
     };
     let Ok(image_out) = OutputFile::new(rt, path) else {
-        return Status::NoMemory;
+        return say_fault(rt, Status::NoMemory);
     };
-    let (mut image_out, mut out) = (Counted::new(image_out), Counted::new(out));
+    let (mut image_out, mut out) = (Counted::new(Noted::new(image_out)), Counted::new(out));
     let mut files = Vec::new(rt.alloc());
     let status = cmd_run(
         rt.alloc(),
@@ -123,16 +167,19 @@ fn run_script<R: Files + Print + AllocGlobal>(
         &mut files,
         &mut out,
     );
-    image_out.into_inner().close();
+    let (image_out, image_fault) = image_out.into_inner().into_parts();
+    image_out.close();
     // What is left in `out` behind a fault is thrown away, where dropping it would write again.
-    drop(out.into_inner().into_parts());
-    status
+    let (out, _) = out.into_inner().into_parts();
+    let (_, fault) = out.into_parts();
+    finish(rt, status, &[(path, image_fault), (STANDARD_OUTPUT, fault)])
 }
 
-/// All of a file.
-fn read_file<R: Files + AllocGlobal>(rt: &R, path: &str) -> Result<Vec<u8>, InputFault> {
-    match File::open(rt, path) {
+/// All of a file. What keeps it from being read is on standard error then.
+fn read_file<R: Files + Eprint + AllocGlobal>(rt: &R, path: &str) -> Result<Vec<u8>, Status> {
+    let read = match File::open(rt, path) {
         Ok(mut file) => read_input(rt.alloc(), &mut file),
-        Err(_) => Err(InputFault::Read),
-    }
+        Err(error) => Err(InputFault::from(error)),
+    };
+    read.map_err(|fault| say_input_fault(rt, path, fault))
 }

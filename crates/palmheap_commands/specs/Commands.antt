@@ -4,7 +4,8 @@ use Rattle.heap_model.specs.Counted.{Writing}
 use Rattle.chunk_format.specs.Blank.{IsBlank, IsRegionSize, LeavesRoom}
 use Rattle.heap_check.specs.declared.summary.Summary.{Summary}
 use Rattle.heap_check.specs.Summary.{Summarizes}
-use Rattle.palmheap_commands.specs.Output.{Puts}
+use Rattle.program_io.specs.FaultLines.{PutsBad}
+use Rattle.program_io.specs.Output.{Puts}
 
 -- the line that `check` prints of an accepted heap
 abbrev pub summary_line : Summary → List ℕ
@@ -12,10 +13,6 @@ summary_line summary =
     codes "ok size " ++ (decimal summary.size ++ (codes " slots " ++ (decimal summary.slots
     ++ (codes " movable " ++ (decimal summary.movable ++ (codes " fixed " ++ (decimal summary.fixed
     ++ (codes " free " ++ (decimal summary.free ++ codes "\n")))))))))
-
--- `bad`, a fault and a line's end
-abbrev pub IsBadLine : List ℕ → Type 0
-IsBadLine line = (fault : List ℕ) × (line ≡ codes "bad " ++ (fault ++ codes "\n"))
 
 module _ {W : Type 0} where
   -- a blank image of this size and slot count
@@ -25,10 +22,6 @@ module _ {W : Type 0} where
   -- the line for an accepted image
   abbrev pub PutsSummary : List ℕ → (W → Option (List ℕ)) → Writing W → Writing W → Bool → Type 0
   PutsSummary image contents old new ok = (summary : Summary) × Summarizes image summary × Puts contents old new (summary_line summary) ok
-
-  -- a line that says what is bad
-  abbrev pub PutsBad : (W → Option (List ℕ)) → Writing W → Writing W → Bool → Type 0
-  PutsBad contents old new ok = (line : List ℕ) × IsBadLine line × Puts contents old new line ok
 
 -- A write or a flush failed in `new`, and nothing was written after it: it was one of the image's, and
 -- nothing was printed; or one of `ok`, behind the whole image; or there is no such image, it was one of

@@ -1,5 +1,3 @@
-pub mod Output
-pub mod Status
 pub mod Commands
 pub mod Runs
 pub use Rattle.heap_model.specs.Heap

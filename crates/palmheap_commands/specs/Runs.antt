@@ -1,5 +1,5 @@
 -- What `run` prints and writes. Where a definition ends in a `Bool`, it says whether all got through.
-use Rattle.std.specs.Prelude.{◌≡◌, ◌⊎◌, ◌++◌, ℕ, Bool, true, false, List, Option, Some, codes, decimal, Ok, Err}
+use Rattle.std.specs.Prelude.{◌≡◌, ◌⊎◌, ℕ, Bool, true, false, List, Option, Some, Ok, Err}
 use Rattle.heap_model.specs.Memory.{Memory}
 use Rattle.heap_model.specs.Counted.{Writing}
 use Rattle.heap_model.specs.Heap.{HeapAccepted}
@@ -7,17 +7,8 @@ use Rattle.script_lines.specs.Reading.{read_script}
 use Rattle.script_lines.specs.declared.fault.LineFault.{LineFault}
 use Rattle.script_lines.specs.declared.line.Line.{Line}
 use Rattle.palm_script.specs.Lines.{BreaksOff, RunsThrough}
-use Rattle.palmheap_commands.specs.Commands.{PutsBad}
-use Rattle.palmheap_commands.specs.Output.{Puts}
-
--- the line for a refused script: `line`, the number of its first faulty line, what is wrong there, and
--- a line's end
-abbrev pub IsFaultLine : LineFault → List ℕ → Type 0
-IsFaultLine fault line = (text : List ℕ) × (line ≡ codes "line " ++ (decimal fault.line ++ (codes " " ++ (text ++ codes "\n"))))
-
--- such a line
-abbrev pub PutsFault : {V : Type 0} → LineFault → (V → Option (List ℕ)) → Writing V → Writing V → Bool → Type 0
-PutsFault fault contents old new ok = (line : List ℕ) × IsFaultLine fault line × Puts contents old new line ok
+use Rattle.program_io.specs.FaultLines.{PutsBad, PutsFault}
+use Rattle.program_io.specs.Output.{Puts}
 
 -- The image is no accepted heap, and a line that starts with `bad` says why; or it is one and no script is
 -- read from the text, and a line says why.

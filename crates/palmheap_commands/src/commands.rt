@@ -1,20 +1,18 @@
 //! The commands `new` and `check`, over bytes and writers.
 
-ghost use Rattle.std.specs.Prelude.{◌≡◌, ◌≢◌, ◌⊎◌, codes, true, false, IfOk, string_bytes};
+ghost use Rattle.std.specs.Prelude.{◌≡◌, ◌≢◌, codes, true, false, IfOk, string_bytes};
 ghost use Rattle.heap_model.specs.Heap.{HeapAccepted};
 ghost use Rattle.chunk_format.specs.Blank.{IsRegionSize, LeavesRoom};
-ghost use Rattle.palmheap_commands.specs.Commands.{summary_line, IsBadLine};
-ghost use Rattle.palmheap_commands.specs.Commands.{NewBreaksOff, PutsBad, PutsBlank, PutsSummary};
-ghost use Rattle.palmheap_commands.specs.Output.{Puts};
+ghost use Rattle.palmheap_commands.specs.Commands.{NewBreaksOff, PutsBlank, PutsSummary, summary_line};
+ghost use Rattle.program_io.specs.FaultLines.{PutsBad};
+ghost use Rattle.program_io.specs.Output.{Puts};
 
-use crate::output::{put, say, say_text};
-use crate::status::Status;
 use chunk_format::{BlankFault, blank};
 use heap_check::{Summary, check_heap};
 use heap_model::Counted;
+use program_io::{Status, put, say, say_bad, say_text};
 use raw_region::Region;
 use std::alloc::{AllocError, Global};
-use std::fmt::Display;
 use std::io::Write;
 
 /// Writes a blank image of this size and slot count to `image_out`, and then `ok` to `out`.
@@ -88,28 +86,4 @@ fn summary_text(alloc: Global, summary: &Summary) -> Result<String, AllocError>
         free,
     } = *summary;
     format!(in alloc; "ok size {size} slots {slots} movable {movable} fixed {fixed} free {free}\n")
-}
-
-/// Prints `bad` and a fault, and answers `status`.
-pub(crate) fn say_bad<V: Write, F: Display + Drop>(
-    alloc: Global,
-    fault: F,
-    status: Status,
-    out: &mut Counted<V>,
-) -> Status
-    requires { (status ≡ Status.BadWords) ⊎ (status ≡ Status.Refused) }
-    ensures status { (result ≡ status) ⊎ (result ≡ Status.WriteFault) ⊎ (result ≡ Status.NoMemory) }
-    ensures said { result ≡ status → PutsBad V.contents out.old out.new true }
-    ensures fault { result ≡ Status.WriteFault → PutsBad V.contents out.old out.new false }
-    ensures no_memory { result ≡ Status.NoMemory → out.new ≡ out.old }
-{
-    say_text(bad_text(alloc, fault), status, out)
-}
-
-/// The line for a fault.
-fn bad_text<F: Display + Drop>(alloc: Global, fault: F) -> Result<String, AllocError>
-    ensures { IfOk result (λ line. IsBadLine (string_bytes line)) }
-{
-    let text = format!(in alloc; "{fault}")?;
-    format!(in alloc; "bad {text}\n")
 }

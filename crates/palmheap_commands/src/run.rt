@@ -1,17 +1,15 @@
 //! The command `run`: a script, run on an image.
 
-ghost use Rattle.std.specs.Prelude.{◌≡◌, ◌≢◌, ◌⊎◌, Err, IfOk, IfErr, OnOk, [], string_bytes, true, false};
-ghost use Rattle.palmheap_commands.specs.Runs.{IsFaultLine, PrintingFails, PutsFault, RunsAndFlushes};
-ghost use Rattle.palmheap_commands.specs.Runs.{PutsRefusal, RunBreaksOff, RunsScript};
+ghost use Rattle.std.specs.Prelude.{◌≡◌, ◌≢◌, ◌⊎◌, Err, IfOk, IfErr, OnOk, [], true, false};
+ghost use Rattle.palmheap_commands.specs.Runs.{PrintingFails, RunBreaksOff, RunsAndFlushes};
+ghost use Rattle.palmheap_commands.specs.Runs.{PutsRefusal, RunsScript};
 
-use crate::commands::say_bad;
-use crate::output::{put, say_text};
-use crate::status::Status;
 use heap_model::{Bytes, Counted};
 use mem_manager::Heap;
 use palm_script::{LineFault, RunFault, Script, ScriptFault, parse, run};
+use program_io::{Status, put, say_bad, say_line_fault};
 use raw_region::Region;
-use std::alloc::{AllocError, Global};
+use std::alloc::Global;
 use std::io::Write;
 
 /// Runs a script on an image: prints the reply lines to `out`, and then writes the image to
@@ -52,7 +50,7 @@ pub fn cmd_run<W: Write, V: Write>(
     let script = match parse(alloc, script) {
         Ok(script) => script,
         Err(fault) if fault.fault == ScriptFault::OutOfMemory => return Status::NoMemory,
-        Err(fault) => return say_fault(alloc, fault, out),
+        Err(fault) => return say_line_fault(alloc, fault, out),
     };
     let exported = match print_replies(alloc, &mut heap, &script, inputs, out) {
         Ok(exported) => exported,
@@ -93,23 +91,4 @@ fn print_replies<V: Write>(
         Err(RunFault::OutOfMemory) => Err(Status::NoMemory),
         Err(RunFault::Write) => Err(Status::WriteFault),
     }
-}
-
-/// Prints the line for a refused script.
-fn say_fault<V: Write>(alloc: Global, fault: LineFault, out: &mut Counted<V>) -> Status
-    ensures status { (result ≡ Status.Refused) ⊎ (result ≡ Status.WriteFault)
-        ⊎ (result ≡ Status.NoMemory) }
-    ensures said { result ≡ Status.Refused → PutsFault fault V.contents out.old out.new true }
-    ensures fault { result ≡ Status.WriteFault → PutsFault fault V.contents out.old out.new false }
-    ensures no_memory { result ≡ Status.NoMemory → out.new ≡ out.old }
-{
-    say_text(fault_text(alloc, fault), Status::Refused, out)
-}
-
-/// The line for a refused script.
-fn fault_text(alloc: Global, fault: LineFault) -> Result<String, AllocError>
-    ensures { IfOk result (λ line. IsFaultLine fault (string_bytes line)) }
-{
-    let text = format!(in alloc; "{}", fault.fault)?;
-    format!(in alloc; "line {} {text}\n", fault.line)
 }

@@ -116,6 +116,3 @@ impl Region {
         words::fill(&mut self.bytes, at, n, byte);
     }
 }
-
-#[cfg(test)]
-mod tests;

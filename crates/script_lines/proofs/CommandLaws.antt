@@ -5,14 +5,12 @@ use Rattle.std.specs.Option.{option_map, option_map_or}
 use Rattle.script_lines.specs.declared.fault.ScriptFault.TheVariants.{BadWord}
 use Rattle.script_lines.specs.declared.line.ChunkLabel.{ChunkLabel}
 use Rattle.script_lines.specs.declared.line.Line.{Line}
-use Rattle.script_lines.specs.declared.line.Line.TheVariants as lines
 use Rattle.script_lines.specs.declared.command.Command.{Command}
-use Rattle.script_lines.specs.declared.command.Command.TheVariants.{Bind, New, PtrNew, Free, SetOwner, Lock, Unlock, Size, Owner, Locks, Read, Write, Set, StrCopy, FreeByOwner, FreeBytes}
 use Rattle.script_lines.specs.declared.value.Kind.{Kind}
 use Rattle.script_lines.specs.declared.value.Kind.TheVariants.{Chunk, Byte, Number, Bytes, Text}
 use Rattle.script_lines.specs.declared.value.Value.{Value}
 use Rattle.script_lines.specs.declared.value.Value.TheVariants.{Label, Byte as ByteValue, Number as NumberValue}
-use Rattle.script_lines.specs.Commands.{kinds_of, line_of}
+use Rattle.script_lines.specs.Commands.{Shape, chunk_number_byte, chunk_two_numbers_byte, chunk_two_numbers, chunk_number_bytes, chunk_number_text, chunk_number, chunk_byte, chunk_alone, byte_alone, nothing, kinds_by, row_of, kinds_of, line_by, line_of}
 use Rattle.script_lines.specs.Kinds.{WordsRead, read_word, read_words, with_bytes, with_chunk, with_value}
 use Rattle.script_lines.specs.Numbering.{Numbering, label_number}
 use Rattle.script_lines.specs.Reading.{none_read}
@@ -27,24 +25,21 @@ AreOfKinds (Number ∷ kinds) values = (number : ℕ) × (more : List Value) × 
 AreOfKinds (Bytes ∷ kinds) values = AreOfKinds kinds values
 AreOfKinds (Text ∷ kinds) values = AreOfKinds kinds values
 
--- values of a command's kinds make a line
+-- values of a shape's kinds make a line
+line_made : (shape : Shape) (values : List Value) (bytes : List ℕ) → AreOfKinds (kinds_by shape) values → (line : Line) × (line_by shape values bytes ≡ Some line)
+line_made (chunk_number make) values bytes (label, r0, is_label, (b, r1, is_b, end)) = rw (is_label, is_b, end) (make label b, refl)
+line_made (chunk_number_byte make) values bytes (label, r0, is_label, (b, r1, is_b, (c, r2, is_c, end))) = rw (is_label, is_b, is_c, end) (make label b c, refl)
+line_made (chunk_alone make) values bytes (label, r0, is_label, end) = rw (is_label, end) (make label, refl)
+line_made (chunk_byte make) values bytes (label, r0, is_label, (b, r1, is_b, end)) = rw (is_label, is_b, end) (make label b, refl)
+line_made (chunk_two_numbers make) values bytes (label, r0, is_label, (b, r1, is_b, (c, r2, is_c, end))) = rw (is_label, is_b, is_c, end) (make label b c, refl)
+line_made (chunk_number_bytes make) values bytes (label, r0, is_label, (b, r1, is_b, end)) = rw (is_label, is_b, end) (make label b bytes, refl)
+line_made (chunk_two_numbers_byte make) values bytes (label, r0, is_label, (b, r1, is_b, (c, r2, is_c, (d, r3, is_d, end)))) = rw (is_label, is_b, is_c, is_d, end) (make label b c d, refl)
+line_made (chunk_number_text make) values bytes (label, r0, is_label, (b, r1, is_b, end)) = rw (is_label, is_b, end) (make label b bytes, refl)
+line_made (byte_alone make) values bytes (a, r0, is_a, end) = rw (is_a, end) (make a, refl)
+line_made (nothing make) values bytes end = rw end (make, refl)
+
 pub makes_line : (command : Command) (values : List Value) (bytes : List ℕ) → AreOfKinds (kinds_of command) values → (line : Line) × (line_of command values bytes ≡ Some line)
-makes_line Bind values bytes (label, a, labelled, (name, b, is_name, end)) = rw (labelled, is_name, end) (lines.Bind label name, refl)
-makes_line New values bytes (label, a, labelled, (size, b, is_size, (owner, c, is_owner, end))) = rw (labelled, is_size, is_owner, end) (lines.New label size owner, refl)
-makes_line PtrNew values bytes (label, a, labelled, (size, b, is_size, (owner, c, is_owner, end))) = rw (labelled, is_size, is_owner, end) (lines.PtrNew label size owner, refl)
-makes_line Free values bytes (label, a, labelled, end) = rw (labelled, end) (lines.Free label, refl)
-makes_line SetOwner values bytes (label, a, labelled, (owner, b, is_owner, end)) = rw (labelled, is_owner, end) (lines.SetOwner label owner, refl)
-makes_line Lock values bytes (label, a, labelled, end) = rw (labelled, end) (lines.Lock label, refl)
-makes_line Unlock values bytes (label, a, labelled, end) = rw (labelled, end) (lines.Unlock label, refl)
-makes_line Size values bytes (label, a, labelled, end) = rw (labelled, end) (lines.Size label, refl)
-makes_line Owner values bytes (label, a, labelled, end) = rw (labelled, end) (lines.Owner label, refl)
-makes_line Locks values bytes (label, a, labelled, end) = rw (labelled, end) (lines.Locks label, refl)
-makes_line Read values bytes (label, a, labelled, (at, b, is_at, (count, c, is_count, end))) = rw (labelled, is_at, is_count, end) (lines.Read label at count, refl)
-makes_line Write values bytes (label, a, labelled, (at, b, is_at, end)) = rw (labelled, is_at, end) (lines.Write label at bytes, refl)
-makes_line Set values bytes (label, a, labelled, (at, b, is_at, (count, c, is_count, (byte, d, is_byte, end)))) = rw (labelled, is_at, is_count, is_byte, end) (lines.Set label at count byte, refl)
-makes_line StrCopy values bytes (label, a, labelled, (at, b, is_at, end)) = rw (labelled, is_at, end) (lines.StrCopy label at bytes, refl)
-makes_line FreeByOwner values bytes (owner, a, is_owner, end) = rw (is_owner, end) (lines.FreeByOwner owner, refl)
-makes_line FreeBytes values bytes end = rw end (lines.FreeBytes, refl)
+makes_line command values bytes fit = line_made (row_of command).shape values bytes fit
 
 -- what a word of a kind adds: values that stand for it, in front of those of the words behind it
 abbrev pub AddsOfKind : Kind → List Value → List Value → Type 0

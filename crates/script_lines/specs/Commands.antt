@@ -1,10 +1,14 @@
--- The commands, a row for each in three tables: its word, the kinds of the words behind it, and the
--- line that they make.
+-- The commands, one row each: the word, and the shape, which has the kinds of the words behind it and
+-- the line that they make.
 use Rattle.std.specs.Prelude.{ℕ, List, [], ◌∷◌, Option, Some, None, codes}
 use Rattle.std.specs.List.{find}
 use Rattle.std.specs.Str.{bytes_eq}
+use Rattle.script_lines.specs.declared.line.ChunkLabel.{ChunkLabel}
 use Rattle.script_lines.specs.declared.line.Line.{Line}
 use Rattle.script_lines.specs.declared.line.Line.TheVariants as lines
+use Rattle.script_lines.specs.declared.line.NewCall.TheVariants as made
+use Rattle.script_lines.specs.declared.line.ChunkCall.TheVariants as chunk
+use Rattle.script_lines.specs.declared.line.HeapCall.TheVariants as heap
 use Rattle.script_lines.specs.declared.command.Command.{Command}
 use Rattle.script_lines.specs.declared.command.Command.TheVariants.{Bind, New, PtrNew, Free, SetOwner, Lock, Unlock, Size, Owner, Locks, Read, Write, Set, StrCopy, FreeByOwner, FreeBytes}
 use Rattle.script_lines.specs.declared.value.Kind.{Kind}
@@ -13,61 +17,76 @@ use Rattle.script_lines.specs.declared.value.Kind.TheVariants.{Chunk}
 use Rattle.script_lines.specs.declared.value.Value.{Value}
 use Rattle.script_lines.specs.declared.value.Value.TheVariants.{Label, Byte, Number}
 
+-- The shape of a command: the kinds of the words behind it, and the line that they make. A word of bytes
+-- or text has its bytes apart from the values of the others.
+pub data Shape : Type 0 where
+  chunk_number : (ChunkLabel → ℕ → Line) → Shape
+  chunk_number_byte : (ChunkLabel → ℕ → ℕ → Line) → Shape
+  chunk_alone : (ChunkLabel → Line) → Shape
+  chunk_byte : (ChunkLabel → ℕ → Line) → Shape
+  chunk_two_numbers : (ChunkLabel → ℕ → ℕ → Line) → Shape
+  chunk_number_bytes : (ChunkLabel → ℕ → List ℕ → Line) → Shape
+  chunk_two_numbers_byte : (ChunkLabel → ℕ → ℕ → ℕ → Line) → Shape
+  chunk_number_text : (ChunkLabel → ℕ → List ℕ → Line) → Shape
+  byte_alone : (ℕ → Line) → Shape
+  nothing : Line → Shape
+
+abbrev pub kinds_by : Shape → List Kind
+kinds_by (chunk_number make) = Chunk ∷ kinds.Number ∷ []
+kinds_by (chunk_number_byte make) = Chunk ∷ kinds.Number ∷ kinds.Byte ∷ []
+kinds_by (chunk_alone make) = Chunk ∷ []
+kinds_by (chunk_byte make) = Chunk ∷ kinds.Byte ∷ []
+kinds_by (chunk_two_numbers make) = Chunk ∷ kinds.Number ∷ kinds.Number ∷ []
+kinds_by (chunk_number_bytes make) = Chunk ∷ kinds.Number ∷ kinds.Bytes ∷ []
+kinds_by (chunk_two_numbers_byte make) = Chunk ∷ kinds.Number ∷ kinds.Number ∷ kinds.Byte ∷ []
+kinds_by (chunk_number_text make) = Chunk ∷ kinds.Number ∷ kinds.Text ∷ []
+kinds_by (byte_alone make) = kinds.Byte ∷ []
+kinds_by (nothing make) = []
+
+abbrev pub line_by : Shape → List Value → List ℕ → Option Line
+line_by (chunk_number make) (Label label ∷ Number a ∷ []) bytes = Some (make label a)
+line_by (chunk_number_byte make) (Label label ∷ Number a ∷ Byte b ∷ []) bytes = Some (make label a b)
+line_by (chunk_alone make) (Label label ∷ []) bytes = Some (make label)
+line_by (chunk_byte make) (Label label ∷ Byte a ∷ []) bytes = Some (make label a)
+line_by (chunk_two_numbers make) (Label label ∷ Number a ∷ Number b ∷ []) bytes = Some (make label a b)
+line_by (chunk_number_bytes make) (Label label ∷ Number a ∷ []) bytes = Some (make label a bytes)
+line_by (chunk_two_numbers_byte make) (Label label ∷ Number a ∷ Number b ∷ Byte c ∷ []) bytes = Some (make label a b c)
+line_by (chunk_number_text make) (Label label ∷ Number a ∷ []) bytes = Some (make label a bytes)
+line_by (byte_alone make) (Byte a ∷ []) bytes = Some (make a)
+line_by (nothing make) [] bytes = Some make
+line_by shape values bytes = None
+
+-- A command: its word, and its shape.
+pub record CommandRow : Type 0 where
+  pub word : List ℕ
+  pub shape : Shape
+
+abbrev pub row_of : Command → CommandRow
+row_of Bind = record { word = codes "bind"; shape = chunk_number (λ label name. lines.Bind label name) }
+row_of New = record { word = codes "new"; shape = chunk_number_byte (λ label size owner. lines.New label (made.Handle size owner)) }
+row_of PtrNew = record { word = codes "ptrnew"; shape = chunk_number_byte (λ label size owner. lines.New label (made.Ptr size owner)) }
+row_of Free = record { word = codes "free"; shape = chunk_alone (λ label. lines.On label chunk.Free) }
+row_of SetOwner = record { word = codes "setowner"; shape = chunk_byte (λ label owner. lines.On label (chunk.SetOwner owner)) }
+row_of Lock = record { word = codes "lock"; shape = chunk_alone (λ label. lines.On label chunk.Lock) }
+row_of Unlock = record { word = codes "unlock"; shape = chunk_alone (λ label. lines.On label chunk.Unlock) }
+row_of Size = record { word = codes "size"; shape = chunk_alone (λ label. lines.On label chunk.Size) }
+row_of Owner = record { word = codes "owner"; shape = chunk_alone (λ label. lines.On label chunk.Owner) }
+row_of Locks = record { word = codes "locks"; shape = chunk_alone (λ label. lines.On label chunk.Locks) }
+row_of Read = record { word = codes "read"; shape = chunk_two_numbers (λ label at count. lines.On label (chunk.Read at count)) }
+row_of Write = record { word = codes "write"; shape = chunk_number_bytes (λ label at bytes. lines.On label (chunk.Write at bytes)) }
+row_of Set = record { word = codes "set"; shape = chunk_two_numbers_byte (λ label at count byte. lines.On label (chunk.Set at count byte)) }
+row_of StrCopy = record { word = codes "strcopy"; shape = chunk_number_text (λ label at bytes. lines.On label (chunk.StrCopy at bytes)) }
+row_of FreeByOwner = record { word = codes "freeowner"; shape = byte_alone (λ owner. lines.Whole (heap.FreeByOwner owner)) }
+row_of FreeBytes = record { word = codes "freebytes"; shape = nothing (lines.Whole heap.FreeBytes) }
+
 abbrev pub word_of : Command → List ℕ
-word_of Bind = codes "bind"
-word_of New = codes "new"
-word_of PtrNew = codes "ptrnew"
-word_of Free = codes "free"
-word_of SetOwner = codes "setowner"
-word_of Lock = codes "lock"
-word_of Unlock = codes "unlock"
-word_of Size = codes "size"
-word_of Owner = codes "owner"
-word_of Locks = codes "locks"
-word_of Read = codes "read"
-word_of Write = codes "write"
-word_of Set = codes "set"
-word_of StrCopy = codes "strcopy"
-word_of FreeByOwner = codes "freeowner"
-word_of FreeBytes = codes "freebytes"
+word_of command = (row_of command).word
 
 abbrev pub kinds_of : Command → List Kind
-kinds_of Bind = Chunk ∷ kinds.Number ∷ []
-kinds_of New = Chunk ∷ kinds.Number ∷ kinds.Byte ∷ []
-kinds_of PtrNew = Chunk ∷ kinds.Number ∷ kinds.Byte ∷ []
-kinds_of Free = Chunk ∷ []
-kinds_of SetOwner = Chunk ∷ kinds.Byte ∷ []
-kinds_of Lock = Chunk ∷ []
-kinds_of Unlock = Chunk ∷ []
-kinds_of Size = Chunk ∷ []
-kinds_of Owner = Chunk ∷ []
-kinds_of Locks = Chunk ∷ []
-kinds_of Read = Chunk ∷ kinds.Number ∷ kinds.Number ∷ []
-kinds_of Write = Chunk ∷ kinds.Number ∷ kinds.Bytes ∷ []
-kinds_of Set = Chunk ∷ kinds.Number ∷ kinds.Number ∷ kinds.Byte ∷ []
-kinds_of StrCopy = Chunk ∷ kinds.Number ∷ kinds.Text ∷ []
-kinds_of FreeByOwner = kinds.Byte ∷ []
-kinds_of FreeBytes = []
+kinds_of command = kinds_by (row_of command).shape
 
--- the line of a command, the values of its words, and the bytes of its word of bytes or text
 abbrev pub line_of : Command → List Value → List ℕ → Option Line
-line_of Bind (Label label ∷ Number name ∷ []) bytes = Some (lines.Bind label name)
-line_of New (Label label ∷ Number size ∷ Byte owner ∷ []) bytes = Some (lines.New label size owner)
-line_of PtrNew (Label label ∷ Number size ∷ Byte owner ∷ []) bytes = Some (lines.PtrNew label size owner)
-line_of Free (Label label ∷ []) bytes = Some (lines.Free label)
-line_of SetOwner (Label label ∷ Byte owner ∷ []) bytes = Some (lines.SetOwner label owner)
-line_of Lock (Label label ∷ []) bytes = Some (lines.Lock label)
-line_of Unlock (Label label ∷ []) bytes = Some (lines.Unlock label)
-line_of Size (Label label ∷ []) bytes = Some (lines.Size label)
-line_of Owner (Label label ∷ []) bytes = Some (lines.Owner label)
-line_of Locks (Label label ∷ []) bytes = Some (lines.Locks label)
-line_of Read (Label label ∷ Number at ∷ Number count ∷ []) bytes = Some (lines.Read label at count)
-line_of Write (Label label ∷ Number at ∷ []) bytes = Some (lines.Write label at bytes)
-line_of Set (Label label ∷ Number at ∷ Number count ∷ Byte byte ∷ []) bytes = Some (lines.Set label at count byte)
-line_of StrCopy (Label label ∷ Number at ∷ []) bytes = Some (lines.StrCopy label at bytes)
-line_of FreeByOwner (Byte owner ∷ []) bytes = Some (lines.FreeByOwner owner)
-line_of FreeBytes [] bytes = Some lines.FreeBytes
-line_of command values bytes = None
+line_of command values bytes = line_by (row_of command).shape values bytes
 
 -- every command
 abbrev pub commands : List Command

@@ -1,26 +1,14 @@
 -- The labels of lines, by their numbers.
 use Rattle.std.specs.Prelude.{◌≤◌, ◌+◌, ℕ, List, [], ◌∷◌, All, max}
 use Rattle.script_lines.specs.declared.line.Line.{Line}
-use Rattle.script_lines.specs.declared.line.Line.TheVariants.{Bind, New, PtrNew, Free, SetOwner, Lock, Unlock, Size, Owner, Locks, Read, Write, Set, StrCopy, FreeByOwner, FreeBytes}
+use Rattle.script_lines.specs.declared.line.Line.TheVariants.{Bind, New, On, Whole}
 
 -- one more than the number of a line's label, and 0 where it has none
 abbrev pub label_end : Line → ℕ
 label_end (Bind label name) = label.0 + 1
-label_end (New label size owner) = label.0 + 1
-label_end (PtrNew label size owner) = label.0 + 1
-label_end (Free label) = label.0 + 1
-label_end (SetOwner label owner) = label.0 + 1
-label_end (Lock label) = label.0 + 1
-label_end (Unlock label) = label.0 + 1
-label_end (Size label) = label.0 + 1
-label_end (Owner label) = label.0 + 1
-label_end (Locks label) = label.0 + 1
-label_end (Read label at count) = label.0 + 1
-label_end (Write label at bytes) = label.0 + 1
-label_end (Set label at count byte) = label.0 + 1
-label_end (StrCopy label at text) = label.0 + 1
-label_end (FreeByOwner owner) = 0
-label_end FreeBytes = 0
+label_end (New label call) = label.0 + 1
+label_end (On label call) = label.0 + 1
+label_end (Whole call) = 0
 
 -- each label of the lines is below `count`
 abbrev pub HasLabelsBelow : ℕ → List Line → Type 0

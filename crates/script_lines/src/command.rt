@@ -1,5 +1,5 @@
-//! The commands of scripts: the word of each, the kinds of the words behind it, and the line that
-//! they make. A command is a variant, and a row of each of the three.
+//! The commands of scripts: the word of each with the kinds of the words behind it, and the line that
+//! they make. A command is a variant, a row, and an arm of `make_line`.
 
 ghost use Rattle.std.specs.Prelude.{◌≡◌, ◌<◌, length};
 ghost use Rattle.std.specs.List.{find};
@@ -7,7 +7,7 @@ ghost use Rattle.std.specs.Str.{bytes_eq};
 ghost use Rattle.script_lines.specs.Commands as tables;
 ghost use Rattle.script_lines.specs.Commands.{line_of, command_of};
 
-use crate::line::Line;
+use crate::line::{ChunkCall, HeapCall, Line, NewCall};
 use crate::value::Value::{Byte, Label, Number};
 use crate::value::{Kind, Value};
 use heap_model::Bytes;
@@ -53,52 +53,65 @@ pub(crate) const COMMANDS: [Command; 16] = [
     Command::FreeBytes,
 ];
 
-/// The word of a command, which no other command has.
-pub(crate) fn word_of(command: Command) -> &'static [u8]
-    ensures word { result.now ≡ tables.word_of command }
-    ensures found { command_of result.now ≡ Some command }
-{
-    match command {
-        Command::Bind => b"bind",
-        Command::New => b"new",
-        Command::PtrNew => b"ptrnew",
-        Command::Free => b"free",
-        Command::SetOwner => b"setowner",
-        Command::Lock => b"lock",
-        Command::Unlock => b"unlock",
-        Command::Size => b"size",
-        Command::Owner => b"owner",
-        Command::Locks => b"locks",
-        Command::Read => b"read",
-        Command::Write => b"write",
-        Command::Set => b"set",
-        Command::StrCopy => b"strcopy",
-        Command::FreeByOwner => b"freeowner",
-        Command::FreeBytes => b"freebytes",
-    }
+/// A command's row: its word, which no other command has, and the kinds of the words behind it.
+#[derive(Clone, Copy)]
+pub(crate) struct CommandRow {
+    pub word: &'static [u8],
+    pub kinds: &'static [Kind],
 }
 
-/// The kinds of the words behind a command.
-pub(crate) fn kinds_of(command: Command) -> &'static [Kind]
-    ensures kinds { result.now ≡ tables.kinds_of command }
-    ensures few { length result.now < 16 }
+// What the words behind a command may be.
+const NOTHING: &[Kind] = &[];
+
+const BYTE: &[Kind] = &[Kind::Byte];
+
+const CHUNK: &[Kind] = &[Kind::Chunk];
+
+const CHUNK_BYTE: &[Kind] = &[Kind::Chunk, Kind::Byte];
+
+const CHUNK_NUMBER: &[Kind] = &[Kind::Chunk, Kind::Number];
+
+const CHUNK_NUMBER_BYTE: &[Kind] = &[Kind::Chunk, Kind::Number, Kind::Byte];
+
+const CHUNK_NUMBER_BYTES: &[Kind] = &[Kind::Chunk, Kind::Number, Kind::Bytes];
+
+const CHUNK_NUMBER_TEXT: &[Kind] = &[Kind::Chunk, Kind::Number, Kind::Text];
+
+const CHUNK_TWO_NUMBERS: &[Kind] = &[Kind::Chunk, Kind::Number, Kind::Number];
+
+const CHUNK_TWO_NUMBERS_BYTE: &[Kind] = &[Kind::Chunk, Kind::Number, Kind::Number, Kind::Byte];
+
+fn row(word: &'static [u8], kinds: &'static [Kind]) -> CommandRow
+    ensures word { result.word.now ≡ word.now }
+    ensures kinds { result.kinds.now ≡ kinds.now }
+{
+    CommandRow { word, kinds }
+}
+
+/// The row of a command.
+pub(crate) fn row_of(command: Command) -> CommandRow
+    ensures word { result.word.now ≡ tables.word_of command }
+    ensures found { command_of result.word.now ≡ Some command }
+    ensures kinds { result.kinds.now ≡ tables.kinds_of command }
+    ensures few { length result.kinds.now < 16 }
 {
     match command {
-        Command::Bind => &[Kind::Chunk, Kind::Number],
-        Command::New | Command::PtrNew => &[Kind::Chunk, Kind::Number, Kind::Byte],
-        Command::SetOwner => &[Kind::Chunk, Kind::Byte],
-        Command::Free
-        | Command::Lock
-        | Command::Unlock
-        | Command::Size
-        | Command::Owner
-        | Command::Locks => &[Kind::Chunk],
-        Command::Read => &[Kind::Chunk, Kind::Number, Kind::Number],
-        Command::Write => &[Kind::Chunk, Kind::Number, Kind::Bytes],
-        Command::Set => &[Kind::Chunk, Kind::Number, Kind::Number, Kind::Byte],
-        Command::StrCopy => &[Kind::Chunk, Kind::Number, Kind::Text],
-        Command::FreeByOwner => &[Kind::Byte],
-        Command::FreeBytes => &[],
+        Command::Bind => row(b"bind", CHUNK_NUMBER),
+        Command::New => row(b"new", CHUNK_NUMBER_BYTE),
+        Command::PtrNew => row(b"ptrnew", CHUNK_NUMBER_BYTE),
+        Command::Free => row(b"free", CHUNK),
+        Command::SetOwner => row(b"setowner", CHUNK_BYTE),
+        Command::Lock => row(b"lock", CHUNK),
+        Command::Unlock => row(b"unlock", CHUNK),
+        Command::Size => row(b"size", CHUNK),
+        Command::Owner => row(b"owner", CHUNK),
+        Command::Locks => row(b"locks", CHUNK),
+        Command::Read => row(b"read", CHUNK_TWO_NUMBERS),
+        Command::Write => row(b"write", CHUNK_NUMBER_BYTES),
+        Command::Set => row(b"set", CHUNK_TWO_NUMBERS_BYTE),
+        Command::StrCopy => row(b"strcopy", CHUNK_NUMBER_TEXT),
+        Command::FreeByOwner => row(b"freeowner", BYTE),
+        Command::FreeBytes => row(b"freebytes", NOTHING),
     }
 }
 
@@ -107,7 +120,7 @@ fn find_in(commands: &[Command], word: &[u8]) -> Option<Command>
     ensures { result ≡ find (λ command. bytes_eq (tables.word_of command) word.now) commands.now }
 {
     for command in commands {
-        if word_of(*command) == word {
+        if row_of(*command).word == word {
             return Some(*command);
         }
     }
@@ -138,27 +151,28 @@ pub(crate) fn make_line(command: Command, values: &[Value], bytes: Bytes) -> Opt
     match command {
         Command::Bind =>
             line_if!(values, &[Label(label), Number(name)] => Line::Bind { label, name }),
-        Command::New => line_if!(values,
-            &[Label(label), Number(size), Byte(owner)] => Line::New { label, size, owner }),
-        Command::PtrNew => line_if!(values,
-            &[Label(label), Number(size), Byte(owner)] => Line::PtrNew { label, size, owner }),
-        Command::Free => line_if!(values, &[Label(label)] => Line::Free(label)),
+        Command::New => line_if!(values, &[Label(label), Number(size), Byte(owner)] =>
+            Line::New(label, NewCall::Handle { size, owner })),
+        Command::PtrNew => line_if!(values, &[Label(label), Number(size), Byte(owner)] =>
+            Line::New(label, NewCall::Ptr { size, owner })),
+        Command::Free => line_if!(values, &[Label(label)] => Line::On(label, ChunkCall::Free)),
         Command::SetOwner => line_if!(values,
-            &[Label(label), Byte(owner)] => Line::SetOwner { label, owner }),
-        Command::Lock => line_if!(values, &[Label(label)] => Line::Lock(label)),
-        Command::Unlock => line_if!(values, &[Label(label)] => Line::Unlock(label)),
-        Command::Size => line_if!(values, &[Label(label)] => Line::Size(label)),
-        Command::Owner => line_if!(values, &[Label(label)] => Line::Owner(label)),
-        Command::Locks => line_if!(values, &[Label(label)] => Line::Locks(label)),
-        Command::Read => line_if!(values,
-            &[Label(label), Number(at), Number(count)] => Line::Read { label, at, count }),
-        Command::Write => line_if!(values,
-            &[Label(label), Number(at)] => Line::Write { label, at, bytes }),
+            &[Label(label), Byte(owner)] => Line::On(label, ChunkCall::SetOwner(owner))),
+        Command::Lock => line_if!(values, &[Label(label)] => Line::On(label, ChunkCall::Lock)),
+        Command::Unlock => line_if!(values, &[Label(label)] => Line::On(label, ChunkCall::Unlock)),
+        Command::Size => line_if!(values, &[Label(label)] => Line::On(label, ChunkCall::Size)),
+        Command::Owner => line_if!(values, &[Label(label)] => Line::On(label, ChunkCall::Owner)),
+        Command::Locks => line_if!(values, &[Label(label)] => Line::On(label, ChunkCall::Locks)),
+        Command::Read => line_if!(values, &[Label(label), Number(at), Number(count)] =>
+            Line::On(label, ChunkCall::Read { at, count })),
+        Command::Write => line_if!(values, &[Label(label), Number(at)] =>
+            Line::On(label, ChunkCall::Write { at, bytes })),
         Command::Set => line_if!(values, &[Label(label), Number(at), Number(count), Byte(byte)] =>
-            Line::Set { label, at, count, byte }),
-        Command::StrCopy => line_if!(values,
-            &[Label(label), Number(at)] => Line::StrCopy { label, at, text: bytes }),
-        Command::FreeByOwner => line_if!(values, &[Byte(owner)] => Line::FreeByOwner(owner)),
-        Command::FreeBytes => line_if!(values, [] => Line::FreeBytes),
+            Line::On(label, ChunkCall::Set { at, count, byte })),
+        Command::StrCopy => line_if!(values, &[Label(label), Number(at)] =>
+            Line::On(label, ChunkCall::StrCopy { at, text: bytes })),
+        Command::FreeByOwner =>
+            line_if!(values, &[Byte(owner)] => Line::Whole(HeapCall::FreeByOwner(owner))),
+        Command::FreeBytes => line_if!(values, [] => Line::Whole(HeapCall::FreeBytes)),
     }
 }

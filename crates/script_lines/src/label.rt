@@ -5,7 +5,7 @@ ghost use Rattle.script_lines.specs.Numbering.{no_labels, label_number, with_lab
 ghost use Rattle.script_lines.specs.Views.{numbering};
 
 use crate::line::ChunkLabel;
-use crate::memory::Memory;
+use heap_model::Allowance;
 use std::alloc::{AllocError, Global};
 use std::collections::BTreeMap;
 
@@ -26,9 +26,9 @@ impl<'a> Labels<'a> {
     }
 
     /// The label that a word spells. A label that hasn't appeared takes the next number.
-    pub fn number<M: Memory>(
+    pub fn number<A: Allowance>(
         &mut self,
-        memory: &M,
+        memory: &A,
         word: &'a [u8],
     ) -> Result<ChunkLabel, AllocError>
         ensures number { IfOk result (λ label.

@@ -2,26 +2,21 @@
 //!
 //! `specs/Reading.antt` says what a text reads as, line for line: start there. `Words` says how a
 //! line is cut into words, `Spellings` how a word of each kind is spelled, `Kinds` what the words of a
-//! line stand for, `Commands` the word of each command, the kinds of the words behind it and the line
-//! that they make, a row for each in three tables, and `Numbering` which number a label has.
+//! line stand for, `Commands` the commands, one row each: the word, the kinds of the words behind it and
+//! the line that they make; and `Numbering` which number a label has.
 //! `parse` answers that script or its first faulty line, and nothing else unless memory is refused.
-//! Each growth asks a `Memory` first.
+//! Each growth asks an `Allowance` of heap_model first.
 #![tactic(auto)]
 
 mod command;
 mod fault;
 mod label;
 mod line;
-mod memory;
 mod reading;
 mod spelling;
 mod text;
 mod value;
 
 pub use fault::{LineFault, ScriptFault};
-pub use line::{ChunkLabel, Line, Script};
-pub use memory::Memory;
-pub use reading::parse;
-
-#[cfg(test)]
-mod tests;
+pub use line::{ChunkCall, ChunkLabel, HeapCall, Line, NewCall, Script};
+pub use reading::{parse, parse_from};

@@ -3,8 +3,7 @@
 ghost use Rattle.std.specs.Prelude.{◌≡◌, ◌++◌, ◌∷◌, [], OnOk, IfSome};
 ghost use Rattle.script_lines.specs.Labels.{HasLabelsBelow, label_count, label_end};
 
-use crate::memory::Memory;
-use heap_model::Bytes;
+use heap_model::{Allowance, Bytes};
 use std::alloc::{AllocError, Global};
 use std::marker::Model;
 
@@ -13,56 +12,46 @@ use std::marker::Model;
 #[derive(Clone, Copy, Debug, PartialEq, Eq)]
 pub struct ChunkLabel(pub usize);
 
-/// A line of a script: one call, on the chunk that its label stands for. Sizes and counts are in
-/// bytes, without a chunk's header; `at` is an offset in bytes from the body's start.
+/// A line of a script: one call. Sizes and counts are in bytes, without a chunk's header; `at` is an
+/// offset in bytes from the body's start.
 #[derive(Drop)]
 pub enum Line {
     /// Has the label stand for a name.
-    Bind {
-        label: ChunkLabel,
-        name: u32,
-    },
-    New {
-        label: ChunkLabel,
-        size: u32,
-        owner: u8,
-    },
-    PtrNew {
-        label: ChunkLabel,
-        size: u32,
-        owner: u8,
-    },
-    Free(ChunkLabel),
-    SetOwner {
-        label: ChunkLabel,
-        owner: u8,
-    },
-    Lock(ChunkLabel),
-    Unlock(ChunkLabel),
-    Size(ChunkLabel),
-    Owner(ChunkLabel),
-    Locks(ChunkLabel),
-    Read {
-        label: ChunkLabel,
-        at: u32,
-        count: u32,
-    },
-    Write {
-        label: ChunkLabel,
-        at: u32,
-        bytes: Bytes,
-    },
-    Set {
-        label: ChunkLabel,
-        at: u32,
-        count: u32,
-        byte: u8,
-    },
-    StrCopy {
-        label: ChunkLabel,
-        at: u32,
-        text: Bytes,
-    },
+    Bind { label: ChunkLabel, name: u32 },
+    /// Makes a chunk, and has the label stand for its name.
+    New(ChunkLabel, NewCall),
+    /// A call on the chunk that the label stands for.
+    On(ChunkLabel, ChunkCall),
+    /// A call on the heap as a whole.
+    Whole(HeapCall),
+}
+
+/// A call that makes a chunk.
+#[derive(Clone, Copy)]
+pub enum NewCall {
+    Handle { size: u32, owner: u8 },
+    Ptr { size: u32, owner: u8 },
+}
+
+/// A call on one chunk.
+#[derive(Drop)]
+pub enum ChunkCall {
+    Free,
+    SetOwner(u8),
+    Lock,
+    Unlock,
+    Size,
+    Owner,
+    Locks,
+    Read { at: u32, count: u32 },
+    Write { at: u32, bytes: Bytes },
+    Set { at: u32, count: u32, byte: u8 },
+    StrCopy { at: u32, text: Bytes },
+}
+
+/// A call on the heap as a whole.
+#[derive(Clone, Copy)]
+pub enum HeapCall {
     FreeByOwner(u8),
     FreeBytes,
 }
@@ -73,21 +62,10 @@ impl Line {
         ensures { IfSome result (λ end. end ≡ label_end self.now) }
     {
         match self {
-            Line::FreeByOwner(_) | Line::FreeBytes => Some(0),
-            Line::Bind { label, .. }
-            | Line::New { label, .. }
-            | Line::PtrNew { label, .. }
-            | Line::Free(label)
-            | Line::SetOwner { label, .. }
-            | Line::Lock(label)
-            | Line::Unlock(label)
-            | Line::Size(label)
-            | Line::Owner(label)
-            | Line::Locks(label)
-            | Line::Read { label, .. }
-            | Line::Write { label, .. }
-            | Line::Set { label, .. }
-            | Line::StrCopy { label, .. } => label.0.checked_add(1),
+            Line::Bind { label, .. } | Line::New(label, _) | Line::On(label, _) => {
+                label.0.checked_add(1)
+            }
+            Line::Whole(_) => Some(0),
         }
     }
 }
@@ -123,7 +101,7 @@ impl Script {
     }
 
     /// Puts a line behind the others. There is no script with the label `usize::MAX`.
-    pub(crate) fn push<M: Memory>(&mut self, memory: &M, line: Line) -> Result<(), AllocError>
+    pub(crate) fn push<A: Allowance>(&mut self, memory: &A, line: Line) -> Result<(), AllocError>
         ensures ok { OnOk result (self.new ≡ self.old ++ (line ∷ [])) }
     {
         let Some(end) = line.label_end() else {

@@ -7,19 +7,19 @@ ghost use Rattle.script_lines.specs.Reading.{read_script, words_in};
 ghost use Rattle.script_lines.specs.Views.{numbering, words_read};
 ghost use Rattle.script_lines.specs.Words.{words_of};
 
-use crate::command::{find_command, kinds_of, make_line};
+use crate::command::{find_command, make_line, row_of};
 use crate::fault::{LineFault, ScriptFault};
 use crate::label::Labels;
 use crate::line::{Line, Script};
-use crate::memory::Memory;
 use crate::text::{WordCut, count_words, cut_line, cut_word, is_passed_over};
 use crate::value::{Kind, Values};
+use heap_model::Allowance;
 use std::alloc::Global;
 
 /// What the words of a text stand for, by kind, or the number of the first that isn't of its kind;
 /// the first of the text is word 2.
-fn read_values<'a, M: Memory>(
-    memory: &M,
+fn read_values<'a, A: Allowance>(
+    memory: &A,
     kinds: &[Kind],
     words: &'a [u8],
     labels: &mut Labels<'a>,
@@ -53,8 +53,8 @@ fn read_values<'a, M: Memory>(
 }
 
 /// The line of a command's word and the words behind it, of which there are so many.
-fn read_command<'a, M: Memory>(
-    memory: &M,
+fn read_command<'a, A: Allowance>(
+    memory: &A,
     word: &[u8],
     words: &'a [u8],
     count: usize,
@@ -70,7 +70,7 @@ fn read_command<'a, M: Memory>(
     let Some(command) = find_command(word) else {
         return Err(ScriptFault::UnknownCommand);
     };
-    let kinds = kinds_of(command);
+    let kinds = row_of(command).kinds;
     if kinds.len() != count {
         return Err(ScriptFault::WrongCount);
     }
@@ -85,8 +85,8 @@ fn read_command<'a, M: Memory>(
 }
 
 /// A line, read from its text; none, where it is passed over.
-fn read_line<'a, M: Memory>(
-    memory: &M,
+fn read_line<'a, A: Allowance>(
+    memory: &A,
     text: &'a [u8],
     labels: &mut Labels<'a>,
 ) -> Result<Option<Line>, ScriptFault>
@@ -129,8 +129,8 @@ pub fn parse(alloc: Global, text: &[u8]) -> Result<Script, LineFault>
     parse_from(&alloc, text)
 }
 
-/// `parse`, from any memory.
-pub(crate) fn parse_from<M: Memory>(memory: &M, text: &[u8]) -> Result<Script, LineFault>
+/// `parse`, where each growth asks for a grant.
+pub fn parse_from<A: Allowance>(memory: &A, text: &[u8]) -> Result<Script, LineFault>
     ensures ok { IfOk result (λ script. read_script text.now ≡ Ok script) }
     ensures err { IfErr result (λ e. e.fault ≢ ScriptFault.OutOfMemory
         → read_script text.now ≡ Err e) }

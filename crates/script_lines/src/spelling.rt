@@ -6,8 +6,7 @@ ghost use Rattle.script_lines.specs.Spellings as spellings;
 ghost use Rattle.script_lines.specs.Spellings.{below, number_behind, number_below, hex_bytes};
 ghost use Rattle.script_lines.specs.Spellings.{is_quoted, spelled_bytes, spelled_text};
 
-use crate::memory::Memory;
-use heap_model::Bytes;
+use heap_model::{Allowance, Bytes};
 use std::alloc::AllocError;
 
 /// The longest label.
@@ -100,7 +99,7 @@ pub(crate) fn byte_of(word: &[u8]) -> Option<u8>
 }
 
 /// The bytes that hex digits spell, if there is an even number of them.
-fn decode<M: Memory>(memory: &M, digits: &[u8]) -> Result<Option<Bytes>, AllocError>
+fn decode<A: Allowance>(memory: &A, digits: &[u8]) -> Result<Option<Bytes>, AllocError>
     ensures { IfOk result (λ bytes. bytes ≡ hex_bytes digits.now) }
 {
     match hex::decode(memory.grant()?, digits) {
@@ -111,7 +110,7 @@ fn decode<M: Memory>(memory: &M, digits: &[u8]) -> Result<Option<Bytes>, AllocEr
 }
 
 /// The bytes that a word spells.
-pub(crate) fn bytes_of<M: Memory>(memory: &M, word: &[u8]) -> Result<Option<Bytes>, AllocError>
+pub(crate) fn bytes_of<A: Allowance>(memory: &A, word: &[u8]) -> Result<Option<Bytes>, AllocError>
     ensures { IfOk result (λ bytes. bytes ≡ spelled_bytes word.now) }
 {
     if word == b"-".as_slice() {
@@ -143,7 +142,7 @@ fn are_printable(bytes: &[u8]) -> bool
 }
 
 /// A copy of some bytes.
-fn copied<M: Memory>(memory: &M, bytes: &[u8]) -> Result<Bytes, AllocError>
+fn copied<A: Allowance>(memory: &A, bytes: &[u8]) -> Result<Bytes, AllocError>
     ensures { IfOk result (λ copy. copy ≡ bytes.now) }
 {
     let copy = Vec::from_slice(memory.grant()?, bytes)?;
@@ -162,7 +161,7 @@ fn inside_quotes(word: &[u8]) -> Option<&[u8]>
 }
 
 /// The text that a word spells.
-pub(crate) fn text_of<M: Memory>(memory: &M, word: &[u8]) -> Result<Option<Bytes>, AllocError>
+pub(crate) fn text_of<A: Allowance>(memory: &A, word: &[u8]) -> Result<Option<Bytes>, AllocError>
     ensures { IfOk result (λ text. text ≡ spelled_text word.now) }
 {
     if let Some(digits) = word.strip_prefix(b"x:") {

@@ -6,9 +6,8 @@ ghost use Rattle.script_lines.specs.Views.{Adds, words_read};
 
 use crate::label::Labels;
 use crate::line::ChunkLabel;
-use crate::memory::Memory;
 use crate::spelling::{byte_of, bytes_of, is_label, number_of, text_of};
-use heap_model::Bytes;
+use heap_model::{Allowance, Bytes};
 use std::alloc::{AllocError, Global};
 
 /// What a word of a command is to be.
@@ -55,7 +54,7 @@ impl Values {
     }
 
     /// Puts a value behind the others.
-    fn push<M: Memory>(&mut self, memory: &M, value: Value) -> Result<(), AllocError>
+    fn push<A: Allowance>(&mut self, memory: &A, value: Value) -> Result<(), AllocError>
         ensures values { OnOk result
             (self.new.values.items ≡ self.old.values.items ++ (value ∷ [])) }
         ensures bytes { self.new.bytes ≡ self.old.bytes }
@@ -68,9 +67,9 @@ impl Values {
     }
 
     /// Puts a label's number behind the values, and answers whether the word is a label.
-    fn add_label<'a, M: Memory>(
+    fn add_label<'a, A: Allowance>(
         &mut self,
-        memory: &M,
+        memory: &A,
         word: &'a [u8],
         labels: &mut Labels<'a>,
     ) -> Result<bool, AllocError>
@@ -87,7 +86,11 @@ impl Values {
     }
 
     /// Puts a value behind the others, if there is one, and answers whether there is.
-    fn add_value<M: Memory>(&mut self, memory: &M, value: Option<Value>) -> Result<bool, AllocError>
+    fn add_value<A: Allowance>(
+        &mut self,
+        memory: &A,
+        value: Option<Value>,
+    ) -> Result<bool, AllocError>
         ensures values { IfOk result (λ is_there. MatchOption value (is_there ≡ false)
             (λ value. (is_there ≡ true)
             × (self.new.values.items ≡ self.old.values.items ++ (value ∷ [])))) }
@@ -118,9 +121,9 @@ impl Values {
     }
 
     /// Adds what a word of a kind stands for, and answers whether it is of that kind.
-    pub fn add<'a, M: Memory>(
+    pub fn add<'a, A: Allowance>(
         &mut self,
-        memory: &M,
+        memory: &A,
         kind: Kind,
         word: &'a [u8],
         labels: &mut Labels<'a>,

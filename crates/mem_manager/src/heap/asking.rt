@@ -8,7 +8,6 @@ ghost use Rattle.heap_model.specs.declared.call.Reply.{Reply};
 use crate::bounds::check_range;
 use crate::heap::Heap;
 use crate::lookup::{find, name_at};
-use crate::walks;
 use heap_model::{Name, Place, Refusal};
 
 impl Heap {
@@ -18,7 +17,7 @@ impl Heap {
     pub fn size(&self, name: Name) -> Result<u32, Refusal>
         ensures { Does self.now (MemoryCall.Size name) (reply_of (λ size. Reply.Number size) result) self.now }
     {
-        let found = find(self.space.region(), name)?;
+        let found = find(&self.space, name)?;
         Ok(found.length)
     }
 
@@ -28,7 +27,7 @@ impl Heap {
     pub fn owner(&self, name: Name) -> Result<u8, Refusal>
         ensures { Does self.now (MemoryCall.Owner name) (reply_of (λ owner. Reply.Number owner) result) self.now }
     {
-        let found = find(self.space.region(), name)?;
+        let found = find(&self.space, name)?;
         Ok(found.owner)
     }
 
@@ -38,7 +37,7 @@ impl Heap {
     pub fn locks(&self, name: Name) -> Result<u8, Refusal>
         ensures { Does self.now (MemoryCall.Locks name) (reply_of (λ count. Reply.Number count) result) self.now }
     {
-        let found = find(self.space.region(), name)?;
+        let found = find(&self.space, name)?;
         Ok(found.lock)
     }
 
@@ -49,7 +48,7 @@ impl Heap {
         ensures does { Does self.now (MemoryCall.Read name at count) (reply_of (λ bytes. Reply.Data bytes.now) result) self.now }
         ensures takes_no_memory { result ≢ Err Refusal.OutOfMemory }
     {
-        let found = find(self.space.region(), name)?;
+        let found = find(&self.space, name)?;
         check_range(at, count as usize, found.length)?;
         let start = found.place.0 as usize + at as usize;
         Ok(self.space.region().slice(start, count as usize))
@@ -62,13 +61,13 @@ impl Heap {
     pub fn recover(&self, place: Place) -> Result<Name, Refusal>
         ensures { Does self.now (MemoryCall.Recover place) (reply_of (λ name. Reply.Named name) result) self.now }
     {
-        name_at(self.space.region(), place)
+        name_at(&self.space, place)
     }
 
     /// The sizes of the free chunks together, in bytes.
     pub fn free_bytes(&self) -> u32
         ensures { Does self.now MemoryCall.FreeBytes (Reply.Number result) self.now }
     {
-        walks::free_bytes(self.space.region())
+        self.space.free_bytes()
     }
 }

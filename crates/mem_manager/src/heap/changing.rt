@@ -7,7 +7,7 @@ ghost use Rattle.heap_model.specs.declared.call.Reply.{Reply};
 
 use crate::bounds::{before_zero, check_ended_range, check_owner, check_range};
 use crate::heap::{Heap, Locked};
-use crate::lookup::find;
+use crate::lookup::{check_callers, check_locked, check_movable, find};
 use heap_model::{Name, Refusal};
 
 /// The most locks that a movable chunk can have.
@@ -21,13 +21,13 @@ impl Heap {
     pub fn lock(&mut self, name: Name) -> Result<Locked, Refusal>
         ensures { Does self.old (MemoryCall.Lock name) (reply_of (λ locked. Reply.Locked locked.place locked.count) result) self.new }
     {
-        let found = find(self.space.region(), name)?;
-        found.check_movable()?;
+        let found = find(&self.space, name)?;
+        check_movable(found)?;
         if found.lock == MOST_LOCKS {
             return Err(Refusal::LockOverflow);
         }
         let count = found.lock + 1;
-        self.space.relock(found.place, count);
+        self.space.relock(found, count);
         Ok(Locked {
             place: found.place,
             count,
@@ -40,11 +40,11 @@ impl Heap {
     pub fn unlock(&mut self, name: Name) -> Result<u8, Refusal>
         ensures { Does self.old (MemoryCall.Unlock name) (reply_of (λ count. Reply.Number count) result) self.new }
     {
-        let found = find(self.space.region(), name)?;
-        found.check_movable()?;
-        found.check_locked()?;
+        let found = find(&self.space, name)?;
+        check_movable(found)?;
+        check_locked(found)?;
         let count = found.lock - 1;
-        self.space.relock(found.place, count);
+        self.space.relock(found, count);
         Ok(count)
     }
 
@@ -54,10 +54,10 @@ impl Heap {
     pub fn write(&mut self, name: Name, at: u32, bytes: &[u8]) -> Result<(), Refusal>
         ensures { Does self.old (MemoryCall.Write name at bytes.now) (reply_of (λ done. Reply.Done) result) self.new }
     {
-        let found = find(self.space.region(), name)?;
-        found.check_locked()?;
+        let found = find(&self.space, name)?;
+        check_locked(found)?;
         check_range(at, bytes.len(), found.length)?;
-        self.space.write(found.place, at, bytes);
+        self.space.write(found, at, bytes);
         Ok(())
     }
 
@@ -67,10 +67,10 @@ impl Heap {
     pub fn set(&mut self, name: Name, at: u32, count: u32, byte: u8) -> Result<(), Refusal>
         ensures { Does self.old (MemoryCall.Set name at count byte) (reply_of (λ done. Reply.Done) result) self.new }
     {
-        let found = find(self.space.region(), name)?;
-        found.check_locked()?;
+        let found = find(&self.space, name)?;
+        check_locked(found)?;
         check_range(at, count as usize, found.length)?;
-        self.space.fill(found.place, at, count, byte);
+        self.space.fill(found, at, count, byte);
         Ok(())
     }
 
@@ -81,11 +81,11 @@ impl Heap {
     pub fn str_copy(&mut self, name: Name, at: u32, text: &[u8]) -> Result<(), Refusal>
         ensures { Does self.old (MemoryCall.StrCopy name at text.now) (reply_of (λ done. Reply.Done) result) self.new }
     {
-        let found = find(self.space.region(), name)?;
-        found.check_locked()?;
+        let found = find(&self.space, name)?;
+        check_locked(found)?;
         let part = before_zero(text);
         check_ended_range(at, part.len(), found.length)?;
-        self.space.write_ended(found.place, at, part);
+        self.space.write_ended(found, at, part);
         Ok(())
     }
 
@@ -95,10 +95,10 @@ impl Heap {
     pub fn set_owner(&mut self, name: Name, owner: u8) -> Result<(), Refusal>
         ensures { Does self.old (MemoryCall.SetOwner name owner) (reply_of (λ done. Reply.Done) result) self.new }
     {
-        let found = find(self.space.region(), name)?;
-        found.check_callers()?;
+        let found = find(&self.space, name)?;
+        check_callers(found)?;
         check_owner(owner)?;
-        self.space.reown(found.place, owner);
+        self.space.reown(found, owner);
         Ok(())
     }
 }

@@ -4,15 +4,15 @@ ghost use Rattle.std.specs.Prelude.{◌≡◌, ◌≤◌, ◌<◌, ℕ, length};
 ghost use Rattle.heap_model.specs.MemorySteps.{Does, reply_of};
 ghost use Rattle.heap_model.specs.declared.call.MemoryCall.{MemoryCall};
 ghost use Rattle.heap_model.specs.declared.call.Reply.{Reply};
-ghost use Rattle.mem_manager.specs.Lookup.{NoSlotBelow};
+ghost use Rattle.heap_model.specs.Frame.{HasFrame};
+ghost use Rattle.master_table.specs.Table.{NotAmong};
 
 use crate::bounds::check_owner;
 use crate::heap::Heap;
-use crate::lookup::{FIXED_LOCK, find};
-use crate::owned::free_owned;
+use crate::lookup::{FIXED_LOCK, check_callers, find};
 use chunk_format::chunk_size;
 use heap_model::{Name, Refusal};
-use master_table::{free_slot, number_of, slot_count, slot_of};
+use master_table::{free_slot, slots_before};
 use raw_region::Region;
 
 impl Heap {
@@ -25,13 +25,12 @@ impl Heap {
     {
         let region = self.space.region();
         check_owner(owner)?;
-        let number = free_slot(region, self.lowest).ok_or(Refusal::NotEnoughSpace)?;
+        let slot = free_slot(region, self.used).ok_or(Refusal::NotEnoughSpace)?;
         let needed = chunk_size(size).ok_or(Refusal::NotEnoughSpace)?;
-        let place = self.space.place(needed).ok_or(Refusal::NotEnoughSpace)?;
-        let name = Name(slot_of(number));
-        self.space.claim(place, name, size, owner);
-        self.lowest = number;
-        Ok(name)
+        let room = self.space.place(needed).ok_or(Refusal::NotEnoughSpace)?;
+        self.space.claim(room, slot.name, size, owner);
+        self.used = slot.before;
+        Ok(slot.name)
     }
 
     /// Makes a fixed chunk of `size` zeros.
@@ -43,9 +42,8 @@ impl Heap {
         let space = &mut self.space;
         check_owner(owner)?;
         let needed = chunk_size(size).ok_or(Refusal::NotEnoughSpace)?;
-        let place = space.place(needed).ok_or(Refusal::NotEnoughSpace)?;
-        space.claim_fixed(place, size, owner);
-        Ok(Name(place.0))
+        let room = space.place(needed).ok_or(Refusal::NotEnoughSpace)?;
+        Ok(space.claim_fixed(room, size, owner))
     }
 
     /// Frees a chunk that is a caller's and has no lock; a fixed one may be freed.
@@ -54,13 +52,13 @@ impl Heap {
     pub fn free(&mut self, name: Name) -> Result<(), Refusal>
         ensures { Does self.old (MemoryCall.Free name) (reply_of (λ done. Reply.Done) result) self.new }
     {
-        let found = find(self.space.region(), name)?;
-        found.check_callers()?;
+        let found = find(&self.space, name)?;
+        check_callers(found)?;
         if found.lock > 0 && found.lock < FIXED_LOCK {
             return Err(Refusal::ChunkLocked);
         }
-        self.lowest = lowest_without(self.space.region(), self.lowest, name);
-        self.space.give_back(found.place);
+        self.used = used_without(self.space.region(), self.used, name);
+        self.space.give_back(found);
         Ok(())
     }
 
@@ -72,20 +70,21 @@ impl Heap {
     {
         let space = &mut self.space;
         check_owner(owner)?;
-        let count = free_owned(space, owner);
-        self.lowest = 0;
+        let count = space.give_back_owned(owner);
+        self.used = 0;
         Ok(count)
     }
 }
 
-/// A number below which every slot stays in use when the slot of a name is emptied.
-fn lowest_without(region: &Region, lowest: u16, name: Name) -> u16
-    requires { 10 ≤ length region.now.bytes }
-    ensures below { result ≤ lowest }
-    ensures apart { NoSlotBelow region.now.bytes name.0 result }
+/// How many slots, of the first `used`, stand before the one of a name: these stay in use when it is
+/// emptied. All of them where none of them is the name's.
+fn used_without(region: &Region, used: u32, name: Name) -> u32
+    requires { HasFrame region.now }
+    ensures fewer { result ≤ used }
+    ensures apart { NotAmong region.now.bytes result name.0 }
 {
-    match number_of(name.0, slot_count(region)) {
-        Some(number) if number < lowest => number,
-        _ => lowest,
+    match slots_before(region, name) {
+        Some(before) if before < used => before,
+        _ => used,
     }
 }

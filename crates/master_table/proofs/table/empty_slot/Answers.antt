@@ -1,4 +1,4 @@
-use Rattle.std.proofs.Common.{◌≡◌, ℕ, subst, sym, ◌∙◌}
+use Rattle.std.proofs.Common.{◌≡◌, ℕ, subst, ◌∙◌}
 use Rattle.heap_model.specs.Bytes.{u32_at}
 use Rattle.heap_laws.proofs.Slots.{stands_slot, same_slot}
 use Rattle.master_table.proofs.table.empty_slot.Goals as goal

@@ -1,4 +1,4 @@
-use Rattle.std.proofs.Common.{refl, ◌∙◌, sym, arith}
+use Rattle.std.proofs.Common.{refl, arith}
 use Rattle.master_table.proofs.CountLaws.{none_free, some_free}
 use Rattle.master_table.proofs.TableLaws.{first_empty, used_more}
 use Rattle.master_table.proofs.table.free_slot.Goals as goal

@@ -1,4 +1,4 @@
-use Rattle.std.proofs.Common.{refl, sym, ◌∙◌, arith}
+use Rattle.std.proofs.Common.{sym, ◌∙◌, arith}
 use Rattle.master_table.proofs.CountLaws.{counted_some, counted_none, empty_all}
 use Rattle.master_table.proofs.table.slots_free.Goals as goal
 use Rattle.master_table.proofs.table.slots_free.Goals.{then-is_some, else-is_some}

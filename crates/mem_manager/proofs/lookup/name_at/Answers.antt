@@ -1,9 +1,12 @@
-use Rattle.mem_manager.proofs.Recovering.{fixed_there, nowhere}
+use Rattle.std.proofs.Common.{arith}
+use Rattle.mem_manager.proofs.Recovering.{found_there, nowhere, managers_there}
 use Rattle.mem_manager.proofs.lookup.name_at.Goals as goal
 
-pub returns-in-Some-find_fixed-clause-there : goal.returns-in-Some-find_fixed-clause-there
-returns-in-Some-find_fixed-clause-there c =
-    fixed_there c.args.region.now.bytes c.args.place.0 c.in-Some-find_fixed.field-0 c.requires.accepted c.in-Some-find_fixed.ensures.found c.in-Some-find_fixed.ensures.there c.in-Some-find_fixed.ensures.callers
+pub returns-in-Some-clause-there : goal.returns-in-Some-clause-there
+returns-in-Some-clause-there c = found_there c.args.space.now.bytes c.args.place.0 c.in-Some.found c.requires.accepted c.in-Some.ensures.found c.in-Some.ensures.there c.if-found-gt0.true
 
-pub returns-in-None-find_fixed-clause-none : goal.returns-in-None-find_fixed-clause-none
-returns-in-None-find_fixed-clause-none c = nowhere c.args.region.now.bytes c.args.place.0 c.requires.accepted c.in-None.ensures.none c.in-None-find_fixed.ensures.none
+pub returns-in_default-clause-none : goal.returns-in_default-clause-none
+returns-in_default-clause-none c = managers_there c.args.space.now.bytes c.args.place.0 c.in-Some.found c.requires.accepted c.in-Some.ensures.found c.in-Some.ensures.there (omega arith)
+
+pub returns-in_default-2-clause-none : goal.returns-in_default-2-clause-none
+returns-in_default-2-clause-none c = nowhere c.args.space.now.bytes c.args.place.0 c.requires.accepted c.in_default.ensures.none

@@ -14,6 +14,6 @@ unreachable-requires g c =
     let labels = numbering c.args.labels.now in
     let words = words_in c.args.words.now in
     let after = words_read c.in-Ok.values c.read_values.new.labels in
-    let read : read_words 2 (none_read labels) (kinds_of command) words ≡ Ok after = rw c.kinds_of-kinds.ensures.kinds at c.in-Ok.ensures.ok in
+    let read : read_words 2 (none_read labels) (kinds_of command) words ≡ Ok after = rw c.row_of.ensures.kinds at c.in-Ok.ensures.ok in
     let made : c.make_line.result ≡ line_of command c.in-Ok.values.values.items c.in-Ok.values.bytes = rw c.deref.ensures.value at c.make_line.ensures in
     read_makes_line command labels words after read (sym made ∙ c.in_default-make_line.is)

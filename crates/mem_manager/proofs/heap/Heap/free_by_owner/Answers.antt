@@ -5,7 +5,7 @@ use Rattle.heap_model.specs.declared.call.MemoryCall.TheVariants.{FreeByOwner}
 use Rattle.heap_model.specs.declared.call.Reply.{Reply}
 use Rattle.heap_model.specs.declared.refusal.Refusal.{Refusal}
 use Rattle.mem_manager.proofs.Stepping.{answered, refused}
-use Rattle.mem_manager.proofs.Owning.{owner_freed}
+use Rattle.mem_manager.proofs.Making.{owner_freed}
 use Rattle.mem_manager.proofs.heap.Heap.free_by_owner.Goals as goal
 
 pub returns-in_err-check_owner : goal.returns-in_err-check_owner
@@ -16,5 +16,5 @@ returns-in_err-check_owner c =
 
 pub returns : goal.returns
 returns c =
-    subst (λ (m : Memory). Does m (FreeByOwner c.args.owner) (Reply.Number c.free_owned-count.result) c.free_owned-count.new.space) c.self.view_is
-    (owner_freed c.self.inside.space c.free_owned-count.new.space c.args.owner c.free_owned-count.result c.self.invariant.accepted c.in_ok-check_owner.ensures.ok c.free_owned-count.ensures)
+    subst (λ (m : Memory). Does m (FreeByOwner c.args.owner) (Reply.Number c.give_back_owned-count.result) c.give_back_owned-count.new.self) c.self.view_is
+    (owner_freed c.self.inside.space c.give_back_owned-count.new.self c.args.owner c.give_back_owned-count.result c.self.invariant.accepted c.in_ok-check_owner.ensures.ok c.give_back_owned-count.ensures.gone c.give_back_owned-count.ensures.count)

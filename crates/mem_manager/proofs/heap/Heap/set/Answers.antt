@@ -1,35 +1,37 @@
-use Rattle.std.proofs.Common.{◌<◌, ◌+◌, subst, arith}
+use Rattle.std.proofs.Common.{ℕ, ◌<◌, ◌+◌, replicate, subst, arith}
+use Rattle.std.proofs.lemmas.List.{length-replicate}
 use Rattle.heap_model.specs.Memory.{Memory}
 use Rattle.heap_model.specs.MemorySteps.{Does}
 use Rattle.heap_model.specs.declared.call.MemoryCall.TheVariants.{Set}
 use Rattle.heap_model.specs.declared.call.Reply.{Reply}
 use Rattle.heap_model.specs.declared.refusal.Refusal.{Refusal}
-use Rattle.mem_manager.proofs.Stepping.{found_in, handed_on, refused, used_altered}
-use Rattle.mem_manager.proofs.Altering.{unlocked_write, write_beyond, bytes_there, filled}
+use Rattle.mem_manager.proofs.Stepping.{handed_on, refused, used_altered, one_of}
+use Rattle.mem_manager.proofs.Altering.{unlocked_write, write_beyond, write_changes, filled}
 use Rattle.mem_manager.proofs.heap.Heap.set.Goals as goal
 
 pub returns-in_err-check_locked : goal.returns-in_err-check_locked
 returns-in_err-check_locked c =
     handed_on (λ done. Reply.Done) c.from_residual-in_err-check_locked.result c.self.view_is (let e = c.from_residual-in_err-check_locked.ensures in (e.0, e.1)) c.in_err-check_locked.ensures.refusal
-    (refused c.self.inside.space (Set c.args.name c.args.at c.args.count c.args.byte) Refusal.ChunkNotLocked c.self.invariant.accepted (unlocked_write c.self.inside.space.bytes c.args.name c.in_ok-found.found c.args.at c.args.count c.self.invariant.accepted (found_in c.region.ensures c.in_ok-found.ensures.found) c.in_ok-found.ensures.callers c.in_err-check_locked.ensures.err))
+    (refused c.self.inside.space (Set c.args.name c.args.at c.args.count c.args.byte) Refusal.ChunkNotLocked c.self.invariant.accepted (unlocked_write c.self.inside.space.bytes c.args.name c.in_ok-found.found c.args.at c.args.count c.self.invariant.accepted c.in_ok-found.ensures.found c.in_ok-found.ensures.callers c.in_err-check_locked.ensures.err))
 
 pub returns-in_err-check_range : goal.returns-in_err-check_range
 returns-in_err-check_range c =
     handed_on (λ done. Reply.Done) c.from_residual-in_err-check_range.result c.self.view_is (let e = c.from_residual-in_err-check_range.ensures in (e.0, e.1)) c.in_err-check_range.ensures.refusal
-    (refused c.self.inside.space (Set c.args.name c.args.at c.args.count c.args.byte) Refusal.OutOfBounds c.self.invariant.accepted (write_beyond c.self.inside.space.bytes c.args.name c.in_ok-found.found c.args.at c.args.count c.self.invariant.accepted (found_in c.region.ensures c.in_ok-found.ensures.found) c.in_ok-found.ensures.callers c.in_ok-check_locked.ensures.ok c.in_err-check_range.ensures.err))
+    (refused c.self.inside.space (Set c.args.name c.args.at c.args.count c.args.byte) Refusal.OutOfBounds c.self.invariant.accepted (write_beyond c.self.inside.space.bytes c.args.name c.in_ok-found.found c.args.at c.args.count c.self.invariant.accepted c.in_ok-found.ensures.found c.in_ok-found.ensures.callers c.in_ok-check_locked.ensures.ok c.in_err-check_range.ensures.err))
+
+pub fill-requires-clause-found : goal.fill-requires-clause-found
+fill-requires-clause-found c = one_of c.in_ok-found.ensures.found
 
 pub fill-requires-clause-within : goal.fill-requires-clause-within
-fill-requires-clause-within c =
-    let inside = c.in_ok-check_range.ensures.ok in
-    bytes_there c.self.inside.space.bytes c.args.name.0 c.in_ok-found.found (c.args.at + c.args.count) c.self.invariant.accepted (found_in c.region.ensures c.in_ok-found.ensures.found) (omega arith)
+fill-requires-clause-within c = let inside = c.in_ok-check_range.ensures.ok in omega arith
 
 pub invariant_of-self : goal.invariant_of-self
 invariant_of-self c =
-    let f = found_in c.region.ensures c.in_ok-found.ensures.found in
-    used_altered c.self.inside.space.bytes c.fill.new.self.bytes c.self.inside.lowest c.args.name.0 _ _ c.self.invariant (c.fill.ensures c.args.name.0 f.live f.chunk f.finds)
+    let f = c.in_ok-found.ensures.found in
+    used_altered c.self.inside.space.bytes c.fill.new.self.bytes c.self.inside.used c.args.name.0 _ _ c.self.invariant (write_changes c.self.inside.space.bytes c.fill.new.self.bytes c.args.name.0 c.in_ok-found.found c.args.at (replicate {A = ℕ} c.args.count c.args.byte) c.self.invariant.accepted f (let inside = c.in_ok-check_range.ensures.ok in let many = length-replicate {A = ℕ} c.args.count c.args.byte in omega arith) c.fill.ensures.made)
 
 pub returns : goal.returns
 returns c =
-    let f = found_in c.region.ensures c.in_ok-found.ensures.found in
+    let f = c.in_ok-found.ensures.found in
     subst (λ (m : Memory). Does m (Set c.args.name c.args.at c.args.count c.args.byte) Reply.Done c.fill.new.self) c.self.view_is
-    (filled c.self.inside.space c.fill.new.self c.args.name c.in_ok-found.found c.args.at c.args.count c.args.byte c.self.invariant.accepted f c.in_ok-found.ensures.callers c.in_ok-check_locked.ensures.ok c.in_ok-check_range.ensures.ok (c.fill.ensures c.args.name.0 f.live f.chunk f.finds))
+    (filled c.self.inside.space c.fill.new.self c.args.name c.in_ok-found.found c.args.at c.args.count c.args.byte c.self.invariant.accepted f c.in_ok-found.ensures.callers c.in_ok-check_locked.ensures.ok c.in_ok-check_range.ensures.ok (write_changes c.self.inside.space.bytes c.fill.new.self.bytes c.args.name.0 c.in_ok-found.found c.args.at (replicate {A = ℕ} c.args.count c.args.byte) c.self.invariant.accepted f (let inside = c.in_ok-check_range.ensures.ok in let many = length-replicate {A = ℕ} c.args.count c.args.byte in omega arith) c.fill.ensures.made))

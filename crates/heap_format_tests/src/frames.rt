@@ -1,0 +1,96 @@
+//! Frames and blank images.
+
+ghost use Rattle.std.specs.Prelude.{◌≡◌, length, IfOk};
+
+use chunk_format::{
+    BlankFault, area_start, blank, directory, has_magic, head_end, reserved, size_field, slot_count,
+};
+use raw_region::Region;
+use std::alloc::Global;
+use std::test::*;
+
+/// 16 bytes of which only the slot count isn't zero.
+pub(crate) fn frame_of(alloc: Global, slots: u16) -> Result<Region, Fail>
+    ensures { IfOk result (λ region. length region.bytes ≡ 16) }
+{
+    let mut region = Region::zeroed(alloc, 16)?;
+    region.put_u16(8, slots);
+    Ok(region)
+}
+
+#[test]
+fn the_words_of_a_frame_are_read(rt: HostRuntime) -> Result<(), Fail> {
+    let bytes = b"PHI1\x01\x02\x03\x04\x05\x06\x07\x08\x09\x0A\x0B\x0C";
+    let region = Region::from_bytes(rt.alloc(), bytes)?;
+    if region.len() != 16 {
+        return Err("no frame")?;
+    }
+    assert!(rt; has_magic(&region));
+    assert_eq!(rt; size_field(&region), 0x0102_0304);
+    assert_eq!(rt; slot_count(&region), 0x0506);
+    assert_eq!(rt; reserved(&region), 0x0708);
+    assert_eq!(rt; directory(&region), 0x090A_0B0C);
+    Ok(())
+}
+
+#[test]
+fn chunks_begin_behind_the_padding(rt: HostRuntime) -> Result<(), Fail> {
+    for (slots, end, start) in [
+        (1, 20, 24),
+        (2, 24, 24),
+        (4, 32, 32),
+        (13, 68, 72),
+        (65_535, 262_156, 262_160),
+    ] {
+        let region = frame_of(rt.alloc(), slots)?;
+        assert!(rt; !has_magic(&region));
+        assert_eq!(rt; head_end(&region), end, "{slots} slots");
+        assert_eq!(rt; area_start(&region), start, "{slots} slots");
+    }
+    Ok(())
+}
+
+#[test]
+fn a_blank_image_has_one_free_chunk(rt: HostRuntime) -> Result<(), Fail> {
+    let region = blank(rt.alloc(), 128, 4)?;
+    assert_eq!(rt; region.len(), 128);
+    assert_eq!(rt;
+        region.slice(0, 16),
+        b"PHI1\0\0\0\x80\0\x04\0\0\0\0\0\0".as_slice()
+    );
+    assert_eq!(rt; region.slice(16, 16), [0; 16].as_slice());
+    assert_eq!(rt; region.slice(32, 4), b"\x80\0\0\x60".as_slice());
+    assert_eq!(rt; region.slice(36, 92), [0; 92].as_slice());
+    assert_eq!(rt; blank(rt.alloc(), 64, 10)?.len(), 64);
+    assert_eq!(rt; blank(rt.alloc(), 16_777_208, 65_535)?.len(), 16_777_208);
+    Ok(())
+}
+
+#[test]
+fn a_blank_image_has_its_limits(rt: HostRuntime) -> Result<(), Fail> {
+    for (size, slots, fault) in [
+        (66, 4, BlankFault::BadSize),
+        (56, 1, BlankFault::BadSize),
+        (0, 0, BlankFault::BadSize),
+        (16_777_216, 1, BlankFault::BadSize),
+        (64, 0, BlankFault::BadSlotCount),
+        (64, 11, BlankFault::BadSlotCount),
+        (64, 13, BlankFault::BadSlotCount),
+    ] {
+        let found = blank(rt.alloc(), size, slots).err();
+        assert_eq!(rt; found, Some(fault), "{size} bytes and {slots} slots");
+    }
+    Ok(())
+}
+
+#[test]
+fn faults_have_their_names(rt: HostRuntime) -> Result<(), Fail> {
+    for (fault, text) in [
+        (BlankFault::BadSize, "BadSize"),
+        (BlankFault::BadSlotCount, "BadSlotCount"),
+        (BlankFault::OutOfMemory, "OutOfMemory"),
+    ] {
+        assert_eq!(rt; format!(in rt.alloc(); "{fault}")?.as_str(), text);
+    }
+    Ok(())
+}

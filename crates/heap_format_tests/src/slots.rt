@@ -1,0 +1,136 @@
+//! Tables of four slots.
+
+ghost use Rattle.std.specs.Prelude.{◌≡◌, length, IfOk};
+ghost use Rattle.heap_model.specs.Slots.{slot_count as model_count};
+
+use crate::frames::frame_of;
+use heap_model::{Name, Place};
+use master_table::{FreeSlot, Table, clear, free_slot, resolve, set, slots_before, slots_free};
+use raw_region::Region;
+use std::alloc::Global;
+use std::test::*;
+
+/// A region of 32 bytes with four slots, which hold these words.
+fn table(alloc: Global, words: [u32; 4]) -> Result<Region, Fail>
+    ensures count { IfOk result (λ region. model_count region.bytes ≡ 4) }
+    ensures len { IfOk result (λ region. length region.bytes ≡ 32) }
+{
+    let mut region = Region::zeroed(alloc, 32)?;
+    region.put_u16(8, 4);
+    region.put_u32(16, words[0]);
+    region.put_u32(20, words[1]);
+    region.put_u32(24, words[2]);
+    region.put_u32(28, words[3]);
+    if chunk_format::slot_count(&region) != 4 {
+        return Err("no four slots")?;
+    }
+    Ok(region)
+}
+
+#[test]
+fn slots_stand_behind_16_bytes(rt: HostRuntime) -> Result<(), Fail> {
+    for (slot, slots, number) in [
+        (16, 4, Some(0)),
+        (28, 4, Some(3)),
+        (262_152, 65_535, Some(65_534)),
+        // in front of the table, behind it, between two slots, and where there are none
+        (0, 4, None),
+        (12, 4, None),
+        (32, 4, None),
+        (u32::MAX, 65_535, None),
+        (17, 4, None),
+        (18, 4, None),
+        (16, 0, None),
+    ] {
+        let region = frame_of(rt.alloc(), slots)?;
+        let table = Table::of(&region);
+        assert_eq!(rt; table.count(), u32::from(slots));
+        assert_eq!(rt; table.number(slot), number, "slot {slot} of {slots}");
+        assert_eq!(rt;
+            slots_before(&region, Name(slot)),
+            number,
+            "slot {slot} of {slots}"
+        );
+        if let Some(number) = number
+            && number < table.count()
+        {
+            assert_eq!(rt; table.slot(number), slot, "number {number}");
+        }
+    }
+    Ok(())
+}
+
+#[test]
+fn a_slot_resolves_to_its_place(rt: HostRuntime) -> Result<(), Fail> {
+    let region = table(rt.alloc(), [40, 0, 0xFFFF_FFFF, 64])?;
+    for (name, place) in [
+        (16, Some(Place(40))),
+        (24, Some(Place(0xFFFF_FFFF))),
+        (28, Some(Place(64))),
+        // empty, outside the table, between two slots, and a place
+        (20, None),
+        (0, None),
+        (12, None),
+        (32, None),
+        (0xFFFF_FFFF, None),
+        (17, None),
+        (26, None),
+        (40, None),
+    ] {
+        assert_eq!(rt; resolve(&region, Name(name)), place, "name {name}");
+    }
+    Ok(())
+}
+
+#[test]
+fn the_first_empty_slot_is_found(rt: HostRuntime) -> Result<(), Fail> {
+    for (words, found, free) in [
+        ([0, 0, 0, 0], Some((16, 0)), 4),
+        ([40, 0, 0, 56], Some((20, 1)), 2),
+        ([40, 56, 0, 0], Some((24, 2)), 2),
+        ([40, 56, 64, 0], Some((28, 3)), 1),
+        ([40, 56, 64, 72], None, 0),
+    ] {
+        let region = table(rt.alloc(), words)?;
+        let found = found.map(|(name, before)| FreeSlot {
+            name: Name(name),
+            before,
+        });
+        assert_eq!(rt; slots_free(&region), free, "{words:?}");
+        assert_eq!(rt; free_slot(&region, 0), found, "{words:?}");
+    }
+    Ok(())
+}
+
+/// A search that begins at the first empty slot finds it again.
+#[test]
+fn a_search_passes_over_used_slots(rt: HostRuntime) -> Result<(), Fail> {
+    let region = table(rt.alloc(), [40, 56, 0, 0])?;
+    if let Some(slot) = free_slot(&region, 0) {
+        assert_eq!(rt; slot.before, 2);
+        assert_eq!(rt; free_slot(&region, slot.before), Some(slot));
+    }
+    Ok(())
+}
+
+#[test]
+fn a_slot_is_set(rt: HostRuntime) -> Result<(), Fail> {
+    let mut region = table(rt.alloc(), [40, 0, 64, 72])?;
+    set(&mut region, Name(20), Place(0x0001_0238));
+    assert_eq!(rt;
+        region.slice(0, 32),
+        b"\0\0\0\0\0\0\0\0\0\x04\0\0\0\0\0\0\0\0\0\x28\0\x01\x02\x38\0\0\0\x40\0\0\0\x48".as_slice()
+    );
+    Ok(())
+}
+
+#[test]
+fn a_slot_is_emptied(rt: HostRuntime) -> Result<(), Fail> {
+    let mut region = table(rt.alloc(), [40, 56, 0x0001_0238, 72])?;
+    clear(&mut region, Name(24));
+    assert_eq!(rt;
+        region.slice(0, 32),
+        b"\0\0\0\0\0\0\0\0\0\x04\0\0\0\0\0\0\0\0\0\x28\0\0\0\x38\0\0\0\0\0\0\0\x48".as_slice()
+    );
+    Ok(())
+}

@@ -1,9 +1,0 @@
-use Rattle.std.proofs.Common.{◌-◌, length}
-use Rattle.mem_manager.specs.Lookup.{Passed, AreFree}
-use Rattle.mem_manager.proofs.walks.free_bytes.Given as goal
-
-abbrev pub invariant-loop-at : goal.invariant-loop-at
-invariant-loop-at l = Passed l.region.bytes (AreFree l.count) l.at
-
-abbrev pub decreases-loop-at : goal.decreases-loop-at
-decreases-loop-at l = length l.region.bytes - l.at

@@ -1,0 +1,22 @@
+-- The lines for what is refused. Where a definition ends in a `Bool`, it says whether all got through.
+use Rattle.std.specs.Prelude.{◌≡◌, ◌++◌, ℕ, Bool, List, Option, codes, decimal}
+use Rattle.heap_model.specs.Counted.{Writing}
+use Rattle.script_lines.specs.declared.fault.LineFault.{LineFault}
+use Rattle.program_io.specs.Output.{Puts}
+
+-- `bad`, a fault and a line's end
+abbrev pub IsBadLine : List ℕ → Type 0
+IsBadLine line = (fault : List ℕ) × (line ≡ codes "bad " ++ (fault ++ codes "\n"))
+
+-- a line that says what is bad
+abbrev pub PutsBad : {W : Type 0} → (W → Option (List ℕ)) → Writing W → Writing W → Bool → Type 0
+PutsBad contents old new ok = (line : List ℕ) × IsBadLine line × Puts contents old new line ok
+
+-- the line for a refused script: `line`, the number of its first faulty line, what is wrong there, and
+-- a line's end
+abbrev pub IsFaultLine : LineFault → List ℕ → Type 0
+IsFaultLine fault line = (text : List ℕ) × (line ≡ codes "line " ++ (decimal fault.line ++ (codes " " ++ (text ++ codes "\n"))))
+
+-- such a line
+abbrev pub PutsFault : {V : Type 0} → LineFault → (V → Option (List ℕ)) → Writing V → Writing V → Bool → Type 0
+PutsFault fault contents old new ok = (line : List ℕ) × IsFaultLine fault line × Puts contents old new line ok

@@ -1,0 +1,31 @@
+-- Statuses of runs that broke off.
+use Rattle.std.specs.Prelude.{◌≡◌, ℕ, List, Option, codes}
+use Rattle.std.specs.IoError.{error_kind}
+use Rattle.std.specs.declared.io.Error.{Error}
+use Rattle.std.specs.declared.io.ErrorKind.TheVariants.{OutOfMemory}
+use Rattle.std.specs.declared.option.Option.TheVariants.{None, Some}
+use Rattle.program_io.specs.declared.input.InputFault.{InputFault}
+use Rattle.program_io.specs.declared.input.InputFault.TheVariants.{Read, TooLong, Memory}
+use Rattle.program_io.specs.declared.status.Status.{Status}
+use Rattle.program_io.specs.declared.status.Status.TheVariants.{Done, Refused, BadWords, ReadFault, WriteFault, NoMemory}
+
+-- the word that standard error gets behind `fault`
+abbrev pub fault_word : Status → Option (List ℕ)
+fault_word Done = None
+fault_word Refused = None
+fault_word BadWords = None
+fault_word ReadFault = Some (codes "read")
+fault_word WriteFault = Some (codes "write")
+fault_word NoMemory = Some (codes "memory")
+
+-- the fault that a read's error is: want of memory, or the error itself
+abbrev pub FaultOf : Error → InputFault → Type 0
+FaultOf error (Read other) = other ≡ error
+FaultOf error TooLong = ⊥
+FaultOf error Memory = error_kind error ≡ OutOfMemory
+
+-- what a run comes to that cannot read an input file
+abbrev pub status_of : InputFault → Status
+status_of (Read error) = ReadFault
+status_of TooLong = ReadFault
+status_of Memory = NoMemory

@@ -1,0 +1,118 @@
+//! Reading an input file.
+
+ghost use Rattle.std.specs.Prelude.{◌≡◌, ◌+◌, ◌≤◌, ◌<◌, IfOk, OnOk, IfSome, vec_len, length};
+ghost use Rattle.std.specs.Io.KnownBytes.{IsAtEnd, Keeps, prepend_known};
+
+use heap_model::Allowance;
+use std::alloc::{AllocError, Global};
+use std::io;
+use std::io::{ErrorKind, Read};
+use thiserror::Error;
+
+/// The most bytes that an input file may have.
+pub const INPUT_LIMIT: usize = 16_777_216;
+
+/// The most bytes that one read asks for.
+const TURN: usize = 65_536;
+
+/// Why a file could not be read.
+#[derive(Clone, Copy, Debug, Error)]
+pub enum InputFault {
+    /// It couldn't be opened, or a read failed.
+    #[error("{0}")]
+    Read(io::Error),
+    /// The file has more than `INPUT_LIMIT` bytes.
+    #[error("longer than {INPUT_LIMIT} bytes")]
+    TooLong,
+    /// Memory was refused.
+    #[error("out of memory")]
+    Memory,
+}
+
+/// A read that fails for want of memory is no fault of the file.
+impl From<io::Error> for InputFault {
+    ghost use Rattle.program_io.specs.Status.{FaultOf};
+
+    ghost from_gives = { λ error fault. FaultOf error fault };
+
+    fn from(error: io::Error) -> InputFault {
+        match error.kind() {
+            ErrorKind::OutOfMemory => InputFault::Memory,
+            _ => InputFault::Read(error),
+        }
+    }
+}
+
+/// Reads to the end, `TURN` bytes at most at a time: until a read gives no byte.
+///
+/// A reader that gives more than `INPUT_LIMIT` bytes is read no further than the turn that shows it.
+pub fn read_input<R: Read>(alloc: Global, reader: &mut R) -> Result<Vec<u8>, InputFault>
+    ensures limit { IfOk result (λ bytes. vec_len bytes ≤ INPUT_LIMIT) }
+    ensures bytes { IfOk result (λ bytes. IfSome (R.remaining reader.old) (λ all. bytes.items ≡ all)) }
+    ensures end { OnOk result (IsAtEnd (R.remaining reader.new)) }
+    ensures too_long { result ≡ Err InputFault.TooLong
+        → IfSome (R.remaining reader.old) (λ all. INPUT_LIMIT < length all) }
+{
+    read_input_from(&alloc, reader)
+}
+
+/// `read_input`, where each growth asks for a grant.
+pub fn read_input_from<A: Allowance, R: Read>(
+    memory: &A,
+    reader: &mut R,
+) -> Result<Vec<u8>, InputFault>
+    ensures limit { IfOk result (λ bytes. vec_len bytes ≤ INPUT_LIMIT) }
+    ensures bytes { IfOk result (λ bytes. IfSome (R.remaining reader.old) (λ all. bytes.items ≡ all)) }
+    ensures end { OnOk result (IsAtEnd (R.remaining reader.new)) }
+    ensures too_long { result ≡ Err InputFault.TooLong
+        → IfSome (R.remaining reader.old) (λ all. INPUT_LIMIT < length all) }
+{
+    let Ok(mut turn) = zeros(memory, TURN) else {
+        return Err(InputFault::Memory);
+    };
+    let mut bytes = Vec::new(memory.allocator());
+    while read_turn(memory, reader, &mut turn, &mut bytes)? > 0 {}
+    Ok(bytes)
+}
+
+/// A buffer of `n` bytes.
+fn zeros<A: Allowance>(memory: &A, n: usize) -> Result<Vec<u8>, AllocError>
+    ensures { IfOk result (λ buffer. length buffer.items ≡ n) }
+{
+    vec![in memory.grant()?; 0u8; n]
+}
+
+/// Reads once, and keeps what came behind `bytes`. Answers how many bytes came.
+fn read_turn<A: Allowance, R: Read>(
+    memory: &A,
+    reader: &mut R,
+    turn: &mut [u8],
+    bytes: &mut Vec<u8>,
+) -> Result<usize, InputFault>
+    requires room { 0 < length turn.old }
+    requires limit { vec_len bytes.old ≤ INPUT_LIMIT }
+    ensures limit { OnOk result (vec_len bytes.new ≤ INPUT_LIMIT) }
+    ensures count { IfOk result (λ n. vec_len bytes.new ≡ vec_len bytes.old + n) }
+    ensures kept { OnOk result (Keeps
+        (prepend_known bytes.old.items (R.remaining reader.old))
+        (prepend_known bytes.new.items (R.remaining reader.new))) }
+    ensures end { IfOk result (λ n. n ≡ 0 → IsAtEnd (R.remaining reader.new)) }
+    ensures too_long { result ≡ Err InputFault.TooLong
+        → IfSome (prepend_known bytes.old.items (R.remaining reader.old))
+        (λ all. INPUT_LIMIT < length all) }
+{
+    let n = match reader.read(turn) {
+        Ok(n) => n,
+        Err(error) => return Err(InputFault::from(error)),
+    };
+    if n > INPUT_LIMIT - bytes.len() {
+        return Err(InputFault::TooLong);
+    }
+    if n > 0 && memory.grant().is_err() {
+        return Err(InputFault::Memory);
+    }
+    match bytes.extend_from_slice(&turn[..n]) {
+        Ok(()) => Ok(n),
+        Err(_) => Err(InputFault::Memory),
+    }
+}

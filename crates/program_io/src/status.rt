@@ -1,0 +1,67 @@
+//! What a run of the program came to.
+
+ghost use Rattle.std.specs.Prelude.{◌≡◌, ◌↔◌, ◌⊎◌, option_map};
+ghost use Rattle.program_io.specs.Status.{fault_word};
+
+use crate::input::InputFault;
+
+/// What a run came to. `code` gives the exit status.
+#[derive(Clone, Copy, Debug, PartialEq, Eq)]
+pub enum Status {
+    /// What was asked for was done.
+    Done,
+    /// An input is not what it should be; standard output says why.
+    Refused,
+    /// The words of the command line ask for what there is not.
+    BadWords,
+    /// An input file could not be read, or is too long.
+    ReadFault,
+    /// A write failed.
+    WriteFault,
+    /// Memory was refused.
+    NoMemory,
+}
+
+impl Status {
+    /// The exit status of the process.
+    pub fn code(self) -> u8
+        ensures done { (result ≡ 0) ↔ (self ≡ Status.Done) }
+        ensures refused { (result ≡ 1) ↔ (self ≡ Status.Refused) }
+        ensures bad_words { (result ≡ 2) ↔ (self ≡ Status.BadWords) }
+        ensures fault { (result ≡ 3) ↔ ((self ≡ Status.ReadFault) ⊎ (self ≡ Status.WriteFault)) }
+        ensures no_memory { (result ≡ 4) ↔ (self ≡ Status.NoMemory) }
+    {
+        match self {
+            Status::Done => 0,
+            Status::Refused => 1,
+            Status::BadWords => 2,
+            Status::ReadFault | Status::WriteFault => 3,
+            Status::NoMemory => 4,
+        }
+    }
+
+    /// The word for standard error behind `fault`, where the run broke off.
+    pub fn fault(self) -> Option<&'static str>
+        ensures { option_map (λ word. word.now) result ≡ fault_word self }
+    {
+        match self {
+            Status::Done | Status::Refused | Status::BadWords => None,
+            Status::ReadFault => Some("read"),
+            Status::WriteFault => Some("write"),
+            Status::NoMemory => Some("memory"),
+        }
+    }
+}
+
+impl From<InputFault> for Status {
+    ghost use Rattle.program_io.specs.Status.{status_of};
+
+    ghost from_gives = { λ fault status. status ≡ status_of fault };
+
+    fn from(fault: InputFault) -> Status {
+        match fault {
+            InputFault::Read(_) | InputFault::TooLong => Status::ReadFault,
+            InputFault::Memory => Status::NoMemory,
+        }
+    }
+}

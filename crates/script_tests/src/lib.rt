@@ -1,0 +1,22 @@
+//! Tests of scripts, of texts and files, and of the program's commands, in a crate of their own: so the
+//! proofs of those crates aren't checked a second time for them. It has no code but its tests.
+#![tactic(auto)]
+
+#[cfg(test)]
+mod calls;
+#[cfg(test)]
+mod commands;
+#[cfg(test)]
+mod fakes;
+#[cfg(test)]
+mod files;
+#[cfg(test)]
+mod grammar;
+#[cfg(test)]
+mod large;
+#[cfg(test)]
+mod pieces;
+#[cfg(test)]
+mod reading;
+#[cfg(test)]
+mod runs;

@@ -1,0 +1,69 @@
+//! Heap images for tests: listings in hex, and small blank images in which words are changed.
+//!
+//! One of the listings is the worked image of docs/FORMAT.md. Nothing but tests uses this crate.
+#![tactic(auto)]
+
+use chunk_format::blank;
+use raw_region::Region;
+use std::alloc::Global;
+use std::test::Fail;
+
+/// 128 bytes with 4 slots and one free chunk.
+pub const BLANK: &str = "50484931 00000080 0004 0000 00000000 00*16 80000060 00*92";
+
+/// The same with one movable chunk of 10 bytes.
+pub const ONE_CHUNK: &str =
+    "50484931 00000080 0004 0000 00000000 00000028 00*12 06000018 01FFFFF8 00*16 80000048 00*68";
+
+/// One database with two records: directory, header, records and a free chunk.
+pub const DATABASE: &str =
+    "50484931 000000D0 0008 0000 00000010 00000038 00000048 000000B0 000000C0 00*16 \
+    04000010 00FFFFF0 00000014 00*4 02000068 00FFFFEA \
+    52 00*31 0000 0000 00*24 44415441 54657374 00000002 00000000 0002 \
+    00000018 00 000001 0000001C 00 000002 00*2 \
+    00000010 0FFFFFB8 4141414141414141 00000010 0FFFFFB2 4242424242424242 80000008 00*4";
+
+/// The bytes of a listing: hex between spaces, and `00*n` for n zeros.
+pub fn bytes_of(alloc: Global, listing: &str) -> Result<Vec<u8>, Fail> {
+    let mut bytes = Vec::new(alloc);
+    for part in listing.split_whitespace() {
+        match part.split_once("00*") {
+            Some((_, count)) => {
+                for _ in 0..count.parse::<u16>()? {
+                    bytes.push(0)?;
+                }
+            }
+            None => bytes.extend_from_slice(hex::decode(alloc, part)?.as_slice())?,
+        }
+    }
+    Ok(bytes)
+}
+
+/// The image of a listing with bytes changed: each change is an offset and the hex that stands there
+/// instead, as `27: 00, 172: FF000000`.
+pub fn image(alloc: Global, listing: &str, changes: &str) -> Result<Region, Fail> {
+    let mut region = Region::from_bytes(alloc, bytes_of(alloc, listing)?.as_slice())?;
+    for change in changes.split(", ") {
+        if let Some((at, hex)) = change.split_once(": ") {
+            let at = at.parse::<u16>()? as usize;
+            let bytes = hex::decode(alloc, hex)?;
+            if at > region.len() || bytes.len() > region.len() - at {
+                return Err("a change beyond the end")?;
+            }
+            region.write(at, bytes.as_slice());
+        }
+    }
+    Ok(region)
+}
+
+/// A blank image of 128 bytes with 4 slots in which words are changed: each by its offset.
+pub fn changed_words(alloc: Global, words: &[(usize, u32)]) -> Result<Region, Fail> {
+    let mut region = blank(alloc, 128, 4)?;
+    for (at, word) in words {
+        if *at > region.len() || region.len() - *at < 4 {
+            return Err("a word beyond the end")?;
+        }
+        region.put_u32(*at, *word);
+    }
+    Ok(region)
+}
