@@ -71,7 +71,7 @@ pub(crate) fn relock(space: &mut Space, name: Name, lock: u8) -> Option<()>
     ensures { HeapAccepted space.new.bytes }
 {
     let found = space.find(name)?;
-    if found.lock == 15 || found.owner == 0 {
+    if found.lock >= 15 || found.owner == 0 {
         return None;
     }
     space.relock(found, lock);
