@@ -1,6 +1,6 @@
 use Rattle.std.proofs.Common.{rules, arith, ◌≡◌, ℕ, List, false, subst, inr}
 use Rattle.std.proofs.lemmas.Grind.{common_steps}
-use Rattle.palmheap_commands.specs.Output.{Puts}
+use Rattle.program_io.specs.Output.{Puts}
 use Rattle.palmheap_commands.proofs.run.cmd_run.Goals as goal
 
 pub returns-clause-write_fault : goal.returns-clause-write_fault
