@@ -7,11 +7,11 @@ use Rattle.heap_model.specs.Bytes.{u32_at}
 use Rattle.heap_model.specs.Chunk.{Chunk, free, movable, fixed, size_of, total}
 use Rattle.heap_model.specs.Slots.{IsSlot, area_start}
 use Rattle.heap_model.specs.Heap.{BodyHere, IsBody, IsHeap, HeapAccepted}
-use Rattle.heap_model.specs.Placed.{EveryPlaced, AnyPlaced}
+use Rattle.heap_model.specs.Placed.{EveryPlaced}
 use Rattle.heap_model.specs.Meaning.{LiveChunk, NamedHere}
 use Rattle.heap_model.specs.Reading.{chunks_of, held, live_under}
 use Rattle.heap_model.specs.Space.{AllFree, place_under, place_of}
-use Rattle.heap_model.specs.Placing.{SameFrame, Finds}
+use Rattle.heap_model.specs.Placing.{SameFrame}
 use Rattle.heap_model.specs.Layout.{free_onto, merged, layout_of, Becomes, exchanged, Exchanges, gap, in_front, IsRoom}
 use Rattle.heap_laws.proofs.Deciding.{cond-true, cond-false}
 use Rattle.heap_laws.proofs.Placed.{TakesBytes, SpelledAll-takes, EveryPlaced-split}
@@ -20,7 +20,7 @@ use Rattle.heap_laws.proofs.Lives.{or_else, live_under-append, live_replaced, pl
 use Rattle.heap_laws.proofs.Meanings.{named_once}
 use Rattle.heap_laws.proofs.Freeing.{any_free, unnamed, live_mid, place_mid, other_name, other_name_place, or_front, or_back, body_name}
 use Rattle.heap_laws.proofs.Finding.{read_heap}
-use Rattle.heap_laws.proofs.Layouts.{IsNotFree, merged-front, merged-left, merged-right, merged-live, merged-twice, merged-back, runs-merged, run-merged, takes-merged, total-merged, live_under-merged, place_under-merged, any-layout}
+use Rattle.heap_laws.proofs.Layouts.{IsNotFree, merged-front, merged-left, merged-right, merged-live, merged-back, runs-merged, run-merged, takes-merged, total-merged, live_under-merged, place_under-merged, any-layout}
 use Rattle.heap_laws.proofs.Becoming.{held-layout, place-layout, becomes_alike, becomes_held, becomes_place, becomes_slot}
 
 -- ---- where it stands
