@@ -3,7 +3,6 @@
 use heap_check::HeapFault;
 use heap_model::{Name, Refusal};
 use mem_manager::Heap;
-use raw_region::Region;
 use std::alloc::Global;
 use std::test::*;
 pub(crate) use test_images::changed_words as image;
