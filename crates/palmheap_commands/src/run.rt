@@ -1,12 +1,12 @@
 //! The command `run`: a script, run on an image.
 
-ghost use Rattle.std.specs.Prelude.{◌≡◌, ◌≢◌, ◌⊎◌, Err, IfOk, IfErr, OnOk, [], true, false};
+ghost use Rattle.std.specs.Prelude.{◌≡◌, ◌≢◌, ◌⊎◌, Err, IfOk, IfErr, OnOk, [], true};
 ghost use Rattle.palmheap_commands.specs.Runs.{PrintingFails, RunBreaksOff, RunsAndFlushes};
 ghost use Rattle.palmheap_commands.specs.Runs.{PutsRefusal, RunsScript};
 
 use heap_model::{Bytes, Counted};
 use mem_manager::Heap;
-use palm_script::{LineFault, RunFault, Script, ScriptFault, parse, run};
+use palm_script::{RunFault, Script, ScriptFault, parse, run};
 use program_io::{Status, put, say_bad, say_line_fault};
 use raw_region::Region;
 use std::alloc::Global;
