@@ -1,7 +1,7 @@
 -- The layout of an image: its chunks, with each run of neighbouring free ones as one. What an image
 -- holds, where, and what room is left are functions of its layout and of where its chunks begin. So
 -- contracts say which layout stands afterwards, and leave open how runs of free chunks are split.
-use Rattle.std.specs.Prelude.{◌≡◌, ◌≤◌, ◌<◌, ◌+◌, ◌-◌, ◌++◌, ◌==◌, if◌then◌else◌, ℕ, zero, suc, List, [], ◌∷◌, length, All}
+use Rattle.std.specs.Prelude.{◌≡◌, ◌≤◌, ◌<◌, ◌+◌, ◌-◌, ◌++◌, ◌==◌, if◌then◌else◌, ℕ, zero, suc, List, [], ◌∷◌, All}
 use Rattle.heap_model.specs.Bytes.{overwritten}
 use Rattle.heap_model.specs.Chunk.{Chunk, free, movable, fixed, size_of, total, free_size, is_owned_by}
 use Rattle.heap_model.specs.Space.{AllFree}

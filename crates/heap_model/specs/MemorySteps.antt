@@ -1,5 +1,5 @@
 -- What each call of the memory manager refuses, answers and does: one row a call, like a manual page.
-use Rattle.std.specs.Prelude.{◌≡◌, ◌<◌, ◌+◌, ◌-◌, ◌++◌, ◌⊎◌, ◌==◌, ℕ, Bool, true, false, List, [], ◌∷◌, length, not, slice_range, replicate, count_by, Option, Some, None, Result, Ok, Err}
+use Rattle.std.specs.Prelude.{◌≡◌, ◌<◌, ◌+◌, ◌-◌, ◌++◌, ◌⊎◌, ◌==◌, ℕ, true, false, List, [], ◌∷◌, length, not, slice_range, replicate, count_by, Option, Some, None, Result, Ok, Err}
 use Rattle.std.specs.Bool.{OnTrue}
 use Rattle.std.specs.List.{take_while}
 use Rattle.heap_model.specs.Chunk.{fixed_lock, need, is_owned_by}

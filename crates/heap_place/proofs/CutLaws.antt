@@ -5,7 +5,7 @@ use Rattle.std.proofs.lemmas.List.{length-replicate, drop_all, append-nil}
 use Rattle.heap_model.specs.Bytes.{u32_at, u32_bytes, overwritten}
 use Rattle.heap_model.specs.Chunk.{Chunk, free, movable, fixed, fixed_lock, need, size_of, total, IsFree, IsLive, Spelled, SpelledAll}
 use Rattle.heap_model.specs.Slots.{IsSlot, area_start, table_end}
-use Rattle.heap_model.specs.Heap.{IsHeap, HeapAccepted}
+use Rattle.heap_model.specs.Heap.{HeapAccepted}
 use Rattle.heap_model.specs.Reading.{chunks_of}
 use Rattle.heap_model.specs.Layout.{merged, Becomes, Exchanges, gap, in_front, IsRoom}
 use Rattle.heap_laws.proofs.Frames.{u32_at-written, slice-same, slice-overwritten, length-u32_bytes}

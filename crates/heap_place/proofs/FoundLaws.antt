@@ -1,9 +1,9 @@
 -- A live chunk that was found: its chunk, its header, and where its bytes lie.
-use Rattle.std.proofs.Common.{◌≡◌, ◌≢◌, ℕ, ◌+◌, ◌-◌, ◌%◌, ◌<◌, ◌≤◌, Bool, true, false, cond, List, [], ◌∷◌, ◌++◌, length, refl, sym, ap, subst, ◌∙◌, arith, inl, inr}
-use Rattle.std.specs.Prelude.{◌==◌, ◌⊎◌}
+use Rattle.std.proofs.Common.{◌≡◌, ◌≢◌, ℕ, ◌+◌, ◌-◌, ◌%◌, ◌≤◌, List, [], ◌∷◌, ◌++◌, length, refl, sym, ap, subst, ◌∙◌, arith}
+use Rattle.std.specs.Prelude.{◌==◌}
 use Rattle.std.proofs.lemmas.Bool.{eq-eqb}
 use Rattle.std.proofs.lemmas.Bool.Decides.{nat_tests}
-use Rattle.heap_model.specs.Chunk.{Chunk, free, movable, fixed, fixed_lock, need, size_of, total, Spelled, SpelledAll}
+use Rattle.heap_model.specs.Chunk.{Chunk, free, movable, fixed, fixed_lock, size_of, total, Spelled, SpelledAll}
 use Rattle.heap_model.specs.Slots.{IsSlot, area_start}
 use Rattle.heap_model.specs.Heap.{BodyHere, IsHeap, HeapAccepted}
 use Rattle.heap_model.specs.Meaning.{LiveChunk}
@@ -15,7 +15,6 @@ use Rattle.heap_laws.proofs.Chunks.{Spelled-size, SpelledAll-split, SpelledAll-e
 use Rattle.heap_laws.proofs.Placed.{AnyPlaced-mid}
 use Rattle.heap_laws.proofs.Accepted.{heap_of_read}
 use Rattle.heap_laws.proofs.Finding.{finds_spelled}
-use Rattle.chunk_format.specs.declared.header.Header.{Header}
 use Rattle.chunk_format.specs.declared.header.Header.TheVariants as headers
 use Rattle.chunk_format.specs.Header.{header_of, size_by}
 use Rattle.chunk_format.proofs.HeaderLaws.{size_by-header_of}

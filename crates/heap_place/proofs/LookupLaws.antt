@@ -2,7 +2,7 @@
 use Rattle.std.proofs.Common.{◌≡◌, ℕ, ◌+◌, ◌-◌, ◌<◌, ◌≤◌, List, ◌∷◌, ◌++◌, length, Option, Some, None, MatchOption, refl, sym, ap, subst, ◌∙◌, arith, inl, inr}
 use Rattle.std.proofs.lemmas.Bool.{cases_eq, eq-eqb}
 use Rattle.std.proofs.lemmas.Bool.Decides.{nat_tests}
-use Rattle.std.specs.Prelude.{◌==◌, IfNone, IfSome}
+use Rattle.std.specs.Prelude.{◌==◌, IfNone}
 use Rattle.std.specs.Option.{option_map}
 use Rattle.heap_model.specs.Chunk.{Chunk, free, movable, fixed, fixed_lock, total}
 use Rattle.heap_model.specs.Slots.{area_start}

@@ -1,5 +1,5 @@
 -- A live chunk of an accepted heap is made free, with the free chunk behind it.
-use Rattle.std.proofs.Common.{◌≡◌, ◌≢◌, ℕ, ◌+◌, ◌-◌, ◌%◌, ◌^◌, ◌<◌, ◌≤◌, List, [], ◌∷◌, ◌++◌, length, Some, None, refl, sym, ap, subst, ◌∙◌, arith, inl, inr}
+use Rattle.std.proofs.Common.{◌≡◌, ◌≢◌, ℕ, ◌+◌, ◌-◌, ◌%◌, ◌^◌, ◌<◌, ◌≤◌, List, [], ◌∷◌, ◌++◌, length, refl, sym, ap, subst, ◌∙◌, arith, inl, inr}
 use Rattle.heap_model.specs.Bytes.{u32_at, u32_bytes, overwritten}
 use Rattle.heap_model.specs.Chunk.{Chunk, free, movable, fixed, fixed_lock, size_of, total, Spelled, SpelledAll}
 use Rattle.heap_model.specs.Slots.{IsSlot, area_start, table_end}
@@ -21,7 +21,7 @@ use Rattle.heap_laws.proofs.Changing.{named_live_chunk}
 use Rattle.heap_laws.proofs.Writing.{WroteWithin, wrote_none, wrote_word, wrote_wider, wrote_apart, WroteArea, area_replaces, area_slots}
 use Rattle.heap_laws.proofs.Freeing.{OtherSlots, ClearsSlot, released}
 use Rattle.chunk_format.specs.declared.header.Header.TheVariants as headers
-use Rattle.chunk_format.specs.Header.{header_of, size_by, HasHeader}
+use Rattle.chunk_format.specs.Header.{size_by, HasHeader}
 use Rattle.chunk_format.proofs.HeaderLaws.{size_by-header_of}
 use Rattle.heap_place.specs.declared.found.Found.{Found}
 use Rattle.heap_place.specs.Found.{IsOne, header_by}

@@ -5,7 +5,7 @@ use Rattle.heap_model.specs.Slots.{area_start}
 use Rattle.heap_model.specs.Heap.{HeapAccepted}
 use Rattle.heap_model.specs.Reading.{chunks_of}
 use Rattle.heap_model.specs.Space.{AllFree, NoRun}
-use Rattle.heap_model.specs.Layout.{merged, layout_of, IsRoom}
+use Rattle.heap_model.specs.Layout.{merged, IsRoom}
 use Rattle.heap_laws.proofs.Chunks.{total-append, Spelled-size, SpelledAll-end, SpelledAll-push}
 use Rattle.heap_laws.proofs.Runs.{chunk_there, chunks_after, chunks_of-tiled}
 use Rattle.heap_laws.proofs.Freeing.{free_sum}

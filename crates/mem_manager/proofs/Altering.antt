@@ -22,7 +22,7 @@ use Rattle.heap_laws.proofs.Changing.{lock_changes, owner_changes, bytes_changes
 use Rattle.heap_laws.proofs.Owning.{not_directory}
 use Rattle.heap_place.specs.declared.found.Found.{Found}
 use Rattle.heap_place.specs.Found.{IsFound, CanGoTo}
-use Rattle.mem_manager.proofs.Stepping.{known, of_known, not_of_known, is_known, unchanged, refused, Altered, altered}
+use Rattle.mem_manager.proofs.Stepping.{known, of_known, not_of_known, is_known, unchanged, refused, altered}
 
 -- ---- the chunk that is there
 

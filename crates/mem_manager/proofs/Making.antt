@@ -1,17 +1,17 @@
 -- The steps of calls that make chunks and free them.
-use Rattle.std.proofs.Common.{◌≡◌, ◌≢◌, ℕ, ◌+◌, ◌-◌, ◌*◌, ◌<◌, ◌≤◌, List, ◌++◌, length, replicate, Option, Some, None, refl, sym, ap, subst, ◌∙◌, arith, inl, inr}
+use Rattle.std.proofs.Common.{◌≡◌, ◌≢◌, ℕ, ◌+◌, ◌<◌, ◌≤◌, List, ◌++◌, length, replicate, Option, Some, None, refl, sym, ap, subst, ◌∙◌, arith, inl, inr}
 use Rattle.std.proofs.lemmas.List.{length-replicate}
 use Rattle.std.specs.Prelude.{count_by}
 use Rattle.heap_model.specs.Memory.{Memory}
 use Rattle.heap_model.specs.Chunk.{Chunk, movable, fixed, fixed_lock, need, is_owned_by}
-use Rattle.heap_model.specs.Slots.{slot_count, area_start}
+use Rattle.heap_model.specs.Slots.{area_start}
 use Rattle.heap_model.specs.Heap.{IsHeap, HeapAccepted}
 use Rattle.heap_model.specs.Meaning.{LiveChunk}
 use Rattle.heap_model.specs.Reading.{chunks_of, held}
 use Rattle.heap_model.specs.Maps.{callers_map}
 use Rattle.heap_model.specs.Space.{NoRun, free_slots}
 use Rattle.heap_model.specs.Layout.{layout_of, Becomes, Exchanges, in_front, owned_freed, IsRoom}
-use Rattle.heap_model.specs.MemorySteps.{Does, Of, IsNoCaller, IsLocked}
+use Rattle.heap_model.specs.MemorySteps.{Does, IsNoCaller, IsLocked}
 use Rattle.heap_model.specs.declared.names.Name.{Name}
 use Rattle.heap_model.specs.declared.call.MemoryCall.TheVariants.{HandleNew, PtrNew, Free, FreeByOwner}
 use Rattle.heap_model.specs.declared.call.Reply.TheVariants.{Refused, Done, Named, Number}

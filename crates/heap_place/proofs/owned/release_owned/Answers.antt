@@ -1,4 +1,4 @@
-use Rattle.std.proofs.Common.{◌≡◌, length, sym, subst, ◌∙◌, arith}
+use Rattle.std.proofs.Common.{sym, subst, ◌∙◌, arith}
 use Rattle.heap_place.specs.Search.{NoneOwned, Freeing}
 use Rattle.heap_place.proofs.OwnedLaws.{owned_one, owned_apart, freeing_start, freeing_there, freeing_kept, freeing_more, freeing_all}
 use Rattle.heap_place.proofs.owned.release_owned.Goals as goal

@@ -1,6 +1,5 @@
-use Rattle.std.proofs.Common.{◌+◌, ◌-◌, ap, sym, subst, ◌∙◌, arith}
+use Rattle.std.proofs.Common.{◌+◌, ◌-◌, ap, sym, ◌∙◌, arith}
 use Rattle.heap_model.specs.Memory.{Memory}
-use Rattle.chunk_format.specs.declared.header.Header.{Header}
 use Rattle.chunk_format.specs.Header.{size_by}
 use Rattle.heap_place.proofs.FoundLaws.{header_inside}
 use Rattle.heap_place.proofs.ReleaseLaws.{given_size, own_slot_stays, emptied_movable, emptied_fixed, gave_back_found}

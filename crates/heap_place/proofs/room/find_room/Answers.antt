@@ -1,4 +1,4 @@
-use Rattle.std.proofs.Common.{◌<◌, ◌+◌, ◌-◌, sym, subst, ◌∙◌, arith}
+use Rattle.std.proofs.Common.{◌<◌, ◌+◌, ◌-◌, sym, subst, arith}
 use Rattle.chunk_format.specs.Header.{size_by}
 use Rattle.heap_model.specs.Layout.{IsRoom}
 use Rattle.heap_place.specs.Search.{Searched}

@@ -1,7 +1,7 @@
 use Rattle.std.proofs.Common.{◌+◌, sym, subst, ◌∙◌, arith}
 use Rattle.heap_place.specs.Found.{NoneFixedAs}
 use Rattle.heap_place.specs.Search.{Passed}
-use Rattle.heap_place.proofs.WalkLaws.{passed_there, passed_size, passed_all}
+use Rattle.heap_place.proofs.WalkLaws.{passed_there, passed_all}
 use Rattle.heap_place.proofs.LookupLaws.{fixed_found, fixed_there, fixed_passed}
 use Rattle.heap_place.proofs.walks.find_fixed.Goals as goal
 

@@ -1,4 +1,4 @@
-use Rattle.std.proofs.Common.{ℕ, ◌≡◌, ◌≤◌, ◌+◌, ap, sym, subst, ◌∙◌, Option, None, Some, arith}
+use Rattle.std.proofs.Common.{◌≡◌, ◌≤◌, ◌+◌, ap, sym, subst, ◌∙◌, Option, None, Some, arith}
 use Rattle.std.specs.Option.{SomeIff}
 use Rattle.std.specs.Prelude.{IfSome}
 use Rattle.heap_model.specs.Memory.{Memory}

@@ -1,4 +1,4 @@
-use Rattle.std.proofs.Common.{ℕ, ◌≡◌, ◌≤◌, ◌+◌, Option, Some, refl, ap, sym, subst, ◌∙◌, inl, arith}
+use Rattle.std.proofs.Common.{ℕ, ◌≤◌, ◌+◌, Option, Some, refl, ap, sym, subst, ◌∙◌, inl, arith}
 use Rattle.std.specs.Option.{SomeIff}
 use Rattle.std.specs.Prelude.{IfSome, IfNone}
 use Rattle.heap_model.specs.Memory.{Memory}
