@@ -3,10 +3,10 @@ use Rattle.std.proofs.Common.{◌≡◌, ◌≢◌, ℕ, ◌+◌, ◌-◌, ◌%�
 use Rattle.std.specs.Prelude.{◌==◌}
 use Rattle.std.proofs.lemmas.Bool.{eq-eqb}
 use Rattle.std.proofs.lemmas.Bool.Decides.{nat_tests}
-use Rattle.heap_model.specs.Chunk.{Chunk, free, movable, fixed, fixed_lock, size_of, total, Spelled, SpelledAll}
+use Rattle.heap_model.specs.Chunk.{Chunk, need, free, movable, fixed, fixed_lock, size_of, total, Spelled, SpelledAll}
 use Rattle.heap_model.specs.Slots.{IsSlot, area_start}
 use Rattle.heap_model.specs.Heap.{BodyHere, IsHeap, HeapAccepted}
-use Rattle.heap_model.specs.Meaning.{LiveChunk}
+use Rattle.heap_model.specs.Meaning.{LiveChunk, NamedHere}
 use Rattle.heap_model.specs.Reading.{chunks_of}
 use Rattle.heap_model.specs.Placing.{Finds}
 use Rattle.heap_model.specs.Layout.{with_lock, with_owner}
@@ -19,7 +19,7 @@ use Rattle.chunk_format.specs.declared.header.Header.TheVariants as headers
 use Rattle.chunk_format.specs.Header.{header_of, size_by}
 use Rattle.chunk_format.proofs.HeaderLaws.{size_by-header_of}
 use Rattle.heap_place.specs.declared.found.Found.{Found}
-use Rattle.heap_place.specs.Found.{IsFound, IsOne, header_by}
+use Rattle.heap_place.specs.Found.{IsFound, IsOne}
 
 -- ---- chunks of a heap
 
@@ -72,7 +72,7 @@ own_slot image name at live bytes lock owner slot h f =
     let here : BodyHere slot place (area_start image + total f.before) (movable bytes lock owner slot) = (refl, refl) in
     ((heap.tied slot place (omega arith)).1 (AnyPlaced-mid (BodyHere slot place) (area_start image) f.before (movable bytes lock owner slot) f.after here)).0
 
--- ---- its header
+-- ---- its fields
 
 -- what is known of the fields
 pub record Fields (name : ℕ) (live : LiveChunk) (found : Found) : Type 0 where
@@ -84,53 +84,20 @@ pub record Fields (name : ℕ) (live : LiveChunk) (found : Found) : Type 0 where
 pub fields_of : (image : List ℕ) (name : ℕ) (found : Found) → (f : IsFound image name found) → Fields name f.live found
 fields_of image name found f = record { name_is = f.name_is; count = f.count; lock_is = f.lock_is; owner_is = f.owner_is }
 
-pub header-with : (image : List ℕ) (name at lock owner : ℕ) (found : Found) (live : LiveChunk) (c : Chunk) → HeapAccepted image → Finds image name live c at → Fields name live found → header_by found lock owner ≡ header_of (with_owner owner (with_lock lock c))
-header-with image name at lock owner found live (free size) h f k = absurd f.named
-header-with image name at lock owner found live (movable bytes count holder slot) h f k =
-    let s : Spelled image at (movable bytes count holder slot) = finds_spelled image name live (movable bytes count holder slot) at h f in
-    let e : record { bytes = bytes; lock = count; owner = holder } ≡ live = f.named.1 in
-    let low : found.lock ≡ count = k.lock_is ∙ ap (λ (x : LiveChunk). x.lock) (sym e) in
-    let loose = s.2 in
-    let apart : found.lock ≢ fixed_lock = omega arith in
-    let len : found.length ≡ length bytes = k.count ∙ ap (λ (x : LiveChunk). length x.bytes) (sym e) in
-    let named : found.name.0 ≡ slot = k.name_is ∙ sym f.named.0 in
-    cond-false (found.lock == fixed_lock) (headers.Fixed found.length owner) (headers.Movable found.length lock owner found.name.0) (grind (arith, nat_tests)) ∙ same _ _ _ _ len named where
-      same : (m n a b : ℕ) → m ≡ n → a ≡ b → headers.Movable m lock owner a ≡ headers.Movable n lock owner b
-      same m n a b e f = cc
-header-with image name at lock owner found live (fixed bytes holder) h f k =
-    let e : record { bytes = bytes; lock = fixed_lock; owner = holder } ≡ live = f.named.1 in
-    let is : found.lock ≡ fixed_lock = k.lock_is ∙ ap (λ (x : LiveChunk). x.lock) (sym e) in
-    let len : found.length ≡ length bytes = k.count ∙ ap (λ (x : LiveChunk). length x.bytes) (sym e) in
-    cond-true (found.lock == fixed_lock) (headers.Fixed found.length owner) (headers.Movable found.length lock owner found.name.0) (eq-eqb found.lock fixed_lock is) ∙ ap (λ (n : ℕ). headers.Fixed n owner) len
+-- what the whole chunk takes
+pub found_size : (image : List ℕ) (found : Found) → (f : IsOne image found) → need found.length ≡ size_of f.chunk
+found_size image found f = ap need f.count ∙ takes f.live f.chunk f.finds.named where
+  takes : (live : LiveChunk) (c : Chunk) → NamedHere found.name.0 live (found.place.0 - 8) c → need (length live.bytes) ≡ size_of c
+  takes live (free size) named = absurd named
+  takes live (movable bytes lock owner slot) named = ap (λ (x : LiveChunk). need (length x.bytes)) (sym named.1)
+  takes live (fixed bytes owner) named = ap (λ (x : LiveChunk). need (length x.bytes)) (sym named.1)
 
--- the chunk as it is
-pub same_labels : (image : List ℕ) (name at : ℕ) (found : Found) (live : LiveChunk) (c : Chunk) → Finds image name live c at → Fields name live found → with_owner found.owner (with_lock found.lock c) ≡ c
-same_labels image name at found live (free size) f k = absurd f.named
-same_labels image name at found live (movable bytes count holder slot) f k =
-    let lock : found.lock ≡ count = k.lock_is ∙ ap (λ (x : LiveChunk). x.lock) (sym f.named.1) in
-    let owner : found.owner ≡ holder = k.owner_is ∙ ap (λ (x : LiveChunk). x.owner) (sym f.named.1) in
-    both _ _ _ _ lock owner where
-      both : (m n a b : ℕ) → m ≡ n → a ≡ b → movable bytes m a slot ≡ movable bytes n b slot
-      both m n a b e f = cc
-same_labels image name at found live (fixed bytes holder) f k = ap (λ (n : ℕ). fixed bytes n) (k.owner_is ∙ ap (λ (x : LiveChunk). x.owner) (sym f.named.1))
-
-pub own_header : (image : List ℕ) (found : Found) → HeapAccepted image → (f : IsOne image found) → header_by found found.lock found.owner ≡ header_of f.chunk
-own_header image found h f =
-    let k = fields_of image found.name.0 found f in
-    header-with image found.name.0 (found.place.0 - 8) found.lock found.owner found f.live f.chunk h f.finds k ∙ ap header_of (same_labels image found.name.0 (found.place.0 - 8) found f.live f.chunk f.finds k)
-
--- where the whole chunk lies
-pub header_inside : (image : List ℕ) (found : Found) (lock owner : ℕ) → HeapAccepted image → IsOne image found → found.place.0 - 8 + size_by (header_by found lock owner) ≤ length image
-header_inside image found lock owner h f =
-    let k = fields_of image found.name.0 found f in
-    let c : Chunk = f.chunk in
-    let size : size_by (header_by found lock owner) ≡ size_of c = ap size_by (header-with image found.name.0 (found.place.0 - 8) lock owner found f.live c h f.finds k) ∙ size_by-header_of (with_owner owner (with_lock lock c)) ∙ same_size c in
-    let inside = (Spelled-size image (found.place.0 - 8) c (finds_spelled image found.name.0 f.live c (found.place.0 - 8) h f.finds)).1 in
-    omega arith where
-      same_size : (c : Chunk) → size_of (with_owner owner (with_lock lock c)) ≡ size_of c
-      same_size (free size) = refl
-      same_size (movable bytes l o s) = refl
-      same_size (fixed bytes o) = refl
+-- where it lies
+pub found_inside : (image : List ℕ) (found : Found) → HeapAccepted image → IsOne image found → found.place.0 - 8 + need found.length ≤ length image
+found_inside image found h f =
+    let size = found_size image found f in
+    let inside = (Spelled-size image (found.place.0 - 8) f.chunk (finds_spelled image found.name.0 f.live f.chunk (found.place.0 - 8) h f.finds)).1 in
+    omega arith
 
 -- ---- its bytes
 

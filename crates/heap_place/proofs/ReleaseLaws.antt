@@ -1,7 +1,7 @@
 -- A live chunk of an accepted heap is made free, with the free chunk behind it.
 use Rattle.std.proofs.Common.{◌≡◌, ◌≢◌, ℕ, ◌+◌, ◌-◌, ◌%◌, ◌^◌, ◌<◌, ◌≤◌, List, [], ◌∷◌, ◌++◌, length, refl, sym, ap, subst, ◌∙◌, arith, inl, inr}
 use Rattle.heap_model.specs.Bytes.{u32_at, u32_bytes, overwritten}
-use Rattle.heap_model.specs.Chunk.{Chunk, free, movable, fixed, fixed_lock, size_of, total, Spelled, SpelledAll}
+use Rattle.heap_model.specs.Chunk.{Chunk, need, free, movable, fixed, fixed_lock, size_of, total, Spelled, SpelledAll}
 use Rattle.heap_model.specs.Slots.{IsSlot, area_start, table_end}
 use Rattle.heap_model.specs.Heap.{ManagersHere, directory_of, IsHeap, HeapAccepted}
 use Rattle.heap_model.specs.Meaning.{LiveChunk, NamedHere}
@@ -24,9 +24,9 @@ use Rattle.chunk_format.specs.declared.header.Header.TheVariants as headers
 use Rattle.chunk_format.specs.Header.{size_by, HasHeader}
 use Rattle.chunk_format.proofs.HeaderLaws.{size_by-header_of}
 use Rattle.heap_place.specs.declared.found.Found.{Found}
-use Rattle.heap_place.specs.Found.{IsOne, header_by}
+use Rattle.heap_place.specs.Found.{IsOne}
 use Rattle.heap_place.specs.Search.{size_if_free, free_size_at, Emptied}
-use Rattle.heap_place.proofs.FoundLaws.{heap_in_parts, Middle, middle_of, own_slot, own_header}
+use Rattle.heap_place.proofs.FoundLaws.{heap_in_parts, Middle, middle_of, own_slot, found_size}
 use Rattle.heap_place.proofs.CutLaws.{has_free, table_kept}
 
 -- ---- the free chunk behind
@@ -153,16 +153,13 @@ gave_back old mid new at all name live chunk accepted own f sums is header empti
 
 -- ---- of a chunk that was found
 
-pub found_size : (image : List ℕ) (found : Found) → HeapAccepted image → (f : IsOne image found) → size_by (header_by found found.lock found.owner) ≡ size_of f.chunk
-found_size image found h f = ap size_by (own_header image found h f) ∙ size_by-header_of f.chunk
-
 -- how much becomes free
-pub given_size : (image : List ℕ) (found : Found) (size more : ℕ) → HeapAccepted image → IsOne image found → size ≡ size_by (header_by found found.lock found.owner) → more ≡ free_size_at image (found.place.0 - 8 + size)
+pub given_size : (image : List ℕ) (found : Found) (size more : ℕ) → HeapAccepted image → IsOne image found → size ≡ need found.length → more ≡ free_size_at image (found.place.0 - 8 + size)
     → (8 ≤ size) × (found.place.0 - 8 + (size + more) ≤ length image) × ((size + more) % 8 ≡ 0) × (length image ≤ 16777208)
 given_size image found size more h f size_is more_is =
     let at : ℕ = found.place.0 - 8 in
     let g = giving image at found.name.0 f.live f.chunk h f.finds in
-    let is : size ≡ size_of f.chunk = size_is ∙ found_size image found h f in
+    let is : size ≡ size_of f.chunk = size_is ∙ found_size image found f in
     let sums : more ≡ total g.run = more_is ∙ ap (λ (n : ℕ). free_size_at image (at + n)) is ∙ g.sums in
     let least = (Spelled-size image at f.chunk g.spelled).0 in
     let inside = g.middle.inside in
@@ -187,11 +184,11 @@ emptied_fixed image mid at name live (movable bytes lock owner slot) h f is =
     absurd (omega arith)
 emptied_fixed image mid at name live (fixed bytes owner) h f is = refl
 
-pub gave_back_found : (old mid new : List ℕ) (found : Found) (size more : ℕ) → HeapAccepted old → (f : IsOne old found) → found.name.0 ≢ directory_of old → size ≡ size_by (header_by found found.lock found.owner) → more ≡ free_size_at old (found.place.0 - 8 + size)
+pub gave_back_found : (old mid new : List ℕ) (found : Found) (size more : ℕ) → HeapAccepted old → (f : IsOne old found) → found.name.0 ≢ directory_of old → size ≡ need found.length → more ≡ free_size_at old (found.place.0 - 8 + size)
     → mid ≡ overwritten old (found.place.0 - 8) (u32_bytes (2 ^ 31 + (size + more))) → HasHeader mid (found.place.0 - 8) (headers.Free (size + more)) → Emptied mid f.chunk new
     → Alters old new (found.place.0 - 8) freed × FreeUpTo new (found.place.0 - 8) (found.place.0 - 8 + (size + more))
 gave_back_found old mid new found size more h f apart size_is more_is is header emptied =
     let at : ℕ = found.place.0 - 8 in
-    let sizes : size ≡ size_of f.chunk = size_is ∙ found_size old found h f in
+    let sizes : size ≡ size_of f.chunk = size_is ∙ found_size old found f in
     let mores : more ≡ free_size_at old (at + size_of f.chunk) = more_is ∙ ap (λ (n : ℕ). free_size_at old (at + n)) sizes in
     gave_back old mid new at (size + more) found.name.0 f.live f.chunk h apart f.finds (omega arith) is header emptied

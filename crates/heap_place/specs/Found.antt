@@ -41,10 +41,6 @@ pub record CanGoTo (image : List ℕ) (found : Found) (owner : ℕ) : Type 0 whe
   pub fixed : found.lock ≡ fixed_lock → owner < 15
   pub directory : found.name.0 ≡ directory_of image → owner ≡ 0
 
--- the header of a found chunk, with another lock count, if it is movable, and another owner
-abbrev pub header_by : Found → ℕ → ℕ → Header
-header_by found lock owner = if found.lock == fixed_lock then headers.Fixed found.length owner else headers.Movable found.length lock owner found.name.0
-
 -- what a header says of the movable chunk whose body is at a place
 abbrev pub movable_by : Header → Place → Option Found
 movable_by (headers.Free size) place = None

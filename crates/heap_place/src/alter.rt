@@ -1,4 +1,4 @@
-//! Another header for a live chunk.
+//! Another lock count or owner for a live chunk.
 
 ghost use Rattle.std.specs.Prelude.{◌≡◌, ◌<◌, ◌-◌, ◌⊎◌};
 ghost use Rattle.heap_model.specs.Chunk.{fixed_lock};
@@ -7,6 +7,7 @@ ghost use Rattle.heap_model.specs.Layout.{Alters, with_lock, with_owner};
 ghost use Rattle.heap_place.specs.Found.{IsOne, CanGoTo};
 
 use crate::found::Found;
+use chunk_format::{put_lock, put_owner};
 use raw_region::Region;
 
 /// Gives a movable chunk another lock count.
@@ -18,8 +19,7 @@ pub(crate) fn relock_at(region: &mut Region, found: Found, lock: u8)
     requires owned { (lock ≡ 0) ⊎ (0 < found.owner) }
     ensures { Alters region.old.bytes region.new.bytes (found.place.0 - 8) (with_lock lock) }
 {
-    let header = found.header_with(lock, found.owner);
-    header.write(region, found.place.0 - 8);
+    put_lock(region, found.place.0 - 8, lock);
 }
 
 /// Gives a live chunk to another owner.
@@ -29,6 +29,5 @@ pub(crate) fn reown_at(region: &mut Region, found: Found, owner: u8)
     requires owner { CanGoTo region.old.bytes found owner }
     ensures { Alters region.old.bytes region.new.bytes (found.place.0 - 8) (with_owner owner) }
 {
-    let header = found.header_with(found.lock, owner);
-    header.write(region, found.place.0 - 8);
+    put_owner(region, found.place.0 - 8, owner);
 }

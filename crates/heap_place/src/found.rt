@@ -1,7 +1,8 @@
 //! A live chunk, as it is found.
 
-ghost use Rattle.std.specs.Prelude.{◌≡◌};
-ghost use Rattle.heap_place.specs.Found.{header_by, movable_by, fixed_by};
+ghost use Rattle.std.specs.Prelude.{◌≡◌, ◌<◌, ◌^◌};
+ghost use Rattle.heap_model.specs.Chunk.{need};
+ghost use Rattle.heap_place.specs.Found.{movable_by, fixed_by};
 
 use chunk_format::Header;
 use heap_model::{Name, Place};
@@ -20,25 +21,13 @@ pub struct Found {
     pub owner: u8,
 }
 
-impl Found {
-    /// The header of the chunk, with this lock count, if it is movable, and this owner.
-    #[inline]
-    pub(crate) fn header_with(self, lock: u8, owner: u8) -> Header
-        ensures { result ≡ header_by self lock owner }
-    {
-        if self.lock == FIXED_LOCK {
-            return Header::Fixed {
-                length: self.length,
-                owner,
-            };
-        }
-        Header::Movable {
-            length: self.length,
-            lock,
-            owner,
-            slot: self.name.0,
-        }
-    }
+/// What a chunk with a body of `count` bytes takes, where that is at most what a region can have.
+#[inline]
+pub(crate) fn size_of_body(count: u32) -> u32
+    requires { need count < 2 ^ 24 }
+    ensures { result ≡ need count }
+{
+    8 + 8 * ((count + 7) / 8)
 }
 
 /// The chunk whose body is at a place, if its header is a movable one's.

@@ -6,7 +6,7 @@ ghost use Rattle.heap_model.specs.Layout.{Alters, FreeUpTo, freed};
 ghost use Rattle.heap_place.specs.Found.{IsOne};
 ghost use Rattle.heap_place.specs.Search.{free_size_at};
 
-use crate::found::{FIXED_LOCK, Found};
+use crate::found::{FIXED_LOCK, Found, size_of_body};
 use chunk_format::Header;
 use raw_region::Region;
 
@@ -19,7 +19,7 @@ pub(crate) fn release(region: &mut Region, found: Found) -> u32
     ensures free { FreeUpTo region.new.bytes (found.place.0 - 8) (found.place.0 - 8 + result) }
 {
     let at = found.place.0 - 8;
-    let size = found.header_with(found.lock, found.owner).size();
+    let size = size_of_body(found.length);
     let joined = size + free_size(region, at + size);
     Header::Free { size: joined }.write(region, at);
     if found.lock != FIXED_LOCK {

@@ -1,6 +1,6 @@
 //! The type that owns a heap's region.
 
-ghost use Rattle.std.specs.Prelude.{◌≡◌, ◌≢◌, ◌≤◌, ◌<◌, ◌+◌, ◌-◌, ◌++◌, ◌∷◌, ◌⊎◌, ◌^◌, [], length, replicate, count_by, IfSome, IfNone, None};
+ghost use Rattle.std.specs.Prelude.{◌≡◌, ◌≢◌, ◌≤◌, ◌<◌, ◌+◌, ◌-◌, ◌++◌, ◌∷◌, ◌⊎◌, [], length, replicate, count_by, IfSome, IfNone, None};
 ghost use Rattle.heap_model.specs.Bytes.{u32_at};
 ghost use Rattle.heap_model.specs.Chunk.{movable, fixed, need, fixed_lock, is_owned_by};
 ghost use Rattle.heap_model.specs.Slots.{IsSlot};
@@ -12,7 +12,7 @@ ghost use Rattle.heap_place.specs.Found.{IsFound, IsOne, NothingAt, CanGoTo};
 
 use crate::alter::{relock_at, reown_at};
 use crate::claim::{claim_fixed_at, claim_movable, cut};
-use crate::found::Found;
+use crate::found::{Found, size_of_body};
 use crate::lookup::{find_named, find_placed};
 use crate::owned::release_owned;
 use crate::release::release;
@@ -218,13 +218,4 @@ impl Space {
         self.region
             .fill(found.place.0 as usize + at as usize, count as usize, byte);
     }
-}
-
-/// What a chunk with a body of `count` bytes takes, where that is at most what a region can have.
-#[inline]
-fn size_of_body(count: u32) -> u32
-    requires { need count < 2 ^ 24 }
-    ensures { result ≡ need count }
-{
-    8 + 8 * ((count + 7) / 8)
 }

@@ -1,25 +1,17 @@
-use Rattle.std.proofs.Common.{◌≤◌, ◌+◌, ◌-◌, length, ap, sym, subst, ◌∙◌}
+use Rattle.std.proofs.Common.{◌+◌, ◌-◌, ap, arith}
 use Rattle.heap_model.specs.Memory.{Memory}
-use Rattle.heap_model.specs.Bytes.{overwritten}
-use Rattle.heap_model.specs.Layout.{with_lock}
-use Rattle.chunk_format.specs.declared.header.Header.{Header}
-use Rattle.chunk_format.specs.Header.{HasHeader, IsWritable, header_bytes, size_by}
-use Rattle.heap_place.proofs.FoundLaws.{header_inside}
-use Rattle.heap_place.proofs.AlterLaws.{relabel_writable, relabelled_there, relock_fits, relock_same}
+use Rattle.heap_model.specs.Bytes.{u32_at}
+use Rattle.chunk_format.specs.Header.{with_lock_field}
+use Rattle.heap_place.proofs.FoundLaws.{bytes_inside}
+use Rattle.heap_place.proofs.AlterLaws.{relocked_there}
 use Rattle.heap_place.proofs.alter.relock_at.Goals as goal
 
-pub write-requires-clause-inside : goal.write-requires-clause-inside
-write-requires-clause-inside c =
-    subst (λ (x : Header). c.args.found.place.0 - 8 + size_by x ≤ length c.args.region.now.bytes) (sym c.header_with-header.ensures) (header_inside c.args.region.now.bytes c.args.found c.args.lock c.args.found.owner c.requires.accepted c.requires.found)
-
-pub write-requires-clause-writable : goal.write-requires-clause-writable
-write-requires-clause-writable c =
-    subst (λ (x : Header). IsWritable (c.args.found.place.0 - 8) x) (sym c.header_with-header.ensures)
-    (relabel_writable c.args.region.now.bytes c.args.found c.args.lock c.args.found.owner c.requires.accepted c.requires.found (relock_fits c.args.region.now.bytes c.args.found c.args.lock c.requires.accepted c.requires.found c.requires.movable c.requires.lock c.requires.owned))
+pub put_lock-requires-clause-inside : goal.put_lock-requires-clause-inside
+put_lock-requires-clause-inside c =
+    let low = c.requires.found.behind_header in
+    let inside = bytes_inside c.args.region.now.bytes c.args.found c.requires.accepted c.requires.found in
+    omega arith
 
 pub returns : goal.returns
 returns c =
-    relabelled_there c.args.region.now.bytes c.write.new.region.bytes c.args.found c.args.lock c.args.found.owner (with_lock c.args.lock) c.requires.accepted c.requires.found
-    (relock_fits c.args.region.now.bytes c.args.found c.args.lock c.requires.accepted c.requires.found c.requires.movable c.requires.lock c.requires.owned) (relock_same c.args.region.now.bytes c.args.found c.args.lock c.requires.found)
-    (ap (λ (m : Memory). m.bytes) c.write.ensures.after ∙ ap (λ (x : Header). overwritten c.args.region.now.bytes (c.args.found.place.0 - 8) (header_bytes (c.args.found.place.0 - 8) x)) c.header_with-header.ensures)
-    (subst (λ (x : Header). HasHeader c.write.new.region.bytes (c.args.found.place.0 - 8) x) c.header_with-header.ensures c.write.ensures.spelled)
+    relocked_there c.args.region.now.bytes c.put_lock.new.region.bytes c.args.found c.args.lock (with_lock_field (u32_at c.args.region.now.bytes (c.args.found.place.0 - 8 + 4)) c.args.lock) c.requires.accepted c.requires.found c.requires.movable c.requires.owned c.put_lock.ensures.relocked (ap (λ (m : Memory). m.bytes) c.put_lock.ensures.after)

@@ -1,59 +1,57 @@
 use Rattle.std.proofs.Common.{◌+◌, ◌-◌, ap, sym, ◌∙◌, arith}
 use Rattle.heap_model.specs.Memory.{Memory}
-use Rattle.chunk_format.specs.Header.{size_by}
-use Rattle.heap_place.proofs.FoundLaws.{header_inside}
+use Rattle.heap_place.proofs.FoundLaws.{found_inside}
 use Rattle.heap_place.proofs.ReleaseLaws.{given_size, own_slot_stays, emptied_movable, emptied_fixed, gave_back_found}
 use Rattle.heap_place.proofs.release.release.Goals as goal
 
-pub size-size-requires : goal.size-size-requires
-size-size-requires c =
-    let is = ap size_by c.header_with.ensures in
-    let inside = header_inside c.args.region.now.bytes c.args.found c.args.found.lock c.args.found.owner c.requires.accepted c.requires.found in
+pub size_of_body-size-requires : goal.size_of_body-size-requires
+size_of_body-size-requires c =
+    let inside = found_inside c.args.region.now.bytes c.args.found c.requires.accepted c.requires.found in
     let most = c.requires.accepted.1.tiles.head.most in
     omega arith
 
 pub overflow_add-at : goal.overflow_add-at
 overflow_add-at c =
-    let is = (c.size-size.ensures ∙ ap size_by c.header_with.ensures) in
-    let inside = header_inside c.args.region.now.bytes c.args.found c.args.found.lock c.args.found.owner c.requires.accepted c.requires.found in
+    let is = c.size_of_body-size.ensures in
+    let inside = found_inside c.args.region.now.bytes c.args.found c.requires.accepted c.requires.found in
     let most = c.requires.accepted.1.tiles.head.most in
     omega arith
 
 pub overflow_add-joined : goal.overflow_add-joined
 overflow_add-joined c =
-    let s = given_size c.args.region.now.bytes c.args.found c.size-size.result c.free_size.result c.requires.accepted c.requires.found (c.size-size.ensures ∙ ap size_by c.header_with.ensures) c.free_size.ensures in
+    let s = given_size c.args.region.now.bytes c.args.found c.size_of_body-size.result c.free_size.result c.requires.accepted c.requires.found c.size_of_body-size.ensures c.free_size.ensures in
     let inside = s.1 in let most = s.3 in omega arith
 
 pub write-requires-clause-inside : goal.write-requires-clause-inside
-write-requires-clause-inside c = (given_size c.args.region.now.bytes c.args.found c.size-size.result c.free_size.result c.requires.accepted c.requires.found (c.size-size.ensures ∙ ap size_by c.header_with.ensures) c.free_size.ensures).1
+write-requires-clause-inside c = (given_size c.args.region.now.bytes c.args.found c.size_of_body-size.result c.free_size.result c.requires.accepted c.requires.found c.size_of_body-size.ensures c.free_size.ensures).1
 
 pub write-requires-clause-writable : goal.write-requires-clause-writable
 write-requires-clause-writable c =
-    let s = given_size c.args.region.now.bytes c.args.found c.size-size.result c.free_size.result c.requires.accepted c.requires.found (c.size-size.ensures ∙ ap size_by c.header_with.ensures) c.free_size.ensures in
+    let s = given_size c.args.region.now.bytes c.args.found c.size_of_body-size.result c.free_size.result c.requires.accepted c.requires.found c.size_of_body-size.ensures c.free_size.ensures in
     let least = s.0 in let inside = s.1 in let most = s.3 in (omega arith, s.2, omega arith)
 
 pub clear-requires-clause-table : goal.clear-requires-clause-table
-clear-requires-clause-table c = (own_slot_stays c.args.region.now.bytes c.write.new.region.bytes c.args.found (c.size-size.result + c.free_size.result) c.requires.accepted c.requires.found c.if-found-ne-FIXED_LOCK.true (ap (λ (m : Memory). m.bytes) c.write.ensures.after)).0
+clear-requires-clause-table c = (own_slot_stays c.args.region.now.bytes c.write.new.region.bytes c.args.found (c.size_of_body-size.result + c.free_size.result) c.requires.accepted c.requires.found c.if-found-ne-FIXED_LOCK.true (ap (λ (m : Memory). m.bytes) c.write.ensures.after)).0
 
 pub clear-requires-clause-slot : goal.clear-requires-clause-slot
-clear-requires-clause-slot c = (own_slot_stays c.args.region.now.bytes c.write.new.region.bytes c.args.found (c.size-size.result + c.free_size.result) c.requires.accepted c.requires.found c.if-found-ne-FIXED_LOCK.true (ap (λ (m : Memory). m.bytes) c.write.ensures.after)).1
+clear-requires-clause-slot c = (own_slot_stays c.args.region.now.bytes c.write.new.region.bytes c.args.found (c.size_of_body-size.result + c.free_size.result) c.requires.accepted c.requires.found c.if-found-ne-FIXED_LOCK.true (ap (λ (m : Memory). m.bytes) c.write.ensures.after)).1
 
 pub returns-then-found-ne-FIXED_LOCK-clause-gone : goal.returns-then-found-ne-FIXED_LOCK-clause-gone
 returns-then-found-ne-FIXED_LOCK-clause-gone c =
-    (gave_back_found c.args.region.now.bytes c.write.new.region.bytes c.clear.new.region.bytes c.args.found c.size-size.result c.free_size.result c.requires.accepted c.requires.found c.requires.no_directory (c.size-size.ensures ∙ ap size_by c.header_with.ensures) c.free_size.ensures
+    (gave_back_found c.args.region.now.bytes c.write.new.region.bytes c.clear.new.region.bytes c.args.found c.size_of_body-size.result c.free_size.result c.requires.accepted c.requires.found c.requires.no_directory c.size_of_body-size.ensures c.free_size.ensures
     (ap (λ (m : Memory). m.bytes) c.write.ensures.after) c.write.ensures.spelled (emptied_movable c.write.new.region.bytes c.clear.new.region.bytes (c.args.found.place.0 - 8) c.args.found.name.0 c.requires.found.live c.requires.found.chunk c.requires.found.finds.named (λ e. c.if-found-ne-FIXED_LOCK.true (c.requires.found.lock_is ∙ e)) (ap (λ (m : Memory). m.bytes) c.clear.ensures.after))).0
 
 pub returns-then-found-ne-FIXED_LOCK-clause-free : goal.returns-then-found-ne-FIXED_LOCK-clause-free
 returns-then-found-ne-FIXED_LOCK-clause-free c =
-    (gave_back_found c.args.region.now.bytes c.write.new.region.bytes c.clear.new.region.bytes c.args.found c.size-size.result c.free_size.result c.requires.accepted c.requires.found c.requires.no_directory (c.size-size.ensures ∙ ap size_by c.header_with.ensures) c.free_size.ensures
+    (gave_back_found c.args.region.now.bytes c.write.new.region.bytes c.clear.new.region.bytes c.args.found c.size_of_body-size.result c.free_size.result c.requires.accepted c.requires.found c.requires.no_directory c.size_of_body-size.ensures c.free_size.ensures
     (ap (λ (m : Memory). m.bytes) c.write.ensures.after) c.write.ensures.spelled (emptied_movable c.write.new.region.bytes c.clear.new.region.bytes (c.args.found.place.0 - 8) c.args.found.name.0 c.requires.found.live c.requires.found.chunk c.requires.found.finds.named (λ e. c.if-found-ne-FIXED_LOCK.true (c.requires.found.lock_is ∙ e)) (ap (λ (m : Memory). m.bytes) c.clear.ensures.after))).1
 
 pub returns-else-found-ne-FIXED_LOCK-clause-gone : goal.returns-else-found-ne-FIXED_LOCK-clause-gone
 returns-else-found-ne-FIXED_LOCK-clause-gone c =
-    (gave_back_found c.args.region.now.bytes c.write.new.region.bytes c.write.new.region.bytes c.args.found c.size-size.result c.free_size.result c.requires.accepted c.requires.found c.requires.no_directory (c.size-size.ensures ∙ ap size_by c.header_with.ensures) c.free_size.ensures
+    (gave_back_found c.args.region.now.bytes c.write.new.region.bytes c.write.new.region.bytes c.args.found c.size_of_body-size.result c.free_size.result c.requires.accepted c.requires.found c.requires.no_directory c.size_of_body-size.ensures c.free_size.ensures
     (ap (λ (m : Memory). m.bytes) c.write.ensures.after) c.write.ensures.spelled (emptied_fixed c.args.region.now.bytes c.write.new.region.bytes (c.args.found.place.0 - 8) c.args.found.name.0 c.requires.found.live c.requires.found.chunk c.requires.accepted c.requires.found.finds (sym c.requires.found.lock_is ∙ c.if-found-ne-FIXED_LOCK.false))).0
 
 pub returns-else-found-ne-FIXED_LOCK-clause-free : goal.returns-else-found-ne-FIXED_LOCK-clause-free
 returns-else-found-ne-FIXED_LOCK-clause-free c =
-    (gave_back_found c.args.region.now.bytes c.write.new.region.bytes c.write.new.region.bytes c.args.found c.size-size.result c.free_size.result c.requires.accepted c.requires.found c.requires.no_directory (c.size-size.ensures ∙ ap size_by c.header_with.ensures) c.free_size.ensures
+    (gave_back_found c.args.region.now.bytes c.write.new.region.bytes c.write.new.region.bytes c.args.found c.size_of_body-size.result c.free_size.result c.requires.accepted c.requires.found c.requires.no_directory c.size_of_body-size.ensures c.free_size.ensures
     (ap (λ (m : Memory). m.bytes) c.write.ensures.after) c.write.ensures.spelled (emptied_fixed c.args.region.now.bytes c.write.new.region.bytes (c.args.found.place.0 - 8) c.args.found.name.0 c.requires.found.live c.requires.found.chunk c.requires.accepted c.requires.found.finds (sym c.requires.found.lock_is ∙ c.if-found-ne-FIXED_LOCK.false))).1
