@@ -3,7 +3,6 @@ use Rattle.std.proofs.Common.{◌≡◌, ℕ, ◌+◌, ◌≤◌, List, length, 
 use Rattle.std.specs.Prelude.{option_map, IfSome, IfNone, slice_range}
 use Rattle.heap_model.specs.Chunk.{Chunk, free, movable, fixed, size_of, Spelled}
 use Rattle.heap_model.specs.Reading.{chunk_at}
-use Rattle.heap_laws.proofs.Chunks.{Spelled-unique}
 use Rattle.heap_laws.proofs.Shapes.{chunk_at-spelled, chunk_at-none}
 use Rattle.chunk_format.specs.declared.header.Header.{Header}
 use Rattle.chunk_format.specs.declared.header.Header.TheVariants as headers
@@ -36,7 +35,3 @@ pub size_by-header_of : (c : Chunk) → size_by (header_of c) ≡ size_of c
 size_by-header_of (free size) = refl
 size_by-header_of (movable bytes lock owner slot) = refl
 size_by-header_of (fixed bytes owner) = refl
-
--- a header is that of whatever chunk is spelled there
-pub header_of_chunk : (image : List ℕ) (at : ℕ) (h : Header) (c : Chunk) → HasHeader image at h → Spelled image at c → h ≡ header_of c
-header_of_chunk image at h c found s = found.header_is ∙ ap header_of (Spelled-unique image at found.chunk c found.spelled s)

@@ -1,6 +1,6 @@
 -- A survey of one chunk more.
 use Rattle.std.proofs.Common.{◌≡◌, ℕ, ◌+◌, ◌≤◌, Bool, true, false, cond, List, [], ◌∷◌, ◌++◌, length, Option, Some, None, refl, sym, ap, subst, ◌∙◌, arith, inl, inr}
-use Rattle.std.specs.Prelude.{slice_index_or, count_by}
+use Rattle.std.specs.Prelude.{count_by}
 use Rattle.std.specs.Bool.{Decides}
 use Rattle.std.proofs.lemmas.Bool.{false≢true}
 use Rattle.std.proofs.lemmas.List.Sums.{sum_by_push}
@@ -59,17 +59,6 @@ counts_within (movable bytes lock owner slot) s = omega arith
 counts_within (fixed bytes owner) s = omega arith
 
 -- ---- no chunk
-
-pub surveys_none : (image : List ℕ) (survey : Survey) (marks : List Bool) → survey.movable ≡ 0 → survey.fixed ≡ 0 → survey.free ≡ 0 → survey.without_slot ≡ None → survey.bad_owner ≡ None
-    → ((k : ℕ) → slice_index_or marks k false ≡ false) → Surveys image [] survey marks
-surveys_none image survey marks m f s w o clear = record {
-  movable = m;
-  fixed = f;
-  free = s;
-  marked = λ slot k stands. (λ is. absurd (false≢true (sym (clear k) ∙ is)), λ b. absurd b);
-  without_slot = subst (λ (found : Option ℕ). IsFirstWithout (NamesItsSlot image) (area_start image) [] found) (sym w) tt;
-  bad_owner = subst (λ (found : Option ℕ). IsFirstWithout IsCallersIfFixed (area_start image) [] found) (sym o) tt;
-}
 
 -- ---- one chunk more
 

@@ -8,7 +8,7 @@ use Rattle.heap_model.specs.Slots.{table_end, area_start}
 use Rattle.heap_model.specs.Heap.{BodyHere, IsCallersIfFixed, ManagersHere, directory_of, IsHeap, HeapAccepted}
 use Rattle.heap_model.specs.Placed.{AnyPlaced}
 use Rattle.heap_model.specs.Meaning.{LiveChunk, NamedHere}
-use Rattle.heap_model.specs.Reading.{held, live_under}
+use Rattle.heap_model.specs.Reading.{live_under}
 use Rattle.heap_model.specs.Space.{place_under, place_of}
 use Rattle.heap_model.specs.Placing.{Finds}
 use Rattle.heap_model.specs.Layout.{Becomes, with_bytes}
@@ -17,7 +17,7 @@ use Rattle.heap_laws.proofs.Deciding.{cond-true}
 use Rattle.heap_laws.proofs.Replacing.{Replaces, replaced_heap, SameSlots, kept_ties, kept_directory}
 use Rattle.heap_laws.proofs.Lives.{or_else}
 use Rattle.heap_laws.proofs.Meanings.{named_once}
-use Rattle.heap_laws.proofs.Freeing.{reads_live, reads_place, unnamed, live_mid, place_mid}
+use Rattle.heap_laws.proofs.Freeing.{reads_place, unnamed, place_mid}
 use Rattle.heap_laws.proofs.Finding.{read_heap, finds_spelled}
 use Rattle.heap_laws.proofs.Frames.{length-overwritten, slice-same, slice-overwritten-within}
 use Rattle.heap_laws.proofs.Chunks.{Spelled-size}
@@ -39,15 +39,6 @@ pub named_place : (name at : ℕ) (live : LiveChunk) (c : Chunk) (cs : List Chun
 named_place name at live (free size) cs n = absurd n
 named_place name at live (movable bytes lock owner slot) cs n = cond-true (slot == name) _ _ (eq-eqb slot name n.0)
 named_place name at live (fixed bytes owner) cs n = cond-true ((at + 8) == name) _ _ (eq-eqb (at + 8) name n.0)
-
--- where the chunk of a name stands in a heap, it is read
-read_live : (image : List ℕ) (start : ℕ) (before : List Chunk) (c : Chunk) (after : List Chunk) (name : ℕ) (live : LiveChunk) → IsHeap image (before ++ c ∷ after) → area_start image ≡ start → NamedHere name live (start + total before) c → held image name ≡ Some live
-read_live image start before c after name live h starts n =
-    reads_live image (before ++ c ∷ after) start name h starts
-    ∙ live_mid start before (c ∷ []) after name (unnamed start before name (λ y b. (named_once image before c after name live y h (moved starts n)).0 (subst (λ (k : ℕ). AnyPlaced (NamedHere name y) k before) (sym starts) b)))
-    ∙ ap (λ o. or_else o (live_under (start + total before + total (c ∷ [])) after name)) (named_live name (start + total before) live c [] n) where
-      moved : area_start image ≡ start → NamedHere name live (start + total before) c → NamedHere name live (area_start image + total before) c
-      moved e m = subst (λ (k : ℕ). NamedHere name live (k + total before) c) (sym e) m
 
 read_place : (image : List ℕ) (start : ℕ) (before : List Chunk) (c : Chunk) (after : List Chunk) (name : ℕ) (live : LiveChunk) → IsHeap image (before ++ c ∷ after) → area_start image ≡ start → NamedHere name live (start + total before) c → place_of image name ≡ Some (start + total before + 8)
 read_place image start before c after name live h starts n =

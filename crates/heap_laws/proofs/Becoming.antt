@@ -1,22 +1,21 @@
 -- What an image holds, where its chunks are and what is free follow from its layout.
 use Rattle.std.proofs.Common.{◌≡◌, ℕ, ◌+◌, ◌*◌, ◌/◌, ◌<◌, Bool, cond, List, [], ◌∷◌, refl, sym, ap, subst, ◌∙◌, arith, inl, inr}
-use Rattle.std.specs.Prelude.{sum_by, count_by, ◌==◌, ◌↔◌}
+use Rattle.std.specs.Prelude.{sum_by, count_by, ◌↔◌}
 use Rattle.std.proofs.lemmas.Bool.{cases_eq}
 use Rattle.std.proofs.lemmas.List.Sums.{sum_by-cons}
 use Rattle.heap_model.specs.Bytes.{u32_at}
 use Rattle.heap_model.specs.Chunk.{Chunk, free_size}
-use Rattle.heap_model.specs.Slots.{IsSlot, table_end, slots_of, slots_in_row, area_start}
+use Rattle.heap_model.specs.Slots.{IsSlot, table_end, area_start}
 use Rattle.heap_model.specs.Heap.{BodyHere, IsBody, IsHeap, HeapAccepted}
 use Rattle.heap_model.specs.Placed.{EveryOne}
 use Rattle.heap_model.specs.Reading.{chunks_of, held, live_under}
-use Rattle.heap_model.specs.Space.{NoRun, free_total, free_slots, rooms, rooms_of, stretches, with_freed, free_behind, free_behind_in, place_under, place_of}
+use Rattle.heap_model.specs.Space.{NoRun, free_total, rooms, rooms_of, stretches, with_freed, free_behind, free_behind_in, place_under, place_of}
 use Rattle.heap_model.specs.Placing.{SameFrame}
-use Rattle.heap_model.specs.Layout.{merged, layout_of, AllBelow, Becomes}
-use Rattle.heap_laws.proofs.Slots.{every_slot}
+use Rattle.heap_model.specs.Layout.{merged, layout_of, Becomes}
 use Rattle.heap_laws.proofs.Finding.{read_heap}
 use Rattle.heap_laws.proofs.Runs.{chunks_of-tiled}
 use Rattle.heap_laws.proofs.Replacing.{SameHead, same_count, same_directory}
-use Rattle.heap_laws.proofs.Layouts.{live_under-merged, place_under-merged, free_total-merged, rooms-merged, with_freed-merged, free_behind-merged, any-merged, no_run-below, below-no_run, no_run-layout}
+use Rattle.heap_laws.proofs.Layouts.{live_under-merged, place_under-merged, free_total-merged, rooms-merged, with_freed-merged, free_behind-merged, any-merged, no_run-layout}
 
 -- ---- of an image
 
@@ -33,9 +32,6 @@ free-layout image = sym (free_total-merged (chunks_of image))
 pub rooms-layout : (image : List ℕ) → rooms image ≡ rooms_of (stretches (layout_of image))
 rooms-layout image = sym (rooms-merged (chunks_of image))
 
-pub no_run-of_layout : (image : List ℕ) (size : ℕ) → 0 < size → NoRun (chunks_of image) size ↔ AllBelow size (layout_of image)
-no_run-of_layout image size some = (no_run-below (chunks_of image) size, below-no_run (chunks_of image) size some)
-
 -- ---- of an image that has become another
 
 pub frame_of : (old new : List ℕ) (cs : List Chunk) → SameHead old new → IsHeap new cs → SameFrame old new
@@ -50,9 +46,6 @@ frame_then old mid new a b = record { accepted = b.accepted; len = b.len ∙ a.l
 -- where these are its chunks, it has their layout
 pub becomes_heap : (old new : List ℕ) (cs : List Chunk) → SameHead old new → IsHeap new cs → Becomes old new cs
 becomes_heap old new cs same h = record { frame = frame_of old new cs same h; layout = ap merged (chunks_of-tiled new cs h.tiles) }
-
-pub becomes_itself : (image : List ℕ) → HeapAccepted image → Becomes image image (chunks_of image)
-becomes_itself image h = record { frame = same_frame image h; layout = refl }
 
 -- and of other chunks with that layout
 pub becomes_alike : (old new : List ℕ) (cs ds : List Chunk) → merged cs ≡ merged ds → Becomes old new cs → Becomes old new ds
@@ -129,13 +122,6 @@ becomes_slot old new cs slot h b s same = by_new (u32_at new slot) (u32_at old s
 pub same_slots : (old new : List ℕ) (slot : ℕ) → HeapAccepted old → Becomes old new (chunks_of old) → IsSlot old slot → u32_at new slot ≡ u32_at old slot
 same_slots old new slot h b s = becomes_slot old new (chunks_of old) slot h b s (λ place. (λ x. x, λ x. x))
 
-pub same_held : (old new : List ℕ) (name : ℕ) → Becomes old new (chunks_of old) → held new name ≡ held old name
-unfolding held
-same_held old new name b = becomes_held old new (chunks_of old) name b
-
-pub same_place : (old new : List ℕ) (name : ℕ) → Becomes old new (chunks_of old) → place_of new name ≡ place_of old name
-same_place old new name b = becomes_place old new (chunks_of old) name b
-
 count_alike : (f g : ℕ → Bool) (xs : List ℕ) → EveryOne (λ x. f x ≡ g x) xs → count_by f xs ≡ count_by g xs
 count_alike f g [] e = refl
 count_alike f g (x ∷ xs) e =
@@ -144,12 +130,6 @@ count_alike f g (x ∷ xs) e =
     let here : cond {A = ℕ} (f x) 1 0 ≡ cond {A = ℕ} (g x) 1 0 = ap (λ (y : Bool). cond {A = ℕ} y 1 0) e.0 in
     let ih = count_alike f g xs e.1 in
     omega arith
-
-pub same_free_slots : (old new : List ℕ) → HeapAccepted old → Becomes old new (chunks_of old) → free_slots new ≡ free_slots old
-unfolding slots_of
-same_free_slots old new h b =
-    ap (λ (n : ℕ). count_by (λ slot. u32_at new slot == 0) (slots_in_row 16 n)) b.frame.count
-    ∙ count_alike (λ slot. u32_at new slot == 0) (λ slot. u32_at old slot == 0) (slots_of old) (every_slot (λ slot. (u32_at new slot == 0) ≡ (u32_at old slot == 0)) old (λ slot s. ap (λ (n : ℕ). n == 0) (same_slots old new slot h b s)))
 
 -- an image that has become another, and that a third
 pub becomes_then : (old mid new : List ℕ) (cs : List Chunk) → Becomes old mid (chunks_of old) → Becomes mid new cs → Becomes old new cs

@@ -114,9 +114,6 @@ none_held image name h empty every = nothing (held image name) refl where
 
 -- ---- what callers may name
 
-pub callers_none : (image : List ℕ) (name : ℕ) → held image name ≡ None → callers_map image name ≡ None
-callers_none image name e = ap (not_owned 0) e
-
 pub callers_managers : (image : List ℕ) (name : ℕ) (live : LiveChunk) → held image name ≡ Some live → live.owner ≡ 0 → callers_map image name ≡ None
 callers_managers image name live e zero_owner = ap (not_owned 0) e ∙ cond-true (live.owner == 0) _ _ (eq-eqb live.owner 0 zero_owner)
 

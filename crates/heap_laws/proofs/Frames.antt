@@ -139,14 +139,8 @@ slice-overwritten old at part count e inside =
 pub u32_at-below : (o at : ℕ) (old part : List ℕ) → o + 4 ≤ at → at + length part ≤ length old → u32_at (overwritten old at part) o ≡ u32_at old o
 u32_at-below o at old part low inside = sym (u32_at-same o old (overwritten old at part) 0 at (overwritten-below old at part inside) (omega arith) low)
 
-pub u32_at-above : (o at : ℕ) (old part : List ℕ) → at + length part ≤ o → at + length part ≤ length old → u32_at (overwritten old at part) o ≡ u32_at old o
-u32_at-above o at old part high inside = sym (u32_at-same o old (overwritten old at part) (at + length part) (o + 4) (overwritten-above old at part (o + 4) inside) high (omega arith))
-
 pub u16_at-below : (o at : ℕ) (old part : List ℕ) → o + 2 ≤ at → at + length part ≤ length old → u16_at (overwritten old at part) o ≡ u16_at old o
 u16_at-below o at old part low inside = sym (u16_at-same o old (overwritten old at part) 0 at (overwritten-below old at part inside) (omega arith) low)
-
-pub u16_at-above : (o at : ℕ) (old part : List ℕ) → at + length part ≤ o → at + length part ≤ length old → u16_at (overwritten old at part) o ≡ u16_at old o
-u16_at-above o at old part high inside = sym (u16_at-same o old (overwritten old at part) (at + length part) (o + 2) (overwritten-above old at part (o + 2) inside) high (omega arith))
 
 -- ---- zeros read as zero
 

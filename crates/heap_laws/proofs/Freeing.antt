@@ -10,14 +10,14 @@ use Rattle.heap_model.specs.Slots.{IsSlot, table_end, area_start}
 use Rattle.heap_model.specs.Heap.{BodyHere, IsBody, IsCallersIfFixed, ManagersHere, directory_of, IsHeap}
 use Rattle.heap_model.specs.Placed.{EveryPlaced, AnyPlaced}
 use Rattle.heap_model.specs.Meaning.{LiveChunk, NamedHere}
-use Rattle.heap_model.specs.Reading.{held, live_under}
-use Rattle.heap_model.specs.Space.{AllFree, free_total, place_under, place_of}
+use Rattle.heap_model.specs.Reading.{live_under}
+use Rattle.heap_model.specs.Space.{AllFree, place_under, place_of}
 use Rattle.heap_laws.proofs.Deciding.{cond-false}
 use Rattle.heap_laws.proofs.Placed.{AnyPlaced-left, AnyPlaced-right, AnyPlaced-split}
 use Rattle.heap_laws.proofs.Runs.{chunks_of-tiled}
 use Rattle.heap_laws.proofs.Replacing.{Replaces, replaced_total, replaced_heap, any_replaced, SameSlots, kept_ties, kept_directory}
 use Rattle.heap_laws.proofs.Lives.{or_else, live_under-append, place_under-append, live_placed}
-use Rattle.heap_laws.proofs.Meanings.{held-is, live_under-there, named_once}
+use Rattle.heap_laws.proofs.Meanings.{live_under-there, named_once}
 
 -- ---- free chunks
 
@@ -36,15 +36,8 @@ every_free at (fixed bytes owner ∷ run) f = absurd f
 
 -- ---- what is read off the new image
 
--- an image with these chunks holds what is read off them
-pub reads_live : (image : List ℕ) (cs : List Chunk) (start name : ℕ) → IsHeap image cs → area_start image ≡ start → held image name ≡ live_under start cs name
-reads_live image cs start name h e = held-is image cs name h ∙ ap (λ (n : ℕ). live_under n cs name) e
-
 pub reads_place : (image : List ℕ) (cs : List Chunk) (start name : ℕ) → IsHeap image cs → area_start image ≡ start → place_of image name ≡ place_under start cs name
 reads_place image cs start name h e = ap (λ (xs : List Chunk). place_under (area_start image) xs name) (chunks_of-tiled image cs h.tiles) ∙ ap (λ (n : ℕ). place_under n cs name) e
-
-reads_free : (image : List ℕ) (cs : List Chunk) → IsHeap image cs → free_total image ≡ sum_by free_size cs
-reads_free image cs h = ap (sum_by free_size) (chunks_of-tiled image cs h.tiles)
 
 -- ---- free chunks are replaced by free chunks
 

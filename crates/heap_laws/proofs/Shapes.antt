@@ -8,7 +8,7 @@ use Rattle.std.specs.Bool.{Decides}
 use Rattle.heap_model.specs.Bytes.{u32_at}
 use Rattle.heap_model.specs.Chunk.{Chunk, free, movable, fixed, need, slot_named, Spelled, IsFree, IsLive}
 use Rattle.heap_model.specs.Reading.{size_field, above_size, lock_field, owner_field, h_offset_field, has_live_word, is_in_shape, chunk_by_words, chunk_at}
-use Rattle.heap_laws.proofs.Deciding.{Decides-nat_le, cond-true, cond-false, true_or_false, guarded, some, none_some, leb-is-true, lt-leb-false}
+use Rattle.heap_laws.proofs.Deciding.{Decides-nat_le, cond-true, cond-false, true_or_false, guarded, some, leb-is-true, lt-leb-false}
 
 -- what the test of a second word decides
 abbrev LiveWord : ℕ → Type 0
@@ -210,6 +210,3 @@ chunk_at-none image at none = by_case (chunk_at image at) refl where
   by_case : (r : Option Chunk) → chunk_at image at ≡ r → r ≡ None
   by_case None e = refl
   by_case (Some c) e = absurd (none c (chunk_at-stands image at c e))
-
-pub chunk_at-nothing : (image : List ℕ) (at : ℕ) → chunk_at image at ≡ None → (c : Chunk) → Spelled image at c → ⊥
-chunk_at-nothing image at e c s = none_some (chunk_at image at) c e (chunk_at-spelled image at c s)

@@ -1,5 +1,5 @@
 -- The changes of a map that calls make. Each leaves every other name as it was.
-use Rattle.std.specs.Prelude.{◌≡◌, ◌≢◌, ◌-◌, ◌++◌, ◌==◌, if◌then◌else◌, ℕ, List, length, take, replicate, Option, Some, None}
+use Rattle.std.specs.Prelude.{◌-◌, ◌++◌, ◌==◌, if◌then◌else◌, ℕ, List, length, take, replicate, Option, Some, None}
 use Rattle.heap_model.specs.Bytes.{overwritten}
 use Rattle.heap_model.specs.Meaning.{LiveChunk, ChunkMap}
 use Rattle.heap_model.specs.Reading.{held}
@@ -53,8 +53,3 @@ without_owner map owner name = not_owned owner (map name)
 -- is 0.
 abbrev pub callers_map : List ℕ → ChunkMap
 callers_map image = without_owner (held image) 0
-
--- what stands under one name is changed to this, and nothing else that the image holds
-pub record Changes (old new : List ℕ) (name : ℕ) (now : Option LiveChunk) : Type 0 where
-  pub here : held new name ≡ now
-  pub others : (other : ℕ) → other ≢ name → held new other ≡ held old other

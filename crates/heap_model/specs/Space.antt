@@ -66,10 +66,6 @@ rooms_of (stretch ∷ others) = room_of stretch ∷ rooms_of others
 abbrev pub rooms : List ℕ → List ℕ
 rooms image = rooms_of (stretches (chunks_of image))
 
--- every stretch has less room than so much
-abbrev pub Short : List ℕ → ℕ → Type 0
-Short image size = All (λ room. room < size) (rooms image)
-
 -- the same chunks with a name's movable one free
 abbrev pub with_freed : List Chunk → ℕ → List Chunk
 with_freed [] name = []

@@ -1,23 +1,15 @@
 -- A live chunk that was found: its chunk, its header, and where its bytes lie.
-use Rattle.std.proofs.Common.{◌≡◌, ◌≢◌, ℕ, ◌+◌, ◌-◌, ◌%◌, ◌≤◌, List, [], ◌∷◌, ◌++◌, length, refl, sym, ap, subst, ◌∙◌, arith}
-use Rattle.std.specs.Prelude.{◌==◌}
-use Rattle.std.proofs.lemmas.Bool.{eq-eqb}
-use Rattle.std.proofs.lemmas.Bool.Decides.{nat_tests}
-use Rattle.heap_model.specs.Chunk.{Chunk, need, free, movable, fixed, fixed_lock, size_of, total, Spelled, SpelledAll}
+use Rattle.std.proofs.Common.{◌≡◌, ℕ, ◌+◌, ◌-◌, ◌%◌, ◌≤◌, List, [], ◌∷◌, ◌++◌, length, refl, sym, ap, subst, ◌∙◌, arith}
+use Rattle.heap_model.specs.Chunk.{Chunk, need, free, movable, fixed, size_of, total, Spelled, SpelledAll}
 use Rattle.heap_model.specs.Slots.{IsSlot, area_start}
 use Rattle.heap_model.specs.Heap.{BodyHere, IsHeap, HeapAccepted}
 use Rattle.heap_model.specs.Meaning.{LiveChunk, NamedHere}
 use Rattle.heap_model.specs.Reading.{chunks_of}
 use Rattle.heap_model.specs.Placing.{Finds}
-use Rattle.heap_model.specs.Layout.{with_lock, with_owner}
-use Rattle.heap_laws.proofs.Deciding.{cond-true, cond-false}
 use Rattle.heap_laws.proofs.Chunks.{Spelled-size, SpelledAll-split, SpelledAll-end}
 use Rattle.heap_laws.proofs.Placed.{AnyPlaced-mid}
 use Rattle.heap_laws.proofs.Accepted.{heap_of_read}
 use Rattle.heap_laws.proofs.Finding.{finds_spelled}
-use Rattle.chunk_format.specs.declared.header.Header.TheVariants as headers
-use Rattle.chunk_format.specs.Header.{header_of, size_by}
-use Rattle.chunk_format.proofs.HeaderLaws.{size_by-header_of}
 use Rattle.heap_place.specs.declared.found.Found.{Found}
 use Rattle.heap_place.specs.Found.{IsFound, IsOne}
 
@@ -60,9 +52,6 @@ middle_of image before mid after at h e =
       most = h.tiles.head.most;
       start_whole = omega arith;
     }
-
-pub finds_middle : (image : List ℕ) (name at : ℕ) (live : LiveChunk) (c : Chunk) → HeapAccepted image → (f : Finds image name live c at) → Middle image f.before (c ∷ []) f.after at
-finds_middle image name at live c h f = middle_of image f.before (c ∷ []) f.after at (heap_in_parts image (f.before ++ c ∷ f.after) h f.chunks) f.there
 
 -- the slot of a movable chunk
 pub own_slot : (image : List ℕ) (name at : ℕ) (live : LiveChunk) (bytes : List ℕ) (lock owner slot : ℕ) → HeapAccepted image → Finds image name live (movable bytes lock owner slot) at → IsSlot image slot

@@ -4,7 +4,7 @@ use Rattle.std.proofs.lemmas.Bool.{cases_eq, eq-eqb}
 use Rattle.std.proofs.lemmas.Bool.Decides.{nat_tests}
 use Rattle.std.specs.Prelude.{◌==◌, IfNone}
 use Rattle.std.specs.Option.{option_map}
-use Rattle.heap_model.specs.Chunk.{Chunk, free, movable, fixed, fixed_lock, total}
+use Rattle.heap_model.specs.Chunk.{Chunk, free, movable, fixed, fixed_lock, total, HasChunk}
 use Rattle.heap_model.specs.Slots.{area_start}
 use Rattle.heap_model.specs.Heap.{BodyHere, IsHeap, HeapAccepted}
 use Rattle.heap_model.specs.Placed.{EveryPlaced}
@@ -16,7 +16,8 @@ use Rattle.heap_model.specs.declared.names.Name.{Name}
 use Rattle.heap_model.specs.declared.names.Place.{Place}
 use Rattle.heap_laws.proofs.Deciding.{cond-true, cond-false}
 use Rattle.heap_laws.proofs.Placed.{EveryPlaced-push, EveryPlaced-split, AnyPlaced-mid}
-use Rattle.heap_laws.proofs.Finding.{InSlot, in_slot, finds_read, held_finds, none_held, read_heap}
+use Rattle.heap_laws.proofs.Finding.{finds_spelled, InSlot, in_slot, finds_read, held_finds, none_held, read_heap}
+use Rattle.heap_laws.proofs.Shapes.{chunk_at-spelled}
 use Rattle.heap_laws.proofs.Lives.{live_placed}
 use Rattle.heap_laws.proofs.Altering.{finds_place}
 use Rattle.master_table.specs.Table.{HoldsPlace, HoldsNothing}
@@ -118,6 +119,17 @@ slot_behind image name place found h holds is =
     let here : HoldsPlace image name found.0 = subst (λ (p : Option Place). MatchOption p (HoldsNothing image name) (λ place. HoldsPlace image name place.0)) is holds in
     (in_slot image name found.0 h here.is_slot here.held here.some).behind_header
 
+pub slot_chunk : (image : List ℕ) (name : ℕ) (place : Option Place) (found : Place) → HeapAccepted image → MatchOption place (HoldsNothing image name) (λ place. HoldsPlace image name place.0) → place ≡ Some found → HasChunk image (found.0 - 8)
+slot_chunk image name place found h holds is =
+    let here : HoldsPlace image name found.0 = subst (λ (p : Option Place). MatchOption p (HoldsNothing image name) (λ place. HoldsPlace image name place.0)) is holds in
+    let s = in_slot image name found.0 h here.is_slot here.held here.some in
+    let chunk : Chunk = movable s.live.bytes s.live.lock s.live.owner s.named in
+    record { chunk = chunk; spelled = finds_spelled image name s.live chunk (found.0 - 8) h s.finds }
+
+-- a header that stands there is the one that is read
+pub header_read : (image : List ℕ) (at : ℕ) (header : Header) → HasHeader image at header → Some header ≡ option_map header_of (chunk_at image at)
+header_read image at header h = ap (λ (x : Header). Some x) h.header_is ∙ sym (ap (option_map header_of) (chunk_at-spelled image at h.chunk h.spelled))
+
 -- ---- what is not found
 
 pub unheld : (image : List ℕ) (name : ℕ) (found : Option Found) → HeapAccepted image → HoldsNothing image name → IfNone found (NoneFixedAs image name (chunks_of image)) → IfNone found (held image name ≡ None)
@@ -130,9 +142,6 @@ unheld image name (Some found) h nothing none = tt
 unplaced : (image : List ℕ) (name : ℕ) → held image name ≡ None → place_of image name ≡ None
 unfolding held
 unplaced image name e = live_placed (area_start image) (chunks_of image) name e
-
-abbrev IsAt : List ℕ → ℕ → Found → Type 0
-IsAt image place found = IsOne image found × (found.place.0 ≡ place)
 
 pub low_holds_none : (image : List ℕ) (place : ℕ) → HeapAccepted image → place < 8 → NoSlotHolds image place
 low_holds_none image place h low name holds = let behind = (in_slot image name place h holds.is_slot holds.held holds.some).behind_header in absurd (omega arith)

@@ -21,8 +21,7 @@ use Rattle.heap_laws.proofs.Changing.{named_live_chunk}
 use Rattle.heap_laws.proofs.Writing.{WroteWithin, wrote_none, wrote_word, wrote_wider, wrote_apart, WroteArea, area_replaces, area_slots}
 use Rattle.heap_laws.proofs.Freeing.{OtherSlots, ClearsSlot, released}
 use Rattle.chunk_format.specs.declared.header.Header.TheVariants as headers
-use Rattle.chunk_format.specs.Header.{size_by, HasHeader}
-use Rattle.chunk_format.proofs.HeaderLaws.{size_by-header_of}
+use Rattle.chunk_format.specs.Header.{HasHeader}
 use Rattle.heap_place.specs.declared.found.Found.{Found}
 use Rattle.heap_place.specs.Found.{IsOne}
 use Rattle.heap_place.specs.Search.{size_if_free, free_size_at, Emptied}

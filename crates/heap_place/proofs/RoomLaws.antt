@@ -97,10 +97,6 @@ run_push image at run_size cs (fixed bytes owner) next e = record { front = cs +
   append-nil-of : (cs ++ fixed bytes owner ∷ []) ++ [] ≡ cs ++ fixed bytes owner ∷ []
   append-nil-of = append-nil _
 
--- what the search knows, as one list
-pub walked_list : (image : List ℕ) (size at run_size : ℕ) → Searched image size at run_size → List Chunk
-walked_list image size at run_size s = s.front ++ s.run
-
 pub search_start : (image : List ℕ) (size : ℕ) → 0 < size → area_start image ≤ length image → Searched image size (area_start image) 0
 search_start image size some inside = record { front = []; run = []; spelled = refl; all_free = tt; sums = refl; below = tt; ends = refl; inside = inside; small = some; apart = λ others. refl }
 

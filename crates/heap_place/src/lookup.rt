@@ -1,6 +1,7 @@
 //! Live chunks by their names and by their places.
 
 ghost use Rattle.std.specs.Prelude.{◌≡◌, ◌≤◌, ◌-◌, ℕ, IfSome, IfNone, MatchOption, None};
+ghost use Rattle.heap_model.specs.Chunk.{HasChunk};
 ghost use Rattle.heap_model.specs.Heap.{HeapAccepted};
 ghost use Rattle.heap_model.specs.Reading.{held};
 ghost use Rattle.master_table.specs.Table.{HoldsPlace};
@@ -26,16 +27,15 @@ pub(crate) fn find_named(region: &Region, name: Name) -> Option<Found>
     }
 }
 
-/// The movable chunk whose body is at a place.
+/// The movable chunk whose body is at a place, in front of which a chunk stands.
+#[inline]
 fn movable_at(region: &Region, place: Place) -> Option<Found>
     requires accepted { HeapAccepted region.now.bytes }
     requires behind_header { 8 ≤ place.0 }
+    requires chunk { HasChunk region.now.bytes (place.0 - 8) }
     ensures { (name : ℕ) → HoldsPlace region.now.bytes name place.0 → MatchOption result ⊥ (IsFound region.now.bytes name) }
 {
-    match Header::read(region, place.0 - 8) {
-        Some(header) => as_movable(header, place),
-        None => None,
-    }
+    as_movable(Header::at(region, place.0 - 8), place)
 }
 
 /// The live chunk whose body is at a place. The header that seems to stand in front of it is believed

@@ -70,9 +70,6 @@ used_freed old new used fewer name m most apart ch = record {
 
 -- ---- a new handle
 
-pub new_no_slot : (region : Memory) (size owner : ℕ) → HeapAccepted region.bytes → (IsNoCaller owner → ⊥) → free_slots region.bytes ≡ 0 → Does region (HandleNew size owner) (Refused NotEnoughSpace) region
-new_no_slot region size owner h caller none = refused region (HandleNew size owner) NotEnoughSpace h (inr (caller, inl (inl none, refl)))
-
 pub new_no_run : (region : Memory) (size owner : ℕ) → HeapAccepted region.bytes → (IsNoCaller owner → ⊥) → NoRun (chunks_of region.bytes) (need size) → Does region (HandleNew size owner) (Refused NotEnoughSpace) region
 new_no_run region size owner h caller none = refused region (HandleNew size owner) NotEnoughSpace h (inr (caller, inl (inr none, refl)))
 

@@ -1,27 +1,21 @@
 -- Which name has its chunk at a place.
-use Rattle.std.proofs.Common.{◌≡◌, ◌≢◌, ℕ, ◌+◌, ◌-◌, ◌≤◌, Bool, true, false, cond, List, Option, Some, None, refl, sym, ap, subst, ◌∙◌, arith, inl}
+use Rattle.std.proofs.Common.{◌≡◌, ◌≢◌, ℕ, ◌+◌, ◌-◌, ◌≤◌, Bool, true, false, cond, List, Option, Some, None, refl, sym, ap, subst, ◌∙◌, arith}
 use Rattle.std.specs.Prelude.{◌==◌}
 use Rattle.std.proofs.lemmas.Bool.{eq-eqb}
-use Rattle.heap_model.specs.Memory.{Memory}
 use Rattle.heap_model.specs.Heap.{HeapAccepted}
 use Rattle.heap_model.specs.Meaning.{LiveChunk}
 use Rattle.heap_model.specs.Reading.{held}
 use Rattle.heap_model.specs.Maps.{callers_map, not_owned}
 use Rattle.heap_model.specs.Space.{place_of}
 use Rattle.heap_model.specs.Placing.{Finds}
-use Rattle.heap_model.specs.MemorySteps.{Does, IsNowhere, Of}
-use Rattle.heap_model.specs.declared.names.Name.{Name}
-use Rattle.heap_model.specs.declared.names.Place.{Place}
-use Rattle.heap_model.specs.declared.call.MemoryCall.TheVariants.{Recover}
-use Rattle.heap_model.specs.declared.call.Reply.TheVariants.{Refused, Named}
-use Rattle.heap_model.specs.declared.refusal.Refusal.TheVariants.{InvalidHandle}
+use Rattle.heap_model.specs.MemorySteps.{IsNowhere, Of}
 use Rattle.heap_laws.proofs.Deciding.{cond-true}
 use Rattle.heap_laws.proofs.Finding.{finds_held, held_finds, finds_one, callers_managers}
 use Rattle.heap_laws.proofs.Altering.{finds_place}
 use Rattle.heap_place.specs.declared.found.Found.{Found}
 use Rattle.heap_place.specs.Found.{IsFound, IsOne, NothingAt}
 use Rattle.mem_manager.specs.Lookup.{IsThere}
-use Rattle.mem_manager.proofs.Stepping.{known, of_known, unchanged, refused}
+use Rattle.mem_manager.proofs.Stepping.{known}
 
 -- the chunk that was found there is a caller's
 pub found_there : (image : List ℕ) (place : ℕ) (found : Found) → HeapAccepted image → (f : IsOne image found) → found.place.0 ≡ place → 1 ≤ found.owner → IsThere image place found.name.0
@@ -70,11 +64,3 @@ managers_there image place found h f there managers name of = by_known (callers_
       not_managers live (ap (not_owned 0) (sym (callers_held (held image name) live e)) ∙ e) (ap (λ (l : LiveChunk). l.owner) its ∙ sym f.owner_is ∙ managers)
 
 -- ---- what recover answers
-
-pub recovered : (region : Memory) (place : Place) (name : Name) → HeapAccepted region.bytes → IsThere region.bytes place.0 name.0 → Does region (Recover place) (Named name) region
-recovered region place name h t = unchanged region (Recover place) (Named name) h (((λ none. none name.0 of, tt)), (of, λ n. refl)) where
-  of : Of (callers_map region.bytes name.0) (λ live. place_of region.bytes name.0 ≡ Some place.0)
-  of = of_known (λ live. place_of region.bytes name.0 ≡ Some place.0) t.known t.there
-
-pub not_recovered : (region : Memory) (place : Place) → HeapAccepted region.bytes → IsNowhere region.bytes (callers_map region.bytes) place.0 → Does region (Recover place) (Refused InvalidHandle) region
-not_recovered region place h none = refused region (Recover place) InvalidHandle h (inl (none, refl))

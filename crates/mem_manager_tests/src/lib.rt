@@ -7,6 +7,8 @@ mod adopted;
 #[cfg(test)]
 mod beside;
 #[cfg(test)]
+mod caller;
+#[cfg(test)]
 mod examples;
 #[cfg(test)]
 mod images;

@@ -1,9 +1,9 @@
 -- Laws on the words of a line: what they are, where it is cut.
-use Rattle.std.proofs.Common.{suc, ◌≡◌, ◌==◌, ◌<◌, ◌+◌, ℕ, List, [], ◌∷◌, ◌++◌, length, take, drop, Bool, true, false, not, refl, sym, ap, ◌∙◌, arith, rules, tests, append_assoc, append-nil}
+use Rattle.std.proofs.Common.{suc, ◌≡◌, ◌==◌, ◌<◌, ◌+◌, ℕ, List, [], ◌∷◌, ◌++◌, length, take, drop, Bool, true, false, not, refl, sym, ◌∙◌, arith, rules, tests, append_assoc, append-nil}
 use Rattle.std.specs.Prelude.{Result, Ok, Err, if◌then◌else◌}
 use Rattle.std.specs.List.{position_or_len}
 use Rattle.std.proofs.lemmas.Grind.{common_steps}
-use Rattle.script_lines.specs.Words.{is_blank, is_passed_over, words_of, plain_word, quoted_word, closed_word, with_word, word_count}
+use Rattle.script_lines.specs.Words.{is_blank, is_passed_over, words_of, plain_word, quoted_word, closed_word, with_word}
 use Rattle.script_lines.specs.Cuts.{ends_word}
 
 -- the place of the first byte that is no blank, of the first that is one, and of the first quote
@@ -121,8 +121,3 @@ quoted_at text inside e within = sym (words_of-blanks text) ∙ rw (e, quoted_wo
 abbrev pub counted_behind : ℕ → Result ℕ ℕ → Result ℕ ℕ
 counted_behind front (Ok count) = Ok (front + count)
 counted_behind front (Err number) = Err (front + number)
-
--- one word more in front
-pub counted_more : (front : ℕ) (word : List ℕ) (words : Result (List (List ℕ)) ℕ) → counted_behind front (word_count (with_word word words)) ≡ counted_behind (front + 1) (word_count words)
-counted_more front word (Ok words) = ap Ok (omega arith)
-counted_more front word (Err number) = ap Err (omega arith)

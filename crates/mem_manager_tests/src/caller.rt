@@ -1,0 +1,36 @@
+//! A caller with a contract of its own, to copy: what follows from the steps of the calls that it makes.
+
+ghost use Rattle.std.specs.Prelude.{◌≡◌, length};
+ghost use Rattle.heap_model.specs.Heap.{HeapAccepted, directory_of};
+
+use crate::images::small;
+use heap_model::{Name, Refusal};
+use mem_manager::Heap;
+use raw_region::Region;
+use std::process::Abort;
+use std::test::*;
+
+/// Makes a movable chunk of owner 1 with a text of up to 31 bytes and a zero byte in it, and answers its
+/// name. The heap stays accepted, whatever is refused.
+fn new_note(heap: &mut Heap, text: &[u8]) -> Result<Name, Refusal>
+    ensures accepted { HeapAccepted heap.new.bytes }
+    ensures len { length heap.new.bytes ≡ length heap.old.bytes }
+    ensures directory { directory_of heap.new.bytes ≡ directory_of heap.old.bytes }
+{
+    let name = heap.handle_new(32, 1)?;
+    heap.str_copy(name, 0, text)?;
+    Ok(name)
+}
+
+#[test]
+fn a_note_is_made(rt: HostRuntime) -> Result<(), Fail> {
+    let region = Region::from_bytes(rt.alloc(), small(rt.alloc())?.as_slice())?;
+    let mut heap = match Heap::adopt(region) {
+        Ok(heap) => heap,
+        Err(_) => return Err("no heap")?,
+    };
+    assert_eq!(rt; new_note(&mut heap, b"Hello"), Ok(Name(16)));
+    assert_eq!(rt; heap.read(Name(16), 0, 6), Ok(&b"Hello\0"[..]));
+    assert_eq!(rt; new_note(&mut heap, &[1; 32]), Err(Refusal::OutOfBounds));
+    Ok(())
+}
