@@ -1,72 +1,98 @@
 #!/usr/bin/env python3
-"""Processor time of the gate by crate: proofs, tests and must-fail edits.
+"""Where the processor time of the gate goes: runs `rt ci`, and prints a table by crate.
 
-Works on a fresh clone in a temporary folder, so that nothing is kept from earlier checks, and prints a
-table for docs/MEASUREMENTS.md: minutes of processor time, of all processors together. Crates are taken
-in the order of crates.txt, the lowest first, so that each finds those below it built.
-
-    bench/gate_times.py [CRATE ..]    of these crates alone, with those below them built first
+Every half second it reads how much processor time each check or build under `rt ci` has used. A check
+works on a crate as it is, with its tests, or with one of its must-fail edits; the crate's name and which
+of these it is stand in its command line and folder. What ends within half a second is missed, and what
+`rt` itself does, or a test that runs, is no check: the last line says how much all of it was.
 """
 
+import os
+import re
 import resource
 import subprocess
 import sys
-import tempfile
+import time
+from collections import defaultdict
 from pathlib import Path
 
 ROOT = Path(__file__).resolve().parent.parent
+TICKS = os.sysconf("SC_CLK_TCK")
+KINDS = ["proofs", "tests", "edits"]
 
 
-def crates(root):
-    """The names in crates.txt, in its order."""
-    lines = (root / "crates.txt").read_text().splitlines()
-    return [line.split(":")[0] for line in lines if line and not line.startswith("#")]
+def processes():
+    """Of each process: its parent, and the seconds of processor time that it has used."""
+    found = {}
+    for entry in Path("/proc").iterdir():
+        if entry.name.isdigit():
+            try:
+                fields = (entry / "stat").read_text().rsplit(")", 1)[1].split()
+            except OSError:
+                continue
+            found[int(entry.name)] = int(fields[1]), (int(fields[11]) + int(fields[12])) / TICKS
+    return found
 
 
-def spent():
-    """Seconds of processor time of all commands so far."""
-    used = resource.getrusage(resource.RUSAGE_CHILDREN)
-    return used.ru_utime + used.ru_stime
+def is_below(found, process, top):
+    while process in found and process != top:
+        process = found[process][0]
+    return process == top
 
 
-def minutes(command, folder):
-    """Minutes of processor time that a command takes; stops where it fails."""
-    before = spent()
-    done = subprocess.run(command, cwd=folder, capture_output=True, text=True)
-    if done.returncode != 0:
-        sys.exit(f"{' '.join(command)} in {folder.name} failed:\n{done.stdout}{done.stderr}")
-    return (spent() - before) / 60
+def work_of(process):
+    """The crate that a process checks, and which of KINDS it is. None where it is no check."""
+    try:
+        words = Path(f"/proc/{process}/cmdline").read_bytes().decode().split("\0")
+        folder = os.readlink(f"/proc/{process}/cwd")
+    except OSError:
+        return None
+    if "--crate-name" not in words:
+        return None
+    name = words[words.index("--crate-name") + 1]
+    if not Path(folder).is_relative_to(ROOT):
+        return name, "edits"
+    return name, "tests" if "--test" in words else "proofs"
 
 
-def has_tests(folder):
-    return any("#[test]" in file.read_text() for file in folder.glob("src/**/*.rt"))
+def watch(gate, spent):
+    """Notes the time of each check while the gate runs."""
+    while gate.poll() is None:
+        found = processes()
+        for process in found:
+            work = work_of(process) if is_below(found, process, gate.pid) else None
+            if work:
+                spent[process, *work] = found[process][1]
+        time.sleep(0.5)
 
 
-def row(root, name):
-    """Of a crate: minutes of its proofs, of its tests (proved again, and run), and of its edits."""
-    folder = root / "crates" / name
-    edits = len(list(folder.glob("must-fail/*.edit")))
-    proofs = minutes(["rt", "check"], folder)
-    tests = minutes(["rt", "test"], folder) if has_tests(folder) else 0
-    refused = minutes(["rt", "must-fail", name], root) if edits else 0
-    return proofs, tests, refused, edits
+def print_table(spent):
+    minutes = defaultdict(float)
+    for (_, name, kind), seconds in spent.items():
+        minutes[name, kind] += seconds / 60
+    lines = (ROOT / "crates.txt").read_text().splitlines()
+    names = [re.split("[ :]", line)[0] for line in lines if line and not line.startswith("#")]
+    print("| crate | proofs | tests | edits | number of edits |\n|---|---|---|---|---|")
+    for name in names:
+        edits = len(list((ROOT / "crates" / name / "must-fail").glob("*.edit")))
+        cells = [f"{minutes[name, kind]:.1f}" for kind in KINDS]
+        print(f"| {name} | {' | '.join(cells)} | {edits} |")
+    sums = [sum(minutes[name, kind] for name in names) for kind in KINDS]
+    print(f"| all | {' | '.join(f'{total:.1f}' for total in sums)} | |")
 
 
 def main():
-    wanted = sys.argv[1:] or crates(ROOT)
-    with tempfile.TemporaryDirectory() as folder:
-        root = Path(folder) / "palmheap"
-        subprocess.run(["git", "clone", "-q", ROOT, root], check=True)
-        print("| crate | proofs | tests | edits | number of edits |\n|---|---|---|---|---|")
-        total = [0.0, 0.0, 0.0, 0]
-        for name in crates(root):
-            if name not in wanted:
-                continue
-            cells = row(root, name)
-            total = [a + b for a, b in zip(total, cells)]
-            print(f"| {name} | {cells[0]:.1f} | {cells[1]:.1f} | {cells[2]:.1f} | {cells[3]} |", flush=True)
-        print(f"| all | {total[0]:.1f} | {total[1]:.1f} | {total[2]:.1f} | {total[3]} |")
+    spent = {}
+    begun = time.monotonic()
+    with open(sys.argv[1] if len(sys.argv) > 1 else os.devnull, "w") as log:
+        gate = subprocess.Popen(["rt", "ci"], cwd=ROOT, stdout=log, stderr=subprocess.STDOUT)
+        watch(gate, spent)
+    used = resource.getrusage(resource.RUSAGE_CHILDREN)
+    print_table(spent)
+    print(f"\n{(time.monotonic() - begun) / 60:.0f} minutes, of processor time "
+          f"{(used.ru_utime + used.ru_stime) / 60:.0f}; status {gate.returncode}")
+    return gate.returncode
 
 
 if __name__ == "__main__":
-    main()
+    sys.exit(main())

@@ -27,7 +27,7 @@ pub enum HeapFault {
     /// The first chunk out of shape, by its offset.
     #[error("BadChunk {0}")]
     BadChunk(u32),
-    /// The first slot in use that isn't the place of a movable chunk which names it, by its offset.
+    /// The first slot in use whose word isn't the place of a movable chunk which names it, by its offset.
     #[error("SlotMismatch {0}")]
     SlotMismatch(u32),
     /// The first movable chunk that names no slot which holds its place, by its offset.

@@ -7,6 +7,7 @@
 //! |---|---|
 //! | `Memory` | what contracts see of a region |
 //! | `Bytes` | big-endian numbers in a list of bytes, and what a write leaves |
+//! | `Frame` | the numbers of the frame: its offsets, the magic and the limits |
 //! | `Chunk` | a chunk, what it takes (`need`), how it is spelled, and runs of chunks |
 //! | `Placed` | what holds of every chunk where it stands, or of some one |
 //! | `Slots` | the master pointer table of an image: which offsets are those of slots |
@@ -16,6 +17,8 @@
 //! | `Reading` | the same by functions that read it off the image |
 //! | `Maps` | the changes of a map that calls make |
 //! | `Space` | free chunks and free slots: how much there is, and where |
+//! | `Placing` | the frame of an image, which calls leave, and a name's chunk among others |
+//! | `Layout` | the chunks with each run of free ones as one, and changes of these |
 //! | `Refusals` | checks in order, and the refusal that the first one brings |
 //! | `Steps` | what a row says of a call, and the step that it makes, whatever the call acts on |
 //! | `MemorySteps` | the row of each call of the memory manager: what it refuses, answers and does |

@@ -17,7 +17,7 @@
 //! | `claim` | makes a live chunk at the front of room |
 //! | `release` | makes a live chunk free |
 //! | `owned` | makes all chunks of an owner free |
-//! | `alter` | writes another header for a live chunk |
+//! | `alter` | writes another lock count or owner of a live chunk |
 #![tactic(auto)]
 
 mod alter;

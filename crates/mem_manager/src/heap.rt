@@ -17,7 +17,8 @@ use std::fmt;
 use std::marker::Model;
 use thiserror::Error;
 
-/// A region that is an accepted heap.
+/// A region that is an accepted heap. Contracts see the region's value alone, and no method asks for
+/// anything of its caller: what a call can't do it refuses.
 #[derive(Drop)]
 pub struct Heap {
     space: Space,

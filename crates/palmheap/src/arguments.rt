@@ -55,8 +55,9 @@ which 'new', 'ptrnew' and 'bind' give it: a letter, then letters, digits or '_'.
   set A AT COUNT BYTE                     strcopy A AT \"TEXT\"
   freeowner OWNER     freebytes
 
-Numbers are decimal, or hex behind '0x'. HEX is hex digits, or '-' for no byte. A line that is
-empty or starts with '#' is passed over.";
+'write', 'set' and 'strcopy' need a locked or a fixed chunk. OWNER is 1 to 14. Numbers are decimal,
+or hex behind '0x'. HEX is hex digits, or '-' for no byte. A line that is empty or starts with '#' is
+passed over.";
 
 /// What the words of a command line ask for. The first word is the program's own name.
 ///

@@ -16,7 +16,8 @@ use master_table::{free_slot, slots_before};
 use raw_region::Region;
 
 impl Heap {
-    /// Makes a movable chunk of `size` zeros, without a lock.
+    /// Makes a movable chunk of `size` zeros, without a lock, for an owner of 1 to 14. Its name is the offset
+    /// of a slot that was empty.
     ///
     /// Refused: `InvalidOwner`; `NotEnoughSpace`, where no slot is free, or no run of neighbouring free
     /// chunks has the room.
