@@ -18,7 +18,10 @@ fn new_note(heap: &mut Heap, text: &[u8]) -> Result<Name, Refusal>
     ensures directory { directory_of heap.new.bytes ≡ directory_of heap.old.bytes }
 {
     let name = heap.handle_new(32, 1)?;
-    heap.str_copy(name, 0, text)?;
+    heap.lock(name)?;
+    let copied = heap.str_copy(name, 0, text);
+    heap.unlock(name)?;
+    copied?;
     Ok(name)
 }
 
