@@ -155,8 +155,8 @@ impl Header {
     }
 }
 
-/// The header by the two words at `at`, in the order in which a checker looks at their fields, and
-/// the size.
+/// The header by the two words at `at`, and the size. Most chunks of a walk are live ones, so the free
+/// bit is looked at only where what stands above the size can't be a sizeAdj.
 #[inline]
 fn decode(region: &Region, at: u32) -> Option<(Header, u32)>
     requires small { length region.now.bytes < 2 ^ 24 }
@@ -172,17 +172,15 @@ fn decode(region: &Region, at: u32) -> Option<(Header, u32)>
     }
     let first = region.get_u32(offset);
     let size = first % ABOVE_24_BITS;
-    if size < 8 || size % 8 != 0 || size as usize > end - offset {
+    if size % 8 != 0 || size as usize > end - offset {
         return None;
-    }
-    if first >= FREE_BIT {
-        return Some((Header::Free { size }, size));
     }
     let adjustment = first / ABOVE_24_BITS;
-    if adjustment > 7 || adjustment > size - 8 {
-        return None;
+    if adjustment > 7 {
+        let is_free = first >= FREE_BIT && size != 0;
+        return is_free.then_some((Header::Free { size }, size));
     }
-    let length = size - 8 - adjustment;
+    let length = size.checked_sub(8 + adjustment)?;
     let second = region.get_u32(offset + 4);
     let lock = (second / ABOVE_28_BITS) as u8;
     let owner = (second / ABOVE_24_BITS % 16) as u8;

@@ -134,7 +134,8 @@ impl Survey {
 }
 
 /// Walks over the chunks of an image with this table, and marks each slot that holds the place of a
-/// chunk which names it. The error is the offset of the first chunk out of shape.
+/// chunk which names it. The error is the offset of the first chunk out of shape, or of what is left
+/// at the end where that is less than a header.
 pub(crate) fn survey_chunks(
     region: &Region,
     table: Table,
@@ -150,12 +151,15 @@ pub(crate) fn survey_chunks(
 {
     let mut survey = Survey::new();
     let mut at = area_start(region);
-    while (at as usize) < region.len() {
+    while at as usize + 8 <= region.len() {
         let Some((header, size)) = Header::read_with_size(region, at) else {
             return Err(at);
         };
         survey.add(region, at, header, table, marks);
         at += size;
+    }
+    if (at as usize) < region.len() {
+        return Err(at);
     }
     Ok(survey)
 }
