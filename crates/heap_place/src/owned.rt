@@ -6,9 +6,9 @@ ghost use Rattle.heap_model.specs.Heap.{HeapAccepted};
 ghost use Rattle.heap_model.specs.Layout.{Becomes, layout_of, owned_freed};
 ghost use Rattle.heap_place.specs.Found.{owned_by};
 
-use crate::found::{FIXED_LOCK, Found};
+use crate::found::Found;
 use crate::release::release;
-use chunk_format::{Header, area_start};
+use chunk_format::{FIXED_LOCK, Header, area_start};
 use heap_model::{Name, Place};
 use raw_region::Region;
 

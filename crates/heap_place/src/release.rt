@@ -6,8 +6,8 @@ ghost use Rattle.heap_model.specs.Layout.{Alters, FreeUpTo, freed};
 ghost use Rattle.heap_place.specs.Found.{IsOne};
 ghost use Rattle.heap_place.specs.Search.{free_size_at};
 
-use crate::found::{FIXED_LOCK, Found, size_of_body};
-use chunk_format::Header;
+use crate::found::Found;
+use chunk_format::{FIXED_LOCK, Header, size_of_body};
 use raw_region::Region;
 
 /// Makes a live chunk free, with the free chunk behind it, and empties its slot, if it has one.

@@ -12,12 +12,13 @@ ghost use Rattle.heap_place.specs.Found.{IsFound, IsOne, NothingAt, CanGoTo};
 
 use crate::alter::{relock_at, reown_at};
 use crate::claim::{claim_fixed_at, claim_movable, cut};
-use crate::found::{Found, size_of_body};
+use crate::found::Found;
 use crate::lookup::{find_named, find_placed};
 use crate::owned::release_owned;
 use crate::release::release;
 use crate::room::{Room, find_room};
 use crate::walks::free_bytes;
+use chunk_format::size_of_body;
 use heap_model::{Name, Place};
 use raw_region::Region;
 use std::marker::Model;
