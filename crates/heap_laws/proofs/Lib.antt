@@ -9,6 +9,7 @@ pub mod Placed
 pub mod Accepted
 pub mod Meanings
 pub mod Replacing
+pub mod Plain
 pub mod Lives
 pub mod Layouts
 pub mod Becoming

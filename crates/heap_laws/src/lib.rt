@@ -17,6 +17,7 @@
 //! | `Layouts` | lists in which free neighbours are made one: what is the same of them |
 //! | `Becoming` | an image that has become another: what it holds, and where, by the layout alone |
 //! | `Replacing` | chunks of a heap replaced by others of their size: it stays accepted |
+//! | `Plain` | the same: first words of free chunks, of which no other bits are set |
 //! | `Freeing`, `Altering` | the same: free chunks split, joined and claimed, live ones freed and altered |
 //! | `Exchanging` | a chunk of a layout exchanged for others: by parts, and what all names stand for |
 //! | `Changing` | the same by what is done: what its name stands for afterwards |

@@ -45,3 +45,8 @@ pub returns-clause-cut : goal.returns-clause-cut
 returns-clause-cut c =
     (was_cut c.args.region.now.bytes c.write_rest.new.region.bytes c.write.new.region.bytes c.args.room.at c.args.room.size c.args.size c.requires.accepted c.requires.room c.requires.least c.requires.whole c.requires.within c.write_rest.ensures
     (ap (λ (m : Memory). m.bytes) c.write.ensures.after) c.write.ensures.spelled).1
+
+pub returns-clause-plain : goal.returns-clause-plain
+returns-clause-plain c =
+    (was_cut c.args.region.now.bytes c.write_rest.new.region.bytes c.write.new.region.bytes c.args.room.at c.args.room.size c.args.size c.requires.accepted c.requires.room c.requires.least c.requires.whole c.requires.within c.write_rest.ensures
+    (ap (λ (m : Memory). m.bytes) c.write.ensures.after) c.write.ensures.spelled).2

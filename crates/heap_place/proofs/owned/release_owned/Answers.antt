@@ -22,21 +22,21 @@ release-at-requires-clause-no_directory c =
 
 pub overflow_add-at-in-Some : goal.overflow_add-at-in-Some
 overflow_add-at-in-Some c =
-    let more = freeing_more c.args.region.now.bytes c.loop-at.region.bytes c.release-at.new.region.bytes c.args.owner c.loop-at.at c.loop-at.count c.release-at.result c.at_with_size-header.result.0 c.in-Some.found c.loop-at.invariant c.at_with_size-header.ensures.header (sym c.if_owned.ensures ∙ c.in-Some.is) c.release-at.ensures.gone c.release-at.ensures.free in
+    let more = freeing_more c.args.region.now.bytes c.loop-at.region.bytes c.release-at.new.region.bytes c.args.owner c.loop-at.at c.loop-at.count c.release-at.result c.at_with_size-header.result.0 c.in-Some.found c.loop-at.invariant c.at_with_size-header.ensures.header (sym c.if_owned.ensures ∙ c.in-Some.is) c.release-at.ensures.gone c.release-at.ensures.free c.release-at.ensures.plain in
     let inside = more.1 in
     let most = c.loop-at.invariant.frame.accepted.1.tiles.head.most in
     omega arith
 
 pub loop-at-smaller-in-Some : goal.loop-at-smaller-in-Some
 loop-at-smaller-in-Some c =
-    let more = freeing_more c.args.region.now.bytes c.loop-at.region.bytes c.release-at.new.region.bytes c.args.owner c.loop-at.at c.loop-at.count c.release-at.result c.at_with_size-header.result.0 c.in-Some.found c.loop-at.invariant c.at_with_size-header.ensures.header (sym c.if_owned.ensures ∙ c.in-Some.is) c.release-at.ensures.gone c.release-at.ensures.free in
+    let more = freeing_more c.args.region.now.bytes c.loop-at.region.bytes c.release-at.new.region.bytes c.args.owner c.loop-at.at c.loop-at.count c.release-at.result c.at_with_size-header.result.0 c.in-Some.found c.loop-at.invariant c.at_with_size-header.ensures.header (sym c.if_owned.ensures ∙ c.in-Some.is) c.release-at.ensures.gone c.release-at.ensures.free c.release-at.ensures.plain in
     let inside = more.1 in
     let least = more.2 in
     let len = c.loop-at.invariant.frame.len in
     omega arith
 
 pub loop-at-preserved-in-Some : goal.loop-at-preserved-in-Some
-loop-at-preserved-in-Some c = (freeing_more c.args.region.now.bytes c.loop-at.region.bytes c.release-at.new.region.bytes c.args.owner c.loop-at.at c.loop-at.count c.release-at.result c.at_with_size-header.result.0 c.in-Some.found c.loop-at.invariant c.at_with_size-header.ensures.header (sym c.if_owned.ensures ∙ c.in-Some.is) c.release-at.ensures.gone c.release-at.ensures.free).0
+loop-at-preserved-in-Some c = (freeing_more c.args.region.now.bytes c.loop-at.region.bytes c.release-at.new.region.bytes c.args.owner c.loop-at.at c.loop-at.count c.release-at.result c.at_with_size-header.result.0 c.in-Some.found c.loop-at.invariant c.at_with_size-header.ensures.header (sym c.if_owned.ensures ∙ c.in-Some.is) c.release-at.ensures.gone c.release-at.ensures.free c.release-at.ensures.plain).0
 
 pub loop-at-preserved : goal.loop-at-preserved
 loop-at-preserved c =
@@ -51,3 +51,8 @@ pub returns-clause-count : goal.returns-clause-count
 returns-clause-count c =
     let len = c.loop-at.invariant.frame.len in
     (freeing_all c.args.region.now.bytes c.loop-at.region.bytes c.args.owner c.loop-at.at c.loop-at.count c.loop-at.invariant (omega arith)).1
+
+pub returns-clause-plain : goal.returns-clause-plain
+returns-clause-plain c =
+    let len = c.loop-at.invariant.frame.len in
+    (freeing_all c.args.region.now.bytes c.loop-at.region.bytes c.args.owner c.loop-at.at c.loop-at.count c.loop-at.invariant (omega arith)).2
