@@ -20,3 +20,4 @@ pub mod Exchanging
 pub mod Changing
 pub mod Owning
 pub mod Openness
+pub mod Carrying
