@@ -21,3 +21,4 @@ pub mod Exchanging
 pub mod Changing
 pub mod Owning
 pub mod Openness
+pub mod Carrying

@@ -284,7 +284,7 @@ overwritten_whole : (old part : List ℕ) → length part ≡ length old → ove
 unfolding overwritten
 overwritten_whole old part len = let all : length old ≤ 0 + length part = omega arith in rw (drop_all (0 + length part) old all) (append-nil part)
 
-wrote_words : (old new : List ℕ) (at count lock owner way : ℕ) → at + need count ≤ length old → new ≡ overwritten old at (live_words count lock owner way) → WroteWithin old new at (at + 8)
+pub wrote_words : (old new : List ℕ) (at count lock owner way : ℕ) → at + need count ≤ length old → new ≡ overwritten old at (live_words count lock owner way) → WroteWithin old new at (at + 8)
 wrote_words old new at count lock owner way inside is =
     let eight = live_words_length count lock owner way in
     subst (λ (n : ℕ). WroteWithin old new at (at + n)) eight (wrote_part old new at (live_words count lock owner way) is (omega arith))

@@ -24,6 +24,7 @@ pub(crate) fn cut(region: &mut Region, room: Room, size: u32)
     ensures same { Becomes region.old.bytes region.new.bytes (chunks_of region.old.bytes) }
     ensures cut { IsCut region.new.bytes room.at size }
     ensures plain { WritesPlain region.old.bytes region.new.bytes }
+    ensures rest { region.new ≡ record region.old { bytes = region.new.bytes } }
 {
     write_rest(region, room.at + size, room.size - size);
     Header::Free { size }.write(region, room.at);
@@ -34,7 +35,8 @@ fn write_rest(region: &mut Region, at: u32, size: u32)
     requires inside { at + size ≤ length region.old.bytes }
     requires small { length region.old.bytes < 2 ^ 24 }
     requires whole { size % 8 ≡ 0 }
-    ensures { WroteRest region.old.bytes region.new.bytes at size }
+    ensures wrote { WroteRest region.old.bytes region.new.bytes at size }
+    ensures rest { region.new ≡ record region.old { bytes = region.new.bytes } }
 {
     if size > 0 {
         Header::Free { size }.write(region, at);
@@ -50,6 +52,7 @@ pub(crate) fn claim_movable(region: &mut Region, at: u32, slot: Name, count: u32
     requires owner { owner < 16 }
     ensures made { Exchanges region.old.bytes region.new.bytes at (in_front (movable (replicate count 0) 0 owner slot.0)) }
     ensures plain { WritesPlain region.old.bytes region.new.bytes }
+    ensures rest { region.new ≡ record region.old { bytes = region.new.bytes } }
 {
     let header = Header::Movable {
         length: count,
@@ -70,6 +73,7 @@ pub(crate) fn claim_fixed_at(region: &mut Region, at: u32, count: u32, owner: u8
     requires most_owner { owner < 15 }
     ensures made { Exchanges region.old.bytes region.new.bytes at (in_front (fixed (replicate count 0) owner)) }
     ensures plain { WritesPlain region.old.bytes region.new.bytes }
+    ensures rest { region.new ≡ record region.old { bytes = region.new.bytes } }
 {
     let header = Header::Fixed {
         length: count,

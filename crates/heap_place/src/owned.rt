@@ -19,6 +19,7 @@ pub(crate) fn release_owned(region: &mut Region, owner: u8) -> u32
     ensures gone { Becomes region.old.bytes region.new.bytes (owned_freed owner (layout_of region.old.bytes)) }
     ensures count { result ≡ count_by (is_owned_by owner) (layout_of region.old.bytes) }
     ensures plain { WritesPlain region.old.bytes region.new.bytes }
+    ensures rest { region.new ≡ record region.old { bytes = region.new.bytes } }
 {
     let end = region.len() as u32;
     let mut at = area_start(region);

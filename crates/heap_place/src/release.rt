@@ -18,6 +18,7 @@ pub(crate) fn release(region: &mut Region, found: Found) -> u32
     ensures gone { Alters region.old.bytes region.new.bytes (found.place.0 - 8) freed }
     ensures free { FreeUpTo region.new.bytes (found.place.0 - 8) (found.place.0 - 8 + result) }
     ensures plain { WritesPlain region.old.bytes region.new.bytes }
+    ensures rest { region.new ≡ record region.old { bytes = region.new.bytes } }
 {
     let at = found.place.0 - 8;
     let size = size_of_body(found.length);
