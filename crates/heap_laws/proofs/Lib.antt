@@ -20,3 +20,5 @@ pub mod Exchanging
 pub mod Changing
 pub mod Owning
 pub mod Openness
+pub mod Packings
+pub mod Sliding
