@@ -22,3 +22,4 @@ pub mod Owning
 pub mod Openness
 pub mod Packings
 pub mod Sliding
+pub mod Compacting

@@ -1,6 +1,6 @@
 -- Chunks that slide: what names stand for, which chunks stay, the free bytes and the rooms are as they
 -- were. It is shown of packing, and so of any two lists that are packed alike.
-use Rattle.std.proofs.Common.{◌≡◌, ℕ, zero, suc, ◌+◌, ◌<◌, Bool, true, false, cond, List, [], ◌∷◌, ◌++◌, length, Option, Some, None, refl, sym, ap, subst, ◌∙◌, append_assoc, append-nil, arith}
+use Rattle.std.proofs.Common.{◌≡◌, ℕ, zero, suc, ◌+◌, ◌<◌, Bool, true, false, cond, List, [], ◌∷◌, ◌++◌, length, Option, Some, None, refl, sym, ap, subst, ◌∙◌, arith}
 use Rattle.std.specs.Prelude.{All, ◌↔◌, sum_by, ◌==◌, if◌then◌else◌}
 use Rattle.std.proofs.lemmas.List.Elements.{All-nil, All-cons, All-head, All-tail}
 use Rattle.std.proofs.lemmas.List.Sums.{sum_by-cons}
@@ -13,14 +13,12 @@ use Rattle.heap_model.specs.Layout.{free_onto, merged, AllBelow, gap}
 use Rattle.heap_model.specs.Packing.{lives, staying, Slid, packed_behind, packed, opened}
 use Rattle.heap_laws.proofs.Chunks.{total-append}
 use Rattle.heap_laws.proofs.Placed.{TakesBytes}
+use Rattle.heap_laws.proofs.Lives.{move_live, move_place}
 use Rattle.heap_laws.proofs.Layouts.{total-merged, no_run-below, below-no_run, marks, marked, mark_onto, marked_rooms, marks_onto, mark_twice}
 use Rattle.heap_laws.proofs.Exchanging.{gap_total}
 use Rattle.heap_laws.proofs.Packings.{merged-packed, slid_packed, lives_gap}
 
 -- ---- what names stand for
-
-move_live : (m n : ℕ) (cs : List Chunk) (name : ℕ) → m ≡ n → live_under m cs name ≡ live_under n cs name
-move_live m n cs name e = ap (λ (k : ℕ). live_under k cs name) e
 
 gap_live : (at room : ℕ) (cs : List Chunk) (name : ℕ) → live_under at (gap room ++ cs) name ≡ live_under (at + room) cs name
 gap_live at zero cs name = move_live at (at + 0) cs name (omega arith)
@@ -49,9 +47,6 @@ pub slid_live : (at : ℕ) (cs ds : List Chunk) (name : ℕ) → Slid cs ds → 
 slid_live at cs ds name s = sym (packed_live at ds name) ∙ ap (λ (xs : List Chunk). live_under at xs name) (slid_packed cs ds s) ∙ packed_live at cs name
 
 -- ---- what stays
-
-move_place : (m n : ℕ) (cs : List Chunk) (name : ℕ) → m ≡ n → place_under m cs name ≡ place_under n cs name
-move_place m n cs name e = ap (λ (k : ℕ). place_under k cs name) e
 
 gap_place : (at room : ℕ) (cs : List Chunk) (name : ℕ) → place_under at (gap room ++ cs) name ≡ place_under (at + room) cs name
 gap_place at zero cs name = move_place at (at + 0) cs name (omega arith)
