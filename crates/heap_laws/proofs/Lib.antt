@@ -23,3 +23,4 @@ pub mod Openness
 pub mod Packings
 pub mod Sliding
 pub mod Compacting
+pub mod Stretches

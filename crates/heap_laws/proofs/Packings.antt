@@ -71,7 +71,7 @@ first_onto : (c : Chunk) (runs : List (List Chunk)) → first_run (onto_first c 
 first_onto c [] = refl
 first_onto c (run ∷ runs) = refl
 
-no_true : IsTrue false → ⊥
+pub no_true : IsTrue false → ⊥
 no_true h = cc
 
 -- the first run is empty where the first chunk stays

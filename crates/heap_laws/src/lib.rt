@@ -24,6 +24,7 @@
 //! | `Packings` | what packing leaves: it is packed, and one list alone |
 //! | `Sliding` | chunks that slide: what names stand for, which stay, and the rooms are as they were |
 //! | `Compacting` | the same of an image; and which of its chunks have moved, and how much |
+//! | `Stretches` | one stretch of an image: the one around a chunk, and its room among the others |
 //! | `Openness` | what contracts over layouts leave open, by bodies that split and join otherwise |
 //!
 //! `heap_format_tests` tries the definitions on images.
