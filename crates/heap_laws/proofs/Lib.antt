@@ -22,3 +22,9 @@ pub mod Changing
 pub mod Owning
 pub mod Openness
 pub mod Carrying
+pub mod Packings
+pub mod Sliding
+pub mod Compacting
+pub mod Stretches
+pub mod Resizings
+pub mod Relocating
