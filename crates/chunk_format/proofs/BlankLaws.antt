@@ -7,6 +7,7 @@ use Rattle.heap_model.specs.Chunk.{free, IsFree}
 use Rattle.heap_model.specs.Slots.{slot_count, table_end, head_end, area_start, start_behind}
 use Rattle.heap_model.specs.Frame.{magic}
 use Rattle.heap_model.specs.Heap.{IsHead, IsHeap, IsBody}
+use Rattle.heap_laws.proofs.Plain.{plain_word}
 use Rattle.heap_laws.proofs.Frames.{SameBetween, SameBetween-within, SameBetween-then, u32_at-same, u16_at-same, length-overwritten, overwritten-below, overwritten-above, u32_at-written, u16_at-written, length-u32_bytes, length-u16_bytes, u32_at-below, u32_at-zeros, u16_at-zeros, slice_index-zeros, u16_at-below}
 use Rattle.heap_laws.proofs.Meanings.{held-is}
 use Rattle.chunk_format.specs.Blank.{framed, IsPlanned, IsBlank}
@@ -130,5 +131,6 @@ blank_written size slots start image plan is =
       slots_are = r.slots_are;
       heap = subst (λ (n : ℕ). IsHeap image (free (size - n) ∷ [])) start_is heap;
       nothing = λ name. held-is image (free (size - start) ∷ []) name heap;
+      plain = plain_word (u32_at image (start_behind slots)) (size - start) (subst (λ (n : ℕ). u32_at image n ≡ word) start_is r.chunk) (let most = plan.size_right.most in omega arith);
       zeros = λ k low high. sym (r.back.same k (omega arith) high) ∙ slice_index-zeros size k;
     }

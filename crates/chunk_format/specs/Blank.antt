@@ -1,11 +1,12 @@
 -- Blank images.
 use Rattle.std.specs.Prelude.{◌≡◌, ◌≤◌, ◌<◌, ◌+◌, ◌-◌, ◌%◌, ℕ, List, [], ◌∷◌, length, slice_index, None}
 use Rattle.heap_model.specs.Chunk.{free}
-use Rattle.heap_model.specs.Bytes.{u16_bytes, u32_bytes, overwritten}
+use Rattle.heap_model.specs.Bytes.{u32_at, u16_bytes, u32_bytes, overwritten}
 use Rattle.heap_model.specs.Frame.{magic, magic_at, size_at, slot_count_at, least_size, most_size}
 use Rattle.heap_model.specs.Slots.{slot_count, start_behind}
 use Rattle.heap_model.specs.Heap.{IsHeap}
 use Rattle.heap_model.specs.Reading.{held}
+use Rattle.heap_model.specs.Layout.{IsPlain}
 
 -- an image may have this size
 pub record IsRegionSize (size : ℕ) : Type 0 where
@@ -18,13 +19,14 @@ pub record LeavesRoom (size slots : ℕ) : Type 0 where
   pub some_slot : 0 < slots
   pub a_chunk_fits : start_behind slots + 8 ≤ size
 
--- an accepted heap of this size and with so many slots, which holds nothing: one free chunk, and
--- zeros behind its first word
+-- an accepted heap of this size and with so many slots, which holds nothing: one free chunk, in whose
+-- first word nothing but the free bit and the size is set, and zeros behind that word
 pub record IsBlank (size slots : ℕ) (image : List ℕ) : Type 0 where
   pub size_is : length image ≡ size
   pub slots_are : slot_count image ≡ slots
   pub heap : IsHeap image (free (size - start_behind slots) ∷ [])
   pub nothing : (name : ℕ) → held image name ≡ None
+  pub plain : IsPlain (u32_at image (start_behind slots))
   pub zeros : (k : ℕ) → start_behind slots + 4 ≤ k → k < size → slice_index image k ≡ 0
 
 -- bytes over which a frame is written: the magic, the size and the slot count

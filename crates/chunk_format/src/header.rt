@@ -21,7 +21,7 @@ const ABOVE_24_BITS: u32 = 0x100_0000;
 const ABOVE_28_BITS: u32 = 0x1000_0000;
 
 /// The lock field of a fixed chunk. A movable chunk's counts its locks, up to 14.
-const FIXED_LOCK: u8 = 15;
+pub const FIXED_LOCK: u8 = 15;
 
 /// What a chunk is, by its header: the free bit and the lock field tell which (Palm OS Programmer's
 /// Companion, "Memory Architecture").
@@ -47,14 +47,24 @@ pub enum Header {
 }
 
 /// What a chunk with a body of `length` bytes takes: 8 for its header, and the body rounded up to a
-/// multiple of 8. None where that is more than a region can have.
+/// multiple of 8. The caller shows that it is below 2^24, as it is of every chunk within a region.
+#[inline]
+pub fn size_of_body(length: u32) -> u32
+    requires { need length < 2 ^ 24 }
+    ensures { result ≡ need length }
+{
+    8 + 8 * ((length + 7) / 8)
+}
+
+/// What a chunk with a body of `length` bytes takes, as `size_of_body` answers it. None where that is
+/// more than a region can have.
 pub fn chunk_size(length: u32) -> Option<u32>
     ensures { SomeIff result (need length ≤ most_size) (need length) }
 {
     if length > MOST_SIZE - 8 {
         return None;
     }
-    Some(8 + 8 * ((length + 7) / 8))
+    Some(size_of_body(length))
 }
 
 impl Header {
@@ -148,9 +158,7 @@ impl Header {
     {
         match self {
             Header::Free { size } => size,
-            Header::Movable { length, .. } | Header::Fixed { length, .. } => {
-                8 + 8 * ((length + 7) / 8)
-            }
+            Header::Movable { length, .. } | Header::Fixed { length, .. } => size_of_body(length),
         }
     }
 }
@@ -275,7 +283,7 @@ fn write_live(region: &mut Region, at: u32, count: u32, lock: u8, owner: u8, h_o
     ensures after { region.new ≡ record region.old { bytes = overwritten region.old.bytes at (live_words count lock owner h_offset) } }
     ensures len { length region.new.bytes ≡ length region.old.bytes }
 {
-    let size = 8 + 8 * ((count + 7) / 8);
+    let size = size_of_body(count);
     let offset = at as usize;
     region.put_u32(offset, (size - 8 - count) * ABOVE_24_BITS + size);
     let above = lock as u32 * ABOVE_28_BITS + owner as u32 * ABOVE_24_BITS;

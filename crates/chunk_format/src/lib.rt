@@ -24,6 +24,6 @@ pub use frame::{
     FRAME_SIZE, SLOT_SIZE, area_start, directory, has_magic, head_end, is_image_size, reserved,
     size_field, slot_count,
 };
-pub use header::{Header, chunk_size, put_lock, put_owner};
+pub use header::{FIXED_LOCK, Header, chunk_size, put_lock, put_owner, size_of_body};
 pub use image::{BlankFault, blank};
 pub use walk::Walk;

@@ -19,3 +19,5 @@ mod headers;
 mod regions;
 #[cfg(test)]
 mod slots;
+#[cfg(test)]
+mod stretches;

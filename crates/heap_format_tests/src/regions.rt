@@ -37,3 +37,21 @@ fn writes_in_place(rt: HostRuntime) -> Result<(), Fail> {
     assert_eq!(rt; region.slice(0, 12), b"PHI1\0\x12\x34\0azz\0".as_slice());
     Ok(())
 }
+
+#[test]
+fn slides_bytes_where_they_overlap(rt: HostRuntime) -> Result<(), Fail> {
+    let cases: [(usize, usize, usize, &[u8]); 6] = [
+        (2, 0, 4, b"cdefefgh"),
+        (0, 2, 4, b"ababcdgh"),
+        (1, 0, 7, b"bcdefghh"),
+        (0, 1, 7, b"aabcdefg"),
+        (5, 8, 0, b"abcdefgh"),
+        (0, 0, 8, b"abcdefgh"),
+    ];
+    for (from, to, n, after) in cases {
+        let mut region = Region::from_bytes(rt.alloc(), b"abcdefgh")?;
+        region.slide(from, to, n);
+        assert_eq!(rt; region.slice(0, 8), after, "{n} bytes from {from} to {to}");
+    }
+    Ok(())
+}

@@ -166,7 +166,7 @@ body_written old new name at k live (fixed bytes owner) part h f within is =
 -- ---- a header is written over another
 
 -- the body behind a header stays
-body_stays : (old new : List ℕ) (at : ℕ) (bytes others : List ℕ) (lock owner h_offset count holder way : ℕ) → IsLive old at bytes lock owner h_offset → IsLive new at others count holder way → length others ≡ length bytes → WroteWithin old new at (at + 8) → others ≡ bytes
+pub body_stays : (old new : List ℕ) (at : ℕ) (bytes others : List ℕ) (lock owner h_offset count holder way : ℕ) → IsLive old at bytes lock owner h_offset → IsLive new at others count holder way → length others ≡ length bytes → WroteWithin old new at (at + 8) → others ≡ bytes
 body_stays old new at bytes others lock owner h_offset count holder way s t len w =
     let inside = s.inside in
     let same_len = w.len in

@@ -9,6 +9,7 @@ pub mod Placed
 pub mod Accepted
 pub mod Meanings
 pub mod Replacing
+pub mod Plain
 pub mod Lives
 pub mod Layouts
 pub mod Becoming
@@ -20,3 +21,10 @@ pub mod Exchanging
 pub mod Changing
 pub mod Owning
 pub mod Openness
+pub mod Carrying
+pub mod Packings
+pub mod Sliding
+pub mod Compacting
+pub mod Stretches
+pub mod Resizings
+pub mod Relocating

@@ -4,7 +4,7 @@ use Rattle.std.specs.Prelude.{◌⊎◌, ◌↔◌}
 use Rattle.heap_model.specs.Bytes.{u32_at}
 use Rattle.heap_model.specs.Chunk.{Chunk, total, SpelledAll}
 use Rattle.heap_model.specs.Slots.{IsSlot, slot_count, table_end, head_end, area_start, start_behind}
-use Rattle.heap_model.specs.Heap.{IsHead, BodyHere, IsBody, IsCallersIfFixed, ManagersHere, directory_of, IsHeap}
+use Rattle.heap_model.specs.Heap.{IsHead, Tiles, BodyHere, IsBody, IsCallersIfFixed, ManagersHere, directory_of, IsHeap}
 use Rattle.heap_model.specs.Placed.{EveryPlaced, AnyPlaced}
 use Rattle.heap_laws.proofs.Frames.{SameBetween, u16_at-same, u32_at-same}
 use Rattle.heap_laws.proofs.Chunks.{SpelledAll-append, SpelledAll-split, SpelledAll-end, SpelledAll-same}
@@ -87,6 +87,12 @@ replaced_area old new before mid others after at r s =
     subst (λ (n : ℕ). SpelledAll new start (before ++ (others ++ after)) n) (sym len)
     (SpelledAll-append new start before (others ++ after) at (length old) (subst (λ (n : ℕ). SpelledAll new start before n) there front) (SpelledAll-append new at others after (at + total mid) (length old) r.spelled back))
 
+pub replaced_tiles : (old new : List ℕ) (before mid others after : List Chunk) (at : ℕ) → Tiles old (before ++ (mid ++ after)) → Replaces old new before mid others after at → Tiles new (before ++ (others ++ after))
+replaced_tiles old new before mid others after at t r = record {
+  head = head_same old new r.head t.head;
+  area = subst (λ (n : ℕ). SpelledAll new n (before ++ (others ++ after)) (length new)) (sym (same_start old new r.head)) (replaced_area old new before mid others after at r t.area);
+}
+
 -- ---- the heap
 
 -- the slots and bodies of the new image are tied, its fixed chunks are callers', and its directory is there
@@ -107,7 +113,7 @@ replaced_heap old new before mid others after at h r t =
     let rest = EveryPlaced-split IsCallersIfFixed (start + total before) mid after owners.1 in
     let behind : start + total before + total mid ≡ start + total before + total others = omega arith in
     record {
-      tiles = record { head = head_same old new r.head h.tiles.head; area = subst (λ (n : ℕ). SpelledAll new n cs (length new)) (sym starts) (replaced_area old new before mid others after at r h.tiles.area) };
+      tiles = replaced_tiles old new before mid others after at h.tiles r;
       tied = λ slot place positive. (
         λ s. subst (λ (n : ℕ). IsBody n cs slot place) (sym starts) ((t.ties slot place positive).0 (slot_back old new slot r.head s.0, s.1)),
         λ b. let s = (t.ties slot place positive).1 (subst (λ (n : ℕ). IsBody n cs slot place) starts b) in (slot_there old new slot r.head s.0, s.1),

@@ -1,5 +1,5 @@
 -- Big-endian numbers in a list of bytes, and what a write leaves.
-use Rattle.std.specs.Prelude.{◌+◌, ◌++◌, ℕ, List, length, take, drop}
+use Rattle.std.specs.Prelude.{◌+◌, ◌-◌, ◌++◌, ℕ, List, length, take, drop, replicate}
 use Rattle.byteorder.specs.Endian.{big_from, big_bytes}
 
 -- the number in the two bytes at an offset; a byte beyond the end counts as zero
@@ -21,3 +21,7 @@ u32_bytes number = big_bytes 4 number
 -- a list of bytes after others are written over it, from an offset on where they fit
 unfoldable pub overwritten : List ℕ → ℕ → List ℕ → List ℕ
 overwritten old at bytes = take at old ++ bytes ++ drop (at + length bytes) old
+
+-- the first so many bytes of a list, or all of them with zeros behind, so that there are so many
+abbrev pub sized_to : List ℕ → ℕ → List ℕ
+sized_to bytes count = take count bytes ++ replicate (count - length bytes) 0

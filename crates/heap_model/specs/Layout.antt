@@ -1,12 +1,13 @@
 -- The layout of an image: its chunks, with each run of neighbouring free ones as one. What an image
 -- holds, where, and what room is left are functions of its layout and of where its chunks begin. So
 -- contracts say which layout stands afterwards, and leave open how runs of free chunks are split.
-use Rattle.std.specs.Prelude.{◌≡◌, ◌≤◌, ◌<◌, ◌+◌, ◌-◌, ◌++◌, ◌==◌, if◌then◌else◌, ℕ, zero, suc, List, [], ◌∷◌, All}
-use Rattle.heap_model.specs.Bytes.{overwritten}
+use Rattle.std.specs.Prelude.{◌≡◌, ◌≤◌, ◌<◌, ◌+◌, ◌-◌, ◌%◌, ◌^◌, ◌++◌, ◌⊎◌, ◌==◌, if◌then◌else◌, ℕ, zero, suc, List, [], ◌∷◌, All}
+use Rattle.heap_model.specs.Bytes.{u32_at, overwritten}
 use Rattle.heap_model.specs.Chunk.{Chunk, free, movable, fixed, size_of, total, free_size, is_owned_by}
 use Rattle.heap_model.specs.Space.{AllFree}
 use Rattle.heap_model.specs.Slots.{area_start}
 use Rattle.heap_model.specs.Reading.{chunks_of}
+use Rattle.heap_model.specs.Placed.{AnyPlaced}
 use Rattle.heap_model.specs.Placing.{SameFrame}
 
 -- a free chunk in front of others, as one with a free chunk that is first there
@@ -113,3 +114,24 @@ pub record IsRoom (image : List ℕ) (at size : ℕ) : Type 0 where
   pub there : at ≡ area_start image + total before
   pub sums : size ≡ total run
   pub front : layout_of image ≡ merged before ++ merged (run ++ after)
+
+-- ---- the first words of free chunks
+
+-- a first word of a free chunk in which every bit but the free one and those of the size is zero
+abbrev pub IsPlain : ℕ → Type 0
+IsPlain word = word ≡ 2 ^ 31 + word % 2 ^ 24
+
+-- a chunk is free, and begins at an offset
+abbrev pub IsFreeAt : ℕ → ℕ → Chunk → Type 0
+IsFreeAt there at (free size) = at ≡ there
+IsFreeAt there at (movable bytes lock owner slot) = ⊥
+IsFreeAt there at (fixed bytes owner) = ⊥
+
+-- a free chunk of the image begins at an offset
+abbrev pub BeginsFree : List ℕ → ℕ → Type 0
+BeginsFree image there = AnyPlaced (IsFreeAt there) (area_start image) (chunks_of image)
+
+-- Every free chunk of the new image has a plain first word, or began at that offset in the old one with
+-- the first word that it has. So each header of a free chunk that was written in between is plain.
+abbrev pub WritesPlain : List ℕ → List ℕ → Type 0
+WritesPlain old new = (at : ℕ) → BeginsFree new at → IsPlain (u32_at new at) ⊎ (BeginsFree old at × (u32_at new at ≡ u32_at old at))

@@ -12,6 +12,8 @@ pub mod Maps
 pub mod Space
 pub mod Placing
 pub mod Layout
+pub mod Packing
+pub mod Resizing
 pub mod Numbers
 pub mod Refusals
 pub mod Steps

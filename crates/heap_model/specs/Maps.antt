@@ -1,6 +1,6 @@
 -- The changes of a map that calls make. Each leaves every other name as it was.
-use Rattle.std.specs.Prelude.{◌-◌, ◌++◌, ◌==◌, if◌then◌else◌, ℕ, List, length, take, replicate, Option, Some, None}
-use Rattle.heap_model.specs.Bytes.{overwritten}
+use Rattle.std.specs.Prelude.{◌==◌, if◌then◌else◌, ℕ, List, replicate, Option, Some, None}
+use Rattle.heap_model.specs.Bytes.{overwritten, sized_to}
 use Rattle.heap_model.specs.Meaning.{LiveChunk, ChunkMap}
 use Rattle.heap_model.specs.Reading.{held}
 
@@ -31,7 +31,7 @@ put map name at bytes = changed_at map name (λ live. record live { bytes = over
 
 -- a chunk's first bytes, or all of them with zeros behind, so that there are so many
 abbrev pub sized : ChunkMap → ℕ → ℕ → ChunkMap
-sized map name size = changed_at map name (λ live. record live { bytes = take size live.bytes ++ replicate (size - length live.bytes) 0 })
+sized map name size = changed_at map name (λ live. record live { bytes = sized_to live.bytes size })
 
 -- another lock, another owner
 abbrev pub relocked : ChunkMap → ℕ → (ℕ → ℕ) → ChunkMap

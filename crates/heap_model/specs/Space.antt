@@ -1,10 +1,10 @@
 -- Free chunks and free slots: how much there is, and where. And where live chunks are.
 use Rattle.std.specs.Prelude.{◌≡◌, ◌<◌, ◌+◌, ◌++◌, ◌==◌, max, if◌then◌else◌, ℕ, zero, suc, Bool, true, false, List, [], ◌∷◌, length, filter, count_by, sum_by, Option, Some, None, IsSome, All}
 use Rattle.heap_model.specs.Bytes.{u32_at}
-use Rattle.heap_model.specs.Chunk.{Chunk, free, movable, fixed, need, free_size}
+use Rattle.heap_model.specs.Chunk.{Chunk, free, movable, fixed, need, total, free_size}
 use Rattle.heap_model.specs.Slots.{slots_of, area_start}
 use Rattle.heap_model.specs.Meaning.{LiveChunk}
-use Rattle.heap_model.specs.Reading.{chunks_of, held}
+use Rattle.heap_model.specs.Reading.{chunks_of, live_under, held}
 
 -- ---- how much is free
 
@@ -37,6 +37,14 @@ stays (movable bytes zero owner slot) = false
 stays (movable bytes (suc count) owner slot) = true
 stays (fixed bytes owner) = true
 
+-- none of these chunks stays
+abbrev pub NoneStays : List Chunk → Type 0
+NoneStays [] = Unit {0}
+NoneStays (free size ∷ chunks) = NoneStays chunks
+NoneStays (movable bytes zero owner slot ∷ chunks) = NoneStays chunks
+NoneStays (movable bytes (suc count) owner slot ∷ chunks) = ⊥
+NoneStays (fixed bytes owner ∷ chunks) = ⊥
+
 -- a chunk in front of the first of some runs
 abbrev pub onto_first : Chunk → List (List Chunk) → List (List Chunk)
 onto_first chunk [] = (chunk ∷ []) ∷ []
@@ -66,7 +74,11 @@ rooms_of (stretch ∷ others) = room_of stretch ∷ rooms_of others
 abbrev pub rooms : List ℕ → List ℕ
 rooms image = rooms_of (stretches (chunks_of image))
 
--- the same chunks with a name's movable one free
+-- the image is short of so many bytes: each stretch has less room
+abbrev pub Short : List ℕ → ℕ → Type 0
+Short image size = All (λ room. room < size) (rooms image)
+
+-- some chunks with a name's movable one free
 abbrev pub with_freed : List Chunk → ℕ → List Chunk
 with_freed [] name = []
 with_freed (free size ∷ chunks) name = free size ∷ with_freed chunks name
@@ -115,6 +127,19 @@ place_of image name = place_under (area_start image) (chunks_of image) name
 -- Each chunk that was locked or fixed and is still live is where it was.
 abbrev pub Still : List ℕ → List ℕ → Type 0
 Still old new = (name : ℕ) (live : LiveChunk) → held old name ≡ Some live → 0 < live.lock → IsSome (held new name) → place_of new name ≡ place_of old name
+
+-- no chunk that was live and still is has another place
+abbrev pub MovesNothing : List ℕ → List ℕ → Type 0
+MovesNothing old new = (name : ℕ) → IsSome (held old name) → IsSome (held new name) → place_of new name ≡ place_of old name
+
+-- The same of all but those of one stretch: neighbours of which none stays.
+pub record MovesOneStretch (old new : List ℕ) : Type 0 where
+  pub before : List Chunk
+  pub mid : List Chunk
+  pub after : List Chunk
+  pub chunks : chunks_of old ≡ before ++ (mid ++ after)
+  pub none_stays : NoneStays mid
+  pub others : (name : ℕ) → live_under (area_start old + total before) mid name ≡ None → IsSome (held old name) → IsSome (held new name) → place_of new name ≡ place_of old name
 
 abbrev pub is_there : Option ℕ → ℕ → Bool
 is_there None place = false

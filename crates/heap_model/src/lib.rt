@@ -19,6 +19,8 @@
 //! | `Space` | free chunks and free slots: how much there is, and where |
 //! | `Placing` | the frame of an image, which calls leave, and a name's chunk among others |
 //! | `Layout` | the chunks with each run of free ones as one, and changes of these |
+//! | `Packing` | compaction: what it leaves of the chunks, how much it moves, and one stretch whose chunks slide |
+//! | `Resizing` | the chunks around one that takes another length |
 //! | `Refusals` | checks in order, and the refusal that the first one brings |
 //! | `Steps` | what a row says of a call, and the step that it makes, whatever the call acts on |
 //! | `MemorySteps` | the row of each call of the memory manager: what it refuses, answers and does |

@@ -7,7 +7,8 @@ use Rattle.heap_model.specs.Chunk.{Chunk, free, movable, fixed, fixed_lock, need
 use Rattle.heap_model.specs.Slots.{IsSlot, area_start, table_end}
 use Rattle.heap_model.specs.Heap.{HeapAccepted}
 use Rattle.heap_model.specs.Reading.{chunks_of}
-use Rattle.heap_model.specs.Layout.{merged, Becomes, Exchanges, gap, in_front, IsRoom}
+use Rattle.heap_model.specs.Placed.{AnyPlaced}
+use Rattle.heap_model.specs.Layout.{merged, Becomes, Exchanges, gap, in_front, IsRoom, IsPlain, IsFreeAt, WritesPlain}
 use Rattle.heap_laws.proofs.Frames.{u32_at-written, slice-same, slice-overwritten, length-u32_bytes}
 use Rattle.heap_laws.proofs.Chunks.{Spelled-same}
 use Rattle.heap_laws.proofs.Runs.{chunks_of-tiled}
@@ -17,6 +18,7 @@ use Rattle.heap_laws.proofs.Freeing.{free_replaced, OtherSlots, claimed}
 use Rattle.heap_laws.proofs.Layouts.{merged-left, merged-right, runs-merged}
 use Rattle.heap_laws.proofs.Becoming.{becomes_heap, becomes_alike}
 use Rattle.heap_laws.proofs.Exchanging.{gap_free, claims_parts}
+use Rattle.heap_laws.proofs.Plain.{plain_word, live_plain, replaced_plain}
 use Rattle.heap_laws.proofs.Altering.{overwritten_body, claimed_fixed}
 use Rattle.chunk_format.specs.declared.header.Header.TheVariants as headers
 use Rattle.chunk_format.specs.Header.{header_of, HasHeader, header_bytes, live_words, h_offset_to}
@@ -52,8 +54,30 @@ rest_within old mid at_rest rest low high r a b c whole = elim r [
   | inr some ↦ let positive = some.0 in wrote_wider old mid at_rest (at_rest + 4) low high (wrote_word old mid at_rest (2 ^ 31 + rest) some.1.0 (omega arith)) a (omega arith)
 ]
 
+-- what is left has a plain first word
+gap_plain : (old mid new : List ℕ) (at size at_rest rest : ℕ) → at_rest ≡ at + size → 8 ≤ size → at_rest + rest ≤ length mid → rest < 2 ^ 24 → rest % 8 ≡ 0 → WroteWithin mid new at (at + 4) → WroteRest old mid at_rest rest → length mid ≡ length old
+    → (there : ℕ) → AnyPlaced (IsFreeAt there) at_rest (gap rest) → IsPlain (u32_at new there)
+gap_plain old mid new at size at_rest zero e least inside small whole w r len there h = absurd h
+gap_plain old mid new at size at_rest (suc n) e least inside small whole w r len there h = elim r [
+  | inl none ↦ absurd (let z = none.0 in omega arith)
+  | inr some ↦ elim h [
+    | inl here ↦ subst (λ (k : ℕ). IsPlain (u32_at new k)) here
+        (plain_word (u32_at new at_rest) (suc n) (wrote_word_apart mid new at (at + 4) at_rest w (inr (omega arith, omega arith)) ∙ ap (λ (x : List ℕ). u32_at x at_rest) some.1.0 ∙ u32_at-written (2 ^ 31 + suc n) at_rest old (omega arith) (omega arith)) small)
+    | inr later ↦ absurd later
+  ]
+]
+
+-- and so has what was cut off
+cut_plain : (old mid new : List ℕ) (at size rest : ℕ) → 8 ≤ size → at + size + rest ≤ length mid → size + rest < 2 ^ 24 → rest % 8 ≡ 0 → new ≡ overwritten mid at (u32_bytes (2 ^ 31 + size)) → WroteRest old mid (at + size) rest → length mid ≡ length old
+    → (there : ℕ) → AnyPlaced (IsFreeAt there) at (free size ∷ gap rest) → IsPlain (u32_at new there)
+cut_plain old mid new at size rest least inside small whole is r len there h = elim h [
+  | inl here ↦ subst (λ (k : ℕ). IsPlain (u32_at new k)) here
+      (plain_word (u32_at new at) size (ap (λ (x : List ℕ). u32_at x at) is ∙ u32_at-written (2 ^ 31 + size) at mid (omega arith) (omega arith)) (omega arith))
+  | inr later ↦ gap_plain old mid new at size (at + size) rest refl least inside (omega arith) whole (wrote_word mid new at (2 ^ 31 + size) is (omega arith)) r len there later
+]
+
 pub was_cut : (old mid new : List ℕ) (at room size : ℕ) → HeapAccepted old → IsRoom old at room → 8 ≤ size → size % 8 ≡ 0 → size ≤ room → WroteRest old mid (at + size) (room - size)
-    → new ≡ overwritten mid at (u32_bytes (2 ^ 31 + size)) → HasHeader new at (headers.Free size) → Becomes old new (chunks_of old) × IsCut new at size
+    → new ≡ overwritten mid at (u32_bytes (2 ^ 31 + size)) → HasHeader new at (headers.Free size) → Becomes old new (chunks_of old) × IsCut new at size × WritesPlain old new
 was_cut old mid new at room size accepted r least whole within wrote is header =
     let heap = heap_in_parts old (r.before ++ (r.run ++ r.after)) accepted r.chunks in
     let m = middle_of old r.before r.run r.after at heap r.there in
@@ -86,6 +110,7 @@ was_cut old mid new at room size accepted r least whole within wrote is header =
         there = omega arith;
         front = becomes.layout ∙ r.front ∙ ap (λ (cs : List Chunk). merged r.before ++ cs) (sym alike);
       },
+      replaced_plain old new r.before r.run others r.after at r.chunks new_heap replaces (cut_plain old mid new at size rest least (omega arith) (omega arith) (omega arith) is wrote len_mid),
     )
 
 -- where room lies
@@ -203,7 +228,7 @@ claimed_front old new at size d accepted r takes b =
 
 pub claimed_write : (old h z new : List ℕ) (at count owner slot : ℕ) → HeapAccepted old → IsCut old at (need count) → IsSlot old slot → u32_at old slot ≡ 0
     → h ≡ overwritten old at (live_words count 0 owner (h_offset_to at slot)) → HasHeader h at (headers.Movable count 0 owner slot) → z ≡ overwritten h (at + 8) (replicate count 0) → new ≡ overwritten z slot (u32_bytes (at + 8))
-    → Exchanges old new at (in_front (movable (replicate count 0) 0 owner slot))
+    → Exchanges old new at (in_front (movable (replicate count 0) 0 owner slot)) × WritesPlain old new
 claimed_write old h z new at count owner slot accepted r s empty h_is header z_is new_is =
     let size : ℕ = need count in
     let heap = heap_in_parts old (r.before ++ free size ∷ r.after) accepted r.chunks in
@@ -238,8 +263,10 @@ claimed_write old h z new at count owner slot accepted r s empty h_is header z_i
     let replaces : Replaces old new r.before (free size ∷ []) (movable (replicate count 0) 0 owner slot ∷ []) r.after at = area_replaces old new r.before (free size ∷ []) (movable (replicate count 0) 0 owner slot ∷ []) r.after at is (omega arith) wrote (spelled, omega arith) in
     let now : u32_at new slot ≡ at + 8 = ap (λ (x : List ℕ). u32_at x slot) new_is ∙ u32_at-written (at + 8) slot z (omega arith) (omega arith) in
     let others : OtherSlots old new slot = record { same = λ t ts ne. area_slots old new at (at + (size + 0)) t wrote ts (omega arith) (λ e. ne (sym (slot_of e))) } in
-    let c = claimed old new r.before r.after at size (replicate count 0) owner slot heap replaces s empty now others in
-    claimed_front old new at size (movable (replicate count 0) 0 owner slot) accepted r takes (becomes_heap old new (r.before ++ movable (replicate count 0) 0 owner slot ∷ r.after) replaces.head c) where
+    let c = claimed old new r.before r.after at size (replicate count 0) owner slot heap replaces s empty now others in (
+      claimed_front old new at size (movable (replicate count 0) 0 owner slot) accepted r takes (becomes_heap old new (r.before ++ movable (replicate count 0) 0 owner slot ∷ r.after) replaces.head c),
+      replaced_plain old new r.before (free size ∷ []) (movable (replicate count 0) 0 owner slot ∷ []) r.after at r.chunks c replaces (live_plain new at (movable (replicate count 0) 0 owner slot) refl (omega arith)),
+    ) where
       slot_of : {t : ℕ} → slot ≡ t → slot ≡ t
       slot_of e = e
 
@@ -257,13 +284,13 @@ overwritten_whole : (old part : List ℕ) → length part ≡ length old → ove
 unfolding overwritten
 overwritten_whole old part len = let all : length old ≤ 0 + length part = omega arith in rw (drop_all (0 + length part) old all) (append-nil part)
 
-wrote_words : (old new : List ℕ) (at count lock owner way : ℕ) → at + need count ≤ length old → new ≡ overwritten old at (live_words count lock owner way) → WroteWithin old new at (at + 8)
+pub wrote_words : (old new : List ℕ) (at count lock owner way : ℕ) → at + need count ≤ length old → new ≡ overwritten old at (live_words count lock owner way) → WroteWithin old new at (at + 8)
 wrote_words old new at count lock owner way inside is =
     let eight = live_words_length count lock owner way in
     subst (λ (n : ℕ). WroteWithin old new at (at + n)) eight (wrote_part old new at (live_words count lock owner way) is (omega arith))
 
 pub fixed_claimed : (old mid new : List ℕ) (at count owner : ℕ) → HeapAccepted old → IsCut old at (need count) → 0 < owner → owner < 15 → mid ≡ overwritten old at (header_bytes at (headers.Fixed count owner)) → HasHeader mid at (headers.Fixed count owner)
-    → new ≡ overwritten mid (at + 8) (replicate count 0) → Exchanges old new at (in_front (fixed (replicate count 0) owner))
+    → new ≡ overwritten mid (at + 8) (replicate count 0) → Exchanges old new at (in_front (fixed (replicate count 0) owner)) × WritesPlain old new
 fixed_claimed old mid new at count owner h r some most mid_is header new_is =
     let heap = heap_in_parts old (r.before ++ free (need count) ∷ r.after) h r.chunks in
     let facts = cut_facts old (need count) at h r in
@@ -283,7 +310,9 @@ fixed_claimed old mid new at count owner h r some most mid_is header new_is =
     let there = r.there in
     let area : WroteArea old new at (at + (need count + 0)) = subst (λ (n : ℕ). WroteArea old new at (at + n)) (sym size) record { mid = new; slot = at; area = both; word = wrote_none new at (at + 4); is_slot = inl refl; there = omega arith; fits = omega arith } in
     let replaces = area_replaces old new r.before (free (need count) ∷ []) (fixed (replicate count 0) owner ∷ []) r.after at (omega arith) (omega arith) area (spelled, omega arith) in
-    claimed_front old new at (need count) (fixed (replicate count 0) owner) h r takes
-    (becomes_heap old new (r.before ++ fixed (replicate count 0) owner ∷ r.after) replaces.head
-    (claimed_fixed old new r.before r.after at (need count) (replicate count 0) owner heap replaces
-    (record { same = λ slot s. let high : slot < table_end old = s.in_table in let whole : slot % 4 ≡ 0 = s.whole in wrote_word_apart old new at (at + need count) slot both (inl (omega arith)) }) some most))
+    let c =
+    claimed_fixed old new r.before r.after at (need count) (replicate count 0) owner heap replaces
+    (record { same = λ slot s. let high : slot < table_end old = s.in_table in let whole : slot % 4 ≡ 0 = s.whole in wrote_word_apart old new at (at + need count) slot both (inl (omega arith)) }) some most in (
+      claimed_front old new at (need count) (fixed (replicate count 0) owner) h r takes (becomes_heap old new (r.before ++ fixed (replicate count 0) owner ∷ r.after) replaces.head c),
+      replaced_plain old new r.before (free (need count) ∷ []) (fixed (replicate count 0) owner ∷ []) r.after at r.chunks c replaces (live_plain new at (fixed (replicate count 0) owner) refl (omega arith)),
+    )

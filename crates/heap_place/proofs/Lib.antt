@@ -6,3 +6,8 @@ pub mod CutLaws
 pub mod ReleaseLaws
 pub mod AlterLaws
 pub mod OwnedLaws
+pub mod CarriedLaws
+pub mod CopyLaws
+pub mod MendLaws
+pub mod MendingLaws
+pub mod LiftLaws

@@ -11,9 +11,10 @@ use Rattle.heap_model.specs.Meaning.{LiveChunk, NamedHere}
 use Rattle.heap_model.specs.Reading.{chunks_of}
 use Rattle.heap_model.specs.Space.{AllFree}
 use Rattle.heap_model.specs.Placing.{Finds}
-use Rattle.heap_model.specs.Layout.{merged, layout_of, Becomes, Alters, FreeUpTo, freed, owned_freed}
+use Rattle.heap_model.specs.Layout.{merged, layout_of, Becomes, Alters, FreeUpTo, freed, owned_freed, WritesPlain}
 use Rattle.heap_laws.proofs.Deciding.{cond-true, cond-false, true_or_false}
 use Rattle.heap_laws.proofs.Chunks.{total-append, SpelledAll-split, SpelledAll-end}
+use Rattle.heap_laws.proofs.Plain.{plain_same, plain_then}
 use Rattle.heap_laws.proofs.Placed.{TakesBytes, SpelledAll-takes, AnyPlaced-left, AnyPlaced-split, EveryPlaced-split}
 use Rattle.heap_laws.proofs.Finding.{read_heap, finds_held}
 use Rattle.heap_laws.proofs.Layouts.{any-merged}
@@ -191,6 +192,7 @@ freeing_start image owner h = record {
   passed = passed_start image (NoneOwned owner) h refl;
   counted = let e = owned-merged owner (chunks_of image) in omega arith;
   few = omega arith;
+  plain = plain_same image;
 }
 
 pub freeing_there : (old now : List ℕ) (owner at count : ℕ) → Freeing old now owner at count → at < length now → (c : Chunk) × Spelled now at c
@@ -205,12 +207,13 @@ freeing_kept old now owner at count header size f has not_own is =
       passed = passed_more now (NoneOwned owner) (NoneOwned owner) at header f.passed has (none_more owner f.passed.front has.chunk f.passed.holds other);
       counted = f.counted;
       few = let few = f.few in omega arith;
+      plain = f.plain;
     }
 
 -- one more was given back
 pub freeing_more : (old now new : List ℕ) (owner at count size : ℕ) (header : Header) (found : Found) → Freeing old now owner at count → (has : HasHeader now at header) → owned_by header (placed (at + 8)) owner ≡ Some found → Alters now new (found.place.0 - 8) freed
-    → FreeUpTo new (found.place.0 - 8) (found.place.0 - 8 + size) → Freeing old new owner (at + size) (count + 1) × (at + size ≤ length now) × (8 ≤ size)
-freeing_more old now new owner at count size header found f has is x v =
+    → FreeUpTo new (found.place.0 - 8) (found.place.0 - 8 + size) → WritesPlain now new → Freeing old new owner (at + size) (count + 1) × (at + size ≤ length now) × (8 ≤ size)
+freeing_more old now new owner at count size header found f has is x v p =
     let o = owned_named at owner header has.chunk found has.header_is is in
     let place = o.place in
     let back : found.place.0 - 8 ≡ at = omega arith in
@@ -249,13 +252,14 @@ freeing_more old now new owner at count size header found f has is x v =
         };
         counted = omega arith;
         few = omega arith;
+        plain = plain_then old now new f.plain p;
       },
       omega arith,
       omega arith,
     )
 
-pub freeing_all : (old now : List ℕ) (owner at count : ℕ) → Freeing old now owner at count → length now ≤ at → Becomes old now (owned_freed owner (layout_of old)) × (count ≡ owned owner (layout_of old))
+pub freeing_all : (old now : List ℕ) (owner at count : ℕ) → Freeing old now owner at count → length now ≤ at → Becomes old now (owned_freed owner (layout_of old)) × (count ≡ owned owner (layout_of old)) × WritesPlain old now
 freeing_all old now owner at count f beyond =
     let none : owned owner (chunks_of now) ≡ 0 = passed_all now (NoneOwned owner) at f.frame.accepted f.passed beyond in
     let counted = f.counted in
-    (record { frame = f.frame; layout = ap merged (sym (owned_freed-none owner (chunks_of now) none)) ∙ f.same }, omega arith)
+    (record { frame = f.frame; layout = ap merged (sym (owned_freed-none owner (chunks_of now) none)) ∙ f.same }, omega arith, f.plain)

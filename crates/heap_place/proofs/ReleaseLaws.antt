@@ -7,7 +7,7 @@ use Rattle.heap_model.specs.Heap.{ManagersHere, directory_of, IsHeap, HeapAccept
 use Rattle.heap_model.specs.Meaning.{LiveChunk, NamedHere}
 use Rattle.heap_model.specs.Reading.{chunks_of}
 use Rattle.heap_model.specs.Space.{AllFree}
-use Rattle.heap_model.specs.Layout.{merged, Alters, FreeUpTo, freed}
+use Rattle.heap_model.specs.Layout.{merged, Alters, FreeUpTo, freed, IsPlain, WritesPlain}
 use Rattle.heap_model.specs.Placing.{Finds}
 use Rattle.heap_laws.proofs.Frames.{u32_at-written}
 use Rattle.heap_laws.proofs.Chunks.{Spelled-size, Spelled-same}
@@ -18,7 +18,8 @@ use Rattle.heap_laws.proofs.Layouts.{merged-middle, runs-merged}
 use Rattle.heap_laws.proofs.Becoming.{becomes_heap, becomes_alike}
 use Rattle.heap_laws.proofs.Exchanging.{exchanges_parts}
 use Rattle.heap_laws.proofs.Changing.{named_live_chunk}
-use Rattle.heap_laws.proofs.Writing.{WroteWithin, wrote_none, wrote_word, wrote_wider, wrote_apart, WroteArea, area_replaces, area_slots}
+use Rattle.heap_laws.proofs.Writing.{WroteWithin, wrote_none, wrote_word, wrote_wider, wrote_apart, wrote_word_apart, WroteArea, area_replaces, area_slots}
+use Rattle.heap_laws.proofs.Plain.{plain_word, replaced_plain}
 use Rattle.heap_laws.proofs.Freeing.{OtherSlots, ClearsSlot, released}
 use Rattle.chunk_format.specs.declared.header.Header.TheVariants as headers
 use Rattle.chunk_format.specs.Header.{HasHeader}
@@ -82,12 +83,17 @@ slot_stays old mid at all name live (movable bytes l o s) accepted f loose is =
     let there = g.middle.there in
     table_kept old mid at (at + total (movable bytes l o s ∷ g.run)) name accepted (first_word old mid at all (movable bytes l o s) g is) (omega arith) (omega arith) (subst (λ (n : ℕ). IsSlot old n) f.named.0 (own_slot old name at live bytes l o s accepted f))
 
+-- the word that is written for the free chunk
+first_is : (old mid : List ℕ) (at all : ℕ) → mid ≡ overwritten old at (u32_bytes (2 ^ 31 + all)) → at + 4 ≤ length old → all < 2 ^ 24 → u32_at mid at ≡ 2 ^ 31 + all
+first_is old mid at all is inside small = ap (λ (x : List ℕ). u32_at x at) is ∙ u32_at-written (2 ^ 31 + all) at old inside (omega arith)
+
 -- the two writes: one among the chunks, and one to the slot
 record Given (old new : List ℕ) (at all name : ℕ) (chunk : Chunk) (g : Giving old at chunk) : Type 0 where
   pub area : WroteArea old new at (at + total (chunk ∷ g.run))
   pub clears : ClearsSlot new chunk
   pub others : OtherSlots old new name
   pub spelled : Spelled new at (free all)
+  pub word : u32_at new at ≡ 2 ^ 31 + all
 
 given : (old mid new : List ℕ) (at all name : ℕ) (live : LiveChunk) (chunk : Chunk) → HeapAccepted old → (g : Giving old at chunk) → Finds old name live chunk at → all ≡ total (chunk ∷ g.run)
     → mid ≡ overwritten old at (u32_bytes (2 ^ 31 + all)) → HasHeader mid at (headers.Free all) → Emptied mid chunk new → Given old new at all name chunk g
@@ -109,6 +115,7 @@ given old mid new at all name live (movable bytes lock owner slot) accepted g f 
       clears = ap (λ (x : List ℕ). u32_at x slot) emptied ∙ u32_at-written 0 slot mid (omega arith) (omega arith);
       others = record { same = λ t ts ne. area_slots old new at (at + total (c ∷ g.run)) t area ts (omega arith) (λ e. ne (sym e ∙ f.named.0)) };
       spelled = Spelled-same mid new at (free all) (wrote_apart mid new slot (slot + 4) at (at + all) word (inr (omega arith, omega arith))) word.len (has_free mid at all header);
+      word = wrote_word_apart mid new slot (slot + 4) at word (inr (omega arith, omega arith)) ∙ first_is old mid at all is (omega arith) (omega arith);
     }
 given old mid new at all name live (fixed bytes owner) accepted g f sums is header emptied =
     let c : Chunk = fixed bytes owner in
@@ -122,6 +129,7 @@ given old mid new at all name live (fixed bytes owner) accepted g f sums is head
       clears = tt;
       others = record { same = λ t ts ne. area_slots old new at (at + total (c ∷ g.run)) t area ts (omega arith) (λ e. beyond t ts e) };
       spelled = subst (λ (image : List ℕ). Spelled image at (free all)) (sym emptied) (has_free mid at all header);
+      word = ap (λ (x : List ℕ). u32_at x at) emptied ∙ first_is old mid at all is (omega arith) (omega arith);
     } where
       beyond : (t : ℕ) → IsSlot old t → at ≡ t → ⊥
       beyond t ts e = let high : t < table_end old = ts.in_table in let there = g.middle.there in omega arith
@@ -133,7 +141,7 @@ not_directory image at name live (movable bytes lock owner slot) apart n m = apa
 not_directory image at name live (fixed bytes owner) apart n m = m
 
 pub gave_back : (old mid new : List ℕ) (at all name : ℕ) (live : LiveChunk) (chunk : Chunk) → HeapAccepted old → name ≢ directory_of old → Finds old name live chunk at → all ≡ size_of chunk + free_size_at old (at + size_of chunk)
-    → mid ≡ overwritten old at (u32_bytes (2 ^ 31 + all)) → HasHeader mid at (headers.Free all) → Emptied mid chunk new → Alters old new at freed × FreeUpTo new at (at + all)
+    → mid ≡ overwritten old at (u32_bytes (2 ^ 31 + all)) → HasHeader mid at (headers.Free all) → Emptied mid chunk new → Alters old new at freed × FreeUpTo new at (at + all) × WritesPlain old new
 gave_back old mid new at all name live chunk accepted own f sums is header emptied =
     let g = giving old at name live chunk accepted f in
     let behind_it = g.sums in
@@ -148,6 +156,10 @@ gave_back old mid new at all name live chunk accepted own f sums is header empti
       (exchanges_parts old new at (λ c. freed c ∷ []) g.before chunk (g.run ++ g.rest) accepted (named_live_chunk name at live chunk f.named) g.chunks there).1
           (becomes_alike old new (g.before ++ free all ∷ g.rest) (g.before ++ free (size_of chunk) ∷ (g.run ++ g.rest)) alike (becomes_heap old new (g.before ++ free all ∷ g.rest) replaces.head heap)),
       record { before = g.before; run = free all ∷ []; after = g.rest; chunks = chunks_of-tiled new (g.before ++ free all ∷ g.rest) heap.tiles; all_free = tt; from = omega arith; to = omega arith; least = omega arith },
+      replaced_plain old new g.before (chunk ∷ g.run) (free all ∷ []) g.rest at g.chunks heap replaces (λ there h. elim h [
+        | inl here ↦ subst (λ (k : ℕ). IsPlain (u32_at new k)) here (plain_word (u32_at new at) all w.word (omega arith))
+        | inr later ↦ absurd later
+      ]),
     )
 
 -- ---- of a chunk that was found
@@ -185,7 +197,7 @@ emptied_fixed image mid at name live (fixed bytes owner) h f is = refl
 
 pub gave_back_found : (old mid new : List ℕ) (found : Found) (size more : ℕ) → HeapAccepted old → (f : IsOne old found) → found.name.0 ≢ directory_of old → size ≡ need found.length → more ≡ free_size_at old (found.place.0 - 8 + size)
     → mid ≡ overwritten old (found.place.0 - 8) (u32_bytes (2 ^ 31 + (size + more))) → HasHeader mid (found.place.0 - 8) (headers.Free (size + more)) → Emptied mid f.chunk new
-    → Alters old new (found.place.0 - 8) freed × FreeUpTo new (found.place.0 - 8) (found.place.0 - 8 + (size + more))
+    → Alters old new (found.place.0 - 8) freed × FreeUpTo new (found.place.0 - 8) (found.place.0 - 8 + (size + more)) × WritesPlain old new
 gave_back_found old mid new found size more h f apart size_is more_is is header emptied =
     let at : ℕ = found.place.0 - 8 in
     let sizes : size ≡ size_of f.chunk = size_is ∙ found_size old found f in

@@ -5,7 +5,7 @@ use Rattle.heap_model.specs.Chunk.{Chunk, free, movable, fixed, total, free_size
 use Rattle.heap_model.specs.Slots.{area_start}
 use Rattle.heap_model.specs.Reading.{chunk_at, chunks_of}
 use Rattle.heap_model.specs.Space.{AllFree}
-use Rattle.heap_model.specs.Layout.{merged, layout_of, owned_freed}
+use Rattle.heap_model.specs.Layout.{merged, layout_of, owned_freed, WritesPlain}
 use Rattle.heap_model.specs.Placing.{SameFrame}
 use Rattle.chunk_format.specs.Header.{HasHeader}
 use Rattle.chunk_format.specs.declared.header.Header.{Header}
@@ -106,3 +106,4 @@ pub record Freeing (old now : List ℕ) (owner at count : ℕ) : Type 0 where
   pub passed : Passed now (NoneOwned owner) at
   pub counted : count + count_by (is_owned_by owner) (chunks_of now) ≡ count_by (is_owned_by owner) (layout_of old)
   pub few : 8 * count ≤ at
+  pub plain : WritesPlain old now

@@ -17,7 +17,8 @@ pub(crate) fn relock_at(region: &mut Region, found: Found, lock: u8)
     requires movable { found.lock < fixed_lock }
     requires lock { lock < fixed_lock }
     requires owned { (lock ≡ 0) ⊎ (0 < found.owner) }
-    ensures { Alters region.old.bytes region.new.bytes (found.place.0 - 8) (with_lock lock) }
+    ensures made { Alters region.old.bytes region.new.bytes (found.place.0 - 8) (with_lock lock) }
+    ensures rest { region.new ≡ record region.old { bytes = region.new.bytes } }
 {
     put_lock(region, found.place.0 - 8, lock);
 }
@@ -27,7 +28,8 @@ pub(crate) fn reown_at(region: &mut Region, found: Found, owner: u8)
     requires accepted { HeapAccepted region.old.bytes }
     requires found { IsOne region.old.bytes found }
     requires owner { CanGoTo region.old.bytes found owner }
-    ensures { Alters region.old.bytes region.new.bytes (found.place.0 - 8) (with_owner owner) }
+    ensures made { Alters region.old.bytes region.new.bytes (found.place.0 - 8) (with_owner owner) }
+    ensures rest { region.new ≡ record region.old { bytes = region.new.bytes } }
 {
     put_owner(region, found.place.0 - 8, owner);
 }

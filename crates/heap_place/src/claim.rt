@@ -6,7 +6,7 @@ ghost use Rattle.heap_model.specs.Chunk.{movable, fixed, need};
 ghost use Rattle.heap_model.specs.Slots.{IsSlot};
 ghost use Rattle.heap_model.specs.Heap.{HeapAccepted};
 ghost use Rattle.heap_model.specs.Reading.{chunks_of};
-ghost use Rattle.heap_model.specs.Layout.{Becomes, Exchanges, in_front, IsRoom};
+ghost use Rattle.heap_model.specs.Layout.{Becomes, Exchanges, in_front, IsRoom, WritesPlain};
 ghost use Rattle.heap_place.specs.Search.{IsCut, WroteRest};
 
 use crate::room::Room;
@@ -23,6 +23,8 @@ pub(crate) fn cut(region: &mut Region, room: Room, size: u32)
     requires within { size ≤ room.size }
     ensures same { Becomes region.old.bytes region.new.bytes (chunks_of region.old.bytes) }
     ensures cut { IsCut region.new.bytes room.at size }
+    ensures plain { WritesPlain region.old.bytes region.new.bytes }
+    ensures rest { region.new ≡ record region.old { bytes = region.new.bytes } }
 {
     write_rest(region, room.at + size, room.size - size);
     Header::Free { size }.write(region, room.at);
@@ -33,7 +35,8 @@ fn write_rest(region: &mut Region, at: u32, size: u32)
     requires inside { at + size ≤ length region.old.bytes }
     requires small { length region.old.bytes < 2 ^ 24 }
     requires whole { size % 8 ≡ 0 }
-    ensures { WroteRest region.old.bytes region.new.bytes at size }
+    ensures wrote { WroteRest region.old.bytes region.new.bytes at size }
+    ensures rest { region.new ≡ record region.old { bytes = region.new.bytes } }
 {
     if size > 0 {
         Header::Free { size }.write(region, at);
@@ -47,7 +50,9 @@ pub(crate) fn claim_movable(region: &mut Region, at: u32, slot: Name, count: u32
     requires slot { IsSlot region.old.bytes slot.0 }
     requires empty { u32_at region.old.bytes slot.0 ≡ 0 }
     requires owner { owner < 16 }
-    ensures { Exchanges region.old.bytes region.new.bytes at (in_front (movable (replicate count 0) 0 owner slot.0)) }
+    ensures made { Exchanges region.old.bytes region.new.bytes at (in_front (movable (replicate count 0) 0 owner slot.0)) }
+    ensures plain { WritesPlain region.old.bytes region.new.bytes }
+    ensures rest { region.new ≡ record region.old { bytes = region.new.bytes } }
 {
     let header = Header::Movable {
         length: count,
@@ -66,7 +71,9 @@ pub(crate) fn claim_fixed_at(region: &mut Region, at: u32, count: u32, owner: u8
     requires cut { IsCut region.old.bytes at (need count) }
     requires some_owner { 0 < owner }
     requires most_owner { owner < 15 }
-    ensures { Exchanges region.old.bytes region.new.bytes at (in_front (fixed (replicate count 0) owner)) }
+    ensures made { Exchanges region.old.bytes region.new.bytes at (in_front (fixed (replicate count 0) owner)) }
+    ensures plain { WritesPlain region.old.bytes region.new.bytes }
+    ensures rest { region.new ≡ record region.old { bytes = region.new.bytes } }
 {
     let header = Header::Fixed {
         length: count,

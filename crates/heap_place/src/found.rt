@@ -4,11 +4,8 @@ ghost use Rattle.std.specs.Prelude.{◌≡◌, ◌<◌, ◌^◌};
 ghost use Rattle.heap_model.specs.Chunk.{need};
 ghost use Rattle.heap_place.specs.Found.{movable_by, fixed_by};
 
-use chunk_format::Header;
+use chunk_format::{FIXED_LOCK, Header};
 use heap_model::{Name, Place};
-
-/// The lock of a fixed chunk.
-pub(crate) const FIXED_LOCK: u8 = 15;
 
 /// A live chunk: its name, where its body is, how many bytes that has, its lock (15 if it is fixed) and
 /// its owner.
@@ -19,15 +16,6 @@ pub struct Found {
     pub length: u32,
     pub lock: u8,
     pub owner: u8,
-}
-
-/// What a chunk with a body of `count` bytes takes, where that is at most what a region can have.
-#[inline]
-pub(crate) fn size_of_body(count: u32) -> u32
-    requires { need count < 2 ^ 24 }
-    ensures { result ≡ need count }
-{
-    8 + 8 * ((count + 7) / 8)
 }
 
 /// The chunk whose body is at a place, if its header is a movable one's.

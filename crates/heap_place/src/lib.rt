@@ -23,6 +23,7 @@
 mod alter;
 mod claim;
 mod found;
+mod lift;
 mod lookup;
 mod owned;
 mod release;

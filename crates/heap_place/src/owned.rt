@@ -3,12 +3,12 @@
 ghost use Rattle.std.specs.Prelude.{◌≡◌, ◌≤◌, ◌<◌, ◌+◌, ◌^◌, count_by, length};
 ghost use Rattle.heap_model.specs.Chunk.{is_owned_by};
 ghost use Rattle.heap_model.specs.Heap.{HeapAccepted};
-ghost use Rattle.heap_model.specs.Layout.{Becomes, layout_of, owned_freed};
+ghost use Rattle.heap_model.specs.Layout.{Becomes, layout_of, owned_freed, WritesPlain};
 ghost use Rattle.heap_place.specs.Found.{owned_by};
 
-use crate::found::{FIXED_LOCK, Found};
+use crate::found::Found;
 use crate::release::release;
-use chunk_format::{Header, area_start};
+use chunk_format::{FIXED_LOCK, Header, area_start};
 use heap_model::{Name, Place};
 use raw_region::Region;
 
@@ -18,6 +18,8 @@ pub(crate) fn release_owned(region: &mut Region, owner: u8) -> u32
     requires some_owner { 0 < owner }
     ensures gone { Becomes region.old.bytes region.new.bytes (owned_freed owner (layout_of region.old.bytes)) }
     ensures count { result ≡ count_by (is_owned_by owner) (layout_of region.old.bytes) }
+    ensures plain { WritesPlain region.old.bytes region.new.bytes }
+    ensures rest { region.new ≡ record region.old { bytes = region.new.bytes } }
 {
     let end = region.len() as u32;
     let mut at = area_start(region);

@@ -2,12 +2,12 @@
 
 ghost use Rattle.std.specs.Prelude.{◌≡◌, ◌≢◌, ◌<◌, ◌+◌, ◌-◌, ◌^◌, length};
 ghost use Rattle.heap_model.specs.Heap.{HeapAccepted, directory_of};
-ghost use Rattle.heap_model.specs.Layout.{Alters, FreeUpTo, freed};
+ghost use Rattle.heap_model.specs.Layout.{Alters, FreeUpTo, freed, WritesPlain};
 ghost use Rattle.heap_place.specs.Found.{IsOne};
 ghost use Rattle.heap_place.specs.Search.{free_size_at};
 
-use crate::found::{FIXED_LOCK, Found, size_of_body};
-use chunk_format::Header;
+use crate::found::Found;
+use chunk_format::{FIXED_LOCK, Header, size_of_body};
 use raw_region::Region;
 
 /// Makes a live chunk free, with the free chunk behind it, and empties its slot, if it has one.
@@ -17,6 +17,8 @@ pub(crate) fn release(region: &mut Region, found: Found) -> u32
     requires no_directory { found.name.0 ≢ directory_of region.old.bytes }
     ensures gone { Alters region.old.bytes region.new.bytes (found.place.0 - 8) freed }
     ensures free { FreeUpTo region.new.bytes (found.place.0 - 8) (found.place.0 - 8 + result) }
+    ensures plain { WritesPlain region.old.bytes region.new.bytes }
+    ensures rest { region.new ≡ record region.old { bytes = region.new.bytes } }
 {
     let at = found.place.0 - 8;
     let size = size_of_body(found.length);

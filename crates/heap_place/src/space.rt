@@ -7,17 +7,18 @@ ghost use Rattle.heap_model.specs.Slots.{IsSlot};
 ghost use Rattle.heap_model.specs.Heap.{HeapAccepted, directory_of};
 ghost use Rattle.heap_model.specs.Reading.{chunks_of, held};
 ghost use Rattle.heap_model.specs.Space.{NoRun, free_total};
-ghost use Rattle.heap_model.specs.Layout.{Becomes, layout_of, owned_freed, Exchanges, Alters, in_front, freed, with_lock, with_owner, with_bytes, FreeUpTo, IsRoom};
+ghost use Rattle.heap_model.specs.Layout.{Becomes, layout_of, owned_freed, Exchanges, Alters, in_front, freed, with_lock, with_owner, with_bytes, FreeUpTo, IsRoom, WritesPlain};
 ghost use Rattle.heap_place.specs.Found.{IsFound, IsOne, NothingAt, CanGoTo};
 
 use crate::alter::{relock_at, reown_at};
 use crate::claim::{claim_fixed_at, claim_movable, cut};
-use crate::found::{Found, size_of_body};
+use crate::found::Found;
 use crate::lookup::{find_named, find_placed};
 use crate::owned::release_owned;
 use crate::release::release;
 use crate::room::{Room, find_room};
 use crate::walks::free_bytes;
+use chunk_format::size_of_body;
 use heap_model::{Name, Place};
 use raw_region::Region;
 use std::marker::Model;
@@ -111,6 +112,7 @@ impl Space {
         requires empty { u32_at self.old.bytes slot.0 ≡ 0 }
         requires owner { owner < 16 }
         ensures made { Exchanges self.old.bytes self.new.bytes room.at (in_front (movable (replicate count 0) 0 owner slot.0)) }
+        ensures plain { WritesPlain self.old.bytes self.new.bytes }
         ensures rest { self.new ≡ record self.old { bytes = self.new.bytes } }
     {
         cut(&mut self.region, room, size_of_body(count));
@@ -126,6 +128,7 @@ impl Space {
         requires most_owner { owner < 15 }
         ensures made { Exchanges self.old.bytes self.new.bytes room.at (in_front (fixed (replicate count 0) owner)) }
         ensures name { result.0 ≡ room.at + 8 }
+        ensures plain { WritesPlain self.old.bytes self.new.bytes }
         ensures rest { self.new ≡ record self.old { bytes = self.new.bytes } }
     {
         cut(&mut self.region, room, size_of_body(count));
@@ -141,6 +144,7 @@ impl Space {
         requires no_directory { found.name.0 ≢ directory_of self.old.bytes }
         ensures gone { Alters self.old.bytes self.new.bytes (found.place.0 - 8) freed }
         ensures free { FreeUpTo self.new.bytes (found.place.0 - 8) (found.place.0 - 8 + result) }
+        ensures plain { WritesPlain self.old.bytes self.new.bytes }
         ensures rest { self.new ≡ record self.old { bytes = self.new.bytes } }
     {
         release(&mut self.region, found)
@@ -153,6 +157,7 @@ impl Space {
         requires some_owner { 0 < owner }
         ensures gone { Becomes self.old.bytes self.new.bytes (owned_freed owner (layout_of self.old.bytes)) }
         ensures count { result ≡ count_by (is_owned_by owner) (layout_of self.old.bytes) }
+        ensures plain { WritesPlain self.old.bytes self.new.bytes }
         ensures rest { self.new ≡ record self.old { bytes = self.new.bytes } }
     {
         release_owned(&mut self.region, owner)

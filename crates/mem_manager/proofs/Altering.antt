@@ -22,7 +22,7 @@ use Rattle.heap_laws.proofs.Changing.{lock_changes, owner_changes, bytes_changes
 use Rattle.heap_laws.proofs.Owning.{not_directory}
 use Rattle.heap_place.specs.declared.found.Found.{Found}
 use Rattle.heap_place.specs.Found.{IsFound, CanGoTo}
-use Rattle.mem_manager.proofs.Stepping.{known, of_known, not_of_known, is_known, unchanged, refused, altered}
+use Rattle.mem_manager.proofs.Stepping.{OnlyBytes, known, of_known, not_of_known, is_known, unchanged, refused, altered}
 
 -- ---- the chunk that is there
 
@@ -90,12 +90,12 @@ can_go_to image name found owner h f positive caller = record {
 -- ---- each call, where it is done
 
 pub locked : (old new : Memory) (name : Name) (found : Found) (count : ℕ) → HeapAccepted old.bytes → (f : IsFound old.bytes name.0 found) → 1 ≤ found.owner → found.lock ≢ fixed_lock → found.lock ≢ 14 → count ≡ found.lock + 1
-    → ChangesName old.bytes new.bytes name.0 (Some (record f.live { lock = count })) (Some found.place.0) → Does old (Lock name) (Locked found.place count) new
-locked old new name found count h f positive loose few is ch =
+    → ChangesName old.bytes new.bytes name.0 (Some (record f.live { lock = count })) (Some found.place.0) → OnlyBytes old new → Does old (Lock name) (Locked found.place count) new
+locked old new name found count h f positive loose few is ch rest =
     let k = known old.bytes name.0 found h f positive in
     let l = f.lock_is in
     let count_is : count ≡ f.live.lock + 1 = omega arith in
-    let a = altered old new name.0 found (λ live. record live { lock = live.lock + 1 }) h f (subst (λ (n : ℕ). ChangesName old.bytes new.bytes name.0 (Some (record f.live { lock = n })) (Some found.place.0)) count_is ch) in
+    let a = altered old new name.0 found (λ live. record live { lock = live.lock + 1 }) h f (subst (λ (n : ℕ). ChangesName old.bytes new.bytes name.0 (Some (record f.live { lock = n })) (Some found.place.0)) count_is ch) rest in
     record {
       before = h;
       step = (
@@ -109,12 +109,12 @@ locked old new name found count h f positive loose few is ch =
     }
 
 pub unlocked : (old new : Memory) (name : Name) (found : Found) (count : ℕ) → HeapAccepted old.bytes → (f : IsFound old.bytes name.0 found) → 1 ≤ found.owner → found.lock ≢ fixed_lock → found.lock ≢ 0 → count ≡ found.lock - 1
-    → ChangesName old.bytes new.bytes name.0 (Some (record f.live { lock = count })) (Some found.place.0) → Does old (Unlock name) (Number count) new
-unlocked old new name found count h f positive loose some is ch =
+    → ChangesName old.bytes new.bytes name.0 (Some (record f.live { lock = count })) (Some found.place.0) → OnlyBytes old new → Does old (Unlock name) (Number count) new
+unlocked old new name found count h f positive loose some is ch rest =
     let k = known old.bytes name.0 found h f positive in
     let l = f.lock_is in
     let count_is : count ≡ f.live.lock - 1 = omega arith in
-    let a = altered old new name.0 found (λ live. record live { lock = live.lock - 1 }) h f (subst (λ (n : ℕ). ChangesName old.bytes new.bytes name.0 (Some (record f.live { lock = n })) (Some found.place.0)) count_is ch) in
+    let a = altered old new name.0 found (λ live. record live { lock = live.lock - 1 }) h f (subst (λ (n : ℕ). ChangesName old.bytes new.bytes name.0 (Some (record f.live { lock = n })) (Some found.place.0)) count_is ch) rest in
     record {
       before = h;
       step = (
@@ -135,21 +135,21 @@ may_write image name found at count h f positive some inside =
     (is_known k, (not_of_known (λ live. live.lock ≡ 0) k (λ e. some (f.lock_is ∙ e)), (not_of_known (ReachesBeyond at count) k (λ beyond. inside (omega arith)), tt)))
 
 pub wrote : (old new : Memory) (name : Name) (found : Found) (at : ℕ) (bytes : List ℕ) → HeapAccepted old.bytes → (f : IsFound old.bytes name.0 found) → 1 ≤ found.owner → found.lock ≢ 0 → (found.length < at + length bytes → ⊥)
-    → ChangesName old.bytes new.bytes name.0 (Some (record f.live { bytes = overwritten f.live.bytes at bytes })) (Some found.place.0) → Does old (Write name at bytes) Done new
-wrote old new name found at bytes h f positive some inside ch =
-    let a = altered old new name.0 found (λ live. record live { bytes = overwritten live.bytes at bytes }) h f ch in
+    → ChangesName old.bytes new.bytes name.0 (Some (record f.live { bytes = overwritten f.live.bytes at bytes })) (Some found.place.0) → OnlyBytes old new → Does old (Write name at bytes) Done new
+wrote old new name found at bytes h f positive some inside ch rest =
+    let a = altered old new name.0 found (λ live. record live { bytes = overwritten live.bytes at bytes }) h f ch rest in
     record { before = h; step = (may_write old.bytes name found at (length bytes) h f positive some inside, (tt, a.map)); frame = a.frame; still = a.still; asks = tt; rest = a.rest }
 
 pub filled : (old new : Memory) (name : Name) (found : Found) (at count byte : ℕ) → HeapAccepted old.bytes → (f : IsFound old.bytes name.0 found) → 1 ≤ found.owner → found.lock ≢ 0 → (found.length < at + count → ⊥)
-    → ChangesName old.bytes new.bytes name.0 (Some (record f.live { bytes = overwritten f.live.bytes at (replicate count byte) })) (Some found.place.0) → Does old (Set name at count byte) Done new
-filled old new name found at count byte h f positive some inside ch =
-    let a = altered old new name.0 found (λ live. record live { bytes = overwritten live.bytes at (replicate count byte) }) h f ch in
+    → ChangesName old.bytes new.bytes name.0 (Some (record f.live { bytes = overwritten f.live.bytes at (replicate count byte) })) (Some found.place.0) → OnlyBytes old new → Does old (Set name at count byte) Done new
+filled old new name found at count byte h f positive some inside ch rest =
+    let a = altered old new name.0 found (λ live. record live { bytes = overwritten live.bytes at (replicate count byte) }) h f ch rest in
     record { before = h; step = (may_write old.bytes name found at count h f positive some inside, (tt, a.map)); frame = a.frame; still = a.still; asks = tt; rest = a.rest }
 
 pub text_copied : (old new : Memory) (name : Name) (found : Found) (at : ℕ) (text bytes : List ℕ) → HeapAccepted old.bytes → (f : IsFound old.bytes name.0 found) → 1 ≤ found.owner → found.lock ≢ 0 → bytes ≡ text_of text → (found.length < at + length bytes → ⊥)
-    → ChangesName old.bytes new.bytes name.0 (Some (record f.live { bytes = overwritten f.live.bytes at bytes })) (Some found.place.0) → Does old (StrCopy name at text) Done new
-text_copied old new name found at text bytes h f positive some is inside ch =
-    let a = altered old new name.0 found (λ live. record live { bytes = overwritten live.bytes at (text_of text) }) h f (subst (λ (b : List ℕ). ChangesName old.bytes new.bytes name.0 (Some (record f.live { bytes = overwritten f.live.bytes at b })) (Some found.place.0)) is ch) in
+    → ChangesName old.bytes new.bytes name.0 (Some (record f.live { bytes = overwritten f.live.bytes at bytes })) (Some found.place.0) → OnlyBytes old new → Does old (StrCopy name at text) Done new
+text_copied old new name found at text bytes h f positive some is inside ch rest =
+    let a = altered old new name.0 found (λ live. record live { bytes = overwritten live.bytes at (text_of text) }) h f (subst (λ (b : List ℕ). ChangesName old.bytes new.bytes name.0 (Some (record f.live { bytes = overwritten f.live.bytes at b })) (Some found.place.0)) is ch) rest in
     record {
       before = h;
       step = (may_write old.bytes name found at (length (text_of text)) h f positive some (subst (λ (b : List ℕ). found.length < at + length b → ⊥) is inside), (tt, a.map));
@@ -160,10 +160,10 @@ text_copied old new name found at text bytes h f positive some is inside ch =
     }
 
 pub reowned_done : (old new : Memory) (name : Name) (found : Found) (owner : ℕ) → HeapAccepted old.bytes → (f : IsFound old.bytes name.0 found) → 1 ≤ found.owner → found.owner ≢ 15 → (IsNoCaller owner → ⊥)
-    → ChangesName old.bytes new.bytes name.0 (Some (record f.live { owner = owner })) (Some found.place.0) → Does old (SetOwner name owner) Done new
-reowned_done old new name found owner h f positive other caller ch =
+    → ChangesName old.bytes new.bytes name.0 (Some (record f.live { owner = owner })) (Some found.place.0) → OnlyBytes old new → Does old (SetOwner name owner) Done new
+reowned_done old new name found owner h f positive other caller ch rest =
     let k = known old.bytes name.0 found h f positive in
-    let a = altered old new name.0 found (λ live. record live { owner = owner }) h f ch in
+    let a = altered old new name.0 found (λ live. record live { owner = owner }) h f ch rest in
     record {
       before = h;
       step = ((is_known k, (not_of_known (λ live. live.owner ≡ 15) k (λ e. other (f.owner_is ∙ e)), (caller, tt))), (tt, a.map));

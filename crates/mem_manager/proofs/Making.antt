@@ -30,7 +30,7 @@ use Rattle.heap_place.specs.declared.found.Found.{Found}
 use Rattle.heap_place.specs.Found.{IsFound}
 use Rattle.heap_place.proofs.WalkLaws.{free_within}
 use Rattle.mem_manager.specs.Lookup.{IsManaged}
-use Rattle.mem_manager.proofs.Stepping.{known, of_known, not_of_known, is_known, refused, only_bytes, held_updated, still_others}
+use Rattle.mem_manager.proofs.Stepping.{known, of_known, not_of_known, is_known, refused, OnlyBytes, held_updated, still_others}
 
 -- ---- free
 
@@ -43,8 +43,8 @@ free_locked region name found h f positive other some below =
     let l = f.lock_is in
     refused region (Free name) ChunkLocked h (inr (is_known k, inr (not_of_known (λ live. live.owner ≡ 15) k (λ e. other (f.owner_is ∙ e)), inl (of_known IsLocked k (omega arith, omega arith), refl))))
 
-pub freed : (old new : Memory) (name : Name) (found : Found) → HeapAccepted old.bytes → IsFound old.bytes name.0 found → 1 ≤ found.owner → found.owner ≢ 15 → (0 < found.lock → found.lock < 15 → ⊥) → ChangesName old.bytes new.bytes name.0 None None → Does old (Free name) Done new
-freed old new name found h f positive other unlocked ch = record {
+pub freed : (old new : Memory) (name : Name) (found : Found) → HeapAccepted old.bytes → IsFound old.bytes name.0 found → 1 ≤ found.owner → found.owner ≢ 15 → (0 < found.lock → found.lock < 15 → ⊥) → ChangesName old.bytes new.bytes name.0 None None → OnlyBytes old new → Does old (Free name) Done new
+freed old new name found h f positive other unlocked ch rest = record {
   before = h;
   step = (
     (is_known k, (not_of_known (λ live. live.owner ≡ 15) k (λ e. other (f.owner_is ∙ e)), (not_of_known IsLocked k (λ locked. locks f.live.lock f.lock_is locked), tt))),
@@ -53,7 +53,7 @@ freed old new name found h f positive other unlocked ch = record {
   frame = ch.frame;
   still = still_others old.bytes new.bytes name.0 None None ch (inr refl);
   asks = tt;
-  rest = only_bytes old new;
+  rest = rest;
 } where
   k : callers_map old.bytes name.0 ≡ Some f.live
   k = known old.bytes name.0 found h f positive
@@ -89,14 +89,14 @@ abbrev pub zeros : ℕ → ℕ → ℕ → LiveChunk
 zeros size lock owner = record { bytes = replicate size 0; lock = lock; owner = owner }
 
 pub new_made : (old new : Memory) (size owner : ℕ) (name : Name) (there : Option ℕ) → HeapAccepted old.bytes → (IsNoCaller owner → ⊥) → (free_slots old.bytes ≡ 0 → ⊥) → (NoRun (chunks_of old.bytes) (need size) → ⊥) → held old.bytes name.0 ≡ None
-    → ChangesName old.bytes new.bytes name.0 (Some (zeros size 0 owner)) there → Does old (HandleNew size owner) (Named name) new
-new_made old new size owner name there h caller slots run empty ch = record {
+    → ChangesName old.bytes new.bytes name.0 (Some (zeros size 0 owner)) there → OnlyBytes old new → Does old (HandleNew size owner) (Named name) new
+new_made old new size owner name there h caller slots run empty ch rest = record {
   before = h;
   step = ((caller, (λ short. elim short [ inl none ↦ slots none | inr none ↦ run none ], tt)), (empty, held_updated old.bytes new.bytes name.0 (Some (zeros size 0 owner)) there ch));
   frame = ch.frame;
   still = still_others old.bytes new.bytes name.0 (Some (zeros size 0 owner)) there ch (inl empty);
   asks = tt;
-  rest = only_bytes old new;
+  rest = rest;
 }
 
 -- what changes is its name, which stood for nothing
@@ -130,14 +130,14 @@ pub ptr_no_run : (region : Memory) (size owner : ℕ) → HeapAccepted region.by
 ptr_no_run region size owner h caller none = refused region (PtrNew size owner) NotEnoughSpace h (inr (caller, inl (none, refl)))
 
 pub ptr_made : (old new : Memory) (size owner : ℕ) (name : Name) (there : Option ℕ) → HeapAccepted old.bytes → (IsNoCaller owner → ⊥) → (NoRun (chunks_of old.bytes) (need size) → ⊥) → held old.bytes name.0 ≡ None
-    → ChangesName old.bytes new.bytes name.0 (Some (zeros size fixed_lock owner)) there → Does old (PtrNew size owner) (Named name) new
-ptr_made old new size owner name there h caller run empty ch = record {
+    → ChangesName old.bytes new.bytes name.0 (Some (zeros size fixed_lock owner)) there → OnlyBytes old new → Does old (PtrNew size owner) (Named name) new
+ptr_made old new size owner name there h caller run empty ch rest = record {
   before = h;
   step = ((caller, (run, tt)), (empty, held_updated old.bytes new.bytes name.0 (Some (zeros size fixed_lock owner)) there ch));
   frame = ch.frame;
   still = still_others old.bytes new.bytes name.0 (Some (zeros size fixed_lock owner)) there ch (inl empty);
   asks = tt;
-  rest = only_bytes old new;
+  rest = rest;
 }
 
 pub ptr_changes : (old new : List ℕ) (at room size owner : ℕ) → HeapAccepted old → IsRoom old at room → need size ≤ room → Exchanges old new at (in_front (fixed (replicate size 0) owner)) → ChangesName old new (at + 8) (Some (zeros size fixed_lock owner)) (Some (at + 8))
@@ -147,12 +147,12 @@ ptr_changes old new at room size owner h r fits x =
 
 -- ---- all chunks of an owner
 
-pub owner_freed : (old new : Memory) (owner count : ℕ) → HeapAccepted old.bytes → (IsNoCaller owner → ⊥) → Becomes old.bytes new.bytes (owned_freed owner (layout_of old.bytes)) → count ≡ count_by (is_owned_by owner) (layout_of old.bytes) → Does old (FreeByOwner owner) (Number count) new
-owner_freed old new owner count h caller b counted = record {
+pub owner_freed : (old new : Memory) (owner count : ℕ) → HeapAccepted old.bytes → (IsNoCaller owner → ⊥) → Becomes old.bytes new.bytes (owned_freed owner (layout_of old.bytes)) → count ≡ count_by (is_owned_by owner) (layout_of old.bytes) → OnlyBytes old new → Does old (FreeByOwner owner) (Number count) new
+owner_freed old new owner count h caller b counted rest = record {
   before = h;
   step = ((caller, tt), (counted ∙ owned-merged owner (chunks_of old.bytes), λ name. owned_held old.bytes new.bytes owner name h b));
   frame = b.frame;
   still = λ name live held_there locked is_there. owned_place old.bytes new.bytes owner name h b is_there;
   asks = tt;
-  rest = only_bytes old new;
+  rest = rest;
 }

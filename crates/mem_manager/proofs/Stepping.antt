@@ -56,8 +56,9 @@ is_known e none = let n = sym e ∙ none in absurd cc
 
 -- ---- calls that leave the region as it is
 
-pub only_bytes : (old new : Memory) → new ≡ record old { bytes = new.bytes }
-only_bytes old new = refl
+-- of a region's value its bytes alone have changed
+abbrev pub OnlyBytes : Memory → Memory → Type 0
+OnlyBytes old new = new ≡ record old { bytes = new.bytes }
 
 asks_same : {A : Type 0} (asks : Bool) (x : A) → OnTrue asks (x ≡ x)
 asks_same true x = refl
@@ -70,7 +71,7 @@ unchanged region call reply h step = record {
   frame = same_frame region.bytes h;
   still = λ name live held_there locked there. refl;
   asks = asks_same (row_of region call).only_asks region;
-  rest = only_bytes region region;
+  rest = refl;
 }
 
 pub refused : (region : Memory) (call : MemoryCall) (refusal : Refusal) → HeapAccepted region.bytes → FirstBrings (row_of region call).refusals refusal → Does region call (Refused refusal) region
@@ -123,8 +124,8 @@ pub record Altered (old new : Memory) (name : ℕ) (change : LiveChunk → LiveC
   pub still : Still old.bytes new.bytes
   pub rest : new ≡ record old { bytes = new.bytes }
 
-pub altered : (old new : Memory) (name : ℕ) (found : Found) (change : LiveChunk → LiveChunk) → HeapAccepted old.bytes → (f : IsFound old.bytes name found) → ChangesName old.bytes new.bytes name (Some (change f.live)) (Some found.place.0) → Altered old new name change
-altered old new name found change h f ch =
+pub altered : (old new : Memory) (name : ℕ) (found : Found) (change : LiveChunk → LiveChunk) → HeapAccepted old.bytes → (f : IsFound old.bytes name found) → ChangesName old.bytes new.bytes name (Some (change f.live)) (Some found.place.0) → OnlyBytes old new → Altered old new name change
+altered old new name found change h f ch rest =
     let low = f.behind_header in
     let behind : found.place.0 - 8 + 8 ≡ found.place.0 = omega arith in
     let place : place_of old.bytes name ≡ Some found.place.0 = finds_place old.bytes name f.live f.chunk (found.place.0 - 8) h f.finds ∙ ap some_place behind in
@@ -133,7 +134,7 @@ altered old new name found change h f ch =
           ∙ ap (λ (x : Option LiveChunk). updated (held old.bytes) name x n) (sym (ap (changed change) (finds_held old.bytes name f.live f.chunk (found.place.0 - 8) h f.finds)));
       frame = ch.frame;
       still = still_altered old.bytes new.bytes name (change f.live) found.place.0 ch place;
-      rest = only_bytes old new;
+      rest = rest;
     } where
       some_place : ℕ → Option ℕ
       some_place n = Some n

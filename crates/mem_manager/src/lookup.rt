@@ -7,11 +7,9 @@ ghost use Rattle.heap_model.specs.MemorySteps.{IsNowhere};
 ghost use Rattle.heap_place.specs.Found.{IsFound};
 ghost use Rattle.mem_manager.specs.Lookup.{IsThere};
 
+use chunk_format::FIXED_LOCK;
 use heap_model::{Name, Place, Refusal};
 use heap_place::{Found, Space};
-
-/// The lock of a fixed chunk.
-pub(crate) const FIXED_LOCK: u8 = 15;
 
 /// The owner of a database's chunks.
 const DATABASE: u8 = 15;

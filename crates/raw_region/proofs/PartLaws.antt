@@ -76,3 +76,13 @@ pub overwritten_by_fill : (old new : List ℕ) (at n byte : ℕ) → at + n ≤ 
 overwritten_by_fill old new at n byte within is =
     let filled : new ≡ replicate n byte = rw (length-part old at n within) at is in
     overwritten_by_part old at _ new _ filled (omega (arith, length-replicate n byte))
+
+-- a list whose n bytes at an offset are now those that were at another
+pub overwritten_by_slide : (old new : List ℕ) (from to n : ℕ) → from + n ≤ length old
+    → new ≡ (take to old ++ take (from + n - from) (drop from old)) ++ drop (to + (from + n - from)) old
+    → new ≡ overwritten old to (take (from + n - from) (drop from old))
+unfolding overwritten
+overwritten_by_slide old new from to n within is =
+    let part = take (from + n - from) (drop from old) in
+    let many : from + n - from ≡ length part = omega (arith, length-part old from n within) in
+    is ∙ ap (λ (k : ℕ). (take to old ++ part) ++ drop (to + k) old) many

@@ -5,6 +5,7 @@ ghost use Rattle.heap_model.specs.Memory.{IsWithin};
 ghost use Rattle.heap_model.specs.Bytes.{u16_at, u32_at, u16_bytes, u32_bytes, overwritten};
 
 use crate::words;
+use heap_model::Tally;
 use std::alloc::{AllocError, Global};
 use std::marker::Model;
 
@@ -15,6 +16,8 @@ use std::marker::Model;
 #[derive(Drop)]
 pub struct Region {
     bytes: Vec<u8>,
+    /// How many bytes were slid.
+    slid: Tally,
 }
 
 impl Model for Region {
@@ -22,7 +25,7 @@ impl Model for Region {
 
     ghost Value = { Memory };
 
-    ghost view = { λ region. record { bytes = region.bytes.items } };
+    ghost view = { λ region. record { bytes = region.bytes.items; slid = region.slid.total } };
 }
 
 impl Region {
@@ -32,7 +35,10 @@ impl Region {
         ensures len { IfOk result (λ region. length region.bytes ≡ size) }
     {
         let bytes = vec![in alloc; 0u8; size as usize]?;
-        Ok(Region { bytes })
+        Ok(Region {
+            bytes,
+            slid: Tally::new(),
+        })
     }
 
     /// A region that is a copy of `bytes`. The only error is that memory was refused.
@@ -40,7 +46,10 @@ impl Region {
         ensures { IfOk result (λ region. region.bytes ≡ bytes.now) }
     {
         let bytes = Vec::from_slice(alloc, bytes)?;
-        Ok(Region { bytes })
+        Ok(Region {
+            bytes,
+            slid: Tally::new(),
+        })
     }
 
     /// How many bytes the region has.
@@ -114,5 +123,17 @@ impl Region {
         ensures len { length self.new.bytes ≡ length self.old.bytes }
     {
         words::fill(&mut self.bytes, at, n, byte);
+    }
+
+    /// Copies the `n` bytes at `from` to `to`, as they were before, also where the two parts overlap.
+    pub fn slide(&mut self, from: usize, to: usize, n: usize)
+        requires from { IsWithin self.old from n }
+        requires to { IsWithin self.old to n }
+        ensures bytes { self.new.bytes ≡ overwritten self.old.bytes to (slice_range self.old.bytes from (from + n)) }
+        ensures slid { self.new.slid ≡ self.old.slid + n }
+        ensures len { length self.new.bytes ≡ length self.old.bytes }
+    {
+        words::slide(&mut self.bytes, from, to, n);
+        self.slid.add(n);
     }
 }

@@ -9,8 +9,8 @@ ghost use Rattle.master_table.specs.Table.{NotAmong};
 
 use crate::bounds::check_owner;
 use crate::heap::Heap;
-use crate::lookup::{FIXED_LOCK, check_callers, find};
-use chunk_format::chunk_size;
+use crate::lookup::{check_callers, find};
+use chunk_format::{FIXED_LOCK, chunk_size};
 use heap_model::{Name, Refusal};
 use master_table::{free_slot, slots_before};
 use raw_region::Region;

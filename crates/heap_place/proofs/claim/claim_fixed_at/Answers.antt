@@ -13,7 +13,12 @@ write-requires-clause-writable c =
     let inside = f.0 in let most = f.3 in let owner = c.requires.most_owner in
     (omega arith, omega arith)
 
-pub returns : goal.returns
-returns c =
-    fixed_claimed c.args.region.now.bytes c.write.new.region.bytes c.fill.new.self.bytes c.args.at c.args.count c.args.owner c.requires.accepted c.requires.cut c.requires.some_owner c.requires.most_owner
-    (ap (λ (m : Memory). m.bytes) c.write.ensures.after) c.write.ensures.spelled (ap (λ (m : Memory). m.bytes) c.fill.ensures.after)
+pub returns-clause-made : goal.returns-clause-made
+returns-clause-made c =
+    (fixed_claimed c.args.region.now.bytes c.write.new.region.bytes c.fill.new.self.bytes c.args.at c.args.count c.args.owner c.requires.accepted c.requires.cut c.requires.some_owner c.requires.most_owner
+    (ap (λ (m : Memory). m.bytes) c.write.ensures.after) c.write.ensures.spelled (ap (λ (m : Memory). m.bytes) c.fill.ensures.after)).0
+
+pub returns-clause-plain : goal.returns-clause-plain
+returns-clause-plain c =
+    (fixed_claimed c.args.region.now.bytes c.write.new.region.bytes c.fill.new.self.bytes c.args.at c.args.count c.args.owner c.requires.accepted c.requires.cut c.requires.some_owner c.requires.most_owner
+    (ap (λ (m : Memory). m.bytes) c.write.ensures.after) c.write.ensures.spelled (ap (λ (m : Memory). m.bytes) c.fill.ensures.after)).1

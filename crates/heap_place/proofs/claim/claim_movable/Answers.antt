@@ -31,7 +31,12 @@ set-requires-clause-slot c =
     (claimed_area c.args.region.now.bytes c.write.new.region.bytes c.fill.new.self.bytes c.args.at c.args.count c.args.owner c.args.slot.0 f.0 (ap (λ (m : Memory). m.bytes) c.write.ensures.after) (ap (λ (m : Memory). m.bytes) c.fill.ensures.after))
     f.1 (omega arith) c.requires.slot).1
 
-pub returns : goal.returns
-returns c =
-    claimed_write c.args.region.now.bytes c.write.new.region.bytes c.fill.new.self.bytes c.set.new.region.bytes c.args.at c.args.count c.args.owner c.args.slot.0 c.requires.accepted c.requires.cut c.requires.slot c.requires.empty
-    (ap (λ (m : Memory). m.bytes) c.write.ensures.after) c.write.ensures.spelled (ap (λ (m : Memory). m.bytes) c.fill.ensures.after) (ap (λ (m : Memory). m.bytes) c.set.ensures.after)
+pub returns-clause-made : goal.returns-clause-made
+returns-clause-made c =
+    (claimed_write c.args.region.now.bytes c.write.new.region.bytes c.fill.new.self.bytes c.set.new.region.bytes c.args.at c.args.count c.args.owner c.args.slot.0 c.requires.accepted c.requires.cut c.requires.slot c.requires.empty
+    (ap (λ (m : Memory). m.bytes) c.write.ensures.after) c.write.ensures.spelled (ap (λ (m : Memory). m.bytes) c.fill.ensures.after) (ap (λ (m : Memory). m.bytes) c.set.ensures.after)).0
+
+pub returns-clause-plain : goal.returns-clause-plain
+returns-clause-plain c =
+    (claimed_write c.args.region.now.bytes c.write.new.region.bytes c.fill.new.self.bytes c.set.new.region.bytes c.args.at c.args.count c.args.owner c.args.slot.0 c.requires.accepted c.requires.cut c.requires.slot c.requires.empty
+    (ap (λ (m : Memory). m.bytes) c.write.ensures.after) c.write.ensures.spelled (ap (λ (m : Memory). m.bytes) c.fill.ensures.after) (ap (λ (m : Memory). m.bytes) c.set.ensures.after)).1

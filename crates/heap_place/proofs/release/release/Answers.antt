@@ -46,6 +46,11 @@ returns-then-found-ne-FIXED_LOCK-clause-free c =
     (gave_back_found c.args.region.now.bytes c.write.new.region.bytes c.clear.new.region.bytes c.args.found c.size_of_body-size.result c.free_size.result c.requires.accepted c.requires.found c.requires.no_directory c.size_of_body-size.ensures c.free_size.ensures
     (ap (λ (m : Memory). m.bytes) c.write.ensures.after) c.write.ensures.spelled (emptied_movable c.write.new.region.bytes c.clear.new.region.bytes (c.args.found.place.0 - 8) c.args.found.name.0 c.requires.found.live c.requires.found.chunk c.requires.found.finds.named (λ e. c.if-found-ne-FIXED_LOCK.true (c.requires.found.lock_is ∙ e)) (ap (λ (m : Memory). m.bytes) c.clear.ensures.after))).1
 
+pub returns-then-found-ne-FIXED_LOCK-clause-plain : goal.returns-then-found-ne-FIXED_LOCK-clause-plain
+returns-then-found-ne-FIXED_LOCK-clause-plain c =
+    (gave_back_found c.args.region.now.bytes c.write.new.region.bytes c.clear.new.region.bytes c.args.found c.size_of_body-size.result c.free_size.result c.requires.accepted c.requires.found c.requires.no_directory c.size_of_body-size.ensures c.free_size.ensures
+    (ap (λ (m : Memory). m.bytes) c.write.ensures.after) c.write.ensures.spelled (emptied_movable c.write.new.region.bytes c.clear.new.region.bytes (c.args.found.place.0 - 8) c.args.found.name.0 c.requires.found.live c.requires.found.chunk c.requires.found.finds.named (λ e. c.if-found-ne-FIXED_LOCK.true (c.requires.found.lock_is ∙ e)) (ap (λ (m : Memory). m.bytes) c.clear.ensures.after))).2
+
 pub returns-else-found-ne-FIXED_LOCK-clause-gone : goal.returns-else-found-ne-FIXED_LOCK-clause-gone
 returns-else-found-ne-FIXED_LOCK-clause-gone c =
     (gave_back_found c.args.region.now.bytes c.write.new.region.bytes c.write.new.region.bytes c.args.found c.size_of_body-size.result c.free_size.result c.requires.accepted c.requires.found c.requires.no_directory c.size_of_body-size.ensures c.free_size.ensures
@@ -55,3 +60,8 @@ pub returns-else-found-ne-FIXED_LOCK-clause-free : goal.returns-else-found-ne-FI
 returns-else-found-ne-FIXED_LOCK-clause-free c =
     (gave_back_found c.args.region.now.bytes c.write.new.region.bytes c.write.new.region.bytes c.args.found c.size_of_body-size.result c.free_size.result c.requires.accepted c.requires.found c.requires.no_directory c.size_of_body-size.ensures c.free_size.ensures
     (ap (λ (m : Memory). m.bytes) c.write.ensures.after) c.write.ensures.spelled (emptied_fixed c.args.region.now.bytes c.write.new.region.bytes (c.args.found.place.0 - 8) c.args.found.name.0 c.requires.found.live c.requires.found.chunk c.requires.accepted c.requires.found.finds (sym c.requires.found.lock_is ∙ c.if-found-ne-FIXED_LOCK.false))).1
+
+pub returns-else-found-ne-FIXED_LOCK-clause-plain : goal.returns-else-found-ne-FIXED_LOCK-clause-plain
+returns-else-found-ne-FIXED_LOCK-clause-plain c =
+    (gave_back_found c.args.region.now.bytes c.write.new.region.bytes c.write.new.region.bytes c.args.found c.size_of_body-size.result c.free_size.result c.requires.accepted c.requires.found c.requires.no_directory c.size_of_body-size.ensures c.free_size.ensures
+    (ap (λ (m : Memory). m.bytes) c.write.ensures.after) c.write.ensures.spelled (emptied_fixed c.args.region.now.bytes c.write.new.region.bytes (c.args.found.place.0 - 8) c.args.found.name.0 c.requires.found.live c.requires.found.chunk c.requires.accepted c.requires.found.finds (sym c.requires.found.lock_is ∙ c.if-found-ne-FIXED_LOCK.false))).2

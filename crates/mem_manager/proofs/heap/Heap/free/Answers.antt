@@ -44,4 +44,4 @@ returns c =
       | else-found-gt0-via-then-found-gt0+else-found-lt-FIXED_LOCK w ↦ λ some below. let not_below = w.if-found-lt-FIXED_LOCK.false in omega arith
       | else-found-gt0-via-else-found-gt0 w ↦ λ some below. let none = w.if-found-gt0.false in omega arith
     ])
-    (freed_changes c.self.inside.space.bytes c.give_back.new.self.bytes c.args.name.0 (c.in_ok-found.found.place.0 - 8) f.live f.chunk c.self.invariant.accepted f.finds c.give_back.ensures.gone))
+    (freed_changes c.self.inside.space.bytes c.give_back.new.self.bytes c.args.name.0 (c.in_ok-found.found.place.0 - 8) f.live f.chunk c.self.invariant.accepted f.finds c.give_back.ensures.gone) c.give_back.ensures.rest)

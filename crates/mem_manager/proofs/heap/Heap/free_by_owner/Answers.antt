@@ -17,4 +17,4 @@ returns-in_err-check_owner c =
 pub returns : goal.returns
 returns c =
     subst (λ (m : Memory). Does m (FreeByOwner c.args.owner) (Reply.Number c.give_back_owned-count.result) c.give_back_owned-count.new.self) c.self.view_is
-    (owner_freed c.self.inside.space c.give_back_owned-count.new.self c.args.owner c.give_back_owned-count.result c.self.invariant.accepted c.in_ok-check_owner.ensures.ok c.give_back_owned-count.ensures.gone c.give_back_owned-count.ensures.count)
+    (owner_freed c.self.inside.space c.give_back_owned-count.new.self c.args.owner c.give_back_owned-count.result c.self.invariant.accepted c.in_ok-check_owner.ensures.ok c.give_back_owned-count.ensures.gone c.give_back_owned-count.ensures.count c.give_back_owned-count.ensures.rest)

@@ -68,6 +68,6 @@ returns c =
     (new_made c.self.inside.space c.claim.new.self c.args.size c.args.owner c.in_ok-slot.slot.name (Some (c.in_ok-room.room.at + 8)) c.self.invariant.accepted c.in_ok-check_owner.ensures.ok
     (λ none. some_slot c.in_ok-slot.slot (sym slot ∙ c.free_slot.ensures.none.1 (ap (λ (m : Memory). free_slots m.bytes) c.region-region.ensures ∙ none)))
     (is_run c.self.inside.space.bytes c.in_ok-room.room.at c.in_ok-room.room.size (need c.args.size) r (omega arith)) empty
-    (new_changes c.self.inside.space.bytes c.claim.new.self.bytes c.in_ok-room.room.at c.in_ok-room.room.size c.args.size c.args.owner c.in_ok-slot.slot.name.0 c.self.invariant.accepted r (omega arith) empty c.claim.ensures.made)) where
+    (new_changes c.self.inside.space.bytes c.claim.new.self.bytes c.in_ok-room.room.at c.in_ok-room.room.size c.args.size c.args.owner c.in_ok-slot.slot.name.0 c.self.invariant.accepted r (omega arith) empty c.claim.ensures.made) c.claim.ensures.rest) where
       some_slot : (s : FreeSlot) → Some s ≡ None → ⊥
       some_slot s e = absurd cc

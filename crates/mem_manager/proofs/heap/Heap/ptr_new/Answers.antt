@@ -66,4 +66,4 @@ returns c =
     (is_run c.self.inside.space.bytes c.in_ok-room.room.at c.in_ok-room.room.size (need c.args.size) r (omega arith))
     (ap (held c.self.inside.space.bytes) c.claim_fixed.ensures.name ∙ room_unheld c.self.inside.space.bytes c.in_ok-room.room.at c.in_ok-room.room.size c.self.invariant.accepted (omega arith) r)
     (subst (λ (n : ℕ). ChangesName c.self.inside.space.bytes c.claim_fixed.new.self.bytes n (Some (zeros c.args.size fixed_lock c.args.owner)) (Some (c.in_ok-room.room.at + 8))) (sym c.claim_fixed.ensures.name)
-    (ptr_changes c.self.inside.space.bytes c.claim_fixed.new.self.bytes c.in_ok-room.room.at c.in_ok-room.room.size c.args.size c.args.owner c.self.invariant.accepted r (omega arith) c.claim_fixed.ensures.made)))
+    (ptr_changes c.self.inside.space.bytes c.claim_fixed.new.self.bytes c.in_ok-room.room.at c.in_ok-room.room.size c.args.size c.args.owner c.self.invariant.accepted r (omega arith) c.claim_fixed.ensures.made)) c.claim_fixed.ensures.rest)

@@ -34,4 +34,4 @@ pub returns : goal.returns
 returns c =
     let f = c.in_ok-found.ensures.found in
     subst (λ (m : Memory). Does m (Set c.args.name c.args.at c.args.count c.args.byte) Reply.Done c.fill.new.self) c.self.view_is
-    (filled c.self.inside.space c.fill.new.self c.args.name c.in_ok-found.found c.args.at c.args.count c.args.byte c.self.invariant.accepted f c.in_ok-found.ensures.callers c.in_ok-check_locked.ensures.ok c.in_ok-check_range.ensures.ok (write_changes c.self.inside.space.bytes c.fill.new.self.bytes c.args.name.0 c.in_ok-found.found c.args.at (replicate {A = ℕ} c.args.count c.args.byte) c.self.invariant.accepted f (let inside = c.in_ok-check_range.ensures.ok in let many = length-replicate {A = ℕ} c.args.count c.args.byte in omega arith) c.fill.ensures.made))
+    (filled c.self.inside.space c.fill.new.self c.args.name c.in_ok-found.found c.args.at c.args.count c.args.byte c.self.invariant.accepted f c.in_ok-found.ensures.callers c.in_ok-check_locked.ensures.ok c.in_ok-check_range.ensures.ok (write_changes c.self.inside.space.bytes c.fill.new.self.bytes c.args.name.0 c.in_ok-found.found c.args.at (replicate {A = ℕ} c.args.count c.args.byte) c.self.invariant.accepted f (let inside = c.in_ok-check_range.ensures.ok in let many = length-replicate {A = ℕ} c.args.count c.args.byte in omega arith) c.fill.ensures.made) c.fill.ensures.rest)

@@ -41,4 +41,4 @@ returns c =
     let f = c.in_ok-found.ensures.found in
     subst (λ (m : Memory). Does m (StrCopy c.args.name c.args.at c.args.text.now) Reply.Done c.write_ended.new.self) c.self.view_is
     (text_copied c.self.inside.space c.write_ended.new.self c.args.name c.in_ok-found.found c.args.at c.args.text.now (c.before_zero-part.result.now ++ 0 ∷ []) c.self.invariant.accepted f c.in_ok-found.ensures.callers c.in_ok-check_locked.ensures.ok is (λ beyond. inside (omega arith))
-    (write_changes c.self.inside.space.bytes c.write_ended.new.self.bytes c.args.name.0 c.in_ok-found.found c.args.at (c.before_zero-part.result.now ++ 0 ∷ []) c.self.invariant.accepted f (let inside = c.in_ok-check_ended_range.ensures.ok in let some = length-append c.before_zero-part.result.now (0 ∷ []) in omega arith) c.write_ended.ensures.made))
+    (write_changes c.self.inside.space.bytes c.write_ended.new.self.bytes c.args.name.0 c.in_ok-found.found c.args.at (c.before_zero-part.result.now ++ 0 ∷ []) c.self.invariant.accepted f (let inside = c.in_ok-check_ended_range.ensures.ok in let some = length-append c.before_zero-part.result.now (0 ∷ []) in omega arith) c.write_ended.ensures.made) c.write_ended.ensures.rest)

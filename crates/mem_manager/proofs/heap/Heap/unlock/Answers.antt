@@ -41,4 +41,4 @@ pub returns : goal.returns
 returns c =
     let f = c.in_ok-found.ensures.found in
     subst (λ (m : Memory). Does m (Unlock c.args.name) (Reply.Number (c.in_ok-found.found.lock - 1)) c.relock.new.self) c.self.view_is
-    (unlocked c.self.inside.space c.relock.new.self c.args.name c.in_ok-found.found (c.in_ok-found.found.lock - 1) c.self.invariant.accepted f c.in_ok-found.ensures.callers c.in_ok-check_movable.ensures.ok c.in_ok-check_locked.ensures.ok refl (relock_changes c.self.inside.space.bytes c.relock.new.self.bytes c.args.name.0 c.in_ok-found.found (c.in_ok-found.found.lock - 1) c.self.invariant.accepted f c.in_ok-check_movable.ensures.ok c.relock.ensures.made))
+    (unlocked c.self.inside.space c.relock.new.self c.args.name c.in_ok-found.found (c.in_ok-found.found.lock - 1) c.self.invariant.accepted f c.in_ok-found.ensures.callers c.in_ok-check_movable.ensures.ok c.in_ok-check_locked.ensures.ok refl (relock_changes c.self.inside.space.bytes c.relock.new.self.bytes c.args.name.0 c.in_ok-found.found (c.in_ok-found.found.lock - 1) c.self.invariant.accepted f c.in_ok-check_movable.ensures.ok c.relock.ensures.made) c.relock.ensures.rest)

@@ -33,4 +33,4 @@ pub returns : goal.returns
 returns c =
     let f = c.in_ok-found.ensures.found in
     subst (λ (m : Memory). Does m (Write c.args.name c.args.at c.args.bytes.now) Reply.Done c.write.new.self) c.self.view_is
-    (wrote c.self.inside.space c.write.new.self c.args.name c.in_ok-found.found c.args.at c.args.bytes.now c.self.invariant.accepted f c.in_ok-found.ensures.callers c.in_ok-check_locked.ensures.ok c.in_ok-check_range.ensures.ok (write_changes c.self.inside.space.bytes c.write.new.self.bytes c.args.name.0 c.in_ok-found.found c.args.at c.args.bytes.now c.self.invariant.accepted f (let inside = c.in_ok-check_range.ensures.ok in omega arith) c.write.ensures.made))
+    (wrote c.self.inside.space c.write.new.self c.args.name c.in_ok-found.found c.args.at c.args.bytes.now c.self.invariant.accepted f c.in_ok-found.ensures.callers c.in_ok-check_locked.ensures.ok c.in_ok-check_range.ensures.ok (write_changes c.self.inside.space.bytes c.write.new.self.bytes c.args.name.0 c.in_ok-found.found c.args.at c.args.bytes.now c.self.invariant.accepted f (let inside = c.in_ok-check_range.ensures.ok in omega arith) c.write.ensures.made) c.write.ensures.rest)

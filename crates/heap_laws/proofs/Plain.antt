@@ -1,0 +1,101 @@
+-- First words of free chunks, after some chunks were replaced by others.
+use Rattle.std.proofs.Common.{◌≡◌, ℕ, ◌+◌, ◌^◌, ◌<◌, ◌≤◌, List, [], ◌∷◌, ◌++◌, length, refl, sym, subst, ◌∙◌, arith, inl, inr}
+use Rattle.heap_model.specs.Bytes.{u32_at}
+use Rattle.heap_model.specs.Chunk.{Chunk, free, movable, fixed, size_of, total, free_size}
+use Rattle.heap_model.specs.Slots.{area_start}
+use Rattle.heap_model.specs.Heap.{IsHeap}
+use Rattle.heap_model.specs.Reading.{chunks_of}
+use Rattle.heap_model.specs.Placed.{EveryPlaced, AnyPlaced}
+use Rattle.heap_model.specs.Layout.{IsPlain, IsFreeAt, BeginsFree, WritesPlain}
+use Rattle.heap_laws.proofs.Frames.{u32_at-same}
+use Rattle.heap_laws.proofs.Chunks.{total-append, SpelledAll-end}
+use Rattle.heap_laws.proofs.Runs.{chunks_of-tiled}
+use Rattle.heap_laws.proofs.Placed.{TakesBytes, SpelledAll-takes, EveryPlaced-split, AnyPlaced-left, AnyPlaced-right, AnyPlaced-split}
+use Rattle.heap_laws.proofs.Replacing.{Replaces, replaced_total, same_start}
+
+-- where it begins among chunks
+pub free_inside : (there at : ℕ) (cs : List Chunk) → EveryPlaced TakesBytes at cs → AnyPlaced (IsFreeAt there) at cs → (at ≤ there) × (there + 8 ≤ at + total cs)
+free_inside there at [] sizes h = absurd h
+free_inside there at (free size ∷ cs) sizes h = elim h [
+  | inl here ↦ let least : 8 ≤ size = sizes.0 in (omega arith, omega arith)
+  | inr later ↦ let f = free_inside there (at + size) cs sizes.1 later in let low = f.0 in let high = f.1 in (omega arith, omega arith)
+]
+free_inside there at (movable bytes lock owner slot ∷ cs) sizes h = elim h [
+  | inl here ↦ absurd here
+  | inr later ↦ let f = free_inside there (at + size_of (movable bytes lock owner slot)) cs sizes.1 later in let low = f.0 in let high = f.1 in (omega arith, omega arith)
+]
+free_inside there at (fixed bytes owner ∷ cs) sizes h = elim h [
+  | inl here ↦ absurd here
+  | inr later ↦ let f = free_inside there (at + size_of (fixed bytes owner)) cs sizes.1 later in let low = f.0 in let high = f.1 in (omega arith, omega arith)
+]
+
+-- a word that is written for a free chunk
+pub plain_word : (word size : ℕ) → word ≡ 2 ^ 31 + size → size < 2 ^ 24 → IsPlain word
+plain_word word size is small = omega arith
+
+-- no live chunk is one
+pub live_plain : (image : List ℕ) (at : ℕ) (chunk : Chunk) → free_size chunk ≡ 0 → 8 ≤ size_of chunk → (there : ℕ) → AnyPlaced (IsFreeAt there) at (chunk ∷ []) → IsPlain (u32_at image there)
+live_plain image at (free size) none least there h = absurd (omega arith)
+live_plain image at (movable bytes lock owner slot) none least there h = elim h [ inl here ↦ absurd here | inr later ↦ absurd later ]
+live_plain image at (fixed bytes owner) none least there h = elim h [ inl here ↦ absurd here | inr later ↦ absurd later ]
+
+-- nothing was written
+pub plain_same : (old : List ℕ) → WritesPlain old old
+plain_same old at h = inr (h, refl)
+
+-- one after the other
+pub plain_then : (old mid new : List ℕ) → WritesPlain old mid → WritesPlain mid new → WritesPlain old new
+plain_then old mid new first second at h = elim (second at h) [
+  | inl plain ↦ inl plain
+  | inr kept ↦ elim (first at kept.0) [
+    | inl plain ↦ inl (subst (λ (word : ℕ). IsPlain word) (sym kept.1) plain)
+    | inr before ↦ inr (before.0, kept.1 ∙ before.1)
+  ]
+]
+
+-- of the others each free one has a plain first word
+pub replaced_plain : (old new : List ℕ) (before mid others after : List Chunk) (at : ℕ) → chunks_of old ≡ before ++ (mid ++ after) → IsHeap new (before ++ (others ++ after)) → Replaces old new before mid others after at
+    → ((there : ℕ) → AnyPlaced (IsFreeAt there) at others → IsPlain (u32_at new there)) → WritesPlain old new
+replaced_plain old new before mid others after at was now r plain there h = elim (AnyPlaced-split (IsFreeAt there) start before (others ++ after) found) [
+  | inl front ↦
+      let f = free_inside there start before sizes.0 front in
+      let low = f.0 in let high = f.1 in let begins = r.there in
+      inr (were (AnyPlaced-left (IsFreeAt there) start before (mid ++ after) front), sym (u32_at-same there old new start at r.front (omega arith) (omega arith)))
+  | inr rest ↦ elim (AnyPlaced-split (IsFreeAt there) (start + total before) others after rest) [
+    | inl these ↦ inl (plain there (subst (λ (n : ℕ). AnyPlaced (IsFreeAt there) n others) (sym r.there) these))
+    | inr back ↦
+        let f = free_inside there (start + total before + total others) after behind.1 back in
+        let low = f.0 in let high = f.1 in let begins = r.there in let equal = sums in let end = ends in
+        let moved : AnyPlaced (IsFreeAt there) (start + total before + total mid) after = subst (λ (n : ℕ). AnyPlaced (IsFreeAt there) (start + total before + n) after) sums back in
+        inr (were (AnyPlaced-right (IsFreeAt there) start before (mid ++ after) (AnyPlaced-right (IsFreeAt there) (start + total before) mid after moved)), sym (u32_at-same there old new (at + total mid) (length old) r.back (omega arith) (omega arith)))
+  ]
+] where
+  start : ℕ
+  start = area_start old
+
+  now_start : area_start new ≡ area_start old
+  now_start = same_start old new r.head
+
+  found : AnyPlaced (IsFreeAt there) (area_start old) (before ++ (others ++ after))
+  found = subst (λ (cs : List Chunk). AnyPlaced (IsFreeAt there) (area_start old) cs) (chunks_of-tiled new (before ++ (others ++ after)) now.tiles) (subst (λ (n : ℕ). AnyPlaced (IsFreeAt there) n (chunks_of new)) now_start h)
+
+  were : AnyPlaced (IsFreeAt there) (area_start old) (before ++ (mid ++ after)) → BeginsFree old there
+  were a = subst (λ (cs : List Chunk). AnyPlaced (IsFreeAt there) (area_start old) cs) (sym was) a
+
+  sizes : EveryPlaced TakesBytes (area_start old) before × EveryPlaced TakesBytes (area_start old + total before) (others ++ after)
+  sizes = EveryPlaced-split TakesBytes (area_start old) before (others ++ after) (subst (λ (n : ℕ). EveryPlaced TakesBytes n (before ++ (others ++ after))) now_start (SpelledAll-takes new (area_start new) (before ++ (others ++ after)) (length new) now.tiles.area))
+
+  behind : EveryPlaced TakesBytes (area_start old + total before) others × EveryPlaced TakesBytes (area_start old + total before + total others) after
+  behind = EveryPlaced-split TakesBytes (area_start old + total before) others after sizes.1
+
+  sums : total others ≡ total mid
+  sums = replaced_total old new before mid others after at r
+
+  ends : length old ≡ area_start old + total before + total others + total after
+  ends =
+      let all = SpelledAll-end new (area_start new) (before ++ (others ++ after)) (length new) now.tiles.area in
+      let len = r.head.len in
+      let front = total-append before (others ++ after) in
+      let back = total-append others after in
+      let same = now_start in
+      omega (arith, same)

@@ -1,0 +1,63 @@
+//! Chunks are lifted over the free chunk behind them.
+
+ghost use Rattle.std.specs.Prelude.{◌≡◌, ◌+◌, ◌-◌, ◌<◌, ◌^◌, length};
+ghost use Rattle.heap_model.specs.Heap.{HeapAccepted};
+ghost use Rattle.heap_place.specs.Lifting.{IsCarried, MendsOne, AreCarried, MendsAll, HasFreeBehind, Lifts};
+
+use chunk_format::Header;
+use heap_model::{Name, Place};
+use raw_region::Region;
+
+/// Moves the chunks from `start` up to `end` behind the free chunk that follows them, whose size is
+/// `gap`: their bytes in one slide, and then each one's slot and the way to it in turn.
+pub(crate) fn lift(region: &mut Region, start: u32, end: u32, gap: u32)
+    requires accepted { HeapAccepted region.old.bytes }
+    requires behind { HasFreeBehind region.old.bytes start end gap }
+    ensures lifted { Lifts region.old.bytes region.new.bytes start end gap }
+    ensures slid { region.new.slid ≡ region.old.slid + (end - start) }
+{
+    let from = start as usize;
+    region.slide(from, from + gap as usize, (end - start) as usize);
+    Header::Free { size: gap }.write(region, start);
+    mend(region, start + gap, end + gap, gap);
+}
+
+/// Mends the chunks from `start` up to `end`, whose bytes were carried up by `gap`.
+fn mend(region: &mut Region, start: u32, end: u32, gap: u32)
+    requires { AreCarried region.old.bytes gap start end }
+    ensures mended { MendsAll region.old.bytes region.new.bytes gap start end }
+    ensures slid { region.new.slid ≡ region.old.slid }
+{
+    let mut at = start;
+    while at < end {
+        at += mend_one(region, at, gap);
+    }
+}
+
+/// Mends the chunk at `at`, whose bytes were carried up by `gap`, and answers its size: a movable one
+/// names its slot again, and the slot holds its place.
+fn mend_one(region: &mut Region, at: u32, gap: u32) -> u32
+    requires { IsCarried region.old.bytes gap at }
+    ensures mended { MendsOne region.old.bytes region.new.bytes gap at (at + result) }
+    ensures slid { region.new.slid ≡ region.old.slid }
+{
+    let (header, size) = Header::at_with_size(region, at);
+    if let Header::Movable {
+        length,
+        lock,
+        owner,
+        slot,
+    } = header
+    {
+        let slot = slot - gap;
+        let mended = Header::Movable {
+            length,
+            lock,
+            owner,
+            slot,
+        };
+        mended.write(region, at);
+        master_table::set(region, Name(slot), Place(at + 8));
+    }
+    size
+}
