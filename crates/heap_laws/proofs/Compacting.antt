@@ -99,7 +99,7 @@ packed_runs old new size h b some =
 -- ---- what packing has moved
 
 -- a body is where its name is placed
-body_placed : (image : List ℕ) (slot place : ℕ) → HeapAccepted image → IsBody (area_start image) (chunks_of image) slot place → 0 < place → place_of image slot ≡ Some place
+pub body_placed : (image : List ℕ) (slot place : ℕ) → HeapAccepted image → IsBody (area_start image) (chunks_of image) slot place → 0 < place → place_of image slot ≡ Some place
 body_placed image slot place h b some =
     let s = slot_place image (chunks_of image) slot place (read_heap image h) b in
     let f = in_slot image slot place h s.0 s.1 some in
