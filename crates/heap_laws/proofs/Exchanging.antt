@@ -184,10 +184,10 @@ named_beside image before c after name live h e n =
     }
 
 -- what is held and where, by parts of the layout
-held_parts : (image : List ℕ) (cs : List Chunk) (name : ℕ) → layout_of image ≡ merged cs → held image name ≡ live_under (area_start image) cs name
+pub held_parts : (image : List ℕ) (cs : List Chunk) (name : ℕ) → layout_of image ≡ merged cs → held image name ≡ live_under (area_start image) cs name
 held_parts image cs name e = held-layout image name ∙ ap (λ (ds : List Chunk). live_under (area_start image) ds name) e ∙ live_under-merged (area_start image) cs name
 
-place_parts : (image : List ℕ) (cs : List Chunk) (name : ℕ) → layout_of image ≡ merged cs → place_of image name ≡ place_under (area_start image) cs name
+pub place_parts : (image : List ℕ) (cs : List Chunk) (name : ℕ) → layout_of image ≡ merged cs → place_of image name ≡ place_under (area_start image) cs name
 place_parts image cs name e = place-layout image name ∙ ap (λ (ds : List Chunk). place_under (area_start image) ds name) e ∙ place_under-merged (area_start image) cs name
 
 pub unheld_beside : (image : List ℕ) (before : List Chunk) (size : ℕ) (after : List Chunk) (name : ℕ) → layout_of image ≡ merged (before ++ free size ∷ after) → held image name ≡ None → NotBeside (area_start image) before size after name

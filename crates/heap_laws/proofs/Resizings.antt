@@ -1,6 +1,6 @@
 -- A chunk that takes another length in its place: its name alone stands for something else, and nothing
 -- moves.
-use Rattle.std.proofs.Common.{◌≡◌, ◌≢◌, ℕ, ◌+◌, ◌-◌, ◌<◌, ◌≤◌, Bool, true, false, cond, List, [], ◌∷◌, ◌++◌, length, replicate, take, Option, Some, None, refl, sym, ap, subst, ◌∙◌, length-append, arith}
+use Rattle.std.proofs.Common.{◌≡◌, ◌≢◌, ℕ, zero, suc, ◌+◌, ◌-◌, ◌≤◌, Bool, true, false, cond, List, [], ◌∷◌, ◌++◌, length, replicate, take, Option, Some, None, refl, sym, ap, subst, ◌∙◌, append_assoc, length-append, arith}
 use Rattle.std.specs.Prelude.{◌==◌}
 use Rattle.std.proofs.lemmas.Bool.{eq-eqb}
 use Rattle.std.proofs.lemmas.Bool.Decides.{nat_tests}
@@ -12,18 +12,22 @@ use Rattle.heap_model.specs.Heap.{HeapAccepted}
 use Rattle.heap_model.specs.Placed.{EveryPlaced}
 use Rattle.heap_model.specs.Meaning.{LiveChunk, NamedHere}
 use Rattle.heap_model.specs.Reading.{chunks_of, live_under}
-use Rattle.heap_model.specs.Space.{AllFree, free_front, free_behind_in, free_behind}
+use Rattle.heap_model.specs.Space.{AllFree, NoneStays, room_of, free_front, free_behind_in, free_behind}
 use Rattle.heap_model.specs.Placing.{Finds}
 use Rattle.heap_model.specs.Layout.{merged, layout_of, Becomes, gap}
+use Rattle.heap_model.specs.Packing.{lives, packed, BeginsStaying, WholeStretch, opened, OpensBehind}
 use Rattle.heap_model.specs.Resizing.{with_length, shrunk, Shrinks, behind_front, grown, GrowsInPlace}
 use Rattle.heap_laws.proofs.Deciding.{cond-true, cond-false, none_some}
 use Rattle.heap_laws.proofs.Placed.{TakesBytes}
-use Rattle.heap_laws.proofs.Freeing.{or_back}
+use Rattle.heap_laws.proofs.Freeing.{or_front, or_back}
 use Rattle.heap_laws.proofs.Altering.{named_live, named_place}
-use Rattle.heap_laws.proofs.Lives.{live_under-append}
+use Rattle.heap_laws.proofs.Lives.{or_else, live_under-append}
 use Rattle.heap_laws.proofs.Layouts.{IsNotFree, free_front-merged, merged-live, merged-twice, total-merged, live_under-merged}
+use Rattle.heap_laws.proofs.Becoming.{becomes_behind}
 use Rattle.heap_laws.proofs.Exchanging.{layout_takes, exchanges_parts, gap_free, gap_total, NotBeside, named_no_other, named_beside, ChangesName, run_changes}
 use Rattle.heap_laws.proofs.Changing.{changes_as, some_place, named_live_chunk}
+use Rattle.heap_laws.proofs.Packings.{no_true, packed_slid}
+use Rattle.heap_laws.proofs.Sliding.{slid_live, none_stays-append, stretch_packed}
 
 -- ---- a chunk with another length
 
@@ -159,3 +163,51 @@ finds_behind image name at live bytes lock owner slot h f =
     ap (λ (cs : List Chunk). free_behind_in cs name) f.chunks
     ∙ behind_other (area_start image) f.before (c ∷ f.after) name (named_beside image f.before c f.after name live h f.chunks first).front
     ∙ cond-true (slot == name) (free_front f.after) (free_behind_in f.after name) (eq-eqb slot name f.named.0)
+
+-- the live ones of a stretch have the names of the stretch
+lives_unnamed : (at : ℕ) (cs : List Chunk) (name : ℕ) → NoneStays cs → live_under at cs name ≡ None → live_under at (lives cs) name ≡ None
+lives_unnamed at cs name n none =
+    or_front _ _ (sym (live_under-append at (lives cs) (gap (room_of cs)) name) ∙ ap (λ (ds : List Chunk). live_under at ds name) (sym (stretch_packed cs n)) ∙ slid_live at cs (packed cs) name (packed_slid cs) ∙ none)
+
+gap_front : (room : ℕ) (cs : List Chunk) → free_front (gap room ++ cs) ≡ room + free_front cs
+gap_front zero cs = omega arith
+gap_front (suc n) cs = refl
+
+-- no free chunk follows the live ones of a stretch
+lives_front : (cs after : List Chunk) → BeginsStaying after → free_front (lives cs ++ after) ≡ 0
+lives_front [] [] s = refl
+lives_front [] (free size ∷ after) s = absurd (no_true s)
+lives_front [] (movable bytes lock owner slot ∷ after) s = refl
+lives_front [] (fixed bytes owner ∷ after) s = refl
+lives_front (free size ∷ cs) after s = lives_front cs after s
+lives_front (movable bytes lock owner slot ∷ cs) after s = refl
+lives_front (fixed bytes owner ∷ cs) after s = refl
+
+gap_lives_front : (room : ℕ) (cs after : List Chunk) → BeginsStaying after → free_front (gap room ++ (lives cs ++ after)) ≡ room
+gap_lives_front room cs after s =
+    let first = gap_front room (lives cs ++ after) in
+    let none = lives_front cs after s in
+    omega arith
+
+-- once room is opened behind a chunk of a stretch, all of the stretch's room is free behind it
+pub opened_behind : (old new : List ℕ) (at : ℕ) (before front : List Chunk) (bytes : List ℕ) (owner slot : ℕ) (back after : List Chunk) → HeapAccepted old → WholeStretch old before (front ++ movable bytes 0 owner slot ∷ back) after
+    → at ≡ area_start old + total before + total front → OpensBehind old new at → free_behind new slot ≡ room_of (front ++ back)
+opened_behind old new at before front bytes owner slot back after h w there o =
+    let start : ℕ = area_start old in
+    let c : Chunk = movable bytes 0 owner slot in
+    let room : ℕ = room_of (front ++ back) in
+    let live : LiveChunk = record { bytes = bytes; lock = 0; owner = owner } in
+    let parts : chunks_of old ≡ (before ++ front) ++ c ∷ (back ++ after) = w.chunks ∙ ap (λ (cs : List Chunk). before ++ cs) (append_assoc front (c ∷ back) after) ∙ sym (append_assoc before front (c ∷ (back ++ after))) in
+    let none : live_under start (before ++ front) slot ≡ None = (named_beside old (before ++ front) c (back ++ after) slot live h parts (refl, refl)).front in
+    let split = sym (live_under-append start before front slot) ∙ none in
+    let loose = ((none_stays-append front (c ∷ back)).0 w.none_stays).0 in
+    let all : before ++ (opened front c back ++ after) ≡ (before ++ lives front) ++ c ∷ (gap room ++ (lives back ++ after)) =
+    ap (λ (cs : List Chunk). before ++ cs) (append_assoc (lives front) (c ∷ (gap room ++ lives back)) after ∙ ap (λ (cs : List Chunk). lives front ++ c ∷ cs) (append_assoc (gap room) (lives back) after))
+    ∙ sym (append_assoc before (lives front) (c ∷ (gap room ++ (lives back ++ after)))) in
+    let unnamed : live_under start (before ++ lives front) slot ≡ None =
+    live_under-append start before (lives front) slot ∙ ap (λ (r : Option LiveChunk). or_else r (live_under (start + total before) (lives front) slot)) (or_front _ _ split) ∙ lives_unnamed (start + total before) front slot loose (or_back _ _ split) in
+    becomes_behind old new (before ++ (opened front c back ++ after)) slot (o before front bytes owner slot back after w there)
+    ∙ ap (λ (cs : List Chunk). free_behind_in cs slot) all
+    ∙ behind_other start (before ++ lives front) (c ∷ (gap room ++ (lives back ++ after))) slot unnamed
+    ∙ cond-true (slot == slot) (free_front (gap room ++ (lives back ++ after))) (free_behind_in (gap room ++ (lives back ++ after)) slot) (eq-eqb slot slot refl)
+    ∙ gap_lives_front room back after w.behind
