@@ -1,3 +1,4 @@
 pub mod Found
 pub mod Search
 pub mod Lifting
+pub mod Packs

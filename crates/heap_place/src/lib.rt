@@ -26,6 +26,7 @@ mod found;
 mod lift;
 mod lookup;
 mod owned;
+mod pack;
 mod release;
 mod room;
 mod space;
