@@ -81,7 +81,7 @@ becomes_no_run old new cs size b = (no_run-layout (chunks_of new) cs size b.layo
 
 -- ---- what the slots hold
 
-becomes_body : (old new : List ℕ) (cs : List Chunk) (slot place : ℕ) → Becomes old new cs → IsBody (area_start new) (chunks_of new) slot place ↔ IsBody (area_start old) cs slot place
+pub becomes_body : (old new : List ℕ) (cs : List Chunk) (slot place : ℕ) → Becomes old new cs → IsBody (area_start new) (chunks_of new) slot place ↔ IsBody (area_start old) cs slot place
 becomes_body old new cs slot place b =
     let of_new = any-merged (BodyHere slot place) (λ at size h. h) (area_start old) (chunks_of new) in
     let of_cs = any-merged (BodyHere slot place) (λ at size h. h) (area_start old) cs in (
@@ -122,7 +122,7 @@ becomes_slot old new cs slot h b s same = by_new (u32_at new slot) (u32_at old s
 pub same_slots : (old new : List ℕ) (slot : ℕ) → HeapAccepted old → Becomes old new (chunks_of old) → IsSlot old slot → u32_at new slot ≡ u32_at old slot
 same_slots old new slot h b s = becomes_slot old new (chunks_of old) slot h b s (λ place. (λ x. x, λ x. x))
 
-count_alike : (f g : ℕ → Bool) (xs : List ℕ) → EveryOne (λ x. f x ≡ g x) xs → count_by f xs ≡ count_by g xs
+pub count_alike : (f g : ℕ → Bool) (xs : List ℕ) → EveryOne (λ x. f x ≡ g x) xs → count_by f xs ≡ count_by g xs
 count_alike f g [] e = refl
 count_alike f g (x ∷ xs) e =
     let a = sum_by-cons (λ (y : ℕ). cond (f y) 1 0) x xs in

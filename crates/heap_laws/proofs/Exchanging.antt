@@ -45,7 +45,7 @@ exchanged-at there change at (b ∷ before) c after takes e =
     ap (λ (ds : List Chunk). ds ++ exchanged there change (at + size_of b) (before ++ c ∷ after)) (cond-false (at == there) (change b) (b ∷ []) (grind (arith, nat_tests)))
     ∙ ap (λ (ds : List Chunk). b ∷ ds) (exchanged-at there change (at + size_of b) before c after takes.1 (omega arith))
 
-layout_takes : (image : List ℕ) → HeapAccepted image → EveryPlaced TakesBytes (area_start image) (layout_of image)
+pub layout_takes : (image : List ℕ) → HeapAccepted image → EveryPlaced TakesBytes (area_start image) (layout_of image)
 layout_takes image h = takes-merged (area_start image) (chunks_of image) (SpelledAll-takes image (area_start image) (chunks_of image) (length image) (read_heap image h).tiles.area)
 
 -- in parts of the layout

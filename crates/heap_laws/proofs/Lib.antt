@@ -21,3 +21,7 @@ pub mod Changing
 pub mod Owning
 pub mod Openness
 pub mod Carrying
+pub mod Packings
+pub mod Sliding
+pub mod Compacting
+pub mod Stretches

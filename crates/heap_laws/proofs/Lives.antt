@@ -16,7 +16,7 @@ or_cond : {A : Type 0} (b : Bool) (x : A) (y z w : Option A) → y ≡ or_else z
 or_cond true x y z w e = refl
 or_cond false x y z w e = e
 
-move_live : (m n : ℕ) (cs : List Chunk) (name : ℕ) → m ≡ n → live_under m cs name ≡ live_under n cs name
+pub move_live : (m n : ℕ) (cs : List Chunk) (name : ℕ) → m ≡ n → live_under m cs name ≡ live_under n cs name
 move_live m n cs name e = ap (λ (k : ℕ). live_under k cs name) e
 
 pub live_under-append : (at : ℕ) (xs ys : List Chunk) (name : ℕ) → live_under at (xs ++ ys) name ≡ or_else (live_under at xs name) (live_under (at + total xs) ys name)
@@ -30,7 +30,7 @@ live_under-append at (fixed bytes owner ∷ xs) ys name =
     or_cond ((at + 8) == name) (record { bytes = bytes; lock = fixed_lock; owner = owner }) _ _ _
     (live_under-append (at + need (length bytes)) xs ys name ∙ ap (or_else (live_under (at + need (length bytes)) xs name)) (move_live (at + need (length bytes) + total xs) (at + (need (length bytes) + total xs)) ys name (omega arith)))
 
-move_place : (m n : ℕ) (cs : List Chunk) (name : ℕ) → m ≡ n → place_under m cs name ≡ place_under n cs name
+pub move_place : (m n : ℕ) (cs : List Chunk) (name : ℕ) → m ≡ n → place_under m cs name ≡ place_under n cs name
 move_place m n cs name e = ap (λ (k : ℕ). place_under k cs name) e
 
 pub place_under-append : (at : ℕ) (xs ys : List Chunk) (name : ℕ) → place_under at (xs ++ ys) name ≡ or_else (place_under at xs name) (place_under (at + total xs) ys name)

@@ -6,8 +6,9 @@ use Rattle.heap_model.specs.Placed.{EveryOne}
 use Rattle.heap_model.specs.Heap.{Tiles, IsBody, Tied, HeapAccepted}
 use Rattle.heap_model.specs.Meaning.{ChunkMap, Holds}
 use Rattle.heap_model.specs.Reading.{chunk_at, chunks_of, held, is_accepted}
-use Rattle.heap_model.specs.Space.{free_total, rooms, NoRun, place_of}
-use Rattle.heap_model.specs.Layout.{layout_of}
+use Rattle.heap_model.specs.Space.{free_total, free_slots, rooms, NoRun, Short, place_of, Still, moved_bytes}
+use Rattle.heap_model.specs.Layout.{layout_of, Becomes}
+use Rattle.heap_model.specs.Packing.{Packed, Slid, packed, moved_by_packing}
 
 -- an image is tiled by one list of chunks at most
 abbrev pub TiledOnce : Type 0
@@ -66,3 +67,33 @@ pub record AreAlike (image other : List ℕ) : Type 0 where
 -- accepted heaps are alike where their chunks begin at one offset and have one layout
 abbrev pub LayoutTells : Type 0
 LayoutTells = (image other : List ℕ) → HeapAccepted image → HeapAccepted other → area_start image ≡ area_start other → layout_of image ≡ layout_of other → AreAlike image other
+
+-- packing slides the chunks, and leaves them packed
+abbrev pub PackingIsPacked : Type 0
+PackingIsPacked = (chunks : List Chunk) → Packed (packed chunks) × Slid chunks (packed chunks)
+
+-- a heap to which chunks slid, and which is packed, has one list of chunks and one layout
+abbrev pub PackedOnce : Type 0
+PackedOnce =
+    (chunks : List Chunk) (image : List ℕ) → HeapAccepted image
+    → (Packed (chunks_of image) → Slid chunks (chunks_of image) → chunks_of image ≡ packed chunks) × (Packed (layout_of image) → Slid chunks (layout_of image) → layout_of image ≡ packed chunks)
+
+-- every name stands for what it stood for, nothing that stays has moved, and there is as much room
+pub record SlidAlike (old new : List ℕ) : Type 0 where
+  pub holds : (name : ℕ) → held new name ≡ held old name
+  pub stays : Still old new
+  pub free_bytes : free_total new ≡ free_total old
+  pub slots : free_slots new ≡ free_slots old
+  pub room : rooms new ≡ rooms old
+
+-- chunks that slide leave this as it was
+abbrev pub SlidingKeeps : Type 0
+SlidingKeeps = (old new : List ℕ) (chunks : List Chunk) → HeapAccepted old → Becomes old new chunks → Slid (chunks_of old) chunks → SlidAlike old new
+
+-- in a heap that was packed no run has so many bytes exactly where the old one was short of them
+abbrev pub PackingJoinsRooms : Type 0
+PackingJoinsRooms = (old new : List ℕ) (size : ℕ) → HeapAccepted old → Becomes old new (packed (chunks_of old)) → 0 < size → NoRun (chunks_of new) size ↔ Short old size
+
+-- the chunks that have another place in a heap that was packed are those that packing moves
+abbrev pub PackingMoves : Type 0
+PackingMoves = (old new : List ℕ) → Becomes old new (packed (chunks_of old)) → moved_bytes old new ≡ moved_by_packing (chunks_of old)

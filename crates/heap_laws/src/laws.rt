@@ -1,6 +1,6 @@
 //! The laws, each as the promise of a function.
 
-ghost use Rattle.heap_laws.specs.Laws.{TiledOnce, ChunksAreRead, TilesAreRead, SlotsAreListed, AcceptanceIsDecided, TiesPairOneToOne, HoldsOneMap, ZeroNamesNothing, NeedIsWhole, LayoutTells};
+ghost use Rattle.heap_laws.specs.Laws.{TiledOnce, ChunksAreRead, TilesAreRead, SlotsAreListed, AcceptanceIsDecided, TiesPairOneToOne, HoldsOneMap, ZeroNamesNothing, NeedIsWhole, LayoutTells, PackingIsPacked, PackedOnce, SlidingKeeps, PackingJoinsRooms, PackingMoves};
 
 /// An image is tiled by one list of chunks at most.
 pub fn tiled_once()
@@ -51,4 +51,30 @@ pub fn need_is_whole()
 /// begin.
 pub fn layout_tells()
     ensures { LayoutTells }
+{}
+
+/// Packing slides the chunks of each stretch to its front, and leaves them packed.
+pub fn packing_is_packed()
+    ensures { PackingIsPacked }
+{}
+
+/// What compaction leaves is determined: there is one list of packed chunks to which some can slide.
+pub fn packed_once()
+    ensures { PackedOnce }
+{}
+
+/// Where chunks slide every name stands for what it stood for, nothing locked or fixed has moved, and
+/// there is as much room.
+pub fn sliding_keeps()
+    ensures { SlidingKeeps }
+{}
+
+/// Packing makes one run of each room.
+pub fn packing_joins_rooms()
+    ensures { PackingJoinsRooms }
+{}
+
+/// What packing moves is what has another place afterwards.
+pub fn packing_moves()
+    ensures { PackingMoves }
 {}

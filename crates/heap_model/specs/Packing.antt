@@ -9,9 +9,12 @@ use Rattle.heap_model.specs.Layout.{Becomes, gap}
 
 -- ---- what is to be reached
 
--- a free chunk has no chunk of its stretch behind it: the stretch has one at most, and it is the last
+-- nothing stands behind a free one of these chunks: there is one at most, and it is the last
 abbrev pub FreeIsLast : List Chunk → Type 0
-FreeIsLast stretch = (before : List Chunk) (size : ℕ) (after : List Chunk) → stretch ≡ before ++ free size ∷ after → after ≡ []
+FreeIsLast [] = Unit {0}
+FreeIsLast (free size ∷ chunks) = chunks ≡ []
+FreeIsLast (movable bytes lock owner slot ∷ chunks) = FreeIsLast chunks
+FreeIsLast (fixed bytes owner ∷ chunks) = FreeIsLast chunks
 
 -- each stretch has at most one free chunk, and it is the stretch's last
 abbrev pub Packed : List Chunk → Type 0
