@@ -15,3 +15,5 @@ pub mod ExactLaws
 pub mod DropLaws
 pub mod DropReads
 pub mod PackLaws
+pub mod SeenLaws
+pub mod StretchLaws

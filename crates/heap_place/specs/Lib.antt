@@ -2,3 +2,4 @@ pub mod Found
 pub mod Search
 pub mod Lifting
 pub mod Packs
+pub mod Stretches

@@ -2,10 +2,16 @@
 
 ghost use Rattle.std.specs.Prelude.{◌≡◌, ◌↔◌, ◌+◌, ◌-◌, IsTrue};
 ghost use Rattle.heap_model.specs.Heap.{HeapAccepted};
+ghost use Rattle.heap_model.specs.Reading.{chunks_of};
+ghost use Rattle.heap_model.specs.Space.{moved_bytes};
+ghost use Rattle.heap_model.specs.Layout.{Becomes};
+ghost use Rattle.heap_model.specs.Packing.{packed};
+ghost use Rattle.heap_place.specs.Stretches.{IsStretch, PacksStretch, MovesInStretch};
 ghost use Rattle.heap_place.specs.Packs.{IsRun, Packs, MovesInRun, LeavesRoom, IsBehindRoom, PacksOne, IsDroppable, Drops, HeaderStays};
 ghost use Rattle.chunk_format.specs.Header.{HasHeader, size_by};
 
-use chunk_format::Header;
+use crate::stretch::Stretch;
+use chunk_format::{Header, area_start};
 use heap_model::{Name, Place};
 use raw_region::Region;
 
@@ -16,6 +22,29 @@ pub(crate) struct Outcome {
     pub(crate) slid: u32,
     /// How much room of the last stretch is behind its chunks.
     pub(crate) room: u32,
+}
+
+/// Packs the chunks of each stretch, and answers how many bytes it slid.
+pub(crate) fn compact(region: &mut Region) -> u32
+    requires accepted { HeapAccepted region.old.bytes }
+    ensures packed { Becomes region.old.bytes region.new.bytes (packed (chunks_of region.old.bytes)) }
+    ensures moved { result ≡ moved_bytes region.old.bytes region.new.bytes }
+    ensures slid { region.new.slid ≡ region.old.slid + result }
+{
+    let start = area_start(region);
+    let end = region.len() as u32;
+    pack(region, start, end).slid
+}
+
+/// Packs the chunks of one stretch, and answers how many bytes it slid.
+pub(crate) fn pack_stretch(region: &mut Region, stretch: Stretch) -> u32
+    requires accepted { HeapAccepted region.old.bytes }
+    requires stretch { IsStretch region.old.bytes stretch }
+    ensures packed { PacksStretch region.old.bytes region.new.bytes stretch }
+    ensures moved { MovesInStretch region.old.bytes stretch result }
+    ensures slid { region.new.slid ≡ region.old.slid + result }
+{
+    pack(region, stretch.start, stretch.end).slid
 }
 
 /// Packs the chunks from `start` up to `end`, in one walk and by one slide for each chunk that moves.
