@@ -95,7 +95,7 @@ slid_place at cs ds name live s e some =
 -- ---- how much is free
 
 -- what is free is what the live ones leave
-lives_total : (cs : List Chunk) → total cs ≡ sum_by free_size cs + total (lives cs)
+pub lives_total : (cs : List Chunk) → total cs ≡ sum_by free_size cs + total (lives cs)
 lives_total [] = refl
 lives_total (free size ∷ cs) = let e = sum_by-cons free_size (free size) cs in let ih = lives_total cs in omega arith
 lives_total (movable bytes lock owner slot ∷ cs) = let e = sum_by-cons free_size (movable bytes lock owner slot) cs in let ih = lives_total cs in omega arith

@@ -211,7 +211,7 @@ with_freed-append (free size ∷ xs) ys name = ap (λ (cs : List Chunk). free si
 with_freed-append (movable bytes lock owner slot ∷ xs) ys name = ap (λ (cs : List Chunk). cond (slot == name) (free (need (length bytes))) (movable bytes lock owner slot) ∷ cs) (with_freed-append xs ys name)
 with_freed-append (fixed bytes owner ∷ xs) ys name = ap (λ (cs : List Chunk). fixed bytes owner ∷ cs) (with_freed-append xs ys name)
 
-room_of-middle : (front : List Chunk) (c : Chunk) (back : List Chunk) → room_of (front ++ c ∷ back) ≡ room_of (front ++ back) + free_size c
+pub room_of-middle : (front : List Chunk) (c : Chunk) (back : List Chunk) → room_of (front ++ c ∷ back) ≡ room_of (front ++ back) + free_size c
 room_of-middle front c back =
     let one = sum_by-append free_size front (c ∷ back) in
     let two = sum_by-append free_size front back in

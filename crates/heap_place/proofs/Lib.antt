@@ -11,3 +11,9 @@ pub mod CopyLaws
 pub mod MendLaws
 pub mod MendingLaws
 pub mod LiftLaws
+pub mod ExactLaws
+pub mod DropLaws
+pub mod DropReads
+pub mod PackLaws
+pub mod SeenLaws
+pub mod StretchLaws

@@ -1,3 +1,5 @@
 pub mod Found
 pub mod Search
 pub mod Lifting
+pub mod Packs
+pub mod Stretches

@@ -18,6 +18,10 @@
 //! | `release` | makes a live chunk free |
 //! | `owned` | makes all chunks of an owner free |
 //! | `alter` | writes another lock count or owner of a live chunk |
+//! | `stretch` | finds a stretch |
+//! | `pack` | packs the chunks of each stretch, or of one |
+//! | `lift` | moves chunks up over the free chunk behind them |
+//! | `open` | opens room behind a chunk |
 #![tactic(auto)]
 
 mod alter;
@@ -25,12 +29,16 @@ mod claim;
 mod found;
 mod lift;
 mod lookup;
+mod open;
 mod owned;
+mod pack;
 mod release;
 mod room;
 mod space;
+mod stretch;
 mod walks;
 
 pub use found::Found;
 pub use room::Room;
 pub use space::Space;
+pub use stretch::Stretch;

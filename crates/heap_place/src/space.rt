@@ -6,17 +6,22 @@ ghost use Rattle.heap_model.specs.Chunk.{movable, fixed, need, fixed_lock, is_ow
 ghost use Rattle.heap_model.specs.Slots.{IsSlot};
 ghost use Rattle.heap_model.specs.Heap.{HeapAccepted, directory_of};
 ghost use Rattle.heap_model.specs.Reading.{chunks_of, held};
-ghost use Rattle.heap_model.specs.Space.{NoRun, free_total};
+ghost use Rattle.heap_model.specs.Space.{NoRun, free_total, moved_bytes};
+ghost use Rattle.heap_model.specs.Packing.{packed, OpensBehind};
 ghost use Rattle.heap_model.specs.Layout.{Becomes, layout_of, owned_freed, Exchanges, Alters, in_front, freed, with_lock, with_owner, with_bytes, FreeUpTo, IsRoom, WritesPlain};
 ghost use Rattle.heap_place.specs.Found.{IsFound, IsOne, NothingAt, CanGoTo};
+ghost use Rattle.heap_place.specs.Stretches.{IsStretch, IsAmong, PacksStretch, MovesInStretch};
 
 use crate::alter::{relock_at, reown_at};
 use crate::claim::{claim_fixed_at, claim_movable, cut};
 use crate::found::Found;
 use crate::lookup::{find_named, find_placed};
+use crate::open::open_in;
 use crate::owned::release_owned;
+use crate::pack::{compact, pack_stretch};
 use crate::release::release;
 use crate::room::{Room, find_room};
+use crate::stretch::{Stretch, stretch_around};
 use crate::walks::free_bytes;
 use chunk_format::size_of_body;
 use heap_model::{Name, Place};
@@ -222,5 +227,52 @@ impl Space {
     {
         self.region
             .fill(found.place.0 as usize + at as usize, count as usize, byte);
+    }
+
+    /// Packs the chunks of each stretch: they go to its front, and its room is behind them. Answers how many
+    /// bytes were slid, which are those of the chunks that have moved.
+    pub fn compact(&mut self) -> u32
+        requires accepted { HeapAccepted self.old.bytes }
+        ensures packed { Becomes self.old.bytes self.new.bytes (packed (chunks_of self.old.bytes)) }
+        ensures moved { result ≡ moved_bytes self.old.bytes self.new.bytes }
+        ensures slid { self.new.slid ≡ self.old.slid + result }
+        ensures rest { self.new ≡ record self.old { bytes = self.new.bytes; slid = self.new.slid } }
+    {
+        compact(&mut self.region)
+    }
+
+    /// The stretch of a movable chunk that was found, which has no locks.
+    pub fn stretch_around(&self, found: Found) -> Stretch
+        requires accepted { HeapAccepted self.now.bytes }
+        requires found { IsOne self.now.bytes found }
+        requires unlocked { found.lock ≡ 0 }
+        ensures { IsAmong self.now.bytes found result }
+    {
+        stretch_around(&self.region, found)
+    }
+
+    /// Packs the chunks of one stretch, and answers how many bytes were slid.
+    pub fn pack_stretch(&mut self, stretch: Stretch) -> u32
+        requires accepted { HeapAccepted self.old.bytes }
+        requires stretch { IsStretch self.old.bytes stretch }
+        ensures packed { PacksStretch self.old.bytes self.new.bytes stretch }
+        ensures moved { MovesInStretch self.old.bytes stretch result }
+        ensures slid { self.new.slid ≡ self.old.slid + result }
+        ensures rest { self.new ≡ record self.old { bytes = self.new.bytes; slid = self.new.slid } }
+    {
+        pack_stretch(&mut self.region, stretch)
+    }
+
+    /// Opens room behind a movable chunk without locks: the free chunks of its stretch become one, directly
+    /// behind it. What was found of chunks of the stretch may stand elsewhere then.
+    pub fn open_behind(&mut self, found: Found)
+        requires accepted { HeapAccepted self.old.bytes }
+        requires found { IsOne self.old.bytes found }
+        requires unlocked { found.lock ≡ 0 }
+        ensures opened { OpensBehind self.old.bytes self.new.bytes (found.place.0 - 8) }
+        ensures rest { self.new ≡ record self.old { bytes = self.new.bytes; slid = self.new.slid } }
+    {
+        let stretch = stretch_around(&self.region, found);
+        open_in(&mut self.region, stretch, found);
     }
 }

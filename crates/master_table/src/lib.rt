@@ -9,4 +9,4 @@ mod slots;
 mod table;
 
 pub use slots::Table;
-pub use table::{FreeSlot, clear, free_slot, resolve, set, slots_before, slots_free};
+pub use table::{FreeSlot, clear, free_slot, resolve, set, slots_before, slots_free, word_of};

@@ -18,9 +18,9 @@ pub struct FreeSlot {
     pub before: u32,
 }
 
-/// The word of a slot.
+/// The word of a slot: a place, or 0 where it is empty.
 #[inline]
-fn word_of(region: &Region, slot: u32) -> u32
+pub fn word_of(region: &Region, slot: u32) -> u32
     requires table { HasTable region.now }
     requires slot { IsSlot region.now.bytes slot }
     ensures { result ≡ u32_at region.now.bytes slot }

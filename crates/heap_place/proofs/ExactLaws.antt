@@ -1,0 +1,26 @@
+-- An image that has become a heap with these very chunks.
+use Rattle.std.proofs.Common.{◌≡◌, ℕ, List, ap}
+use Rattle.heap_model.specs.Chunk.{Chunk}
+use Rattle.heap_model.specs.Slots.{area_start}
+use Rattle.heap_model.specs.Heap.{IsHeap, HeapAccepted}
+use Rattle.heap_model.specs.Reading.{chunks_of}
+use Rattle.heap_model.specs.Layout.{merged, Becomes}
+use Rattle.heap_laws.proofs.Runs.{chunks_of-tiled}
+use Rattle.heap_laws.proofs.Replacing.{SameHead}
+use Rattle.heap_laws.proofs.Becoming.{frame_of, same_frame, frame_then, becomes_start}
+use Rattle.heap_place.specs.Packs.{BecomesExactly}
+
+pub exactly_heap : (old new : List ℕ) (cs : List Chunk) → SameHead old new → IsHeap new cs → BecomesExactly old new cs
+exactly_heap old new cs same h = record { frame = frame_of old new cs same h; exact = chunks_of-tiled new cs h.tiles }
+
+pub exactly_itself : (image : List ℕ) (cs : List Chunk) → HeapAccepted image → chunks_of image ≡ cs → BecomesExactly image image cs
+exactly_itself image cs h is = record { frame = same_frame image h; exact = is }
+
+pub exactly_then : (old mid new : List ℕ) (cs ds : List Chunk) → BecomesExactly old mid cs → BecomesExactly mid new ds → BecomesExactly old new ds
+exactly_then old mid new cs ds a b = record { frame = frame_then old mid new a.frame b.frame; exact = b.exact }
+
+pub exactly_becomes : (old new : List ℕ) (cs : List Chunk) → BecomesExactly old new cs → Becomes old new cs
+exactly_becomes old new cs b = record { frame = b.frame; layout = ap merged b.exact }
+
+pub exactly_start : (old new : List ℕ) (cs : List Chunk) → BecomesExactly old new cs → area_start new ≡ area_start old
+exactly_start old new cs b = becomes_start old new cs (exactly_becomes old new cs b)

@@ -1,0 +1,186 @@
+-- The chunks of a stretch are packed, and then room is opened behind one of them.
+use Rattle.std.proofs.Common.{◌≡◌, ℕ, zero, suc, ◌+◌, ◌-◌, ◌<◌, ◌≤◌, List, [], ◌∷◌, ◌++◌, length, refl, sym, ap, subst, ◌∙◌, append_assoc, arith}
+use Rattle.std.proofs.lemmas.List.{append-nil}
+use Rattle.std.proofs.lemmas.List.Sums.{sum_by-cons}
+use Rattle.heap_model.specs.Bytes.{u32_at}
+use Rattle.heap_model.specs.Chunk.{Chunk, free, movable, fixed, need, total, free_size}
+use Rattle.heap_model.specs.Slots.{IsSlot, table_end, area_start}
+use Rattle.heap_model.specs.Heap.{BodyHere, IsHeap, HeapAccepted}
+use Rattle.heap_model.specs.Reading.{chunks_of}
+use Rattle.heap_model.specs.Space.{NoneStays, room_of}
+use Rattle.heap_model.specs.Layout.{Becomes, gap}
+use Rattle.heap_model.specs.Packing.{packed, lives, opened, OpensBehind}
+use Rattle.heap_laws.proofs.Chunks.{total-append, SpelledAll-split, SpelledAll-end}
+use Rattle.heap_laws.proofs.Placed.{AnyPlaced-mid}
+use Rattle.heap_laws.proofs.Becoming.{frame_then}
+use Rattle.heap_laws.proofs.Sliding.{lives-append, lives_total, stretch_packed}
+use Rattle.heap_laws.proofs.Stretches.{room_of-middle, one_stretch}
+use Rattle.heap_place.specs.declared.stretch.Stretch.{Stretch}
+use Rattle.heap_place.specs.Lifting.{FreeBehind}
+use Rattle.heap_place.specs.Packs.{BecomesExactly, RunOf, IsRun, Packs, LeavesRoom, last_room}
+use Rattle.heap_place.specs.Stretches.{StretchIs, IsStretch, IsAmongAt}
+use Rattle.heap_place.proofs.FoundLaws.{heap_in_parts}
+use Rattle.heap_place.proofs.ExactLaws.{exactly_start, exactly_becomes}
+use Rattle.heap_place.proofs.DropLaws.{gap_some, gap_none}
+
+-- ---- a stretch is packed
+
+pub stretch_run : (image : List ℕ) (before mid after : List Chunk) (stretch : Stretch) → StretchIs image before mid after stretch → RunOf image before mid after stretch.start stretch.end
+stretch_run image before mid after stretch s = record { chunks = s.whole.chunks; from = s.from; to = s.to }
+
+pub is_run : (image : List ℕ) (stretch : Stretch) → IsStretch image stretch → IsRun image stretch.start stretch.end
+is_run image stretch s = record { before = s.before; mid = s.mid; after = s.after; run = stretch_run image s.before s.mid s.after stretch s.is }
+
+-- all room of chunks of which none stays is at their end
+last_loose : (room : ℕ) (cs : List Chunk) → NoneStays cs → last_room room cs ≡ room + room_of cs
+last_loose room [] n = let none : room_of [] ≡ 0 = refl in omega arith
+last_loose room (free size ∷ cs) n = let e = sum_by-cons free_size (free size) cs in let ih = last_loose (room + size) cs n in omega (arith, e, ih)
+last_loose room (movable bytes zero owner slot ∷ cs) n = let e = sum_by-cons free_size (movable bytes 0 owner slot) cs in let ih = last_loose room cs n in omega (arith, e, ih)
+last_loose room (movable bytes (suc count) owner slot ∷ cs) n = absurd n
+last_loose room (fixed bytes owner ∷ cs) n = absurd n
+
+-- ---- the same chunks in other parts
+
+regroup : (before xs ys after : List Chunk) (v f : Chunk) → before ++ (((xs ++ v ∷ ys) ++ f ∷ []) ++ after) ≡ (before ++ (xs ++ v ∷ [])) ++ (ys ++ f ∷ after)
+regroup before xs ys after v f =
+    ap (λ (cs : List Chunk). before ++ cs) (append_assoc (xs ++ v ∷ ys) (f ∷ []) after ∙ append_assoc xs (v ∷ ys) (f ∷ after) ∙ sym (append_assoc xs (v ∷ []) (ys ++ f ∷ after)))
+    ∙ sym (append_assoc before (xs ++ v ∷ []) (ys ++ f ∷ after))
+
+regroup_open : (before xs ys after : List Chunk) (v f : Chunk) → (before ++ (xs ++ v ∷ [])) ++ f ∷ (ys ++ after) ≡ before ++ ((xs ++ v ∷ f ∷ ys) ++ after)
+regroup_open before xs ys after v f =
+    append_assoc before (xs ++ v ∷ []) (f ∷ (ys ++ after)) ∙ ap (λ (cs : List Chunk). before ++ cs) (append_assoc xs (v ∷ []) (f ∷ (ys ++ after)) ∙ sym (append_assoc xs (v ∷ f ∷ ys) after))
+
+regroup_around : (before xs ys gaps after : List Chunk) (v : Chunk) → before ++ (((xs ++ v ∷ ys) ++ gaps) ++ after) ≡ (before ++ xs) ++ v ∷ (ys ++ (gaps ++ after))
+regroup_around before xs ys gaps after v =
+    ap (λ (cs : List Chunk). before ++ cs) (append_assoc (xs ++ v ∷ ys) gaps after ∙ append_assoc xs (v ∷ ys) (gaps ++ after)) ∙ sym (append_assoc before xs (v ∷ (ys ++ (gaps ++ after))))
+
+opened_alike : (before front : List Chunk) (c : Chunk) (back after others fore : List Chunk) (d : Chunk) (rear later : List Chunk) → before ≡ others → front ≡ fore → c ∷ back ≡ d ∷ rear → after ≡ later → others ++ (opened fore d rear ++ later) ≡ before ++ (opened front c back ++ after)
+opened_alike before front c back after others fore d rear later e f g k =
+    let one : c ≡ d = cc in
+    let rest : back ≡ rear = cc in
+    rw (e, f, one, rest, k) refl
+
+-- ---- room is opened in a packed stretch
+
+-- the chunk that was found is one of the stretch; the stretch is packed, with so much room at its end
+module _ (old mid : List ℕ) (at name count : ℕ) (stretch : Stretch) (room : ℕ) (h : HeapAccepted old) (a : IsAmongAt old at name count stretch) (packs : Packs old mid stretch.start stretch.end) (leaves : LeavesRoom old stretch.start stretch.end room) where
+  abbrev v : Chunk
+  v = movable a.bytes 0 a.owner name
+
+  abbrev fore : List Chunk
+  fore = lives a.front
+
+  abbrev rear : List Chunk
+  rear = lives a.back
+
+  run : RunOf old a.before (a.front ++ v ∷ a.back) a.after stretch.start stretch.end
+  run = stretch_run old a.before (a.front ++ v ∷ a.back) a.after stretch a.is
+
+  packed_image : BecomesExactly old mid (a.before ++ (packed (a.front ++ v ∷ a.back) ++ a.after))
+  packed_image = packs a.before (a.front ++ v ∷ a.back) a.after run
+
+  pub packed_accepted : HeapAccepted mid
+  packed_accepted = packed_image.frame.accepted
+
+  all_room : room ≡ room_of (a.front ++ v ∷ a.back)
+  all_room =
+      let last = leaves a.before (a.front ++ v ∷ a.back) a.after run in
+      let loose = last_loose 0 (a.front ++ v ∷ a.back) a.is.whole.none_stays in
+      omega (arith, last, loose)
+
+  room_is : room ≡ room_of (a.front ++ a.back)
+  room_is = let middle = room_of-middle a.front v a.back in omega (arith, all_room, middle)
+
+  packed_is : packed (a.front ++ v ∷ a.back) ≡ (fore ++ v ∷ rear) ++ gap room
+  packed_is =
+      stretch_packed (a.front ++ v ∷ a.back) a.is.whole.none_stays ∙ ap (λ (cs : List Chunk). cs ++ gap (room_of (a.front ++ v ∷ a.back))) (lives-append a.front (v ∷ a.back)) ∙ ap (λ (n : ℕ). (fore ++ v ∷ rear) ++ gap n) (sym all_room)
+
+  chunks_then : chunks_of mid ≡ a.before ++ (((fore ++ v ∷ rear) ++ gap room) ++ a.after)
+  chunks_then = packed_image.exact ∙ ap (λ (cs : List Chunk). a.before ++ (cs ++ a.after)) packed_is
+
+  heap_then : IsHeap mid ((a.before ++ fore) ++ v ∷ (rear ++ (gap room ++ a.after)))
+  heap_then = heap_in_parts mid ((a.before ++ fore) ++ v ∷ (rear ++ (gap room ++ a.after))) packed_accepted (chunks_then ∙ regroup_around a.before fore rear (gap room) a.after v)
+
+  starts : area_start mid ≡ area_start old
+  starts = exactly_start old mid (a.before ++ (packed (a.front ++ v ∷ a.back) ++ a.after)) packed_image
+
+  tied_then : IsSlot mid name × (u32_at mid name ≡ area_start mid + total (a.before ++ fore) + 8)
+  tied_then =
+      (heap_then.tied name (area_start mid + total (a.before ++ fore) + 8) (omega arith)).1
+      (AnyPlaced-mid (BodyHere name (area_start mid + total (a.before ++ fore) + 8)) (area_start mid) (a.before ++ fore) v (rear ++ (gap room ++ a.after)) (refl, refl))
+
+  pub slot_then : IsSlot mid name
+  slot_then = tied_then.0
+
+  pub table_then : table_end mid ≤ length mid
+  table_then = let fits = heap_then.tiles.head.a_chunk_fits in omega (arith, fits)
+
+  place_is : u32_at mid name ≡ stretch.start + total fore + 8
+  place_is =
+      let held = tied_then.1 in
+      let from = a.is.from in
+      let both = total-append a.before fore in
+      omega (arith, held, from, both, starts)
+
+  ends : stretch.end ≡ stretch.start + total fore + need (length a.bytes) + total rear + room
+  ends =
+      let to = a.is.to in
+      let sizes = lives_total (a.front ++ v ∷ a.back) in
+      let parts = ap total (lives-append a.front (v ∷ a.back)) ∙ total-append fore (v ∷ rear) in
+      omega (arith, to, sizes, parts, all_room)
+
+  inside : stretch.end ≤ length old
+  inside =
+      let from = a.is.from in
+      let to = a.is.to in
+      let heap = heap_in_parts old (a.before ++ ((a.front ++ v ∷ a.back) ++ a.after)) h a.is.whole.chunks in
+      let one = SpelledAll-split old (area_start old) a.before ((a.front ++ v ∷ a.back) ++ a.after) (length old) heap.tiles.area in
+      let two = SpelledAll-split old (area_start old + total a.before) (a.front ++ v ∷ a.back) a.after (length old) one.1 in
+      let last = SpelledAll-end old (area_start old + total a.before + total (a.front ++ v ∷ a.back)) a.after (length old) two.1 in
+      omega (arith, from, to, last)
+
+  -- what is worked out fits
+  pub record OpenNumbers : Type 0 where
+    pub behind_header : 8 ≤ u32_at mid name
+    pub inside : u32_at mid name - 8 + need count ≤ stretch.end
+    pub within : room ≤ stretch.end
+    pub most : stretch.end ≤ 16777208
+
+  pub numbers : OpenNumbers
+  numbers =
+      let many = ap need a.many in
+      let most = h.1.tiles.head.most in
+      record { behind_header = omega (arith, place_is); inside = omega (arith, place_is, ends, many); within = omega (arith, ends); most = omega (arith, inside, most) }
+
+  pub room_behind : (start : ℕ) → 0 < room → start ≡ u32_at mid name - 8 + need count → FreeBehind mid (a.before ++ (fore ++ v ∷ [])) rear a.after start (stretch.end - room) room
+  room_behind start some start_is =
+      let many = ap need a.many in
+      let from = a.is.from in
+      let one = total-append a.before (fore ++ v ∷ []) in
+      let two = total-append fore (v ∷ []) in
+      record {
+        chunks = chunks_then ∙ ap (λ (g : List Chunk). a.before ++ (((fore ++ v ∷ rear) ++ g) ++ a.after)) (gap_some room some) ∙ regroup a.before fore rear a.after v (free room);
+        from = omega (arith, start_is, place_is, one, two, starts, from, many);
+        to = omega (arith, start_is, place_is, ends, many);
+      }
+
+  -- so it is with any parts
+  whole_opened : (new : List ℕ) → Becomes old new (a.before ++ (opened a.front v a.back ++ a.after)) → OpensBehind old new at
+  whole_opened new b = λ before front bytes owner slot back after whole there.
+      let alike = one_stretch old before front (movable bytes 0 owner slot) back after a.before a.front v a.back a.after at h whole there a.is.whole a.there in
+      subst (λ (cs : List Chunk). Becomes old new cs) (opened_alike before front (movable bytes 0 owner slot) back after a.before a.front v a.back a.after alike.in_front alike.first_part alike.rest alike.behind) b
+
+  pub opened_some : (new : List ℕ) → 0 < room → Becomes mid new ((a.before ++ (fore ++ v ∷ [])) ++ free room ∷ (rear ++ a.after)) → OpensBehind old new at
+  opened_some new some b =
+      let g : free room ∷ [] ≡ gap (room_of (a.front ++ a.back)) = sym (gap_some room some) ∙ ap gap room_is in
+      let e : (a.before ++ (fore ++ v ∷ [])) ++ free room ∷ (rear ++ a.after) ≡ a.before ++ (opened a.front v a.back ++ a.after) =
+      regroup_open a.before fore rear a.after v (free room) ∙ ap (λ (cs : List Chunk). a.before ++ ((fore ++ v ∷ (cs ++ rear)) ++ a.after)) g in
+      let b_2 : Becomes mid new (a.before ++ (opened a.front v a.back ++ a.after)) = subst (λ (cs : List Chunk). Becomes mid new cs) e b in
+      whole_opened new record { frame = frame_then old mid new packed_image.frame b_2.frame; layout = b_2.layout }
+
+  pub opened_none : room ≡ 0 → OpensBehind old mid at
+  opened_none none =
+      let g : [] ≡ gap (room_of (a.front ++ a.back)) = sym (gap_none (room_of (a.front ++ a.back)) (sym room_is ∙ none)) in
+      let e : packed (a.front ++ v ∷ a.back) ≡ opened a.front v a.back =
+      packed_is ∙ ap (λ (cs : List Chunk). (fore ++ v ∷ rear) ++ cs) (gap_none room none) ∙ append-nil (fore ++ v ∷ rear) ∙ ap (λ (cs : List Chunk). fore ++ v ∷ (cs ++ rear)) g in
+      whole_opened mid (exactly_becomes old mid (a.before ++ (opened a.front v a.back ++ a.after)) (subst (λ (cs : List Chunk). BecomesExactly old mid (a.before ++ (cs ++ a.after))) e packed_image))

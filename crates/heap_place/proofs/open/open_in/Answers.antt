@@ -1,0 +1,53 @@
+use Rattle.std.proofs.Common.{◌-◌, ◌+◌, arith}
+use Rattle.heap_model.specs.Packing.{lives}
+use Rattle.heap_place.proofs.StretchLaws.{stretch_run, packed_accepted, slot_then, table_then, numbers, room_behind, opened_some, opened_none}
+use Rattle.heap_place.proofs.open.open_in.Goals as goal
+
+pub pack-room-requires-clause-run : goal.pack-room-requires-clause-run
+pack-room-requires-clause-run c = let a = c.requires.among in record { before = a.before; mid = _; after = a.after; run = stretch_run c.args.region.now.bytes _ _ _ c.args.stretch a.is }
+
+pub word_of-place-requires-clause-table : goal.word_of-place-requires-clause-table
+word_of-place-requires-clause-table c = table_then c.args.region.now.bytes c.pack-room.new.region.bytes (c.args.found.place.0 - 8) c.args.found.name.0 c.args.found.length c.args.stretch c.pack-room.result.room c.requires.accepted c.requires.among c.pack-room.ensures.packed c.pack-room.ensures.room
+
+pub word_of-place-requires-clause-slot : goal.word_of-place-requires-clause-slot
+word_of-place-requires-clause-slot c = slot_then c.args.region.now.bytes c.pack-room.new.region.bytes (c.args.found.place.0 - 8) c.args.found.name.0 c.args.found.length c.args.stretch c.pack-room.result.room c.requires.accepted c.requires.among c.pack-room.ensures.packed c.pack-room.ensures.room
+
+pub overflow_sub-behind : goal.overflow_sub-behind
+overflow_sub-behind c =
+    let n = numbers c.args.region.now.bytes c.pack-room.new.region.bytes (c.args.found.place.0 - 8) c.args.found.name.0 c.args.found.length c.args.stretch c.pack-room.result.room c.requires.accepted c.requires.among c.pack-room.ensures.packed c.pack-room.ensures.room in
+    let low = n.behind_header in
+    let place = c.word_of-place.ensures in
+    omega (arith, low, place)
+
+pub size_of_body-requires : goal.size_of_body-requires
+size_of_body-requires c =
+    let n = numbers c.args.region.now.bytes c.pack-room.new.region.bytes (c.args.found.place.0 - 8) c.args.found.name.0 c.args.found.length c.args.stretch c.pack-room.result.room c.requires.accepted c.requires.among c.pack-room.ensures.packed c.pack-room.ensures.room in
+    let inside = n.inside in
+    let most = n.most in
+    omega (arith, inside, most)
+
+pub overflow_add-behind : goal.overflow_add-behind
+overflow_add-behind c =
+    let n = numbers c.args.region.now.bytes c.pack-room.new.region.bytes (c.args.found.place.0 - 8) c.args.found.name.0 c.args.found.length c.args.stretch c.pack-room.result.room c.requires.accepted c.requires.among c.pack-room.ensures.packed c.pack-room.ensures.room in
+    let inside = n.inside in
+    let most = n.most in
+    let place = c.word_of-place.ensures in
+    let size = c.size_of_body.ensures in
+    omega (arith, inside, most, place, size)
+
+pub overflow_sub-stretch : goal.overflow_sub-stretch
+overflow_sub-stretch c = (numbers c.args.region.now.bytes c.pack-room.new.region.bytes (c.args.found.place.0 - 8) c.args.found.name.0 c.args.found.length c.args.stretch c.pack-room.result.room c.requires.accepted c.requires.among c.pack-room.ensures.packed c.pack-room.ensures.room).within
+
+pub lift-requires-clause-accepted : goal.lift-requires-clause-accepted
+lift-requires-clause-accepted c = packed_accepted c.args.region.now.bytes c.pack-room.new.region.bytes (c.args.found.place.0 - 8) c.args.found.name.0 c.args.found.length c.args.stretch c.pack-room.result.room c.requires.accepted c.requires.among c.pack-room.ensures.packed c.pack-room.ensures.room
+
+pub lift-requires-clause-behind : goal.lift-requires-clause-behind
+lift-requires-clause-behind c =
+    let behind = (room_behind c.args.region.now.bytes c.pack-room.new.region.bytes (c.args.found.place.0 - 8) c.args.found.name.0 c.args.found.length c.args.stretch c.pack-room.result.room c.requires.accepted c.requires.among c.pack-room.ensures.packed c.pack-room.ensures.room (c.word_of-place.result - 8 + c.size_of_body.result) (omega arith) (let place = c.word_of-place.ensures in let size = c.size_of_body.ensures in omega (arith, place, size))) in
+    record { before = _; mid = lives c.requires.among.back; after = c.requires.among.after; behind = behind }
+
+pub returns-then-room-gt0 : goal.returns-then-room-gt0
+returns-then-room-gt0 c = opened_some c.args.region.now.bytes c.pack-room.new.region.bytes (c.args.found.place.0 - 8) c.args.found.name.0 c.args.found.length c.args.stretch c.pack-room.result.room c.requires.accepted c.requires.among c.pack-room.ensures.packed c.pack-room.ensures.room c.lift.new.region.bytes (omega arith) (c.lift.ensures.lifted _ _ _ (room_behind c.args.region.now.bytes c.pack-room.new.region.bytes (c.args.found.place.0 - 8) c.args.found.name.0 c.args.found.length c.args.stretch c.pack-room.result.room c.requires.accepted c.requires.among c.pack-room.ensures.packed c.pack-room.ensures.room (c.word_of-place.result - 8 + c.size_of_body.result) (omega arith) (let place = c.word_of-place.ensures in let size = c.size_of_body.ensures in omega (arith, place, size))))
+
+pub returns-else-room-gt0 : goal.returns-else-room-gt0
+returns-else-room-gt0 c = opened_none c.args.region.now.bytes c.pack-room.new.region.bytes (c.args.found.place.0 - 8) c.args.found.name.0 c.args.found.length c.args.stretch c.pack-room.result.room c.requires.accepted c.requires.among c.pack-room.ensures.packed c.pack-room.ensures.room (omega arith)

@@ -1,0 +1,16 @@
+use Rattle.std.proofs.Common.{[], sym, ◌∙◌}
+use Rattle.heap_model.specs.Reading.{chunks_of}
+use Rattle.heap_laws.proofs.Compacting.{packed_moved}
+use Rattle.heap_place.proofs.PackLaws.{run_whole, whole_run, compacted_whole}
+use Rattle.heap_place.proofs.pack.compact.Goals as goal
+
+pub pack-requires-clause-run : goal.pack-requires-clause-run
+pack-requires-clause-run c = whole_run c.args.region.now.bytes c.area_start-start.result c.len-end.result c.requires.accepted c.area_start-start.ensures c.len-end.ensures
+
+pub returns-clause-packed : goal.returns-clause-packed
+returns-clause-packed c = compacted_whole c.args.region.now.bytes c.pack.new.region.bytes c.area_start-start.result c.len-end.result c.requires.accepted c.area_start-start.ensures c.len-end.ensures c.pack.ensures.packed
+
+pub returns-clause-moved : goal.returns-clause-moved
+returns-clause-moved c =
+    c.pack.ensures.moved [] (chunks_of c.args.region.now.bytes) [] (run_whole c.args.region.now.bytes c.area_start-start.result c.len-end.result c.requires.accepted c.area_start-start.ensures c.len-end.ensures)
+    ∙ sym (packed_moved c.args.region.now.bytes c.pack.new.region.bytes (compacted_whole c.args.region.now.bytes c.pack.new.region.bytes c.area_start-start.result c.len-end.result c.requires.accepted c.area_start-start.ensures c.len-end.ensures c.pack.ensures.packed))

@@ -1,0 +1,40 @@
+use Rattle.std.proofs.Common.{inl, inr, ap, subst, ◌∙◌, arith}
+use Rattle.heap_model.specs.Memory.{Memory}
+use Rattle.chunk_format.specs.Header.{size_by, HasHeader}
+use Rattle.chunk_format.specs.declared.header.Header.{Header}
+use Rattle.heap_place.proofs.PackLaws.{behind_spelled, join_writable, packed_free, is_droppable, packed_movable, packed_kept}
+use Rattle.heap_place.proofs.pack.pack_one.Goals as goal
+use Rattle.heap_place.proofs.pack.pack_one.Goals.{then-stays-via-then-stays, then-stays-via-else-stays+then-room-eq0}
+
+pub at_with_size-header-requires-clause-chunk : goal.at_with_size-header-requires-clause-chunk
+at_with_size-header-requires-clause-chunk c =
+    let b = c.requires.behind in
+    record { chunk = b.chunk; spelled = behind_spelled c.args.region.now.bytes b.before b.chunk b.after c.args.at c.args.room c.requires.accepted b.behind }
+
+pub write-requires-clause-writable : goal.write-requires-clause-writable
+write-requires-clause-writable c =
+    let b = c.requires.behind in
+    join_writable c.args.region.now.bytes b.before b.chunk b.after c.args.at c.args.room c.in-Free.size c.at_with_size-header.result.1 c.requires.accepted b.behind
+    (subst (λ (h : Header). HasHeader c.args.region.now.bytes c.args.at h) c.in-Free.is c.at_with_size-header.ensures.header) (c.at_with_size-header.ensures.size ∙ ap size_by c.in-Free.is)
+
+pub returns-in-Free-clause-packed : goal.returns-in-Free-clause-packed
+returns-in-Free-clause-packed c = λ before chunk after b.
+    packed_free c.args.region.now.bytes c.write.new.region.bytes before chunk after c.args.at c.args.room c.in-Free.size c.at_with_size-header.result.1 c.requires.accepted b
+    (subst (λ (h : Header). HasHeader c.args.region.now.bytes c.args.at h) c.in-Free.is c.at_with_size-header.ensures.header) (c.at_with_size-header.ensures.size ∙ ap size_by c.in-Free.is)
+    (ap (λ (m : Memory). m.bytes) c.write.ensures.after) c.write.ensures.spelled
+
+pub returns-then-stays-clause-packed : goal.returns-then-stays-clause-packed
+returns-then-stays-clause-packed c = λ before chunk after b.
+    packed_kept c.args.region.now.bytes before chunk after c.args.at c.args.room c.at_with_size-header.result.1 c.at_with_size-header.result.0 c.requires.accepted b c.at_with_size-header.ensures.header c.in_default.not-Free c.at_with_size-header.ensures.size
+    (elim c.then-stays.branch [
+      | then-stays-via-then-stays w ↦ inl (c.stays.ensures.0 w.if-stays.true)
+      | then-stays-via-else-stays+then-room-eq0 w ↦ inr (λ stay. let is = c.stays.ensures.1 stay in let isnt = w.if-stays.false in cc, omega arith)
+    ])
+
+pub drop_one-requires-clause-drops : goal.drop_one-requires-clause-drops
+drop_one-requires-clause-drops c =
+    is_droppable c.args.region.now.bytes c.args.at c.args.room c.at_with_size-header.result.0 c.requires.accepted c.requires.behind c.at_with_size-header.ensures.header c.in_default.not-Free (λ stay. let is = c.stays.ensures.1 stay in let isnt = c.if-stays.false in cc) (omega arith)
+
+pub returns-clause-packed : goal.returns-clause-packed
+returns-clause-packed c = λ before chunk after b.
+    packed_movable c.args.region.now.bytes c.drop_one.new.region.bytes before chunk after c.args.at c.args.room c.at_with_size-header.result.1 c.at_with_size-header.result.0 c.requires.accepted b c.at_with_size-header.ensures.header c.in_default.not-Free (λ stay. let is = c.stays.ensures.1 stay in let isnt = c.if-stays.false in cc) c.at_with_size-header.ensures.size (omega arith) c.drop_one.ensures.dropped

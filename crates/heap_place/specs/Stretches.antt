@@ -1,0 +1,68 @@
+-- Stretches of an image, by where they begin and end, and the search for one.
+use Rattle.std.specs.Prelude.{◌≡◌, ◌+◌, ◌-◌, ◌++◌, ◌≤◌, ℕ, List, ◌∷◌, length}
+use Rattle.heap_model.specs.Chunk.{Chunk, movable, total, SpelledAll}
+use Rattle.heap_model.specs.Slots.{area_start}
+use Rattle.heap_model.specs.Reading.{chunks_of}
+use Rattle.heap_model.specs.Space.{NoneStays}
+use Rattle.heap_model.specs.Layout.{Becomes}
+use Rattle.heap_model.specs.Packing.{packed, moved_by_packing, EndsStaying, WholeStretch}
+use Rattle.heap_place.specs.declared.found.Found.{Found}
+use Rattle.heap_place.specs.declared.stretch.Stretch.{Stretch}
+
+-- these chunks are a whole stretch, and it stands there
+pub record StretchIs (image : List ℕ) (before mid after : List Chunk) (stretch : Stretch) : Type 0 where
+  pub whole : WholeStretch image before mid after
+  pub from : stretch.start ≡ area_start image + total before
+  pub to : stretch.end ≡ stretch.start + total mid
+
+-- a whole stretch stands there
+pub record IsStretch (image : List ℕ) (stretch : Stretch) : Type 0 where
+  pub before : List Chunk
+  pub mid : List Chunk
+  pub after : List Chunk
+  pub is : StretchIs image before mid after stretch
+
+-- the chunks of the stretch are packed, in the layout, and all others are as they were
+abbrev pub PacksStretch : List ℕ → List ℕ → Stretch → Type 0
+PacksStretch old new stretch = (before mid after : List Chunk) → StretchIs old before mid after stretch → Becomes old new (before ++ (packed mid ++ after))
+
+-- so many bytes of it move then
+abbrev pub MovesInStretch : List ℕ → Stretch → ℕ → Type 0
+MovesInStretch image stretch moved = (before mid after : List Chunk) → StretchIs image before mid after stretch → moved ≡ moved_by_packing mid
+
+-- a movable chunk without locks and with so many bytes, which names this slot, stands at an offset
+pub record IsUnlocked (image : List ℕ) (at name count : ℕ) : Type 0 where
+  pub before : List Chunk
+  pub bytes : List ℕ
+  pub owner : ℕ
+  pub after : List Chunk
+  pub chunks : chunks_of image ≡ before ++ movable bytes 0 owner name ∷ after
+  pub there : at ≡ area_start image + total before
+  pub many : count ≡ length bytes
+
+-- it is one of this stretch
+pub record IsAmongAt (image : List ℕ) (at name count : ℕ) (stretch : Stretch) : Type 0 where
+  pub before : List Chunk
+  pub front : List Chunk
+  pub bytes : List ℕ
+  pub owner : ℕ
+  pub back : List Chunk
+  pub after : List Chunk
+  pub is : StretchIs image before (front ++ movable bytes 0 owner name ∷ back) after stretch
+  pub there : at ≡ area_start image + total before + total front
+  pub many : count ≡ length bytes
+
+-- the same of a chunk that was found
+abbrev pub IsAmong : List ℕ → Found → Stretch → Type 0
+IsAmong image found stretch = IsAmongAt image (found.place.0 - 8) found.name.0 found.length stretch
+
+-- the search has come to an offset, and the last chunk that stays ends at another, not behind `at`
+pub record SeenUpTo (image : List ℕ) (at start here : ℕ) : Type 0 where
+  pub closed : List Chunk
+  pub run : List Chunk
+  pub spelled : SpelledAll image (area_start image) (closed ++ run) here
+  pub none_stays : NoneStays run
+  pub ends : EndsStaying closed
+  pub from : start ≡ area_start image + total closed
+  pub low : start ≤ at
+  pub inside : here ≤ length image

@@ -1,0 +1,29 @@
+//! Room is opened behind a chunk.
+
+ghost use Rattle.std.specs.Prelude.{◌≡◌, ◌-◌};
+ghost use Rattle.heap_model.specs.Heap.{HeapAccepted};
+ghost use Rattle.heap_model.specs.Packing.{OpensBehind};
+ghost use Rattle.heap_place.specs.Stretches.{IsAmong};
+
+use crate::found::{Found, size_of_body};
+use crate::lift::lift;
+use crate::pack::pack;
+use crate::stretch::Stretch;
+use master_table::word_of;
+use raw_region::Region;
+
+/// Opens room behind a movable chunk without locks, which was found in this stretch: the free chunks of
+/// the stretch become one, directly behind it. The stretch is packed, and what is behind the chunk then
+/// is slid once more.
+pub(crate) fn open_in(region: &mut Region, stretch: Stretch, found: Found)
+    requires accepted { HeapAccepted region.old.bytes }
+    requires among { IsAmong region.old.bytes found stretch }
+    ensures { OpensBehind region.old.bytes region.new.bytes (found.place.0 - 8) }
+{
+    let room = pack(region, stretch.start, stretch.end).room;
+    if room > 0 {
+        let place = word_of(region, found.name.0);
+        let behind = place - 8 + size_of_body(found.length);
+        lift(region, behind, stretch.end - room, room);
+    }
+}

@@ -1,0 +1,141 @@
+//! Chunks are packed: those of a stretch go to its front, and its room is behind them.
+
+ghost use Rattle.std.specs.Prelude.{◌≡◌, ◌↔◌, ◌+◌, ◌-◌, IsTrue};
+ghost use Rattle.heap_model.specs.Heap.{HeapAccepted};
+ghost use Rattle.heap_model.specs.Reading.{chunks_of};
+ghost use Rattle.heap_model.specs.Space.{moved_bytes};
+ghost use Rattle.heap_model.specs.Layout.{Becomes};
+ghost use Rattle.heap_model.specs.Packing.{packed};
+ghost use Rattle.heap_place.specs.Stretches.{IsStretch, PacksStretch, MovesInStretch};
+ghost use Rattle.heap_place.specs.Packs.{IsRun, Packs, MovesInRun, LeavesRoom, IsBehindRoom, PacksOne, IsDroppable, Drops, HeaderStays};
+ghost use Rattle.chunk_format.specs.Header.{HasHeader, size_by};
+
+use crate::stretch::Stretch;
+use chunk_format::{Header, area_start};
+use heap_model::{Name, Place};
+use raw_region::Region;
+
+/// What packing chunks came to, in bytes.
+#[derive(Clone, Copy)]
+pub(crate) struct Outcome {
+    /// How many were slid.
+    pub(crate) slid: u32,
+    /// How much room of the last stretch is behind its chunks.
+    pub(crate) room: u32,
+}
+
+/// Packs the chunks of each stretch, and answers how many bytes it slid.
+pub(crate) fn compact(region: &mut Region) -> u32
+    requires accepted { HeapAccepted region.old.bytes }
+    ensures packed { Becomes region.old.bytes region.new.bytes (packed (chunks_of region.old.bytes)) }
+    ensures moved { result ≡ moved_bytes region.old.bytes region.new.bytes }
+    ensures slid { region.new.slid ≡ region.old.slid + result }
+{
+    let start = area_start(region);
+    let end = region.len() as u32;
+    pack(region, start, end).slid
+}
+
+/// Packs the chunks of one stretch, and answers how many bytes it slid.
+pub(crate) fn pack_stretch(region: &mut Region, stretch: Stretch) -> u32
+    requires accepted { HeapAccepted region.old.bytes }
+    requires stretch { IsStretch region.old.bytes stretch }
+    ensures packed { PacksStretch region.old.bytes region.new.bytes stretch }
+    ensures moved { MovesInStretch region.old.bytes stretch result }
+    ensures slid { region.new.slid ≡ region.old.slid + result }
+{
+    pack(region, stretch.start, stretch.end).slid
+}
+
+/// Packs the chunks from `start` up to `end`, in one walk and by one slide for each chunk that moves.
+pub(crate) fn pack(region: &mut Region, start: u32, end: u32) -> Outcome
+    requires accepted { HeapAccepted region.old.bytes }
+    requires run { IsRun region.old.bytes start end }
+    ensures packed { Packs region.old.bytes region.new.bytes start end }
+    ensures moved { MovesInRun region.old.bytes start end result.slid }
+    ensures room { LeavesRoom region.old.bytes start end result.room }
+    ensures slid { region.new.slid ≡ region.old.slid + result.slid }
+{
+    let mut at = start;
+    let mut slid = 0;
+    let mut room = 0;
+    while at < end {
+        let step = pack_one(region, at, room);
+        at += step.size;
+        slid += step.slid;
+        room = step.room;
+    }
+    Outcome { slid, room }
+}
+
+/// What packing one chunk came to, in bytes.
+#[derive(Clone, Copy)]
+struct Step {
+    size: u32,
+    slid: u32,
+    /// How much room there is behind what is packed then.
+    room: u32,
+}
+
+/// Packs the chunk at `at`, which has `room` free bytes in front of it, in one chunk or none.
+fn pack_one(region: &mut Region, at: u32, room: u32) -> Step
+    requires accepted { HeapAccepted region.old.bytes }
+    requires behind { IsBehindRoom region.old.bytes at room }
+    ensures packed { PacksOne region.old.bytes region.new.bytes at room result.size result.slid result.room }
+    ensures slid { region.new.slid ≡ region.old.slid + result.slid }
+{
+    let (header, size) = Header::at_with_size(region, at);
+    if let Header::Free { .. } = header {
+        let joined = room + size;
+        Header::Free { size: joined }.write(region, at - room);
+        return Step {
+            size,
+            slid: 0,
+            room: joined,
+        };
+    }
+    if stays(header) || room == 0 {
+        return Step {
+            size,
+            slid: 0,
+            room: 0,
+        };
+    }
+    drop_one(region, header, at, size, room);
+    Step {
+        size,
+        slid: size,
+        room,
+    }
+}
+
+/// Whether the chunk of a header stays where it is.
+#[inline]
+pub(crate) fn stays(header: Header) -> bool
+    ensures { IsTrue result ↔ HeaderStays header }
+{
+    match header {
+        Header::Free { .. } => false,
+        Header::Movable { lock, .. } => lock > 0,
+        Header::Fixed { .. } => true,
+    }
+}
+
+/// Moves the movable chunk at `at`, whose header and size these are, down over the free chunk in front of
+/// it, whose size is `room`.
+fn drop_one(region: &mut Region, header: Header, at: u32, size: u32, room: u32)
+    requires accepted { HeapAccepted region.old.bytes }
+    requires drops { IsDroppable region.old.bytes at room }
+    requires header { HasHeader region.old.bytes at header }
+    requires size { size ≡ size_by header }
+    ensures dropped { Drops region.old.bytes region.new.bytes at room }
+    ensures slid { region.new.slid ≡ region.old.slid + size }
+{
+    if let Header::Movable { slot, .. } = header {
+        let to = at - room;
+        region.slide(at as usize, to as usize, size as usize);
+        header.write(region, to);
+        Header::Free { size: room }.write(region, to + size);
+        master_table::set(region, Name(slot), Place(to + 8));
+    }
+}

@@ -1,0 +1,42 @@
+//! Stretches: longest runs of neighbouring chunks without one that stays.
+
+ghost use Rattle.std.specs.Prelude.{◌≡◌, ◌+◌, ◌-◌};
+ghost use Rattle.heap_model.specs.Heap.{HeapAccepted};
+ghost use Rattle.heap_place.specs.Found.{IsOne};
+ghost use Rattle.heap_place.specs.Stretches.{IsAmong};
+
+use crate::found::Found;
+use crate::pack::stays;
+use chunk_format::{Header, area_start};
+use raw_region::Region;
+
+/// Where a stretch begins and ends, in bytes from the image's start.
+#[derive(Clone, Copy, Debug, PartialEq, Eq)]
+pub struct Stretch {
+    pub start: u32,
+    pub end: u32,
+}
+
+/// The stretch of a movable chunk that was found, which has no locks.
+pub(crate) fn stretch_around(region: &Region, found: Found) -> Stretch
+    requires accepted { HeapAccepted region.now.bytes }
+    requires found { IsOne region.now.bytes found }
+    requires unlocked { found.lock ≡ 0 }
+    ensures { IsAmong region.now.bytes found result }
+{
+    let at = found.place.0 - 8;
+    let end = region.len() as u32;
+    let mut here = area_start(region);
+    let mut start = here;
+    while here < end {
+        let (header, size) = Header::at_with_size(region, here);
+        if stays(header) {
+            if here > at {
+                return Stretch { start, end: here };
+            }
+            start = here + size;
+        }
+        here += size;
+    }
+    Stretch { start, end: here }
+}
