@@ -5,10 +5,11 @@ ghost use Rattle.heap_model.specs.Heap.{HeapAccepted};
 ghost use Rattle.heap_model.specs.Packing.{OpensBehind};
 ghost use Rattle.heap_place.specs.Stretches.{IsAmong};
 
-use crate::found::{Found, size_of_body};
+use crate::found::Found;
 use crate::lift::lift;
 use crate::pack::pack;
 use crate::stretch::Stretch;
+use chunk_format::size_of_body;
 use master_table::word_of;
 use raw_region::Region;
 
