@@ -3,17 +3,17 @@
 //! `main` alone meets the system: it takes the words, reads the input files, prints, has the output
 //! file put in place, and says on standard error which file failed and why. What a command does
 //! stands in the crate `palmheap_commands`, whose contracts say which status comes when and what was
-//! written by then. The module `arguments` reads the words of the command line, and has the texts of
-//! the help.
+//! written by then. The crate `command_line` reads the words, and has the texts of the help.
 #![tactic(auto)]
 
-mod arguments;
-
-use arguments::Request;
 use clap::error::ErrorKind;
+use command_line::Request;
 use heap_model::Counted;
 use palmheap_commands::{cmd_check, cmd_new, cmd_run};
-use program_io::{InputFault, Noted, OutputFile, Status, read_input};
+use program_io::{
+    InputFault, Noted, OutputFile, Status, read_input, report_fault, report_input_fault,
+    report_outcome, report_write_fault,
+};
 use std::fs::File;
 use std::io::BufWriter;
 use std::process::ExitCode;
@@ -31,9 +31,9 @@ fn main(rt: HostRuntime) -> ExitCode {
 fn run<R: Env + Files + Print + Eprint + AllocGlobal>(rt: &R) -> Status {
     let words = match words(rt) {
         Ok(words) => words,
-        Err(status) => return say_fault(rt, status),
+        Err(status) => return fail(rt, status),
     };
-    match arguments::parse(rt.alloc(), words.as_slice()) {
+    match command_line::parse(rt.alloc(), words.as_slice()) {
         Ok(Request::New { size, slots, out }) => new(rt, size, slots, out),
         Ok(Request::Check { image }) => check(rt, image),
         Ok(Request::Run { image, script, out }) => run_script(rt, image, script, out),
@@ -57,51 +57,22 @@ fn words<R: Env + Eprint + AllocGlobal>(rt: &R) -> Result<Vec<String>, Status> {
 /// version that they ask for.
 fn answer<R: Print + Eprint>(rt: &R, error: &clap::Error) -> Status {
     if error.kind() == ErrorKind::OutOfMemory {
-        return say_fault(rt, Status::NoMemory);
+        return fail(rt, Status::NoMemory);
     }
     match error.print(rt) {
         _ if error.use_stderr() => Status::BadWords,
         Ok(()) => Status::Done,
-        Err(reason) => say_write_fault(rt, STANDARD_OUTPUT, reason),
-    }
-}
-
-/// Says `fault` and its word on standard error, if that is what a run came to. Behind `fault read`
-/// and `fault write` a line with the file and the reason is to follow.
-fn say_fault<R: Eprint>(rt: &R, status: Status) -> Status {
-    if let Some(fault) = status.fault() {
-        let _ = eprintln!(rt; "fault {fault}");
-    }
-    status
-}
-
-/// Says which file couldn't be read and why, or that there was no memory for it.
-fn say_input_fault<R: Eprint>(rt: &R, file: &str, fault: InputFault) -> Status {
-    let status = say_fault(rt, Status::from(fault));
-    if status == Status::ReadFault {
-        let _ = eprintln!(rt; "{file}: {fault}");
-    }
-    status
-}
-
-/// Says which file couldn't be written, and why.
-fn say_write_fault<R: Eprint>(rt: &R, file: &str, reason: io::Error) -> Status {
-    let status = say_fault(rt, Status::WriteFault);
-    let _ = eprintln!(rt; "{file}: {reason}");
-    status
-}
-
-/// Says what broke a command off, where something did. Of the outputs, each with the first error of
-/// its writer, the first that has one is named.
-fn finish<R: Eprint>(rt: &R, status: Status, outputs: &[(&str, Option<io::Error>)]) -> Status {
-    if status == Status::WriteFault {
-        for (file, fault) in outputs {
-            if let Some(reason) = fault {
-                return say_write_fault(rt, file, *reason);
-            }
+        Err(reason) => {
+            report_write_fault(rt, STANDARD_OUTPUT, reason);
+            Status::WriteFault
         }
     }
-    say_fault(rt, status)
+}
+
+/// Says what kept a command from its start, and answers it.
+fn fail<R: Eprint>(rt: &R, status: Status) -> Status {
+    report_fault(rt, status);
+    status
 }
 
 /// Runs `new`.
@@ -112,7 +83,7 @@ fn new<R: Files + Print + Eprint + AllocGlobal>(
     path: &str,
 ) -> Status {
     let Ok(image_out) = OutputFile::new(rt, path) else {
-        return say_fault(rt, Status::NoMemory);
+        return fail(rt, Status::NoMemory);
     };
     let mut image_out = Counted::new(Noted::new(image_out));
     let mut out = Counted::new(Noted::new(io::writer(rt)));
@@ -120,7 +91,8 @@ fn new<R: Files + Print + Eprint + AllocGlobal>(
     let (image_out, image_fault) = image_out.into_inner().into_parts();
     image_out.close();
     let (_, fault) = out.into_inner().into_parts();
-    finish(rt, status, &[(path, image_fault), (STANDARD_OUTPUT, fault)])
+    report_outcome(rt, status, &[(path, image_fault), (STANDARD_OUTPUT, fault)]);
+    status
 }
 
 /// Runs `check`.
@@ -132,7 +104,8 @@ fn check<R: Files + Print + Eprint + AllocGlobal>(rt: &R, path: &str) -> Status 
     let mut out = Counted::new(Noted::new(io::writer(rt)));
     let status = cmd_check(rt.alloc(), image.as_slice(), &mut out);
     let (_, fault) = out.into_inner().into_parts();
-    finish(rt, status, &[(STANDARD_OUTPUT, fault)])
+    report_outcome(rt, status, &[(STANDARD_OUTPUT, fault)]);
+    status
 }
 
 /// Runs `run`. Both files are read before the image is looked at.
@@ -151,10 +124,10 @@ fn run_script<R: Files + Print + Eprint + AllocGlobal>(
         Err(status) => return status,
     };
     let Ok(out) = BufWriter::new(rt.alloc(), Noted::new(io::writer(rt))) else {
-        return say_fault(rt, Status::NoMemory);
+        return fail(rt, Status::NoMemory);
     };
     let Ok(image_out) = OutputFile::new(rt, path) else {
-        return say_fault(rt, Status::NoMemory);
+        return fail(rt, Status::NoMemory);
     };
     let (mut image_out, mut out) = (Counted::new(Noted::new(image_out)), Counted::new(out));
     let mut files = Vec::new(rt.alloc());
@@ -172,7 +145,8 @@ fn run_script<R: Files + Print + Eprint + AllocGlobal>(
     // What is left in `out` behind a fault is thrown away, where dropping it would write again.
     let (out, _) = out.into_inner().into_parts();
     let (_, fault) = out.into_parts();
-    finish(rt, status, &[(path, image_fault), (STANDARD_OUTPUT, fault)])
+    report_outcome(rt, status, &[(path, image_fault), (STANDARD_OUTPUT, fault)]);
+    status
 }
 
 /// All of a file. What keeps it from being read is on standard error then.
@@ -181,5 +155,8 @@ fn read_file<R: Files + Eprint + AllocGlobal>(rt: &R, path: &str) -> Result<Vec<
         Ok(mut file) => read_input(rt.alloc(), &mut file),
         Err(error) => Err(InputFault::from(error)),
     };
-    read.map_err(|fault| say_input_fault(rt, path, fault))
+    read.map_err(|fault| {
+        report_input_fault(rt, path, fault);
+        Status::from(fault)
+    })
 }

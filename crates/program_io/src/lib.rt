@@ -12,9 +12,11 @@
 //! | `output_file` | a file that takes the place of another as a whole |
 //! | `noted` | a writer that keeps why it failed first |
 //! | `status` | what a run came to, and the exit status for it |
+//! | `fault_report` | what standard error gets where a run broke off |
 #![tactic(auto)]
 
 mod fault_lines;
+mod fault_report;
 mod input;
 mod noted;
 mod output;
@@ -22,6 +24,7 @@ mod output_file;
 mod status;
 
 pub use fault_lines::{say_bad, say_line_fault};
+pub use fault_report::{report_fault, report_input_fault, report_outcome, report_write_fault};
 pub use input::{INPUT_LIMIT, InputFault, read_input, read_input_from};
 pub use noted::Noted;
 pub use output::{put, say, say_text};

@@ -17,10 +17,10 @@ struct Told<W, V> {
     out: V,
 }
 
+/// `new` for an image of this size and slot count.
 fn new_on<W: Write, V: Write>(
     alloc: Global,
-    size: u32,
-    slots: u16,
+    (size, slots): (u32, u16),
     image: W,
     out: V,
 ) -> Told<W, V> {
@@ -40,204 +40,192 @@ fn check_on<V: Write>(alloc: Global, image: &[u8], out: V) -> (Status, V) {
     (status, out.into_inner())
 }
 
+/// The size and the slots of the blank image.
+const SMALL: (u32, u16) = (128, 4);
+
+/// Whether `new` writes the blank image and prints `ok`, over writers of which a write takes few bytes.
+fn writes_blank(alloc: Global, image_step: usize, step: usize) -> Result<bool, Fail> {
+    let image = Narrow::new(alloc, 128, image_step, WhenFull::TakesNothing);
+    let out = Narrow::new(alloc, 3, step, WhenFull::TakesNothing);
+    let Told { status, image, out } = new_on(alloc, SMALL, image, out);
+    let is_written = image.taken.as_slice() == bytes_of(alloc, BLANK)?.as_slice();
+    let is_said = out.taken.as_slice() == b"ok\n".as_slice();
+    Ok(status == Status::Done && is_written && is_said)
+}
+
 #[test]
 fn new_writes_a_blank_image(rt: HostRuntime) -> Result<(), Fail> {
-    let alloc = rt.alloc();
-    let told = new_on(alloc, 128, 4, Vec::new(alloc), Vec::new(alloc));
-    assert_eq!(rt; told.status, Status::Done);
-    assert_eq!(rt; told.out.as_slice(), b"ok\n".as_slice());
-    assert_eq!(rt; told.image.as_slice(), bytes_of(alloc, BLANK)?.as_slice());
+    for (image_step, step) in [(128, 3), (7, 1)] {
+        assert!(rt;
+            writes_blank(rt.alloc(), image_step, step)?,
+            "{image_step} {step}"
+        );
+    }
     Ok(())
+}
+
+/// Whether `new` refuses a size and a slot count with this line, and writes no image.
+fn refuses(alloc: Global, asked: (u32, u16), line: &str) -> bool {
+    let told = new_on(alloc, asked, Vec::new(alloc), Vec::new(alloc));
+    told.status == Status::BadWords
+        && told.out.as_slice() == line.as_bytes()
+        && told.image.is_empty()
 }
 
 #[test]
 fn new_refuses_what_is_no_image(rt: HostRuntime) {
-    let alloc = rt.alloc();
-    for (size, slots, line) in [
-        (66, 4, "bad BadSize\n"),
-        (56, 4, "bad BadSize\n"),
-        (16_777_216, 4, "bad BadSize\n"),
-        (0, 0, "bad BadSize\n"),
-        (64, 13, "bad BadSlotCount\n"),
-        (64, 0, "bad BadSlotCount\n"),
-        (128, 65_535, "bad BadSlotCount\n"),
+    for (asked, line) in [
+        ((66, 4), "bad BadSize\n"),
+        ((56, 4), "bad BadSize\n"),
+        ((16_777_216, 4), "bad BadSize\n"),
+        ((0, 0), "bad BadSize\n"),
+        ((64, 13), "bad BadSlotCount\n"),
+        ((64, 0), "bad BadSlotCount\n"),
+        ((128, 65_535), "bad BadSlotCount\n"),
     ] {
-        let told = new_on(alloc, size, slots, Vec::new(alloc), Vec::new(alloc));
-        assert_eq!(rt; told.status, Status::BadWords, "{size} {slots}");
-        assert_eq!(rt; told.out.as_slice(), line.as_bytes(), "{size} {slots}");
-        assert!(rt; told.image.is_empty(), "{size} {slots}");
+        assert!(rt; refuses(rt.alloc(), asked, line), "{asked:?}");
     }
 }
 
-#[test]
-fn check_says_what_is_there(rt: HostRuntime) -> Result<(), Fail> {
-    let alloc = rt.alloc();
-    for (image, line) in [
-        (BLANK, "ok size 128 slots 4 movable 0 fixed 0 free 96\n"),
-        (ONE_CHUNK, "ok size 128 slots 4 movable 1 fixed 0 free 72\n"),
-        (DATABASE, "ok size 208 slots 8 movable 4 fixed 0 free 8\n"),
-    ] {
-        let image = bytes_of(alloc, image)?;
-        let (status, out) = check_on(alloc, image.as_slice(), Vec::new(alloc));
-        assert_eq!(rt; status, Status::Done, "{line}");
-        assert_eq!(rt; out.as_slice(), line.as_bytes());
-    }
-    Ok(())
+/// What `check` comes to and prints.
+pub(crate) fn check_said(alloc: Global, image: &[u8]) -> Result<String, Fail> {
+    let (status, out) = check_on(alloc, image, Vec::new(alloc));
+    let line = String::from_utf8(out).ok().ok_or("no text")?;
+    Ok(format!(in alloc; "{status:?} {line}")?)
 }
 
-#[test]
-fn check_says_what_is_bad(rt: HostRuntime) -> Result<(), Fail> {
-    let alloc = rt.alloc();
-    for (image, line) in [
-        ("", "bad TooShort\n"),
-        ("5048 49", "bad TooShort\n"),
-        ("50484931 00000080 00*8", "bad TooShort\n"),
-    ] {
-        let image = bytes_of(alloc, image)?;
-        let (status, out) = check_on(alloc, image.as_slice(), Vec::new(alloc));
-        assert_eq!(rt; status, Status::Refused, "{line}");
-        assert_eq!(rt; out.as_slice(), line.as_bytes());
-    }
-    Ok(())
-}
-
-#[test]
-fn check_says_which_fault_is_first(rt: HostRuntime) -> Result<(), Fail> {
-    let alloc = rt.alloc();
-    for (changes, line) in [
-        ("3: 33", "bad BadMagic\n"),
-        ("7: D8", "bad TooShort\n"),
-        ("7: C8", "bad BadSize\n"),
-        ("9: 00", "bad BadSlotCount\n"),
-        ("9: 09", "bad BadPadding\n"),
-        ("10: 01", "bad BadReserved\n"),
-        ("15: 18", "bad BadDirectory\n"),
-        ("172: FF", "bad BadChunk 168\n"),
-        ("175: BA", "bad SlotMismatch 24\n"),
-        ("31: 00", "bad ChunkWithoutSlot 184\n"),
-        ("27: 00, 172: FF000000", "bad BadFixedOwner 168\n"),
-    ] {
-        let image = image(alloc, DATABASE, changes)?;
-        let (status, out) = check_on(alloc, image.slice(0, image.len()), Vec::new(alloc));
-        assert_eq!(rt; status, Status::Refused, "{line}");
-        assert_eq!(rt; out.as_slice(), line.as_bytes());
-    }
-    Ok(())
-}
-
-/// What a writer may do that takes no more.
-const WAYS: [WhenFull; 3] = [
-    WhenFull::TakesNothing,
-    WhenFull::Fails(ErrorKind::StorageFull),
-    WhenFull::Fails(ErrorKind::Interrupted),
+/// Listings, what is changed in them, and what `check` comes to and prints.
+const CHECKS: [(&str, &str, &str); 17] = [
+    (
+        BLANK,
+        "",
+        "Done ok size 128 slots 4 movable 0 fixed 0 free 96\n",
+    ),
+    (
+        ONE_CHUNK,
+        "",
+        "Done ok size 128 slots 4 movable 1 fixed 0 free 72\n",
+    ),
+    (
+        DATABASE,
+        "",
+        "Done ok size 208 slots 8 movable 4 fixed 0 free 8\n",
+    ),
+    ("", "", "Refused bad TooShort\n"),
+    ("5048 49", "", "Refused bad TooShort\n"),
+    ("50484931 00000080 00*8", "", "Refused bad TooShort\n"),
+    (DATABASE, "3: 33", "Refused bad BadMagic\n"),
+    (DATABASE, "7: D8", "Refused bad TooShort\n"),
+    (DATABASE, "7: C8", "Refused bad BadSize\n"),
+    (DATABASE, "9: 00", "Refused bad BadSlotCount\n"),
+    (DATABASE, "9: 09", "Refused bad BadPadding\n"),
+    (DATABASE, "10: 01", "Refused bad BadReserved\n"),
+    (DATABASE, "15: 18", "Refused bad BadDirectory\n"),
+    (DATABASE, "172: FF", "Refused bad BadChunk 168\n"),
+    (DATABASE, "175: BA", "Refused bad SlotMismatch 24\n"),
+    (DATABASE, "31: 00", "Refused bad ChunkWithoutSlot 184\n"),
+    (
+        DATABASE,
+        "27: 00, 172: FF000000",
+        "Refused bad BadFixedOwner 168\n",
+    ),
 ];
 
 #[test]
-fn new_stops_where_the_image_is_not_taken(rt: HostRuntime) {
-    let alloc = rt.alloc();
-    for (i, way) in WAYS.iter().enumerate() {
-        let room = [0, 1, 127][i];
-        let image = Narrow::new(alloc, room, 50, *way);
-        let told = new_on(alloc, 128, 4, image, Vec::new(alloc));
-        assert_eq!(rt; told.status, Status::WriteFault, "{way:?}");
-        assert_eq!(rt; told.image.taken.len(), room, "{way:?}");
-        assert_eq!(rt;
-            told.image.refused,
-            1,
-            "nothing is written after the fault: {way:?}"
-        );
-        assert!(rt; told.out.is_empty(), "{way:?}");
+fn check_says_what_is_there(rt: HostRuntime) -> Result<(), Fail> {
+    for (listing, changes, said) in &CHECKS {
+        let image = image(rt.alloc(), listing, changes)?;
+        let text = check_said(rt.alloc(), image.slice(0, image.len()))?;
+        assert_eq!(rt; text.as_str(), *said);
     }
-    let image = Unflushed(Vec::new(alloc));
-    let told = new_on(alloc, 128, 4, image, Vec::new(alloc));
-    assert_eq!(rt; told.status, Status::WriteFault);
-    assert!(rt; told.out.is_empty());
+    Ok(())
+}
+
+/// After how many bytes a writer takes no more, and how it says so.
+const CUTS: [(usize, WhenFull); 3] = [
+    (0, WhenFull::TakesNothing),
+    (1, WhenFull::Fails(ErrorKind::StorageFull)),
+    (2, WhenFull::Fails(ErrorKind::Interrupted)),
+];
+
+/// Whether `new` ends with a write fault behind so many bytes of its image, and none that it prints.
+fn stops_in_image(alloc: Global, room: usize, way: WhenFull) -> bool {
+    let image = Narrow::new(alloc, room, 50, way);
+    let told = new_on(alloc, SMALL, image, Vec::new(alloc));
+    told.status == Status::WriteFault && told.image.is_cut_at(room) && told.out.is_empty()
 }
 
 #[test]
-fn new_takes_short_writes(rt: HostRuntime) -> Result<(), Fail> {
-    let alloc = rt.alloc();
-    let image = Narrow::new(alloc, 128, 7, WhenFull::TakesNothing);
-    let out = Narrow::new(alloc, 3, 1, WhenFull::TakesNothing);
-    let told = new_on(alloc, 128, 4, image, out);
-    assert_eq!(rt; told.status, Status::Done);
-    assert_eq!(rt;
-        told.image.taken.as_slice(),
-        bytes_of(alloc, BLANK)?.as_slice()
-    );
-    assert_eq!(rt; told.out.taken.as_slice(), b"ok\n".as_slice());
-    Ok(())
+fn new_stops_where_the_image_is_not_taken(rt: HostRuntime) {
+    for (room, way) in &CUTS {
+        assert!(rt; stops_in_image(rt.alloc(), *room, *way), "{room} {way:?}");
+    }
+    assert!(rt; stops_in_image(rt.alloc(), 127, WhenFull::TakesNothing));
+}
+
+/// Whether `new` ends with a write fault behind so many bytes that it prints, and so many of an image.
+fn stops_in_line(alloc: Global, size: u32, written: usize, room: usize, way: WhenFull) -> bool {
+    let out = Narrow::new(alloc, room, 2, way);
+    let told = new_on(alloc, (size, 4), Vec::new(alloc), out);
+    told.status == Status::WriteFault && told.image.len() == written && told.out.is_cut_at(room)
 }
 
 #[test]
 fn new_stops_where_its_line_is_not_taken(rt: HostRuntime) {
-    let alloc = rt.alloc();
-    for (i, way) in WAYS.iter().enumerate() {
-        for (size, wanted) in [(128, 128), (66, 0)] {
-            let out = Narrow::new(alloc, i, 2, *way);
-            let told = new_on(alloc, size, 4, Vec::new(alloc), out);
-            assert_eq!(rt; told.status, Status::WriteFault, "{size} {way:?}");
-            assert_eq!(rt; told.image.len(), wanted, "{size} {way:?}");
-            assert_eq!(rt;
-                told.out.refused,
-                1,
-                "nothing is written after the fault: {way:?}"
-            );
-        }
+    for (room, way) in &CUTS {
+        assert!(rt;
+            stops_in_line(rt.alloc(), 128, 128, *room, *way),
+            "{room} {way:?}"
+        );
+        assert!(rt;
+            stops_in_line(rt.alloc(), 66, 0, *room, *way),
+            "{room} {way:?}"
+        );
     }
-    let told = new_on(alloc, 128, 4, Vec::new(alloc), Unflushed(Vec::new(alloc)));
-    assert_eq!(rt; told.status, Status::WriteFault);
+}
+
+#[test]
+fn new_says_what_is_not_flushed(rt: HostRuntime) {
+    let alloc = rt.alloc();
+    let told = new_on(alloc, SMALL, Unflushed(Vec::new(alloc)), Vec::new(alloc));
+    assert!(rt; told.status == Status::WriteFault && told.out.is_empty());
+    let told = new_on(alloc, SMALL, Vec::new(alloc), Unflushed(Vec::new(alloc)));
+    assert!(rt; told.status == Status::WriteFault);
+}
+
+/// Whether `check` ends with a write fault behind so many bytes that it prints of a listing.
+fn check_stops(alloc: Global, listing: &str, room: usize, way: WhenFull) -> Result<bool, Fail> {
+    let image = bytes_of(alloc, listing)?;
+    let (status, out) = check_on(alloc, image.as_slice(), Narrow::new(alloc, room, 3, way));
+    Ok(status == Status::WriteFault && out.is_cut_at(room))
 }
 
 #[test]
 fn check_stops_where_its_line_is_not_taken(rt: HostRuntime) -> Result<(), Fail> {
-    let alloc = rt.alloc();
-    let blank = bytes_of(alloc, BLANK)?;
-    for (i, way) in WAYS.iter().enumerate() {
-        for image in [blank.as_slice(), b"".as_slice()] {
-            let (status, out) = check_on(alloc, image, Narrow::new(alloc, 4 * i, 3, *way));
-            assert_eq!(rt; status, Status::WriteFault, "{way:?}");
-            assert_eq!(rt; out.taken.len(), 4 * i, "{way:?}");
-            assert_eq!(rt;
-                out.refused,
-                1,
-                "nothing is written after the fault: {way:?}"
-            );
-        }
+    for (room, way) in &CUTS {
+        assert!(rt;
+            check_stops(rt.alloc(), BLANK, 4 * room, *way)?,
+            "{room} {way:?}"
+        );
+        assert!(rt;
+            check_stops(rt.alloc(), "", 4 * room, *way)?,
+            "{room} {way:?}"
+        );
     }
     Ok(())
+}
+
+/// The status of `check`, and how many bytes it prints to a writer that can't be flushed.
+fn check_unflushed(alloc: Global, listing: &str) -> Result<(Status, usize), Fail> {
+    let image = bytes_of(alloc, listing)?;
+    let (status, out) = check_on(alloc, image.as_slice(), Unflushed(Vec::new(alloc)));
+    Ok((status, out.0.len()))
 }
 
 #[test]
 fn check_says_that_its_line_is_not_flushed(rt: HostRuntime) -> Result<(), Fail> {
-    let alloc = rt.alloc();
-    let blank = bytes_of(alloc, BLANK)?;
-    for (image, printed) in [(blank.as_slice(), 46), (b"".as_slice(), 13)] {
-        let (status, out) = check_on(alloc, image, Unflushed(Vec::new(alloc)));
-        assert_eq!(rt; status, Status::WriteFault);
-        assert_eq!(rt; out.0.len(), printed);
-    }
-    Ok(())
-}
-
-#[test]
-fn an_output_that_takes_0_bytes_is_status_3(rt: HostRuntime) -> Result<(), Fail> {
-    let alloc = rt.alloc();
-    let blank = bytes_of(alloc, BLANK)?;
-    for (image_room, out_room) in [(0, 1000), (1000, 0)] {
-        let image = Narrow::new(alloc, image_room, 50, WhenFull::TakesNothing);
-        let out = Narrow::new(alloc, out_room, 50, WhenFull::TakesNothing);
-        let told = new_on(alloc, 128, 4, image, out);
-        assert_eq!(rt; told.status, Status::WriteFault);
-        assert_eq!(rt; told.status.code(), 3);
-        assert!(rt; told.out.taken.is_empty());
-    }
-    for image in [blank.as_slice(), b"".as_slice()] {
-        let out = Narrow::new(alloc, 0, 50, WhenFull::TakesNothing);
-        let (status, out) = check_on(alloc, image, out);
-        assert_eq!(rt; status, Status::WriteFault);
-        assert_eq!(rt; status.code(), 3);
-        assert!(rt; out.taken.is_empty());
+    for (listing, printed) in [(BLANK, 46), ("", 13)] {
+        assert!(rt; check_unflushed(rt.alloc(), listing)? == (Status::WriteFault, printed));
     }
     Ok(())
 }

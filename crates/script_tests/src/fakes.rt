@@ -72,6 +72,11 @@ impl Narrow {
         }
     }
 
+    /// Whether so many bytes were taken, and no call came behind the first that was refused.
+    pub fn is_cut_at(&self, room: usize) -> bool {
+        self.taken.len() == room && self.refused == 1
+    }
+
     /// Counts a call behind a refused one.
     fn note_call(&mut self) {
         if self.refused > 0 {

@@ -34,18 +34,27 @@ fn found(rt: &HostRuntime, path: &str) -> Option<(bool, bool)> {
     Some((is_there, fs::exists(rt, beside.as_str()).ok()?))
 }
 
+/// Whether a file gets one text and then another in its place, also where another run left a file
+/// beside it.
+fn is_replaced(rt: &HostRuntime, path: &str) -> Result<bool, Fail> {
+    let is_first = replace(rt, path, "the first")? && has(rt, path, "the first")?;
+    leave_beside(rt, path)?;
+    let is_next = replace(rt, path, "new")? && has(rt, path, "new")?;
+    let left = found(rt, path);
+    fs::remove_file(rt, path)?;
+    Ok(is_first && is_next && left == Some((true, false)))
+}
+
+/// Makes a file like one that a killed run leaves.
+fn leave_beside(rt: &HostRuntime, path: &str) -> Result<(), Fail> {
+    let beside = format!(in rt.alloc(); "{path}.palmheap-new")?;
+    Ok(fs::write(rt, beside.as_str(), "what another run left behind")?)
+}
+
 #[test]
 fn a_file_is_replaced_as_a_whole(rt: HostRuntime) -> Result<(), Fail> {
     let path = path_of(&rt, "whole")?;
-    let path = path.as_str();
-    let beside = format!(in rt.alloc(); "{path}.palmheap-new")?;
-    assert!(rt; replace(&rt, path, "the first")?);
-    assert!(rt; has(&rt, path, "the first")?);
-    fs::write(&rt, beside.as_str(), "what another run left behind")?;
-    assert!(rt; replace(&rt, path, "new")?);
-    assert!(rt; has(&rt, path, "new")?);
-    assert_eq!(rt; found(&rt, path), Some((true, false)));
-    fs::remove_file(&rt, path)?;
+    assert!(rt; is_replaced(&rt, path.as_str())?);
     Ok(())
 }
 
@@ -59,38 +68,50 @@ fn break_off(rt: &HostRuntime, path: &str) -> Result<Option<(bool, bool)>, Fail>
     Ok(meanwhile)
 }
 
+/// Whether a file stays as it was, and none beside it, where the writing breaks off.
+fn stays(rt: &HostRuntime, path: &str) -> Result<bool, Fail> {
+    fs::write(rt, path, "old")?;
+    let meanwhile = break_off(rt, path)?;
+    let behind = found(rt, path);
+    let is_old = has(rt, path, "old")?;
+    fs::remove_file(rt, path)?;
+    Ok(is_old && meanwhile == Some((true, true)) && behind == Some((true, false)))
+}
+
 #[test]
 fn a_file_stays_where_the_writing_breaks_off(rt: HostRuntime) -> Result<(), Fail> {
     let path = path_of(&rt, "kept")?;
-    let path = path.as_str();
-    fs::write(&rt, path, "old")?;
-    assert_eq!(rt; break_off(&rt, path)?, Some((true, true)));
-    assert_eq!(rt; found(&rt, path), Some((true, false)));
-    assert!(rt; has(&rt, path, "old")?);
-    fs::remove_file(&rt, path)?;
+    assert!(rt; stays(&rt, path.as_str())?);
     Ok(())
 }
 
 #[test]
 fn where_no_file_was_a_writing_that_breaks_off_leaves_none(rt: HostRuntime) -> Result<(), Fail> {
     let path = path_of(&rt, "none")?;
-    let path = path.as_str();
-    assert_eq!(rt; break_off(&rt, path)?, Some((false, true)));
-    assert_eq!(rt; found(&rt, path), Some((false, false)));
+    let meanwhile = break_off(&rt, path.as_str())?;
+    let behind = found(&rt, path.as_str());
+    assert_eq!(rt;
+        (meanwhile, behind),
+        (Some((false, true)), Some((false, false)))
+    );
     Ok(())
+}
+
+/// Whether a link stays one, and the file that it leads to is replaced.
+fn is_followed(rt: &HostRuntime, path: &str, link: &str) -> Result<bool, Fail> {
+    fs::write(rt, path, "old")?;
+    symlink(rt, path, link)?;
+    let is_replaced = replace(rt, link, "new")? && has(rt, path, "new")?;
+    let is_link = fs::symlink_metadata(rt, link)?.is_symlink();
+    fs::remove_file(rt, link)?;
+    fs::remove_file(rt, path)?;
+    Ok(is_replaced && is_link)
 }
 
 #[test]
 fn a_link_is_followed(rt: HostRuntime) -> Result<(), Fail> {
     let (path, link) = (path_of(&rt, "target")?, path_of(&rt, "link")?);
-    let (path, link) = (path.as_str(), link.as_str());
-    fs::write(&rt, path, "old")?;
-    symlink(&rt, path, link)?;
-    assert!(rt; replace(&rt, link, "new")?);
-    assert!(rt; fs::symlink_metadata(&rt, link)?.is_symlink());
-    assert!(rt; has(&rt, path, "new")?);
-    fs::remove_file(&rt, link)?;
-    fs::remove_file(&rt, path)?;
+    assert!(rt; is_followed(&rt, path.as_str(), link.as_str())?);
     Ok(())
 }
 
@@ -125,17 +146,20 @@ fn over_a_folder(rt: &HostRuntime, path: &str) -> Result<(Status, Option<io::Err
     Ok((status, reason))
 }
 
+/// Whether such a text is a write fault, and leaves the folder and nothing beside it.
+fn keeps_folder(rt: &HostRuntime, path: &str) -> Result<bool, Fail> {
+    let (status, reason) = over_a_folder(rt, path)?;
+    let left = found(rt, path);
+    fs::remove_dir(rt, path)?;
+    let kind = reason.map(|error| error.kind());
+    let is_told = status == Status::WriteFault && kind == Some(io::ErrorKind::IsADirectory);
+    Ok(is_told && left == Some((true, false)))
+}
+
 #[test]
 fn a_rename_that_fails_is_a_write_fault(rt: HostRuntime) -> Result<(), Fail> {
     let path = path_of(&rt, "folder")?;
-    let path = path.as_str();
-    let (status, reason) = over_a_folder(&rt, path)?;
-    assert_eq!(rt; status.code(), 3);
-    assert_eq!(rt; status.fault(), Some("write"));
-    let kind = reason.map(|error| error.kind());
-    assert_eq!(rt; kind, Some(io::ErrorKind::IsADirectory));
-    assert_eq!(rt; found(&rt, path), Some((true, false)));
-    fs::remove_dir(&rt, path)?;
+    assert!(rt; keeps_folder(&rt, path.as_str())?);
     Ok(())
 }
 
@@ -154,12 +178,17 @@ fn behind_the_flush(rt: &HostRuntime, path: &str) -> Result<(usize, Option<(bool
     Ok((behind?, there))
 }
 
+/// Whether a file takes none, and has what was written before.
+fn is_closed(rt: &HostRuntime, path: &str) -> Result<bool, Fail> {
+    let (behind, there) = behind_the_flush(rt, path)?;
+    let is_new = has(rt, path, "new")?;
+    fs::remove_file(rt, path)?;
+    Ok(behind == 0 && there == Some((true, false)) && is_new)
+}
+
 #[test]
 fn nothing_is_written_behind_a_closed_file(rt: HostRuntime) -> Result<(), Fail> {
     let path = path_of(&rt, "closed")?;
-    let path = path.as_str();
-    assert_eq!(rt; behind_the_flush(&rt, path)?, (0, Some((true, false))));
-    assert!(rt; has(&rt, path, "new")?);
-    fs::remove_file(&rt, path)?;
+    assert!(rt; is_closed(&rt, path.as_str())?);
     Ok(())
 }

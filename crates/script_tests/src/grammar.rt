@@ -80,257 +80,268 @@ fn check(rt: &(impl Abort + AllocGlobal), cases: &[(&[u8], &str)]) -> Result<(),
     Ok(())
 }
 
+const COMMAND_CASES: [(&[u8], &str); 26] = [
+    (b"bind a 16", "bind 0 16;"),
+    (b"new a 8 1", "new 0 8 1;"),
+    (b"ptrnew a 8 1", "ptrnew 0 8 1;"),
+    (b"free a", "free 0;"),
+    (b"setowner a 14", "setowner 0 14;"),
+    (b"lock a", "lock 0;"),
+    (b"unlock a", "unlock 0;"),
+    (b"size a", "size 0;"),
+    (b"owner a", "owner 0;"),
+    (b"locks a", "locks 0;"),
+    (b"read a 1 2", "read 0 1 2;"),
+    (b"write a 9 4142", "write 0 9 /4142;"),
+    (b"set a 1 2 3", "set 0 1 2 3;"),
+    (b"strcopy a 8 \"x\"", "strcopy 0 8 /78;"),
+    (b"freeowner 3", "freeowner 3;"),
+    (b"freebytes", "freebytes;"),
+    // no commands: others of the managers, other cases, parts, quoted words
+    (b"resize a 8", "line 1 UnknownCommand"),
+    (b"largest", "line 1 UnknownCommand"),
+    (b"compact", "line 1 UnknownCommand"),
+    (b"New a 8 1", "line 1 UnknownCommand"),
+    (b"ne a 8 1", "line 1 UnknownCommand"),
+    (b"newa 8 1", "line 1 UnknownCommand"),
+    (b"\"new\" a 8 1", "line 1 UnknownCommand"),
+    (b"\"\"", "line 1 UnknownCommand"),
+    (b"frob \"a\"", "line 1 UnknownCommand"),
+    (b"\"#\"", "line 1 UnknownCommand"),
+];
+
 #[test]
 fn commands(rt: HostRuntime) -> Result<(), Fail> {
-    let cases: [(&[u8], &str); 26] = [
-        (b"bind a 16", "bind 0 16;"),
-        (b"new a 8 1", "new 0 8 1;"),
-        (b"ptrnew a 8 1", "ptrnew 0 8 1;"),
-        (b"free a", "free 0;"),
-        (b"setowner a 14", "setowner 0 14;"),
-        (b"lock a", "lock 0;"),
-        (b"unlock a", "unlock 0;"),
-        (b"size a", "size 0;"),
-        (b"owner a", "owner 0;"),
-        (b"locks a", "locks 0;"),
-        (b"read a 1 2", "read 0 1 2;"),
-        (b"write a 9 4142", "write 0 9 /4142;"),
-        (b"set a 1 2 3", "set 0 1 2 3;"),
-        (b"strcopy a 8 \"x\"", "strcopy 0 8 /78;"),
-        (b"freeowner 3", "freeowner 3;"),
-        (b"freebytes", "freebytes;"),
-        // no commands: others of the managers, other cases, parts, quoted words
-        (b"resize a 8", "line 1 UnknownCommand"),
-        (b"largest", "line 1 UnknownCommand"),
-        (b"compact", "line 1 UnknownCommand"),
-        (b"New a 8 1", "line 1 UnknownCommand"),
-        (b"ne a 8 1", "line 1 UnknownCommand"),
-        (b"newa 8 1", "line 1 UnknownCommand"),
-        (b"\"new\" a 8 1", "line 1 UnknownCommand"),
-        (b"\"\"", "line 1 UnknownCommand"),
-        (b"frob \"a\"", "line 1 UnknownCommand"),
-        (b"\"#\"", "line 1 UnknownCommand"),
-    ];
-    check(&rt, &cases)
+    check(&rt, &COMMAND_CASES)
 }
+
+const NUMBER_CASES: [(&[u8], &str); 32] = [
+    (b"freeowner 0", "freeowner 0;"),
+    (b"freeowner 255", "freeowner 255;"),
+    (b"freeowner 256", "line 1 BadWord 2"),
+    (b"freeowner 0xff", "freeowner 255;"),
+    (b"freeowner 0x000000Ff", "freeowner 255;"),
+    (b"freeowner 0x100", "line 1 BadWord 2"),
+    (b"freeowner 0000000255", "freeowner 255;"),
+    (b"freeowner 00000000255", "line 1 BadWord 2"),
+    (b"bind a 4294967295", "bind 0 4294967295;"),
+    (b"bind a 4294967296", "line 1 BadWord 3"),
+    (b"bind a 9999999999", "line 1 BadWord 3"),
+    (b"bind a 04294967295", "line 1 BadWord 3"),
+    (b"bind a 0xFFFFFFFF", "bind 0 4294967295;"),
+    (b"bind a 0xfffffff0", "bind 0 4294967280;"),
+    (b"bind a 0x0", "bind 0 0;"),
+    (b"bind a 0x", "line 1 BadWord 3"),
+    (b"bind a 0x000000001", "line 1 BadWord 3"),
+    (b"bind a 0X1", "line 1 BadWord 3"),
+    (b"bind a 0x1g", "line 1 BadWord 3"),
+    (b"bind a a", "line 1 BadWord 3"),
+    (b"bind a 1a", "line 1 BadWord 3"),
+    (b"bind a -1", "line 1 BadWord 3"),
+    (b"bind a +1", "line 1 BadWord 3"),
+    (b"bind a -", "line 1 BadWord 3"),
+    (b"bind a 1.", "line 1 BadWord 3"),
+    (b"bind a \"1\"", "line 1 BadWord 3"),
+    (b"bind a 1/", "line 1 BadWord 3"),
+    (b"bind a 1:", "line 1 BadWord 3"),
+    (b"bind a 0000000001", "bind 0 1;"),
+    (b"bind a 00000000001", "line 1 BadWord 3"),
+    (b"bind a 0xfFfFfFfF", "bind 0 4294967295;"),
+    (b"read a 0 0x1G", "line 1 BadWord 4"),
+];
 
 #[test]
 fn numbers(rt: HostRuntime) -> Result<(), Fail> {
-    let cases: [(&[u8], &str); 32] = [
-        (b"freeowner 0", "freeowner 0;"),
-        (b"freeowner 255", "freeowner 255;"),
-        (b"freeowner 256", "line 1 BadWord 2"),
-        (b"freeowner 0xff", "freeowner 255;"),
-        (b"freeowner 0x000000Ff", "freeowner 255;"),
-        (b"freeowner 0x100", "line 1 BadWord 2"),
-        (b"freeowner 0000000255", "freeowner 255;"),
-        (b"freeowner 00000000255", "line 1 BadWord 2"),
-        (b"bind a 4294967295", "bind 0 4294967295;"),
-        (b"bind a 4294967296", "line 1 BadWord 3"),
-        (b"bind a 9999999999", "line 1 BadWord 3"),
-        (b"bind a 04294967295", "line 1 BadWord 3"),
-        (b"bind a 0xFFFFFFFF", "bind 0 4294967295;"),
-        (b"bind a 0xfffffff0", "bind 0 4294967280;"),
-        (b"bind a 0x0", "bind 0 0;"),
-        (b"bind a 0x", "line 1 BadWord 3"),
-        (b"bind a 0x000000001", "line 1 BadWord 3"),
-        (b"bind a 0X1", "line 1 BadWord 3"),
-        (b"bind a 0x1g", "line 1 BadWord 3"),
-        (b"bind a a", "line 1 BadWord 3"),
-        (b"bind a 1a", "line 1 BadWord 3"),
-        (b"bind a -1", "line 1 BadWord 3"),
-        (b"bind a +1", "line 1 BadWord 3"),
-        (b"bind a -", "line 1 BadWord 3"),
-        (b"bind a 1.", "line 1 BadWord 3"),
-        (b"bind a \"1\"", "line 1 BadWord 3"),
-        (b"bind a 1/", "line 1 BadWord 3"),
-        (b"bind a 1:", "line 1 BadWord 3"),
-        (b"bind a 0000000001", "bind 0 1;"),
-        (b"bind a 00000000001", "line 1 BadWord 3"),
-        (b"bind a 0xfFfFfFfF", "bind 0 4294967295;"),
-        (b"read a 0 0x1G", "line 1 BadWord 4"),
-    ];
-    check(&rt, &cases)
+    check(&rt, &NUMBER_CASES)
 }
+
+const LABEL_CASES: [(&[u8], &str); 19] = [
+    (b"free Z", "free 0;"),
+    (b"free z_9A", "free 0;"),
+    (b"free a_1", "free 0;"),
+    (b"free abcdefghijabcdefghijabcdefghijk", "free 0;"),
+    (b"free abcdefghijabcdefghijabcdefghijkl", "line 1 BadWord 2"),
+    (b"free 1a", "line 1 BadWord 2"),
+    (b"free _a", "line 1 BadWord 2"),
+    (b"free a-b", "line 1 BadWord 2"),
+    (b"free a@", "line 1 BadWord 2"),
+    (b"free [", "line 1 BadWord 2"),
+    (b"free `", "line 1 BadWord 2"),
+    (b"free {", "line 1 BadWord 2"),
+    (b"free \xe4", "line 1 BadWord 2"),
+    (b"free \"a\"", "line 1 BadWord 2"),
+    // numbered in the order in which they first appear, each case apart
+    (
+        b"free b\nfree a\nfree b\nfree B\nfree a",
+        "free 0;free 1;free 0;free 2;free 1;",
+    ),
+    (
+        b"free ab\nfree a\nfree abc\nfree ab",
+        "free 0;free 1;free 2;free 0;",
+    ),
+    (b"# a\nfree b\n\nfree a", "free 0;free 1;"),
+    (
+        b"freebytes\nfreeowner 1\nfree x",
+        "freebytes;freeowner 1;free 0;",
+    ),
+    (b"free new", "free 0;"),
+];
 
 #[test]
 fn labels(rt: HostRuntime) -> Result<(), Fail> {
-    let cases: [(&[u8], &str); 19] = [
-        (b"free Z", "free 0;"),
-        (b"free z_9A", "free 0;"),
-        (b"free a_1", "free 0;"),
-        (b"free abcdefghijabcdefghijabcdefghijk", "free 0;"),
-        (b"free abcdefghijabcdefghijabcdefghijkl", "line 1 BadWord 2"),
-        (b"free 1a", "line 1 BadWord 2"),
-        (b"free _a", "line 1 BadWord 2"),
-        (b"free a-b", "line 1 BadWord 2"),
-        (b"free a@", "line 1 BadWord 2"),
-        (b"free [", "line 1 BadWord 2"),
-        (b"free `", "line 1 BadWord 2"),
-        (b"free {", "line 1 BadWord 2"),
-        (b"free \xe4", "line 1 BadWord 2"),
-        (b"free \"a\"", "line 1 BadWord 2"),
-        // numbered in the order in which they first appear, each case apart
-        (
-            b"free b\nfree a\nfree b\nfree B\nfree a",
-            "free 0;free 1;free 0;free 2;free 1;",
-        ),
-        (
-            b"free ab\nfree a\nfree abc\nfree ab",
-            "free 0;free 1;free 2;free 0;",
-        ),
-        (b"# a\nfree b\n\nfree a", "free 0;free 1;"),
-        (
-            b"freebytes\nfreeowner 1\nfree x",
-            "freebytes;freeowner 1;free 0;",
-        ),
-        (b"free new", "free 0;"),
-    ];
-    check(&rt, &cases)
+    check(&rt, &LABEL_CASES)
 }
+
+const BYTES_CASES: [(&[u8], &str); 28] = [
+    (b"write a 0 -", "write 0 0 /;"),
+    (b"write a 0 00fFa9", "write 0 0 /00ffa9;"),
+    (b"write a 0 4", "line 1 BadWord 4"),
+    (b"write a 0 414", "line 1 BadWord 4"),
+    (b"write a 0 4g", "line 1 BadWord 4"),
+    (b"write a 0 g4", "line 1 BadWord 4"),
+    (b"write a 0 --", "line 1 BadWord 4"),
+    (b"write a 0 -41", "line 1 BadWord 4"),
+    (b"write a 0 0x41", "line 1 BadWord 4"),
+    (b"write a 0 x:41", "line 1 BadWord 4"),
+    (b"write a 0 \"41\"", "line 1 BadWord 4"),
+    (b"strcopy a 0 \"\"", "strcopy 0 0 /;"),
+    (b"strcopy a 0 \" ~\"", "strcopy 0 0 /207e;"),
+    (b"strcopy a 0 \"a b\t\"", "line 1 BadWord 4"),
+    (b"strcopy a 0 \"\x1f\"", "line 1 BadWord 4"),
+    (b"strcopy a 0 \"\x7f\"", "line 1 BadWord 4"),
+    (b"strcopy a 0 \"\xe4\"", "line 1 BadWord 4"),
+    (b"strcopy a 0 \"#\"", "strcopy 0 0 /23;"),
+    (b"strcopy a 0 x:", "strcopy 0 0 /;"),
+    (b"strcopy a 0 x:7E22", "strcopy 0 0 /7e22;"),
+    (b"strcopy a 0 x:7", "line 1 BadWord 4"),
+    (b"strcopy a 0 x:7e2", "line 1 BadWord 4"),
+    (b"strcopy a 0 x:7g", "line 1 BadWord 4"),
+    (b"strcopy a 0 X:7e", "line 1 BadWord 4"),
+    (b"strcopy a 0 x", "line 1 BadWord 4"),
+    (b"strcopy a 0 -", "line 1 BadWord 4"),
+    (b"strcopy a 0 7e", "line 1 BadWord 4"),
+    (b"strcopy a 0 a\"b\"", "line 1 BadWord 4"),
+];
 
 #[test]
 fn bytes_and_texts(rt: HostRuntime) -> Result<(), Fail> {
-    let cases: [(&[u8], &str); 28] = [
-        (b"write a 0 -", "write 0 0 /;"),
-        (b"write a 0 00fFa9", "write 0 0 /00ffa9;"),
-        (b"write a 0 4", "line 1 BadWord 4"),
-        (b"write a 0 414", "line 1 BadWord 4"),
-        (b"write a 0 4g", "line 1 BadWord 4"),
-        (b"write a 0 g4", "line 1 BadWord 4"),
-        (b"write a 0 --", "line 1 BadWord 4"),
-        (b"write a 0 -41", "line 1 BadWord 4"),
-        (b"write a 0 0x41", "line 1 BadWord 4"),
-        (b"write a 0 x:41", "line 1 BadWord 4"),
-        (b"write a 0 \"41\"", "line 1 BadWord 4"),
-        (b"strcopy a 0 \"\"", "strcopy 0 0 /;"),
-        (b"strcopy a 0 \" ~\"", "strcopy 0 0 /207e;"),
-        (b"strcopy a 0 \"a b\t\"", "line 1 BadWord 4"),
-        (b"strcopy a 0 \"\x1f\"", "line 1 BadWord 4"),
-        (b"strcopy a 0 \"\x7f\"", "line 1 BadWord 4"),
-        (b"strcopy a 0 \"\xe4\"", "line 1 BadWord 4"),
-        (b"strcopy a 0 \"#\"", "strcopy 0 0 /23;"),
-        (b"strcopy a 0 x:", "strcopy 0 0 /;"),
-        (b"strcopy a 0 x:7E22", "strcopy 0 0 /7e22;"),
-        (b"strcopy a 0 x:7", "line 1 BadWord 4"),
-        (b"strcopy a 0 x:7e2", "line 1 BadWord 4"),
-        (b"strcopy a 0 x:7g", "line 1 BadWord 4"),
-        (b"strcopy a 0 X:7e", "line 1 BadWord 4"),
-        (b"strcopy a 0 x", "line 1 BadWord 4"),
-        (b"strcopy a 0 -", "line 1 BadWord 4"),
-        (b"strcopy a 0 7e", "line 1 BadWord 4"),
-        (b"strcopy a 0 a\"b\"", "line 1 BadWord 4"),
-    ];
-    check(&rt, &cases)
+    check(&rt, &BYTES_CASES)
 }
+
+const LINE_CASES: [(&[u8], &str); 21] = [
+    // no lines, and lines that are passed over
+    (b"", ""),
+    (b"\n", ""),
+    (b"\n \t\n\t#\n#x\n  # \"\n#\"a\"b", ""),
+    // a carriage return in front of a line feed is dropped, one of them, and no other
+    (b"free a\r\nsize a\r\n", "free 0;size 0;"),
+    (b"\r\nfree a\r\n", "free 0;"),
+    (b"free a\r\r\n", "line 1 BadWord 2"),
+    (b"free a\r", "line 1 BadWord 2"),
+    (b"\r", "line 1 UnknownCommand"),
+    (b"freebytes\r", "line 1 UnknownCommand"),
+    (b"free a\nfree a \r", "line 2 WrongCount"),
+    (b"\r\r\n", "line 1 UnknownCommand"),
+    (b"#\r", ""),
+    (b" \r\n#\r\n", ""),
+    (b" \r", "line 1 UnknownCommand"),
+    (b"freebytes\n\r", "line 2 UnknownCommand"),
+    (b"\"a\"\r", "line 1 BadWord 1"),
+    (b"fr\ree a", "line 1 UnknownCommand"),
+    // lines are counted over all of them
+    (b"\n# x\r\n\nfrob\nnew", "line 4 UnknownCommand"),
+    (b"free a\nnew a 8\nfrob", "line 2 WrongCount"),
+    (b"frob\n\"", "line 1 UnknownCommand"),
+    (b"free a\n\n\n\n\n\n\n\n\nread a 0 x", "line 10 BadWord 4"),
+];
 
 #[test]
 fn lines_and_their_ends(rt: HostRuntime) -> Result<(), Fail> {
-    let cases: [(&[u8], &str); 21] = [
-        // no lines, and lines that are passed over
-        (b"", ""),
-        (b"\n", ""),
-        (b"\n \t\n\t#\n#x\n  # \"\n#\"a\"b", ""),
-        // a carriage return in front of a line feed is dropped, one of them, and no other
-        (b"free a\r\nsize a\r\n", "free 0;size 0;"),
-        (b"\r\nfree a\r\n", "free 0;"),
-        (b"free a\r\r\n", "line 1 BadWord 2"),
-        (b"free a\r", "line 1 BadWord 2"),
-        (b"\r", "line 1 UnknownCommand"),
-        (b"freebytes\r", "line 1 UnknownCommand"),
-        (b"free a\nfree a \r", "line 2 WrongCount"),
-        (b"\r\r\n", "line 1 UnknownCommand"),
-        (b"#\r", ""),
-        (b" \r\n#\r\n", ""),
-        (b" \r", "line 1 UnknownCommand"),
-        (b"freebytes\n\r", "line 2 UnknownCommand"),
-        (b"\"a\"\r", "line 1 BadWord 1"),
-        (b"fr\ree a", "line 1 UnknownCommand"),
-        // lines are counted over all of them
-        (b"\n# x\r\n\nfrob\nnew", "line 4 UnknownCommand"),
-        (b"free a\nnew a 8\nfrob", "line 2 WrongCount"),
-        (b"frob\n\"", "line 1 UnknownCommand"),
-        (b"free a\n\n\n\n\n\n\n\n\nread a 0 x", "line 10 BadWord 4"),
-    ];
-    check(&rt, &cases)
+    check(&rt, &LINE_CASES)
 }
+
+const WORD_CASES: [(&[u8], &str); 19] = [
+    // blanks in front, between and behind
+    (b" \tfree\t \ta \t", "free 0;"),
+    (b"free a\n", "free 0;"),
+    (b"free a\n\n", "free 0;"),
+    // a `#` behind the first word is a word
+    (b"free a #", "line 1 WrongCount"),
+    (b"free #", "line 1 BadWord 2"),
+    // a vertical tab or a zero byte is no blank
+    (b"free\x0ba", "line 1 UnknownCommand"),
+    (b"free a\x00", "line 1 BadWord 2"),
+    // quoted words: with blanks, closed, not closed, followed
+    (b"strcopy a 0 \"a b\"", "strcopy 0 0 /612062;"),
+    (b"strcopy a 0 \"a\"\t", "strcopy 0 0 /61;"),
+    (b"strcopy a 0 \"a", "line 1 BadWord 4"),
+    (b"strcopy a 0 \"", "line 1 BadWord 4"),
+    (b"strcopy a 0 \"a\"b", "line 1 BadWord 4"),
+    (b"strcopy a 0 \"a\"\"b\"", "line 1 BadWord 4"),
+    (b"strcopy a 0 \"a\"\r\n", "strcopy 0 0 /61;"),
+    (b"strcopy a 0 \"a\"\r", "line 1 BadWord 4"),
+    (b"strcopy a 0 \"a\nb\"", "line 1 BadWord 4"),
+    // a quote inside a word is a character like others
+    (b"strcopy a 0 a\"b c\"", "line 1 WrongCount"),
+    (b"strcopy a 0 a\"b\"c", "line 1 BadWord 4"),
+    (b"free\" a", "line 1 UnknownCommand"),
+];
 
 #[test]
 fn words_and_their_quotes(rt: HostRuntime) -> Result<(), Fail> {
-    let cases: [(&[u8], &str); 19] = [
-        // blanks in front, between and behind
-        (b" \tfree\t \ta \t", "free 0;"),
-        (b"free a\n", "free 0;"),
-        (b"free a\n\n", "free 0;"),
-        // a `#` behind the first word is a word
-        (b"free a #", "line 1 WrongCount"),
-        (b"free #", "line 1 BadWord 2"),
-        // a vertical tab or a zero byte is no blank
-        (b"free\x0ba", "line 1 UnknownCommand"),
-        (b"free a\x00", "line 1 BadWord 2"),
-        // quoted words: with blanks, closed, not closed, followed
-        (b"strcopy a 0 \"a b\"", "strcopy 0 0 /612062;"),
-        (b"strcopy a 0 \"a\"\t", "strcopy 0 0 /61;"),
-        (b"strcopy a 0 \"a", "line 1 BadWord 4"),
-        (b"strcopy a 0 \"", "line 1 BadWord 4"),
-        (b"strcopy a 0 \"a\"b", "line 1 BadWord 4"),
-        (b"strcopy a 0 \"a\"\"b\"", "line 1 BadWord 4"),
-        (b"strcopy a 0 \"a\"\r\n", "strcopy 0 0 /61;"),
-        (b"strcopy a 0 \"a\"\r", "line 1 BadWord 4"),
-        (b"strcopy a 0 \"a\nb\"", "line 1 BadWord 4"),
-        // a quote inside a word is a character like others
-        (b"strcopy a 0 a\"b c\"", "line 1 WrongCount"),
-        (b"strcopy a 0 a\"b\"c", "line 1 BadWord 4"),
-        (b"free\" a", "line 1 UnknownCommand"),
-    ];
-    check(&rt, &cases)
+    check(&rt, &WORD_CASES)
 }
+
+const FAULT_CASES: [(&[u8], &str); 17] = [
+    (b"frob", "line 1 UnknownCommand"),
+    (b"new a 8", "line 1 WrongCount"),
+    (b"read a 0 x", "line 1 BadWord 4"),
+    // a broken word comes before all else, wherever it stands
+    (b"\"frob", "line 1 BadWord 1"),
+    (b"\"frob\"x a", "line 1 BadWord 1"),
+    (b"\"#", "line 1 BadWord 1"),
+    (b"frob \"", "line 1 BadWord 2"),
+    (b"free a b c \"d", "line 1 BadWord 5"),
+    (b"free 1 \"d\"e \"f", "line 1 BadWord 3"),
+    // then a word that is no command
+    (b"frob 1 2 3", "line 1 UnknownCommand"),
+    // then the count
+    (b"free", "line 1 WrongCount"),
+    (b"free 1 2", "line 1 WrongCount"),
+    (b"freebytes 1", "line 1 WrongCount"),
+    (b"new 1 x", "line 1 WrongCount"),
+    // then the first word that isn't of its kind
+    (b"new 1 x 256", "line 1 BadWord 2"),
+    (b"new a x 256", "line 1 BadWord 3"),
+    (b"new a 1 256", "line 1 BadWord 4"),
+];
 
 #[test]
 fn the_first_fault_of_a_line(rt: HostRuntime) -> Result<(), Fail> {
-    let cases: [(&[u8], &str); 17] = [
-        (b"frob", "line 1 UnknownCommand"),
-        (b"new a 8", "line 1 WrongCount"),
-        (b"read a 0 x", "line 1 BadWord 4"),
-        // a broken word comes before all else, wherever it stands
-        (b"\"frob", "line 1 BadWord 1"),
-        (b"\"frob\"x a", "line 1 BadWord 1"),
-        (b"\"#", "line 1 BadWord 1"),
-        (b"frob \"", "line 1 BadWord 2"),
-        (b"free a b c \"d", "line 1 BadWord 5"),
-        (b"free 1 \"d\"e \"f", "line 1 BadWord 3"),
-        // then a word that is no command
-        (b"frob 1 2 3", "line 1 UnknownCommand"),
-        // then the count
-        (b"free", "line 1 WrongCount"),
-        (b"free 1 2", "line 1 WrongCount"),
-        (b"freebytes 1", "line 1 WrongCount"),
-        (b"new 1 x", "line 1 WrongCount"),
-        // then the first word that isn't of its kind
-        (b"new 1 x 256", "line 1 BadWord 2"),
-        (b"new a x 256", "line 1 BadWord 3"),
-        (b"new a 1 256", "line 1 BadWord 4"),
-    ];
-    check(&rt, &cases)
+    check(&rt, &FAULT_CASES)
 }
 
-#[test]
-fn labels_are_counted(rt: HostRuntime) -> Result<(), Fail> {
-    let cases: [(&[u8], Option<usize>); 5] = [
-        (b"", Some(0)),
-        (b"freebytes", Some(0)),
-        (b"free a\nfree b\nfree a", Some(2)),
-        (b"free a\nfree b\nfree c\n", Some(3)),
-        (b"free a\nfree", None),
-    ];
-    for (script, want) in cases {
-        let count = match parse(rt.alloc(), script) {
-            Ok(script) => Some(script.chunk_label_count()),
-            Err(_) => None,
-        };
-        assert_eq!(rt; count, want);
+/// How many labels a script has, if it is one.
+pub(crate) fn label_count(alloc: Global, script: &[u8]) -> Option<usize> {
+    match parse(alloc, script) {
+        Ok(script) => Some(script.chunk_label_count()),
+        Err(_) => None,
     }
-    Ok(())
+}
+
+const COUNT_CASES: [(&[u8], Option<usize>); 5] = [
+    (b"", Some(0)),
+    (b"freebytes", Some(0)),
+    (b"free a\nfree b\nfree a", Some(2)),
+    (b"free a\nfree b\nfree c\n", Some(3)),
+    (b"free a\nfree", None),
+];
+
+#[test]
+fn labels_are_counted(rt: HostRuntime) {
+    for (script, want) in &COUNT_CASES {
+        assert_eq!(rt; label_count(rt.alloc(), script), *want);
+    }
 }
 
 /// A script that takes each kind of memory, with how many growths: 5 lines, 2 labels, 9 values, and
@@ -348,19 +359,19 @@ fn lines_without(alloc: Global, before: u32) -> Result<usize, LineFault> {
     }
 }
 
+const REFUSED: LineFault = LineFault {
+    line: 0,
+    fault: ScriptFault::OutOfMemory,
+};
+
 #[test]
-fn every_growth_may_be_refused(rt: HostRuntime) -> Result<(), Fail> {
-    let refused = LineFault {
-        line: 0,
-        fault: ScriptFault::OutOfMemory,
-    };
-    for before in 0..GROWTHS {
-        assert_eq!(rt;
-            lines_without(rt.alloc(), before),
-            Err(refused),
-            "after {before}"
-        );
+fn every_growth_may_be_refused(rt: HostRuntime) {
+    for before in 0..=GROWTHS {
+        let wanted = if before < GROWTHS {
+            Err(REFUSED)
+        } else {
+            Ok(5)
+        };
+        assert_eq!(rt; lines_without(rt.alloc(), before), wanted, "after {before}");
     }
-    assert_eq!(rt; lines_without(rt.alloc(), GROWTHS), Ok(5));
-    Ok(())
 }

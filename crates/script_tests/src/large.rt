@@ -1,26 +1,19 @@
 //! Scripts and images that are large: no want of memory is invented for them, and no limit but those
 //! that are stated.
 
+use crate::commands::check_said;
+use crate::grammar::label_count;
 use crate::runs::run_on;
 use heap_model::Counted;
-use palm_script::parse;
-use palmheap_commands::{cmd_check, cmd_new};
+use palmheap_commands::cmd_new;
 use program_io::Status;
 use std::alloc::{AllocError, Global};
 use std::test::Fail;
-use test_images::{BLANK, bytes_of};
 
 #[test]
 fn long_scripts(rt: HostRuntime) -> Result<(), Fail> {
-    let mut text = String::new(rt.alloc());
-    for number in 0..100_000 {
-        writeln!(text, "new h{number} 8 1")?;
-    }
-    let count = match parse(rt.alloc(), text.as_bytes()) {
-        Ok(script) => script.chunk_label_count(),
-        Err(_) => 0,
-    };
-    assert_eq!(rt; count, 100_000);
+    let text = lines(rt.alloc(), 100_000, "new h", " 8 1")?;
+    assert_eq!(rt; label_count(rt.alloc(), text.as_bytes()), Some(100_000));
     Ok(())
 }
 
@@ -42,31 +35,31 @@ fn repeated(alloc: Global, text: &str, count: u32) -> Result<String, AllocError>
     Ok(all)
 }
 
+/// Whether a run on an image gets through, prints this and writes this image.
+fn gives(alloc: Global, image: &[u8], script: &str, said: &str, after: &[u8]) -> bool {
+    let ran = run_on(alloc, image, script);
+    ran.status == Status::Done
+        && ran.out.as_slice() == said.as_bytes()
+        && ran.image.as_slice() == after
+}
+
 #[test]
 fn a_script_has_as_many_labels_as_it_likes(rt: HostRuntime) -> Result<(), Fail> {
     let alloc = rt.alloc();
-    let image = bytes_of(alloc, BLANK)?;
+    let image = new_image(alloc, 128)?;
     let script = lines(alloc, 1025, "free h", "")?;
-    let ran = run_on(alloc, image.as_slice(), script.as_str());
-    assert_eq!(rt; ran.status, Status::Done);
-    let replies = repeated(alloc, "refused 1 InvalidHandle\n", 1025)?;
-    assert_eq!(rt; ran.out.as_slice(), replies.as_bytes());
+    let said = repeated(alloc, "refused 1 InvalidHandle\n", 1025)?;
+    assert!(rt; gives(alloc, &image, script.as_str(), said.as_str(), &image));
     Ok(())
 }
 
 #[test]
 fn a_script_is_as_long_as_it_likes(rt: HostRuntime) -> Result<(), Fail> {
     let alloc = rt.alloc();
-    let image = bytes_of(alloc, BLANK)?;
+    let image = new_image(alloc, 128)?;
     let script = repeated(alloc, "freebytes\n", 7000)?;
-    assert!(rt; script.len() > 65_536);
-    let ran = run_on(alloc, image.as_slice(), script.as_str());
-    assert_eq!(rt; ran.status, Status::Done);
-    assert_eq!(rt;
-        ran.out.as_slice(),
-        repeated(alloc, "ok 96\n", 7000)?.as_bytes()
-    );
-    assert_eq!(rt; ran.image.as_slice(), image.as_slice());
+    let said = repeated(alloc, "ok 96\n", 7000)?;
+    assert!(rt; gives(alloc, &image, script.as_str(), said.as_str(), &image));
     Ok(())
 }
 
@@ -79,9 +72,8 @@ fn a_line_has_as_many_bytes_as_it_likes(rt: HostRuntime) -> Result<(), Fail> {
         "new a 5000 1\nlock a\nwrite a 0 {hex}\nread a 0 5000\nread a 5000 0\n"
     )?;
     let ran = run_on(alloc, image.as_slice(), script.as_str());
-    assert_eq!(rt; ran.status, Status::Done);
-    let replies = format!(in alloc; "ok\nok 1\nok\nok {hex}\nok -\n")?;
-    assert_eq!(rt; ran.out.as_slice(), replies.as_bytes());
+    let said = format!(in alloc; "ok\nok 1\nok\nok {hex}\nok -\n")?;
+    assert!(rt; ran.status == Status::Done && ran.out.as_slice() == said.as_bytes());
     Ok(())
 }
 
@@ -95,41 +87,33 @@ fn new_image(alloc: Global, size: u32) -> Result<Vec<u8>, Fail> {
     Ok(image.into_inner())
 }
 
-/// The status of `check`, and what it prints.
-fn checked(alloc: Global, image: &[u8]) -> (Status, Vec<u8>) {
-    let mut out = Counted::new(Vec::new(alloc));
-    let status = cmd_check(alloc, image, &mut out);
-    (status, out.into_inner())
-}
-
 #[test]
 fn the_largest_image_is_checked(rt: HostRuntime) -> Result<(), Fail> {
-    let alloc = rt.alloc();
-    let image = new_image(alloc, 16_777_208)?;
+    let image = new_image(rt.alloc(), 16_777_208)?;
     assert_eq!(rt; image.len(), 16_777_208);
-    let (status, out) = checked(alloc, image.as_slice());
-    assert_eq!(rt; status, Status::Done);
     assert_eq!(rt;
-        out.as_slice(),
-        b"ok size 16777208 slots 4 movable 0 fixed 0 free 16777176\n".as_slice()
+        check_said(rt.alloc(), image.as_slice())?.as_str(),
+        "Done ok size 16777208 slots 4 movable 0 fixed 0 free 16777176\n"
     );
     Ok(())
 }
 
-/// One that is as large as an input file may be is checked too, and is no heap.
-#[test]
-fn a_larger_image_is_bad(rt: HostRuntime) -> Result<(), Fail> {
-    let alloc = rt.alloc();
+/// An image of 16,777,216 bytes, as many as an input file may have, that says so.
+fn larger(alloc: Global) -> Result<Vec<u8>, Fail> {
     let mut image = new_image(alloc, 16_777_208)?;
-    for byte in [0; 8] {
-        image.push(byte)?;
-    }
+    image.extend_from_slice(&[0; 8])?;
     for (at, byte) in [(4, 1), (5, 0), (6, 0), (7, 0)] {
         *image.get_mut(at).ok_or("no size")? = byte;
     }
+    Ok(image)
+}
+
+/// It is checked too, and is no heap.
+#[test]
+fn a_larger_image_is_bad(rt: HostRuntime) -> Result<(), Fail> {
+    let image = larger(rt.alloc())?;
     assert_eq!(rt; image.len(), 16_777_216);
-    let (status, out) = checked(alloc, image.as_slice());
-    assert_eq!(rt; status, Status::Refused);
-    assert_eq!(rt; out.as_slice(), b"bad BadSize\n".as_slice());
+    let said = check_said(rt.alloc(), image.as_slice())?;
+    assert_eq!(rt; said.as_str(), "Refused bad BadSize\n");
     Ok(())
 }

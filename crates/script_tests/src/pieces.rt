@@ -2,9 +2,9 @@
 
 use crate::fakes::{Narrow, WhenFull};
 use heap_model::Counted;
-use palm_text::{Piece, WriteFault, put_pieces};
+use palm_text::{Piece, put_pieces};
+use std::alloc::Global;
 use std::io::ErrorKind;
-use std::test::Fail;
 
 /// 33 bytes, which is a turn of hex and one byte more.
 const BYTES: [u8; 33] = [
@@ -26,52 +26,36 @@ const PIECES: [Piece<'static>; 7] = [
 const TEXT: &str =
     "ok 0 42949672950001090a0f101f207f80909fa0abcdeff0feff000000000000000000000000005a\n";
 
-#[test]
-fn pieces_are_written_one_behind_another(rt: HostRuntime) -> Result<(), Fail> {
-    for step in [1, 2, 7, 1000] {
-        let mut out = Counted::new(Narrow::new(
-            rt.alloc(),
-            1000,
-            step,
-            WhenFull::Fails(ErrorKind::Interrupted),
-        ));
-        assert_eq!(rt;
-            put_pieces(&mut out, &PIECES),
-            Ok(()),
-            "{step} bytes at a time"
-        );
-        let narrow = out.into_inner();
-        assert_eq!(rt;
-            narrow.taken.as_slice(),
-            TEXT.as_bytes(),
-            "{step} bytes at a time"
-        );
-        assert_eq!(rt; narrow.refused, 0);
-    }
-    Ok(())
+/// What `put_pieces` answers, and what its writer came to.
+fn put_to(alloc: Global, room: usize, step: usize, way: WhenFull) -> (bool, Narrow) {
+    let mut out = Counted::new(Narrow::new(alloc, room, step, way));
+    let is_put = put_pieces(&mut out, &PIECES).is_ok();
+    (is_put, out.into_inner())
 }
 
 #[test]
-fn nothing_follows_a_write_that_fails(rt: HostRuntime) -> Result<(), Fail> {
-    for when_full in [
-        WhenFull::TakesNothing,
-        WhenFull::Fails(ErrorKind::Interrupted),
-    ] {
-        for room in 0..TEXT.len() {
-            let mut out = Counted::new(Narrow::new(rt.alloc(), room, 5, when_full));
-            assert_eq!(rt;
-                put_pieces(&mut out, &PIECES),
-                Err(WriteFault),
-                "room for {room}"
-            );
-            let narrow = out.into_inner();
-            assert_eq!(rt;
-                narrow.taken.as_slice(),
-                &TEXT.as_bytes()[..room],
-                "room for {room}"
-            );
-            assert_eq!(rt; narrow.refused, 1, "room for {room}");
-        }
+fn pieces_are_written_one_behind_another(rt: HostRuntime) {
+    for step in [1, 2, 7, 1000] {
+        let (is_put, out) = put_to(rt.alloc(), 1000, step, WhenFull::TakesNothing);
+        assert!(rt; is_put && out.refused == 0, "{step} bytes at a time");
+        assert_eq!(rt; out.taken.as_slice(), TEXT.as_bytes());
     }
-    Ok(())
+}
+
+/// Whether `put_pieces` fails where there is room for so many bytes, and writes these.
+fn is_cut(alloc: Global, room: usize, way: WhenFull) -> bool {
+    let (is_put, out) = put_to(alloc, room, 5, way);
+    !is_put && out.is_cut_at(room) && TEXT.as_bytes().starts_with(out.taken.as_slice())
+}
+
+#[test]
+fn nothing_follows_a_write_that_fails(rt: HostRuntime) {
+    for room in 0..TEXT.len() {
+        assert!(rt;
+            is_cut(rt.alloc(), room, WhenFull::TakesNothing),
+            "room for {room}"
+        );
+        let way = WhenFull::Fails(ErrorKind::Interrupted);
+        assert!(rt; is_cut(rt.alloc(), room, way), "room for {room}");
+    }
 }

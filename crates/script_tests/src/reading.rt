@@ -24,13 +24,22 @@ fn outcome_of(read: Result<Vec<u8>, InputFault>) -> Outcome {
     }
 }
 
+/// What comes of a source, and how often it was read.
+fn outcome_at(alloc: Global, mut source: Source) -> (Outcome, usize) {
+    let read = read_input(alloc, &mut source);
+    (outcome_of(read), source.reads)
+}
+
 #[test]
-fn reads_to_the_end(rt: HostRuntime) -> Result<(), Fail> {
+fn reads_what_is_there(rt: HostRuntime) -> Result<(), Fail> {
     let text = "the bytes of a file";
-    let bytes = read_input(rt.alloc(), &mut text.as_bytes())
-        .ok()
-        .ok_or("a fault")?;
-    assert_eq!(rt; bytes.as_slice(), text.as_bytes());
+    let read = read_input(rt.alloc(), &mut text.as_bytes());
+    assert_eq!(rt; read.ok().ok_or("a fault")?.as_slice(), text.as_bytes());
+    Ok(())
+}
+
+#[test]
+fn reads_to_the_end(rt: HostRuntime) {
     for (left, step, reads) in [
         (0, 1, 1),
         (1, 1, 2),
@@ -38,14 +47,20 @@ fn reads_to_the_end(rt: HostRuntime) -> Result<(), Fail> {
         (65_536, 65_536, 2),
         (65_537, 99_999, 3),
     ] {
-        let mut source = Source::new(left, step);
-        let bytes = read_input(rt.alloc(), &mut source).ok().ok_or("a fault")?;
-        assert_eq!(rt; bytes.len(), left, "{left} bytes, {step} at a time");
-        assert_eq!(rt; source.reads, reads, "{left} bytes, {step} at a time");
+        let came = outcome_at(rt.alloc(), Source::new(left, step));
+        assert_eq!(rt; came, (Outcome::Bytes(left), reads), "{step} at a time");
     }
-    Ok(())
 }
 
+/// What comes of a source of which a read fails so, and how often it was read.
+fn outcome_failing(alloc: Global, fails_at: usize, kind: ErrorKind) -> (Outcome, usize) {
+    let mut source = Source::new(4, 1);
+    source.fails_at = Some(fails_at);
+    source.kind = kind;
+    outcome_at(alloc, source)
+}
+
+/// Nothing is read after the fault.
 #[test]
 fn answers_a_read_that_fails(rt: HostRuntime) {
     for (kind, wanted) in [
@@ -54,36 +69,10 @@ fn answers_a_read_that_fails(rt: HostRuntime) {
         (ErrorKind::OutOfMemory, Outcome::NoMemory),
     ] {
         for fails_at in 0..5 {
-            let mut source = Source::new(4, 1);
-            source.fails_at = Some(fails_at);
-            source.kind = kind;
-            let read = read_input(rt.alloc(), &mut source);
-            assert_eq!(rt; outcome_of(read), wanted, "at {fails_at}");
-            assert_eq!(rt;
-                source.reads,
-                fails_at + 1,
-                "nothing is read after the fault"
-            );
+            let came = outcome_failing(rt.alloc(), fails_at, kind);
+            assert_eq!(rt; came, (wanted, fails_at + 1));
         }
     }
-}
-
-#[test]
-fn a_fault_says_why(rt: HostRuntime) -> Result<(), Fail> {
-    let mut source = Source::new(4, 1);
-    source.fails_at = Some(2);
-    source.kind = ErrorKind::PermissionDenied;
-    let fault = read_input(rt.alloc(), &mut source).err().ok_or("no fault")?;
-    assert_eq!(rt;
-        format!(in rt.alloc(); "{fault}")?.as_str(),
-        "permission denied"
-    );
-    let fault = InputFault::TooLong;
-    assert_eq!(rt;
-        format!(in rt.alloc(); "{fault}")?.as_str(),
-        "longer than 16777216 bytes"
-    );
-    Ok(())
 }
 
 /// A growth for the turn, and one for each read that gives bytes.
@@ -105,8 +94,7 @@ fn read_with(alloc: Global, before: u32) -> Outcome {
 #[test]
 fn takes_as_much_as_the_limit(rt: HostRuntime) {
     for step in [65_536, 60_001] {
-        let mut source = Source::new(INPUT_LIMIT, step);
-        let came = outcome_of(read_input(rt.alloc(), &mut source));
+        let (came, _) = outcome_at(rt.alloc(), Source::new(INPUT_LIMIT, step));
         assert_eq!(rt; came, Outcome::Bytes(INPUT_LIMIT), "{step} at a time");
     }
 }
@@ -118,13 +106,8 @@ fn refuses_more_than_the_limit(rt: HostRuntime) {
         (INPUT_LIMIT + 1, 60_001),
         (usize::MAX, 65_536),
     ] {
-        let mut source = Source::new(left, step);
-        let came = outcome_of(read_input(rt.alloc(), &mut source));
+        let (came, reads) = outcome_at(rt.alloc(), Source::new(left, step));
         assert_eq!(rt; came, Outcome::TooLong, "{left} bytes, {step} at a time");
-        assert!(rt;
-            source.reads <= INPUT_LIMIT / step + 1,
-            "{} reads",
-            source.reads
-        );
+        assert!(rt; reads <= INPUT_LIMIT / step + 1, "{reads} reads");
     }
 }

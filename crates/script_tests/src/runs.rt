@@ -6,7 +6,6 @@ use palmheap_commands::cmd_run;
 use program_io::Status;
 use std::alloc::Global;
 use std::io::{BufWriter, ErrorKind, Write};
-use std::process::Abort;
 use std::test::Fail;
 use test_images::{BLANK, ONE_CHUNK, bytes_of};
 
@@ -55,28 +54,51 @@ pub(crate) fn run_on(alloc: Global, image: &[u8], script: &str) -> Ran<Vec<u8>, 
     run_to(alloc, image, script, Vec::new(alloc), Vec::new(alloc))
 }
 
-/// Runs lines, and compares what each prints: a text has a line and its reply, with `=` between.
-fn check_replies(rt: &impl Abort, alloc: Global, image: &str, text: &str) -> Result<(), Fail> {
-    let image = bytes_of(alloc, image)?;
-    let (mut script, mut replies) = (String::new(alloc), String::new(alloc));
+/// Runs a script on the blank image.
+fn run_blank<W: Write + Drop, V: Write + Drop>(
+    alloc: Global,
+    script: &str,
+    image_out: W,
+    out: V,
+) -> Result<Ran<W, V>, Fail> {
+    let image = bytes_of(alloc, BLANK)?;
+    Ok(run_to(alloc, image.as_slice(), script, image_out, out))
+}
+
+/// What a run on a listing answers and prints, and the image that it writes.
+fn ran_on(alloc: Global, listing: &str, script: &str) -> Result<(String, Vec<u8>), Fail> {
+    let image = bytes_of(alloc, listing)?;
+    let Ran { status, image, out } = run_on(alloc, image.as_slice(), script);
+    let text = String::from_utf8(out).ok().ok_or("no text")?;
+    Ok((format!(in alloc; "{status:?} {text}")?, image))
+}
+
+/// The lines of a text in which each line has a reply, with ` = ` between: a script, and what it
+/// answers and prints.
+fn parted(alloc: Global, text: &str) -> Result<(String, String), Fail> {
+    let (mut script, mut said) = (String::new(alloc), String::from_str(alloc, "Done ")?);
     for row in text.lines() {
         let (line, reply) = row.trim().split_once(" = ").ok_or("no reply")?;
-        script.push_str(line)?;
-        script.push_str("\n")?;
-        replies.push_str(reply)?;
-        replies.push_str("\n")?;
+        writeln!(script, "{line}")?;
+        writeln!(said, "{reply}")?;
     }
-    let ran = run_on(alloc, image.as_slice(), script.as_str());
-    assert_eq!(rt; ran.status, Status::Done, "{text}");
-    assert_eq!(rt; ran.out.as_slice(), replies.as_bytes(), "{text}");
-    Ok(())
+    Ok((script, said))
 }
 
 #[test]
-fn labels_are_bound(rt: HostRuntime) -> Result<(), Fail> {
-    check_replies(
-        &rt,
-        rt.alloc(),
+fn lines_print_their_replies(rt: HostRuntime) -> Result<(), Fail> {
+    for (listing, text) in &RUNS {
+        let (script, wanted) = parted(rt.alloc(), text)?;
+        let (said, _) = ran_on(rt.alloc(), listing, script.as_str())?;
+        assert_eq!(rt; said.as_str(), wanted.as_str());
+    }
+    Ok(())
+}
+
+/// Images, and the lines that are run on them, each with its reply.
+const RUNS: [(&str, &str); 6] = [
+    // labels are bound
+    (
         ONE_CHUNK,
         "bind a 16 = ok
         size a = ok 10
@@ -88,14 +110,9 @@ fn labels_are_bound(rt: HostRuntime) -> Result<(), Fail> {
         owner a = ok 1
         free a = ok
         owner a = refused 1 InvalidHandle",
-    )
-}
-
-#[test]
-fn locks_are_counted(rt: HostRuntime) -> Result<(), Fail> {
-    check_replies(
-        &rt,
-        rt.alloc(),
+    ),
+    // locks are counted
+    (
         BLANK,
         "new a 8 1 = ok
         lock a = ok 1
@@ -114,14 +131,9 @@ fn locks_are_counted(rt: HostRuntime) -> Result<(), Fail> {
         lock a = ok 14
         lock a = refused 5 LockOverflow
         free a = refused 3 ChunkLocked",
-    )
-}
-
-#[test]
-fn chunks_of_no_bytes_are_chunks(rt: HostRuntime) -> Result<(), Fail> {
-    check_replies(
-        &rt,
-        rt.alloc(),
+    ),
+    // chunks of no bytes are chunks
+    (
         BLANK,
         "new z 0 1 = ok
         size z = ok 0
@@ -130,29 +142,21 @@ fn chunks_of_no_bytes_are_chunks(rt: HostRuntime) -> Result<(), Fail> {
         lock z = ok 1
         write z 0 41 = refused 9 OutOfBounds
         freebytes = ok 88",
-    )
-}
-
-#[test]
-fn bytes_are_written_within_bounds(rt: HostRuntime) -> Result<(), Fail> {
-    check_replies(&rt, rt.alloc(), BLANK, BYTES)
-}
-
-/// Bytes of a locked chunk.
-const BYTES: &str = "new a 10 1 = ok
-    lock a = ok 1
-    write a 9 41 = ok
-    write a 9 4142 = refused 9 OutOfBounds
-    read a 0 10 = ok 00000000000000000041
-    strcopy a 8 \"x\" = ok
-    strcopy a 9 \"x\" = refused 9 OutOfBounds
-    read a 8 2 = ok 7800";
-
-#[test]
-fn fixed_chunks_need_no_slot(rt: HostRuntime) -> Result<(), Fail> {
-    check_replies(
-        &rt,
-        rt.alloc(),
+    ),
+    // bytes are written within bounds
+    (
+        BLANK,
+        "new a 10 1 = ok
+        lock a = ok 1
+        write a 9 41 = ok
+        write a 9 4142 = refused 9 OutOfBounds
+        read a 0 10 = ok 00000000000000000041
+        strcopy a 8 \"x\" = ok
+        strcopy a 9 \"x\" = refused 9 OutOfBounds
+        read a 8 2 = ok 7800",
+    ),
+    // fixed chunks need no slot
+    (
         ONE_SLOT,
         "new a 0 1 = ok
         new b 0 1 = refused 8 NotEnoughSpace
@@ -160,14 +164,9 @@ fn fixed_chunks_need_no_slot(rt: HostRuntime) -> Result<(), Fail> {
         lock p = refused 6 ChunkFixed
         locks p = ok 15
         freebytes = ok 88",
-    )
-}
-
-#[test]
-fn chunks_are_freed_by_their_owner(rt: HostRuntime) -> Result<(), Fail> {
-    check_replies(
-        &rt,
-        rt.alloc(),
+    ),
+    // chunks are freed by their owner
+    (
         BLANK,
         "new a 8 3 = ok
         lock a = ok 1
@@ -184,55 +183,41 @@ fn chunks_are_freed_by_their_owner(rt: HostRuntime) -> Result<(), Fail> {
         setowner b 3 = ok
         freeowner 3 = ok 1
         freebytes = ok 96",
-    )
-}
+    ),
+];
+
+/// Images and scripts, what the run answers and prints, and the image that it writes, none where one
+/// of them is refused.
+const OUTCOMES: [(&str, &str, &str, &str); 10] = [
+    (BLANK, "new a 10 1\n", "Done ok\n", ONE_CHUNK),
+    (ONE_CHUNK, "", "Done ", ONE_CHUNK),
+    (ONE_CHUNK, "\n", "Done ", ONE_CHUNK),
+    (
+        ONE_CHUNK,
+        "# a line that is passed over\n",
+        "Done ",
+        ONE_CHUNK,
+    ),
+    (BLANK, "new a 8", "Refused line 1 WrongCount\n", ""),
+    (BLANK, "frob", "Refused line 1 UnknownCommand\n", ""),
+    (BLANK, "read a 0 x", "Refused line 1 BadWord 4\n", ""),
+    (
+        BLANK,
+        "new a 8 1\n\nnew b 8 256\nfrob\n",
+        "Refused line 3 BadWord 4\n",
+        "",
+    ),
+    (LONG_CHUNK, "new a 8 1\n", "Refused bad BadChunk 32\n", ""),
+    (LONG_CHUNK, "frob", "Refused bad BadChunk 32\n", ""),
+];
 
 #[test]
-fn the_image_is_written_behind_the_replies(rt: HostRuntime) -> Result<(), Fail> {
-    let alloc = rt.alloc();
-    let image = bytes_of(alloc, BLANK)?;
-    let ran = run_on(alloc, image.as_slice(), "new a 10 1\n");
-    assert_eq!(rt; ran.status, Status::Done);
-    assert_eq!(rt;
-        ran.image.as_slice(),
-        bytes_of(alloc, ONE_CHUNK)?.as_slice()
-    );
-    Ok(())
-}
-
-#[test]
-fn no_line_leaves_every_byte(rt: HostRuntime) -> Result<(), Fail> {
-    let alloc = rt.alloc();
-    let image = bytes_of(alloc, ONE_CHUNK)?;
-    for script in ["", "\n", "# a line that is passed over\n"] {
-        let ran = run_on(alloc, image.as_slice(), script);
-        assert_eq!(rt; ran.status, Status::Done, "{script}");
-        assert!(rt; ran.out.is_empty(), "{script}");
-        assert_eq!(rt; ran.image.as_slice(), image.as_slice(), "{script}");
-    }
-    Ok(())
-}
-
-#[test]
-fn a_refused_image_or_script_is_not_run(rt: HostRuntime) -> Result<(), Fail> {
-    let alloc = rt.alloc();
-    for (image, script, line) in [
-        (BLANK, "new a 8", "line 1 WrongCount\n"),
-        (BLANK, "frob", "line 1 UnknownCommand\n"),
-        (BLANK, "read a 0 x", "line 1 BadWord 4\n"),
-        (
-            BLANK,
-            "new a 8 1\n\nnew b 8 256\nfrob\n",
-            "line 3 BadWord 4\n",
-        ),
-        (LONG_CHUNK, "new a 8 1\n", "bad BadChunk 32\n"),
-        (LONG_CHUNK, "frob", "bad BadChunk 32\n"),
-    ] {
-        let image = bytes_of(alloc, image)?;
-        let ran = run_on(alloc, image.as_slice(), script);
-        assert_eq!(rt; ran.status, Status::Refused, "{line}");
-        assert_eq!(rt; ran.out.as_slice(), line.as_bytes());
-        assert!(rt; ran.image.is_empty(), "{line}");
+fn a_run_writes_its_image_or_says_why_not(rt: HostRuntime) -> Result<(), Fail> {
+    for (listing, script, wanted, after) in &OUTCOMES {
+        let (said, image) = ran_on(rt.alloc(), listing, script)?;
+        assert_eq!(rt; said.as_str(), *wanted);
+        let after = bytes_of(rt.alloc(), after)?;
+        assert!(rt; image.as_slice() == after.as_slice(), "{script}");
     }
     Ok(())
 }
@@ -240,44 +225,76 @@ fn a_refused_image_or_script_is_not_run(rt: HostRuntime) -> Result<(), Fail> {
 /// A script, and what it prints on a blank image.
 const SCRIPT: &str = "new a 10 1\nlock a\nwrite a 9 41\nwrite a 9 4142\nread a 0 10\n";
 
-const REPLIES: &str = "ok\nok 1\nok\nrefused 9 OutOfBounds\nok 00000000000000000041\n";
+const REPLIES: &[u8] = b"ok\nok 1\nok\nrefused 9 OutOfBounds\nok 00000000000000000041\n";
+
+/// Whether a run ends with a write fault behind this text and so many bytes of the image, and writes
+/// nothing behind that, where its outputs have room for so many bytes.
+fn stops(
+    alloc: Global,
+    script: &str,
+    (image_room, room): (usize, usize),
+    way: WhenFull,
+    (written, text): (usize, &[u8]),
+) -> Result<bool, Fail> {
+    let image_out = Narrow::new(alloc, image_room, 50, way);
+    let out = Narrow::new(alloc, room, 3, way);
+    let ran = run_blank(alloc, script, image_out, out)?;
+    let is_cut = ran.image.taken.len() == written && ran.out.taken.as_slice() == text;
+    let is_last = ran.image.refused.max(ran.out.refused) == 1
+        && ran.image.refused.min(ran.out.refused) == 0;
+    Ok(ran.status == Status::WriteFault && is_cut && is_last)
+}
 
 #[test]
 fn nothing_follows_a_reply_that_is_not_taken(rt: HostRuntime) -> Result<(), Fail> {
-    let alloc = rt.alloc();
-    let image = bytes_of(alloc, BLANK)?;
-    for when_full in [
+    for way in [
         WhenFull::TakesNothing,
         WhenFull::Fails(ErrorKind::Interrupted),
     ] {
         for room in 0..REPLIES.len() {
-            let out = Narrow::new(alloc, room, 3, when_full);
-            let ran = run_to(alloc, image.as_slice(), SCRIPT, Vec::new(alloc), out);
-            assert_eq!(rt; ran.status, Status::WriteFault, "room for {room}");
-            let wanted = &REPLIES.as_bytes()[..room];
-            assert_eq!(rt; ran.out.taken.as_slice(), wanted, "room for {room}");
-            assert_eq!(rt; ran.out.refused, 1, "room for {room}");
-            assert!(rt; ran.image.is_empty(), "room for {room}");
+            let wanted = (0, &REPLIES[..room]);
+            let stops = stops(rt.alloc(), SCRIPT, (1000, room), way, wanted)?;
+            assert!(rt; stops, "room for {room}");
         }
     }
     Ok(())
 }
 
+/// Scripts, the room of the outputs for the image and for the text, and what of both is taken.
+const CUTS: [(&str, (usize, usize), (usize, &[u8])); 5] = [
+    (SCRIPT, (0, 1000), (0, REPLIES)),
+    (SCRIPT, (1, 1000), (1, REPLIES)),
+    (SCRIPT, (127, 1000), (127, REPLIES)),
+    ("", (0, 0), (0, b"")),
+    ("frob", (1000, 0), (0, b"")),
+];
+
+#[test]
+fn an_output_that_takes_0_bytes_is_a_write_fault(rt: HostRuntime) -> Result<(), Fail> {
+    for (script, room, wanted) in &CUTS {
+        let stops = stops(rt.alloc(), script, *room, WhenFull::TakesNothing, *wanted)?;
+        assert!(rt; stops, "{script} {room:?}");
+    }
+    Ok(())
+}
+
+/// Whether nothing follows replies that go through a buffer to a writer with room for so many bytes.
+fn stops_behind_buffer(alloc: Global, capacity: usize, room: usize) -> Result<bool, Fail> {
+    let narrow = Narrow::new(alloc, room, 3, WhenFull::TakesNothing);
+    let out = BufWriter::with_capacity(alloc, capacity, narrow)?;
+    let Ran { status, image, out } = run_blank(alloc, SCRIPT, Vec::new(alloc), out)?;
+    let (narrow, _) = out.into_parts();
+    let is_text = narrow.taken.as_slice() == &REPLIES[..room.min(REPLIES.len())];
+    Ok(status == Status::WriteFault && image.is_empty() && narrow.is_cut_at(room) && is_text)
+}
+
 #[test]
 fn nothing_follows_a_buffer_that_is_not_taken(rt: HostRuntime) -> Result<(), Fail> {
-    let alloc = rt.alloc();
-    let image = bytes_of(alloc, BLANK)?;
     for (capacity, room) in [(8, 0), (8, 1), (8, 20), (1000, 0), (1000, 20)] {
-        let narrow = Narrow::new(alloc, room, 3, WhenFull::TakesNothing);
-        let out = BufWriter::with_capacity(alloc, capacity, narrow)?;
-        let ran = run_to(alloc, image.as_slice(), SCRIPT, Vec::new(alloc), out);
-        let Ran { status, image, out } = ran;
-        let (narrow, _) = out.into_parts();
-        assert_eq!(rt; status, Status::WriteFault, "{capacity} {room}");
-        let wanted = &REPLIES.as_bytes()[..room];
-        assert_eq!(rt; narrow.taken.as_slice(), wanted, "{capacity} {room}");
-        assert_eq!(rt; narrow.refused, 1, "{capacity} {room}");
-        assert!(rt; image.is_empty(), "{capacity} {room}");
+        assert!(rt;
+            stops_behind_buffer(rt.alloc(), capacity, room)?,
+            "{capacity} {room}"
+        );
     }
     Ok(())
 }
@@ -285,27 +302,9 @@ fn nothing_follows_a_buffer_that_is_not_taken(rt: HostRuntime) -> Result<(), Fai
 #[test]
 fn no_image_follows_replies_that_are_not_flushed(rt: HostRuntime) -> Result<(), Fail> {
     let alloc = rt.alloc();
-    let image = bytes_of(alloc, BLANK)?;
     for script in [SCRIPT, "frob"] {
-        let out = Unflushed(Vec::new(alloc));
-        let ran = run_to(alloc, image.as_slice(), script, Vec::new(alloc), out);
-        assert_eq!(rt; ran.status, Status::WriteFault);
-        assert!(rt; ran.image.is_empty());
-    }
-    Ok(())
-}
-
-#[test]
-fn an_image_that_is_not_taken_is_a_fault(rt: HostRuntime) -> Result<(), Fail> {
-    let alloc = rt.alloc();
-    let image = bytes_of(alloc, BLANK)?;
-    for room in [0, 1, 127] {
-        let image_out = Narrow::new(alloc, room, 50, WhenFull::TakesNothing);
-        let ran = run_to(alloc, image.as_slice(), SCRIPT, image_out, Vec::new(alloc));
-        assert_eq!(rt; ran.status, Status::WriteFault, "room for {room}");
-        assert_eq!(rt; ran.image.taken.len(), room);
-        assert_eq!(rt; ran.image.refused, 1, "room for {room}");
-        assert_eq!(rt; ran.out.as_slice(), REPLIES.as_bytes(), "room for {room}");
+        let ran = run_blank(alloc, script, Vec::new(alloc), Unflushed(Vec::new(alloc)))?;
+        assert!(rt; ran.status == Status::WriteFault && ran.image.is_empty());
     }
     Ok(())
 }
@@ -313,31 +312,8 @@ fn an_image_that_is_not_taken_is_a_fault(rt: HostRuntime) -> Result<(), Fail> {
 #[test]
 fn an_image_that_is_not_flushed_is_a_fault(rt: HostRuntime) -> Result<(), Fail> {
     let alloc = rt.alloc();
-    let image = bytes_of(alloc, BLANK)?;
-    let image_out = Unflushed(Vec::new(alloc));
-    let ran = run_to(alloc, image.as_slice(), SCRIPT, image_out, Vec::new(alloc));
-    assert_eq!(rt; ran.status, Status::WriteFault);
-    assert_eq!(rt; ran.image.0.len(), 128);
-    assert_eq!(rt; ran.out.as_slice(), REPLIES.as_bytes());
-    Ok(())
-}
-
-#[test]
-fn an_output_that_takes_0_bytes_is_status_3(rt: HostRuntime) -> Result<(), Fail> {
-    let alloc = rt.alloc();
-    let image = bytes_of(alloc, BLANK)?;
-    for (script, image_room, out_room) in [
-        (SCRIPT, 0, 1000),
-        (SCRIPT, 1000, 0),
-        ("", 0, 0),
-        ("frob", 1000, 0),
-    ] {
-        let image_out = Narrow::new(alloc, image_room, 50, WhenFull::TakesNothing);
-        let out = Narrow::new(alloc, out_room, 50, WhenFull::TakesNothing);
-        let ran = run_to(alloc, image.as_slice(), script, image_out, out);
-        assert_eq!(rt; ran.status, Status::WriteFault, "{script}");
-        assert_eq!(rt; ran.status.code(), 3, "{script}");
-        assert!(rt; ran.image.taken.is_empty(), "{script}");
-    }
+    let ran = run_blank(alloc, SCRIPT, Unflushed(Vec::new(alloc)), Vec::new(alloc))?;
+    assert!(rt; ran.status == Status::WriteFault && ran.image.0.len() == 128);
+    assert!(rt; ran.out.as_slice() == REPLIES);
     Ok(())
 }

@@ -1,0 +1,226 @@
+//! The words of the command line, and the texts of the help.
+//!
+//! `COMMANDS` has a row for each command: start there. `parse` answers what the words ask for.
+#![tactic(auto)]
+
+use clap::builder::ValueParser;
+use clap::error::{Error, ErrorKind};
+use clap::{Arg, ArgMatches, Command};
+use std::alloc::{AllocError, Global};
+
+/// What the words ask for.
+#[derive(Clone, Copy)]
+pub enum Request<'a> {
+    New {
+        size: u32,
+        slots: u16,
+        out: &'a str,
+    },
+    Check {
+        image: &'a str,
+    },
+    Run {
+        image: &'a str,
+        script: &'a str,
+        out: &'a str,
+    },
+}
+
+/// A command: its word, its help, and its arguments in order.
+#[derive(Clone, Copy)]
+struct CommandRow {
+    name: &'static str,
+    about: &'static str,
+    after_help: Option<&'static str>,
+    arguments: &'static [Argument],
+}
+
+/// An argument, which can't be left out.
+#[derive(Clone, Copy)]
+struct Argument {
+    name: &'static str,
+    values: ValueParser<'static>,
+    help: &'static str,
+}
+
+/// Every command.
+const COMMANDS: [CommandRow; 3] = [
+    CommandRow {
+        name: "new",
+        about: "Writes an image with nothing in it, and prints 'ok'",
+        after_help: None,
+        arguments: &[
+            Argument {
+                name: "SIZE",
+                values: ValueParser::Unsigned(0, u32::MAX as u64),
+                help: "Size of the image in bytes: a multiple of 8, from 64 to 16777208",
+            },
+            Argument {
+                name: "SLOTS",
+                values: ValueParser::Unsigned(0, u16::MAX as u64),
+                help: "How many slots its table has, 1 to 65535: the most chunks that can be movable \
+                    at a time. A slot takes 4 bytes",
+            },
+            Argument {
+                name: "OUT",
+                values: ValueParser::String,
+                help: "File for the image. One that is there is replaced, once the image is whole",
+            },
+        ],
+    },
+    CommandRow {
+        name: "check",
+        about: "Checks an image, and prints what is in it or the first fault",
+        after_help: None,
+        arguments: &[IMAGE],
+    },
+    CommandRow {
+        name: "run",
+        about: "Runs a script on an image, and prints what each line answers",
+        after_help: Some(SCRIPTS),
+        arguments: &[
+            IMAGE,
+            Argument {
+                name: "SCRIPT",
+                values: ValueParser::String,
+                help: "File with the script",
+            },
+            Argument {
+                name: "OUT",
+                values: ValueParser::String,
+                help: "File for the changed image. One that is there is replaced, once the image is \
+                    whole",
+            },
+        ],
+    },
+];
+
+const IMAGE: Argument = Argument {
+    name: "IMAGE",
+    values: ValueParser::String,
+    help: "File with the image",
+};
+
+const ABOUT: &str = "\
+Makes, checks and changes heap images: the memory of a Palm OS device, kept in a file";
+
+const IMAGES: &str = "\
+A heap image is a file of 64 to 16777208 bytes, a multiple of 8. A header of 16 bytes is
+followed by a table of slots, one for each chunk of memory that may move, and by the chunks
+themselves, which fill the rest: free ones, movable ones and fixed ones.
+
+Exit status:
+  0  done
+  1  the image or the script was refused; standard output says why: 'bad' and the first fault
+     in the image, or 'line', the number of the first faulty line and what is wrong in it
+  2  the words were refused, or there is no image of that SIZE with that many SLOTS
+  3  a file could not be read or written, or is longer than 16777216 bytes; or standard output
+     could not be written
+  4  there was not enough memory
+On 3 and 4 the first line on standard error is 'fault read', 'fault write' or 'fault memory'; behind
+the first two a second line names the file and says why.";
+
+const SCRIPTS: &str = "\
+A script is a text of lines. Each is a call of the memory manager, and prints 'ok' with what the
+call answers, or 'refused' with the number and the name of the refusal. A chunk goes by a label,
+which 'new', 'ptrnew' and 'bind' give it: a letter, then letters, digits or '_'.
+
+  bind A NAME         new A SIZE OWNER    ptrnew A SIZE OWNER
+  free A              setowner A OWNER    size A, owner A, locks A
+  lock A, unlock A    read A AT COUNT     write A AT HEX
+  set A AT COUNT BYTE                     strcopy A AT \"TEXT\"
+  freeowner OWNER     freebytes
+
+'write', 'set' and 'strcopy' need a locked or a fixed chunk. OWNER is 1 to 14. Numbers are decimal,
+or hex behind '0x'. HEX is hex digits, or '-' for no byte. A line that is empty or starts with '#' is
+passed over.";
+
+/// What the words of a command line ask for. The first word is the program's own name.
+///
+/// The error is also a request for help or for the version.
+pub fn parse<'a>(alloc: Global, words: &'a [String]) -> Result<Request<'a>, Error> {
+    let mut command = palmheap(alloc)?;
+    parse_by(&mut command, words)
+}
+
+fn parse_by<'a>(command: &mut Command<'a>, words: &'a [String]) -> Result<Request<'a>, Error> {
+    let matches = command.try_get_matches_from_mut(words)?;
+    match requested(&matches) {
+        Some(request) => Ok(request),
+        None => Err(command.error(ErrorKind::MissingSubcommand, "no command was given")?),
+    }
+}
+
+/// What the matches of `palmheap` ask for. The command has each of these arguments as a required
+/// one, so nothing is missing.
+fn requested<'a>(matches: &ArgMatches<'a>) -> Option<Request<'a>> {
+    match matches.subcommand()? {
+        ("new", given) => new_requested(given),
+        ("check", given) => Some(Request::Check {
+            image: given.get_str("IMAGE")?,
+        }),
+        ("run", given) => run_requested(given),
+        _ => None,
+    }
+}
+
+fn new_requested<'a>(given: &ArgMatches<'a>) -> Option<Request<'a>> {
+    Some(Request::New {
+        size: given.get_one::<u32>("SIZE")?,
+        slots: given.get_one::<u16>("SLOTS")?,
+        out: given.get_str("OUT")?,
+    })
+}
+
+fn run_requested<'a>(given: &ArgMatches<'a>) -> Option<Request<'a>> {
+    Some(Request::Run {
+        image: given.get_str("IMAGE")?,
+        script: given.get_str("SCRIPT")?,
+        out: given.get_str("OUT")?,
+    })
+}
+
+/// The whole command line.
+fn palmheap<'a>(alloc: Global) -> Result<Command<'a>, AllocError> {
+    let mut palmheap = described(alloc);
+    for row in &COMMANDS {
+        palmheap = with_command(alloc, palmheap, row)?;
+    }
+    Ok(palmheap)
+}
+
+/// The command line without its commands.
+fn described<'a>(alloc: Global) -> Command<'a> {
+    Command::new(alloc, "palmheap")
+        .version("0.1.0")
+        .about(ABOUT)
+        .after_help(IMAGES)
+        .subcommand_required(true)
+}
+
+fn with_command<'a>(
+    alloc: Global,
+    palmheap: Command<'a>,
+    row: &CommandRow,
+) -> Result<Command<'a>, AllocError> {
+    palmheap.subcommand(command(alloc, row)?)
+}
+
+/// The command of a row.
+fn command<'a>(alloc: Global, row: &CommandRow) -> Result<Command<'a>, AllocError> {
+    let mut command = Command::new(alloc, row.name).about(row.about);
+    if let Some(text) = row.after_help {
+        command = command.after_help(text);
+    }
+    for argument in row.arguments {
+        command = command.arg(required(alloc, argument))?;
+    }
+    Ok(command)
+}
+
+fn required<'a>(alloc: Global, argument: &Argument) -> Arg<'a> {
+    Arg::new(alloc, argument.name)
+        .required(true)
+        .value_parser(argument.values)
+        .help(argument.help)
+}
