@@ -5,8 +5,9 @@ ghost use Rattle.chunk_format.specs.Blank.{IsRegionSize, LeavesRoom, IsPlanned, 
 
 use crate::frame::{is_image_size, start_behind, write_frame};
 use crate::header::Header;
+use heap_model::Allowance;
 use raw_region::Region;
-use std::alloc::Global;
+use std::alloc::{AllocError, Global};
 use thiserror::Error;
 
 /// Why there is no blank image, in the order in which the reasons are looked for.
@@ -30,6 +31,15 @@ pub fn blank(alloc: Global, size: u32, slots: u16) -> Result<Region, BlankFault>
     ensures size { (result ≡ Err BlankFault.BadSize) ↔ (IsRegionSize size → ⊥) }
     ensures slots { (result ≡ Err BlankFault.BadSlotCount) ↔ (IsRegionSize size × (LeavesRoom size slots → ⊥)) }
 {
+    blank_from(&alloc, size, slots)
+}
+
+/// `blank`, where the growth asks for a grant.
+pub fn blank_from<A: Allowance>(memory: &A, size: u32, slots: u16) -> Result<Region, BlankFault>
+    ensures blank { IfOk result (λ region. IsBlank size slots region.bytes) }
+    ensures size { (result ≡ Err BlankFault.BadSize) ↔ (IsRegionSize size → ⊥) }
+    ensures slots { (result ≡ Err BlankFault.BadSlotCount) ↔ (IsRegionSize size × (LeavesRoom size slots → ⊥)) }
+{
     if !is_image_size(size as usize) {
         return Err(BlankFault::BadSize);
     }
@@ -37,12 +47,18 @@ pub fn blank(alloc: Global, size: u32, slots: u16) -> Result<Region, BlankFault>
     if slots == 0 || size < start + 8 {
         return Err(BlankFault::BadSlotCount);
     }
-    let mut region = match Region::zeroed(alloc, size) {
-        Ok(region) => region,
-        Err(_) => return Err(BlankFault::OutOfMemory),
+    let Ok(mut region) = zeros(memory, size) else {
+        return Err(BlankFault::OutOfMemory);
     };
     write_blank(&mut region, size, slots, start);
     Ok(region)
+}
+
+/// A region of `size` zeros.
+fn zeros<A: Allowance>(memory: &A, size: u32) -> Result<Region, AllocError>
+    ensures bytes { IfOk result (λ region. region.bytes ≡ replicate size 0) }
+{
+    Region::zeroed(memory.grant()?, size)
 }
 
 /// Writes a head and one free chunk into zeros.

@@ -25,5 +25,5 @@ pub use frame::{
     size_field, slot_count,
 };
 pub use header::{FIXED_LOCK, Header, chunk_size, put_lock, put_owner, size_of_body};
-pub use image::{BlankFault, blank};
+pub use image::{BlankFault, blank, blank_from};
 pub use walk::Walk;

@@ -3,10 +3,12 @@
 ghost use Rattle.std.specs.Prelude.{◌≡◌, length, IfOk};
 
 use chunk_format::{
-    BlankFault, area_start, blank, directory, has_magic, head_end, reserved, size_field, slot_count,
+    BlankFault, area_start, blank, blank_from, directory, has_magic, head_end, reserved, size_field,
+    slot_count,
 };
+use heap_model::Allowance;
 use raw_region::Region;
-use std::alloc::Global;
+use std::alloc::{AllocError, Global};
 use std::test::*;
 
 /// 16 bytes of which only the slot count isn't zero.
@@ -78,6 +80,34 @@ fn a_blank_image_has_its_limits(rt: HostRuntime) -> Result<(), Fail> {
         (64, 13, BlankFault::BadSlotCount),
     ] {
         let found = blank(rt.alloc(), size, slots).err();
+        assert_eq!(rt; found, Some(fault), "{size} bytes and {slots} slots");
+    }
+    Ok(())
+}
+
+/// Memory of which nothing is granted.
+#[derive(Clone, Copy)]
+struct NoMemory(Global);
+
+impl Allowance for NoMemory {
+    fn allocator(&self) -> Global {
+        self.0
+    }
+
+    fn grant(&self) -> Result<Global, AllocError> {
+        Err(AllocError)
+    }
+}
+
+#[test]
+fn a_blank_image_asks_for_memory_last(rt: HostRuntime) -> Result<(), Fail> {
+    let memory = NoMemory(rt.alloc());
+    for (size, slots, fault) in [
+        (66, 4, BlankFault::BadSize),
+        (64, 11, BlankFault::BadSlotCount),
+        (128, 4, BlankFault::OutOfMemory),
+    ] {
+        let found = blank_from(&memory, size, slots).err();
         assert_eq!(rt; found, Some(fault), "{size} bytes and {slots} slots");
     }
     Ok(())
