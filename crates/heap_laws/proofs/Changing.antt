@@ -18,10 +18,10 @@ use Rattle.heap_laws.proofs.Finding.{read_heap}
 use Rattle.heap_laws.proofs.Layouts.{IsNotFree, merged-twice, total-merged}
 use Rattle.heap_laws.proofs.Exchanging.{exchanges_layout, exchanges_parts, gap_free, gap_total, room_in_layout, free_no_other, named_no_other, named_beside, unheld_beside, ChangesName, exchange_changes}
 
-changes_as : (old new : List ℕ) (name : ℕ) (now other : Option LiveChunk) (there place : Option ℕ) → now ≡ other → there ≡ place → ChangesName old new name now there → ChangesName old new name other place
+pub changes_as : (old new : List ℕ) (name : ℕ) (now other : Option LiveChunk) (there place : Option ℕ) → now ≡ other → there ≡ place → ChangesName old new name now there → ChangesName old new name other place
 changes_as old new name now other there place e f ch = subst (λ (p : Option ℕ). ChangesName old new name other p) f (subst (λ (o : Option LiveChunk). ChangesName old new name o there) e ch)
 
-abbrev some_place : ℕ → Option ℕ
+abbrev pub some_place : ℕ → Option ℕ
 some_place n = Some n
 
 -- ---- a chunk of a name is exchanged

@@ -1,6 +1,6 @@
 -- An image whose chunks have slid: what it holds, which chunks stay, and how much room it has are as
 -- they were; which chunks have moved; and what packing has moved.
-use Rattle.std.proofs.Common.{◌≡◌, ℕ, zero, suc, ◌+◌, ◌-◌, ◌<◌, Bool, true, false, List, [], ◌∷◌, ◌++◌, length, Option, Some, None, refl, sym, ap, subst, ◌∙◌, arith, inl, inr}
+use Rattle.std.proofs.Common.{◌≡◌, ℕ, zero, suc, ◌+◌, ◌-◌, ◌<◌, ◌≤◌, Bool, true, false, List, [], ◌∷◌, ◌++◌, length, Option, Some, None, refl, sym, ap, subst, ◌∙◌, append_assoc, arith, inl, inr}
 use Rattle.std.specs.Prelude.{◌↔◌, ◌==◌, count_by, if◌then◌else◌, IsSome}
 use Rattle.std.proofs.lemmas.Bool.{eq-eqb, cases_eq}
 use Rattle.std.proofs.lemmas.Bool.Decides.{nat_tests}
@@ -11,9 +11,9 @@ use Rattle.heap_model.specs.Heap.{BodyHere, IsBody, HeapAccepted}
 use Rattle.heap_model.specs.Placed.{EveryPlaced, AnyPlaced}
 use Rattle.heap_model.specs.Meaning.{LiveChunk}
 use Rattle.heap_model.specs.Reading.{chunks_of, held}
-use Rattle.heap_model.specs.Space.{free_slots, NoRun, Short, NoneStays, place_under, place_of, Still, MovesNothing, MovesOneStretch, is_there, moved_from, moved_bytes}
+use Rattle.heap_model.specs.Space.{free_slots, room_of, NoRun, Short, NoneStays, place_under, place_of, Still, MovesNothing, MovesOneStretch, is_there, moved_from, moved_bytes}
 use Rattle.heap_model.specs.Layout.{layout_of, Becomes, gap}
-use Rattle.heap_model.specs.Packing.{Packed, Slid, packed_behind, packed, moved_behind, moved_by_packing, WholeStretch, SlidesOneStretch, OpensBehind, opened}
+use Rattle.heap_model.specs.Packing.{Packed, lives, Slid, packed_behind, packed, moved_behind, moved_by_packing, WholeStretch, SlidesOneStretch, OpensBehind, opened}
 use Rattle.heap_laws.specs.Laws.{SlidAlike}
 use Rattle.heap_laws.proofs.Deciding.{none_some}
 use Rattle.heap_laws.proofs.Placed.{TakesBytes, SpelledAll-takes}
@@ -21,12 +21,13 @@ use Rattle.heap_laws.proofs.Slots.{every_slot, same_slots}
 use Rattle.heap_laws.proofs.Bodies.{IsBody-low}
 use Rattle.heap_laws.proofs.Meanings.{slot_place, empty_unheld, held-is}
 use Rattle.heap_laws.proofs.Finding.{read_heap, finds_held, in_slot}
+use Rattle.heap_laws.proofs.Freeing.{free_sum}
 use Rattle.heap_laws.proofs.Lives.{live_placed, place_replaced}
 use Rattle.heap_laws.proofs.Altering.{finds_place}
 use Rattle.heap_laws.proofs.Becoming.{rooms-layout, becomes_held, becomes_place, becomes_free, becomes_no_run, becomes_body, slot_kept, count_alike}
-use Rattle.heap_laws.proofs.Exchanging.{layout_takes, ChangesName}
-use Rattle.heap_laws.proofs.Packings.{merged-packed, packed_slid, packed_once}
-use Rattle.heap_laws.proofs.Sliding.{slid_live, slid_place, slid_free, slid_rooms, slid_merged, slid_middle, no_run-packed, opened_slid}
+use Rattle.heap_laws.proofs.Exchanging.{layout_takes, gap_free, gap_total, ChangesName}
+use Rattle.heap_laws.proofs.Packings.{packed_is_packed, merged-packed, packed-merged, packed_kept, slid_packed, packed_slid, packed_once}
+use Rattle.heap_laws.proofs.Sliding.{slid_live, slid_place, slid_free, slid_rooms, slid_merged, slid_middle, no_run-packed, stretch_packed, opened_slid}
 
 -- ---- the slots
 
@@ -89,6 +90,13 @@ packed_chunks cs image h p s = packed_once (area_start image) cs (chunks_of imag
 pub packed_layout : (cs : List Chunk) (image : List ℕ) → HeapAccepted image → Packed (layout_of image) → Slid cs (layout_of image) → layout_of image ≡ packed cs
 packed_layout cs image h p s = packed_once (area_start image) cs (layout_of image) (layout_takes image h) p s
 
+-- its chunks are the packed ones themselves exactly where its room is in one chunk each
+pub packed_exact : (old new : List ℕ) → Becomes old new (packed (chunks_of old)) → Packed (chunks_of new) ↔ (chunks_of new ≡ packed (chunks_of old))
+packed_exact old new b = (
+  λ p. sym (packed_kept (area_start new) (chunks_of new) (takes_bytes new b.frame.accepted) p) ∙ sym (packed-merged (chunks_of new)) ∙ ap packed (becomes_packed old new b) ∙ slid_packed (chunks_of old) (packed (chunks_of old)) (packed_slid (chunks_of old)),
+  λ e. subst Packed (sym e) (packed_is_packed (chunks_of old)),
+)
+
 -- it has a run of so many bytes exactly where the old one was not short of them
 pub packed_runs : (old new : List ℕ) (size : ℕ) → HeapAccepted old → Becomes old new (packed (chunks_of old)) → 0 < size → NoRun (chunks_of new) size ↔ Short old size
 packed_runs old new size h b some =
@@ -99,7 +107,7 @@ packed_runs old new size h b some =
 -- ---- what packing has moved
 
 -- a body is where its name is placed
-body_placed : (image : List ℕ) (slot place : ℕ) → HeapAccepted image → IsBody (area_start image) (chunks_of image) slot place → 0 < place → place_of image slot ≡ Some place
+pub body_placed : (image : List ℕ) (slot place : ℕ) → HeapAccepted image → IsBody (area_start image) (chunks_of image) slot place → 0 < place → place_of image slot ≡ Some place
 body_placed image slot place h b some =
     let s = slot_place image (chunks_of image) slot place (read_heap image h) b in
     let f = in_slot image slot place h s.0 s.1 some in
@@ -200,6 +208,17 @@ slides_move_one old new s = record {
 -- a stretch is packed
 pub packs_one : (old new : List ℕ) (before mid after : List Chunk) → chunks_of old ≡ before ++ (mid ++ after) → NoneStays mid → Becomes old new (before ++ (packed mid ++ after)) → SlidesOneStretch old new
 packs_one old new before mid after e n b = record { before = before; mid = mid; others = packed mid; after = after; chunks = e; none_stays = n; slid = packed_slid mid; becomes = b }
+
+-- and then it has a run of all its room
+pub packed_has_run : (old new : List ℕ) (before mid after : List Chunk) (size : ℕ) → NoneStays mid → Becomes old new (before ++ (packed mid ++ after)) → size ≤ room_of mid → NoRun (chunks_of new) size → ⊥
+packed_has_run old new before mid after size n b enough none =
+    let room : ℕ = room_of mid in
+    let parts : before ++ (packed mid ++ after) ≡ (before ++ lives mid) ++ (gap room ++ after) =
+    ap (λ (cs : List Chunk). before ++ (cs ++ after)) (stretch_packed mid n) ∙ ap (λ (cs : List Chunk). before ++ cs) (append_assoc (lives mid) (gap room) after) ∙ sym (append_assoc before (lives mid) (gap room ++ after)) in
+    let low = (becomes_no_run old new (before ++ (packed mid ++ after)) size b).0 none (before ++ lives mid) (gap room) after parts (gap_free room) in
+    let sum = free_sum (gap room) (gap_free room) in
+    let all = gap_total room in
+    omega arith
 
 -- room is opened behind one of its chunks
 pub opens_one : (old new : List ℕ) (at : ℕ) (before front : List Chunk) (bytes : List ℕ) (owner slot : ℕ) (back after : List Chunk) → WholeStretch old before (front ++ movable bytes 0 owner slot ∷ back) after

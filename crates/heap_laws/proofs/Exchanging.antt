@@ -184,10 +184,10 @@ named_beside image before c after name live h e n =
     }
 
 -- what is held and where, by parts of the layout
-held_parts : (image : List ℕ) (cs : List Chunk) (name : ℕ) → layout_of image ≡ merged cs → held image name ≡ live_under (area_start image) cs name
+pub held_parts : (image : List ℕ) (cs : List Chunk) (name : ℕ) → layout_of image ≡ merged cs → held image name ≡ live_under (area_start image) cs name
 held_parts image cs name e = held-layout image name ∙ ap (λ (ds : List Chunk). live_under (area_start image) ds name) e ∙ live_under-merged (area_start image) cs name
 
-place_parts : (image : List ℕ) (cs : List Chunk) (name : ℕ) → layout_of image ≡ merged cs → place_of image name ≡ place_under (area_start image) cs name
+pub place_parts : (image : List ℕ) (cs : List Chunk) (name : ℕ) → layout_of image ≡ merged cs → place_of image name ≡ place_under (area_start image) cs name
 place_parts image cs name e = place-layout image name ∙ ap (λ (ds : List Chunk). place_under (area_start image) ds name) e ∙ place_under-merged (area_start image) cs name
 
 pub unheld_beside : (image : List ℕ) (before : List Chunk) (size : ℕ) (after : List Chunk) (name : ℕ) → layout_of image ≡ merged (before ++ free size ∷ after) → held image name ≡ None → NotBeside (area_start image) before size after name
@@ -211,29 +211,35 @@ or_last : {A : Type 0} (x y : Option A) → y ≡ None → or_else x y ≡ x
 or_last None y e = e
 or_last (Some x) y e = refl
 
-pub exchange_changes : (old new : List ℕ) (before : List Chunk) (c : Chunk) (ds after : List Chunk) (name : ℕ) → HeapAccepted old → layout_of old ≡ merged (before ++ c ∷ after) → Becomes old new (before ++ (ds ++ after)) → total ds ≡ size_of c
-    → NotBeside (area_start old) before (size_of c) after name → NoOther name (area_start old + total before) (c ∷ []) → NoOther name (area_start old + total before) ds
+-- some neighbouring chunks for others
+pub run_changes : (old new : List ℕ) (before mid ds after : List Chunk) (name : ℕ) → HeapAccepted old → layout_of old ≡ merged (before ++ (mid ++ after)) → Becomes old new (before ++ (ds ++ after)) → total ds ≡ total mid
+    → NotBeside (area_start old) before (total mid) after name → NoOther name (area_start old + total before) mid → NoOther name (area_start old + total before) ds
     → ChangesName old new name (live_under (area_start old + total before) ds name) (place_under (area_start old + total before) ds name)
-exchange_changes old new before c ds after name h e b size beside of_c of_ds = record {
+run_changes old new before mid ds after name h e b sizes beside of_mid of_ds = record {
   frame = b.frame;
   here = becomes_held old new (before ++ (ds ++ after)) name b ∙ live_mid start before ds after name beside.front ∙ or_last _ _ back;
   others = λ other apart. becomes_held old new (before ++ (ds ++ after)) other b
-      ∙ live_replaced start before (c ∷ []) ds after other sizes (of_ds.live other apart ∙ sym (of_c.live other apart))
-      ∙ sym (held_parts old (before ++ c ∷ after) other e);
+      ∙ live_replaced start before mid ds after other sizes (of_ds.live other apart ∙ sym (of_mid.live other apart))
+      ∙ sym (held_parts old (before ++ (mid ++ after)) other e);
   place = becomes_place old new (before ++ (ds ++ after)) name b ∙ place_mid start before ds after name beside.front ∙ or_last _ _ (live_placed _ after name back);
   places = λ other apart. becomes_place old new (before ++ (ds ++ after)) other b
-      ∙ place_replaced start before (c ∷ []) ds after other sizes (of_ds.place other apart ∙ sym (of_c.place other apart))
-      ∙ sym (place_parts old (before ++ c ∷ after) other e);
+      ∙ place_replaced start before mid ds after other sizes (of_ds.place other apart ∙ sym (of_mid.place other apart))
+      ∙ sym (place_parts old (before ++ (mid ++ after)) other e);
   slots = λ slot s apart. becomes_slot old new (before ++ (ds ++ after)) slot h b s (λ place. (
-    λ x. any_replaced (BodyHere slot place) start before (c ∷ []) ds after sizes (λ m. absurd (of_c.body slot place apart m)) (any-layout (BodyHere slot place) (λ k n t. t) start (chunks_of old) (before ++ c ∷ after) e x),
-    λ x. any-layout (BodyHere slot place) (λ k n t. t) start (before ++ c ∷ after) (chunks_of old) (sym e) (any_replaced (BodyHere slot place) start before ds (c ∷ []) after (sym sizes) (λ m. absurd (of_ds.body slot place apart m)) x),
+    λ x. any_replaced (BodyHere slot place) start before mid ds after sizes (λ m. absurd (of_mid.body slot place apart m)) (any-layout (BodyHere slot place) (λ k n t. t) start (chunks_of old) (before ++ (mid ++ after)) e x),
+    λ x. any-layout (BodyHere slot place) (λ k n t. t) start (before ++ (mid ++ after)) (chunks_of old) (sym e) (any_replaced (BodyHere slot place) start before ds mid after (sym sizes) (λ m. absurd (of_ds.body slot place apart m)) x),
   ));
 } where
   start : ℕ
   start = area_start old
 
-  sizes : total ds ≡ size_of c + 0
-  sizes = omega arith
-
   back : live_under (start + total before + total ds) after name ≡ None
-  back = subst (λ (n : ℕ). live_under n after name ≡ None) (let f : start + total before + size_of c ≡ start + total before + total ds = omega arith in f) beside.back
+  back = subst (λ (n : ℕ). live_under (start + total before + n) after name ≡ None) (sym sizes) beside.back
+
+-- one chunk for others
+pub exchange_changes : (old new : List ℕ) (before : List Chunk) (c : Chunk) (ds after : List Chunk) (name : ℕ) → HeapAccepted old → layout_of old ≡ merged (before ++ c ∷ after) → Becomes old new (before ++ (ds ++ after)) → total ds ≡ size_of c
+    → NotBeside (area_start old) before (size_of c) after name → NoOther name (area_start old + total before) (c ∷ []) → NoOther name (area_start old + total before) ds
+    → ChangesName old new name (live_under (area_start old + total before) ds name) (place_under (area_start old + total before) ds name)
+exchange_changes old new before c ds after name h e b size beside of_c of_ds =
+    let one : size_of c ≡ total (c ∷ []) = omega arith in
+    run_changes old new before (c ∷ []) ds after name h e b (size ∙ one) (subst (λ (n : ℕ). NotBeside (area_start old) before n after name) one beside) of_c of_ds

@@ -25,3 +25,5 @@ pub mod Packings
 pub mod Sliding
 pub mod Compacting
 pub mod Stretches
+pub mod Resizings
+pub mod Relocating

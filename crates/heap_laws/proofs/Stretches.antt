@@ -105,7 +105,7 @@ ends_rest : (c : Chunk) (cs : List Chunk) → EndsStaying (c ∷ cs) → EndsSta
 ends_rest c [] e = tt
 ends_rest c (d ∷ cs) e = e
 
-heads : {c d : Chunk} {xs ys : List Chunk} → c ∷ xs ≡ d ∷ ys → (c ≡ d) × (xs ≡ ys)
+pub heads : {c d : Chunk} {xs ys : List Chunk} → c ∷ xs ≡ d ∷ ys → (c ≡ d) × (xs ≡ ys)
 heads e = (cc, cc)
 
 fronts_same : (xs ys fs gs : List Chunk) → xs ++ fs ≡ ys ++ gs → NoneStays fs → NoneStays gs → EndsStaying xs → EndsStaying ys → (xs ≡ ys) × (fs ≡ gs)

@@ -1,14 +1,14 @@
 -- What the definitions promise together: the statements of the laws.
-use Rattle.std.specs.Prelude.{◌≡◌, ◌≤◌, ◌<◌, ◌+◌, ◌%◌, ◌↔◌, ℕ, Bool, List, true, Some, None}
-use Rattle.heap_model.specs.Chunk.{Chunk, need, Spelled}
+use Rattle.std.specs.Prelude.{◌≡◌, ◌≤◌, ◌<◌, ◌+◌, ◌%◌, ◌++◌, ◌↔◌, ℕ, Bool, List, ◌∷◌, length, true, Some, None}
+use Rattle.heap_model.specs.Chunk.{Chunk, movable, need, Spelled}
 use Rattle.heap_model.specs.Slots.{IsSlot, slots_of, area_start}
 use Rattle.heap_model.specs.Placed.{EveryOne}
 use Rattle.heap_model.specs.Heap.{Tiles, IsBody, Tied, HeapAccepted}
 use Rattle.heap_model.specs.Meaning.{ChunkMap, Holds}
 use Rattle.heap_model.specs.Reading.{chunk_at, chunks_of, held, is_accepted}
-use Rattle.heap_model.specs.Space.{free_total, free_slots, rooms, NoRun, Short, place_of, Still, moved_bytes}
+use Rattle.heap_model.specs.Space.{free_total, free_slots, rooms, NoRun, Short, ShortFor, room_of, place_of, Still, moved_bytes}
 use Rattle.heap_model.specs.Layout.{layout_of, Becomes}
-use Rattle.heap_model.specs.Packing.{Packed, Slid, packed, moved_by_packing}
+use Rattle.heap_model.specs.Packing.{Packed, Slid, packed, moved_by_packing, WholeStretch}
 
 -- an image is tiled by one list of chunks at most
 abbrev pub TiledOnce : Type 0
@@ -97,3 +97,10 @@ PackingJoinsRooms = (old new : List ℕ) (size : ℕ) → HeapAccepted old → B
 -- the chunks that have another place in a heap that was packed are those that packing moves
 abbrev pub PackingMoves : Type 0
 PackingMoves = (old new : List ℕ) → Becomes old new (packed (chunks_of old)) → moved_bytes old new ≡ moved_by_packing (chunks_of old)
+
+-- An image is short for a movable chunk without locks where it is short, and the room of the chunk's
+-- stretch and the chunk's own size together are too little as well.
+abbrev pub OwnRoomCounts : Type 0
+OwnRoomCounts =
+    (image : List ℕ) (before front : List Chunk) (bytes : List ℕ) (owner slot : ℕ) (back after : List Chunk) (size : ℕ) → HeapAccepted image → WholeStretch image before (front ++ movable bytes 0 owner slot ∷ back) after
+    → ShortFor image slot size ↔ (Short image size × (room_of (front ++ back) + need (length bytes) < size))

@@ -1,6 +1,6 @@
 //! The laws, each as the promise of a function.
 
-ghost use Rattle.heap_laws.specs.Laws.{TiledOnce, ChunksAreRead, TilesAreRead, SlotsAreListed, AcceptanceIsDecided, TiesPairOneToOne, HoldsOneMap, ZeroNamesNothing, NeedIsWhole, LayoutTells, PackingIsPacked, PackedOnce, SlidingKeeps, PackingJoinsRooms, PackingMoves};
+ghost use Rattle.heap_laws.specs.Laws.{TiledOnce, ChunksAreRead, TilesAreRead, SlotsAreListed, AcceptanceIsDecided, TiesPairOneToOne, HoldsOneMap, ZeroNamesNothing, NeedIsWhole, LayoutTells, PackingIsPacked, PackedOnce, SlidingKeeps, PackingJoinsRooms, PackingMoves, OwnRoomCounts};
 
 /// An image is tiled by one list of chunks at most.
 pub fn tiled_once()
@@ -77,4 +77,10 @@ pub fn packing_joins_rooms()
 /// What packing moves is what has another place afterwards.
 pub fn packing_moves()
     ensures { PackingMoves }
+{}
+
+/// That a resize finds too little room is two tests: no stretch has the new need, and the chunk's own
+/// stretch hasn't together with the chunk.
+pub fn own_room_counts()
+    ensures { OwnRoomCounts }
 {}

@@ -25,6 +25,7 @@
 //! | `Sliding` | chunks that slide: what names stand for, which stay, and the rooms are as they were |
 //! | `Compacting` | the same of an image; and which of its chunks have moved, and how much |
 //! | `Stretches` | one stretch of an image: the one around a chunk, and its room among the others |
+//! | `Resizings`, `Relocating` | a chunk that takes another length, in its place or elsewhere: what its name stands for then |
 //! | `Openness` | what contracts over layouts leave open, by bodies that split and join otherwise |
 //!
 //! `heap_format_tests` tries the definitions on images.
@@ -34,6 +35,7 @@ mod laws;
 
 pub use laws::{
     acceptance_is_decided, chunks_are_read, holds_one_map, layout_tells, need_is_whole,
-    packed_once, packing_is_packed, packing_joins_rooms, packing_moves, sliding_keeps,
-    slots_are_listed, tied_one_to_one, tiled_once, tiles_are_read, zero_names_nothing,
+    own_room_counts, packed_once, packing_is_packed, packing_joins_rooms, packing_moves,
+    sliding_keeps, slots_are_listed, tied_one_to_one, tiled_once, tiles_are_read,
+    zero_names_nothing,
 };

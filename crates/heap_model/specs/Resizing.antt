@@ -4,7 +4,7 @@ use Rattle.heap_model.specs.Bytes.{sized_to}
 use Rattle.heap_model.specs.Chunk.{Chunk, free, movable, fixed, size_of}
 use Rattle.heap_model.specs.Slots.{area_start}
 use Rattle.heap_model.specs.Space.{free_front}
-use Rattle.heap_model.specs.Layout.{layout_of, Becomes, exchanged, Exchanges, gap, in_front, freed}
+use Rattle.heap_model.specs.Layout.{layout_of, Becomes, Exchanges, gap, in_front, freed}
 
 -- with so many bytes, if it is live: its first ones, or all of its own and zeros behind them
 abbrev pub with_length : ℕ → Chunk → Chunk
@@ -41,10 +41,11 @@ GrowsInPlace old new there count = Becomes old new (grown there count (area_star
 
 -- ---- elsewhere
 
--- some chunks, which begin at an offset, with this one at the front of the free one that stands at
--- `there`, and the one that stood at `here` free
-abbrev pub relocated : ℕ → ℕ → Chunk → ℕ → List Chunk → List Chunk
-relocated here there chunk at chunks = exchanged here (λ old. freed old ∷ []) at (exchanged there (in_front chunk) at chunks)
+-- some chunks, which begin at an offset, with the one that stands at `here` free, and this one at the
+-- front of the free one that stands at `there`
+unfoldable pub relocated : ℕ → ℕ → Chunk → ℕ → List Chunk → List Chunk
+relocated here there moved at [] = []
+relocated here there moved at (chunk ∷ chunks) = (if at == here then freed chunk ∷ [] else if at == there then in_front moved chunk else chunk ∷ []) ++ relocated here there moved (at + size_of chunk) chunks
 
 abbrev pub Relocates : List ℕ → List ℕ → ℕ → ℕ → Chunk → Type 0
-Relocates old new here there chunk = Becomes old new (relocated here there chunk (area_start old) (layout_of old))
+Relocates old new here there moved = Becomes old new (relocated here there moved (area_start old) (layout_of old))
