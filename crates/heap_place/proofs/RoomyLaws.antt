@@ -17,7 +17,8 @@ use Rattle.chunk_format.specs.Header.{size_by, HasHeader}
 use Rattle.chunk_format.specs.declared.header.Header.{Header}
 use Rattle.heap_place.specs.Packs.{HeaderStays}
 use Rattle.heap_place.specs.Search.{free_by}
-use Rattle.heap_place.specs.Stretches.{HasRoom, SeenRooms}
+use Rattle.heap_place.specs.declared.stretch.Stretch.{Stretch}
+use Rattle.heap_place.specs.Stretches.{IsStretch, HasRoom, SeenRooms}
 use Rattle.heap_place.proofs.WalkLaws.{free_of, free_within}
 use Rattle.heap_place.proofs.SeenLaws.{header_stay, seen_more, seen_closed, begins_there, none_there}
 
@@ -135,3 +136,6 @@ room_none image size start here room h r past low =
       no_more : (after : List Chunk) → SpelledAll image here after (length image) → after ≡ []
       no_more [] spelled = refl
       no_more (c ∷ after) spelled = absurd (beyond image here c after spelled past)
+
+pub room_stretch : (image : List ℕ) (size : ℕ) (stretch : Stretch) → HasRoom image size stretch → IsStretch image stretch
+room_stretch image size stretch r = record { before = r.before; mid = r.mid; after = r.after; is = r.is }

@@ -4,7 +4,7 @@ ghost use Rattle.std.specs.Prelude.{◌≡◌, ◌<◌, ◌+◌, ◌-◌, IfSome
 ghost use Rattle.heap_model.specs.Space.{Short};
 ghost use Rattle.heap_model.specs.Heap.{HeapAccepted};
 ghost use Rattle.heap_place.specs.Found.{IsOne};
-ghost use Rattle.heap_place.specs.Stretches.{IsAmong, HasRoom};
+ghost use Rattle.heap_place.specs.Stretches.{IsStretch, IsAmong, HasRoom};
 
 use crate::found::Found;
 use crate::pack::stays;
@@ -24,7 +24,8 @@ pub(crate) fn stretch_around(region: &Region, found: Found) -> Stretch
     requires accepted { HeapAccepted region.now.bytes }
     requires found { IsOne region.now.bytes found }
     requires unlocked { found.lock ≡ 0 }
-    ensures { IsAmong region.now.bytes found result }
+    ensures around { IsAmong region.now.bytes found result }
+    ensures stretch { IsStretch region.now.bytes result }
 {
     let at = found.place.0 - 8;
     let end = region.len() as u32;
@@ -47,6 +48,7 @@ pub(crate) fn stretch_around(region: &Region, found: Found) -> Stretch
 pub(crate) fn stretch_with_room(region: &Region, size: u32) -> Option<Stretch>
     requires accepted { HeapAccepted region.now.bytes }
     requires some_size { 0 < size }
+    ensures stretch { IfSome result (IsStretch region.now.bytes) }
     ensures room { IfSome result (HasRoom region.now.bytes size) }
     ensures none { IfNone result (Short region.now.bytes size) }
 {

@@ -1,7 +1,7 @@
 use Rattle.std.proofs.Common.{◌+◌, sym, subst, arith}
 use Rattle.heap_place.specs.Stretches.{SeenRooms}
 use Rattle.heap_place.proofs.SeenLaws.{seen_chunk, seen_size}
-use Rattle.heap_place.proofs.RoomyLaws.{rooms_start, rooms_more, rooms_closed, rooms_low, room_found, room_last, room_none}
+use Rattle.heap_place.proofs.RoomyLaws.{rooms_start, rooms_more, rooms_closed, rooms_low, room_found, room_last, room_none, room_stretch}
 use Rattle.heap_place.proofs.stretch.stretch_with_room.Goals as goal
 use Rattle.heap_place.proofs.stretch.stretch_with_room.Goals.{then-stays+else-room-size, else-stays}
 
@@ -39,3 +39,9 @@ loop-here-preserved c = elim c.if-stays.branch [
       subst (λ n. SeenRooms c.args.region.now.bytes c.args.size n (c.loop-here.here + c.at_with_size-header.result.1) c.if-stays.room) (sym w.start-is) (subst (λ n. SeenRooms c.args.region.now.bytes c.args.size c.loop-here.start (c.loop-here.here + c.at_with_size-header.result.1) n) (sym w.room-is)
       (rooms_more c.args.region.now.bytes c.args.size c.loop-here.start c.loop-here.here c.loop-here.room c.at_with_size-header.result.1 _ c.at_with_size-header.result.0 c.loop-here.invariant c.at_with_size-header.ensures.header c.at_with_size-header.ensures.size (λ stay. let is = c.stays.ensures.1 stay in let isnt = w.if-stays.false in cc) w.size_if_free-room.ensures))
 ]
+
+pub returns-then-room-size-clause-stretch : goal.returns-then-room-size-clause-stretch
+returns-then-room-size-clause-stretch c = room_stretch c.args.region.now.bytes c.args.size _ (room_found c.args.region.now.bytes c.args.size c.loop-here.start c.loop-here.here c.loop-here.room c.at_with_size-header.result.0 c.requires.accepted c.loop-here.invariant c.at_with_size-header.ensures.header (c.stays.ensures.0 c.if-stays.true) (omega arith))
+
+pub returns-then-room-size-2-clause-stretch : goal.returns-then-room-size-2-clause-stretch
+returns-then-room-size-2-clause-stretch c = room_stretch c.args.region.now.bytes c.args.size _ (room_last c.args.region.now.bytes c.args.size c.loop-here.start c.loop-here.here c.loop-here.room c.requires.accepted c.loop-here.invariant (omega arith) (omega arith))
