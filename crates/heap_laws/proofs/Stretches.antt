@@ -44,7 +44,7 @@ closed c [] e = one_closed c e
 closed c (d ∷ cs) e = more_closed c d cs (closed d cs e)
 
 -- the stretches of chunks behind one that stays are told apart
-stretches_behind : (before cs : List Chunk) → EndsStaying before → stretches (before ++ cs) ≡ stretches before ++ stretches cs
+pub stretches_behind : (before cs : List Chunk) → EndsStaying before → stretches (before ++ cs) ≡ stretches before ++ stretches cs
 stretches_behind [] cs e = refl
 stretches_behind (c ∷ before) cs e =
     let k = closed c before e in
@@ -76,7 +76,7 @@ begun (movable bytes zero owner slot ∷ cs) s = absurd (no_true s)
 begun (movable bytes (suc count) owner slot ∷ cs) s = record { runs = runs_between cs; is = refl }
 begun (fixed bytes owner ∷ cs) s = record { runs = runs_between cs; is = refl }
 
-run_then : (cs after : List Chunk) (runs : List (List Chunk)) → NoneStays cs → runs_between after ≡ [] ∷ runs → runs_between (cs ++ after) ≡ cs ∷ runs
+pub run_then : (cs after : List Chunk) (runs : List (List Chunk)) → NoneStays cs → runs_between after ≡ [] ∷ runs → runs_between (cs ++ after) ≡ cs ∷ runs
 run_then [] after runs n e = e
 run_then (c ∷ cs) after runs n e = onto_run c cs runs (cs ++ after) n (run_then cs after runs (none_stays-tail c cs n) e)
 
@@ -161,7 +161,7 @@ one_stretch image before front c back after others fore d rear later at h one he
 
 -- ---- rooms
 
-rooms_of-append : (xs ys : List (List Chunk)) → rooms_of (xs ++ ys) ≡ rooms_of xs ++ rooms_of ys
+pub rooms_of-append : (xs ys : List (List Chunk)) → rooms_of (xs ++ ys) ≡ rooms_of xs ++ rooms_of ys
 rooms_of-append [] ys = refl
 rooms_of-append (run ∷ xs) ys = ap (λ (rs : List ℕ). room_of run ∷ rs) (rooms_of-append xs ys)
 

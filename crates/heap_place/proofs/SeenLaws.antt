@@ -42,19 +42,19 @@ unlocked image found f none = of_chunk f.chunk f.finds.named f.finds.chunks wher
 
 -- ---- chunks that stay
 
-header_stay : (c : Chunk) → HeaderStays (header_of c) → IsTrue (stays c)
+pub header_stay : (c : Chunk) → HeaderStays (header_of c) → IsTrue (stays c)
 header_stay (free size) s = absurd s
 header_stay (movable bytes zero owner slot) s = absurd (omega (arith, s))
 header_stay (movable bytes (suc count) owner slot) s = refl
 header_stay (fixed bytes owner) s = refl
 
-header_goes : (c : Chunk) → (HeaderStays (header_of c) → ⊥) → NoneStays (c ∷ [])
+pub header_goes : (c : Chunk) → (HeaderStays (header_of c) → ⊥) → NoneStays (c ∷ [])
 header_goes (free size) s = tt
 header_goes (movable bytes zero owner slot) s = tt
 header_goes (movable bytes (suc count) owner slot) s = absurd (s (let some : 0 < suc count = omega arith in some))
 header_goes (fixed bytes owner) s = absurd (s tt)
 
-ends_push : (xs : List Chunk) (c : Chunk) → IsTrue (stays c) → EndsStaying (xs ++ c ∷ [])
+pub ends_push : (xs : List Chunk) (c : Chunk) → IsTrue (stays c) → EndsStaying (xs ++ c ∷ [])
 ends_push [] c s = s
 ends_push (d ∷ []) c s = s
 ends_push (d ∷ e ∷ xs) c s = ends_push (e ∷ xs) c s
@@ -83,7 +83,7 @@ seen_size image here size header f e =
     let same = e ∙ ap size_by f.header_is ∙ size_by-header_of f.chunk in
     (omega (arith, least, same), omega (arith, inside, same))
 
-pub seen_more : (image : List ℕ) (at start here size : ℕ) (header : Header) → SeenUpTo image at start here → HasHeader image here header → size ≡ size_by header → (HeaderStays header → ⊥) → SeenUpTo image at start (here + size)
+unfoldable pub seen_more : (image : List ℕ) (at start here size : ℕ) (header : Header) → SeenUpTo image at start here → HasHeader image here header → size ≡ size_by header → (HeaderStays header → ⊥) → SeenUpTo image at start (here + size)
 seen_more image at start here size header s f e goes =
     let same : size ≡ size_of f.chunk = e ∙ ap size_by f.header_is ∙ size_by-header_of f.chunk in
     let bounds = seen_size image here size header f e in
@@ -109,15 +109,12 @@ ends_before image here at c v (d ∷ rest) s p q stay goes =
     let last = SpelledAll-end image (here + size_of d) rest at s.1 in
     omega (arith, same, last)
 
-pub seen_stay : (image : List ℕ) (at name count start here size : ℕ) (header : Header) → HeapAccepted image → IsUnlocked image at name count → SeenUpTo image at start here → HasHeader image here header → size ≡ size_by header → HeaderStays header → here ≤ at → SeenUpTo image at (here + size) (here + size)
-seen_stay image at name count start here size header h u s f e stay low =
+-- behind one that stays
+unfoldable pub seen_closed : (image : List ℕ) (at later start here size : ℕ) (header : Header) → SeenUpTo image at start here → HasHeader image here header → size ≡ size_by header → HeaderStays header → here + size ≤ later → SeenUpTo image later (here + size) (here + size)
+seen_closed image at later start here size header s f e stay low =
     let same : size ≡ size_of f.chunk = e ∙ ap size_by f.header_is ∙ size_by-header_of f.chunk in
     let bounds = seen_size image here size header f e in
     let next : here + size ≡ here + size_of f.chunk = ap (λ (n : ℕ). here + n) same in
-    let stay_c = header_stay f.chunk (subst HeaderStays f.header_is stay) in
-    let t = unlocked_there image at name count h u in
-    let rest = SpelledAll-rest image (area_start image) (s.closed ++ s.run) u.before here at s.spelled t.0 low in
-    let fits = ends_before image here at f.chunk (movable u.bytes 0 u.owner name) rest.0 rest.2 f.spelled t.1 stay_c (λ k. cc) in
     let all : SpelledAll image (area_start image) ((s.closed ++ s.run) ++ f.chunk ∷ []) (here + size) = SpelledAll-push image (area_start image) (s.closed ++ s.run) here f.chunk (here + size) s.spelled f.spelled next in
     let last = SpelledAll-end image (area_start image) ((s.closed ++ s.run) ++ f.chunk ∷ []) (here + size) all in
     record {
@@ -125,11 +122,20 @@ seen_stay image at name count start here size header h u s f e stay low =
       run = [];
       spelled = subst (λ (cs : List Chunk). SpelledAll image (area_start image) cs (here + size)) (sym (append-nil ((s.closed ++ s.run) ++ f.chunk ∷ []))) all;
       none_stays = tt;
-      ends = ends_push (s.closed ++ s.run) f.chunk stay_c;
+      ends = ends_push (s.closed ++ s.run) f.chunk (header_stay f.chunk (subst HeaderStays f.header_is stay));
       from = last;
-      low = omega (arith, fits, same);
+      low = low;
       inside = bounds.1;
     }
+
+pub seen_stay : (image : List ℕ) (at name count start here size : ℕ) (header : Header) → HeapAccepted image → IsUnlocked image at name count → SeenUpTo image at start here → HasHeader image here header → size ≡ size_by header → HeaderStays header → here ≤ at → SeenUpTo image at (here + size) (here + size)
+seen_stay image at name count start here size header h u s f e stay low =
+    let same : size ≡ size_of f.chunk = e ∙ ap size_by f.header_is ∙ size_by-header_of f.chunk in
+    let stay_c = header_stay f.chunk (subst HeaderStays f.header_is stay) in
+    let t = unlocked_there image at name count h u in
+    let rest = SpelledAll-rest image (area_start image) (s.closed ++ s.run) u.before here at s.spelled t.0 low in
+    let fits = ends_before image here at f.chunk (movable u.bytes 0 u.owner name) rest.0 rest.2 f.spelled t.1 stay_c (λ k. cc) in
+    seen_closed image at at start here size header s f e stay (omega (arith, fits, same))
 
 -- ---- the stretch is found
 
@@ -167,7 +173,7 @@ around image at name count start here after h u s low chunks begins =
       many = u.many;
     }
 
-begins_there : (image : List ℕ) (here : ℕ) (c : Chunk) (after : List Chunk) → SpelledAll image here after (length image) → Spelled image here c → IsTrue (stays c) → BeginsStaying after
+pub begins_there : (image : List ℕ) (here : ℕ) (c : Chunk) (after : List Chunk) → SpelledAll image here after (length image) → Spelled image here c → IsTrue (stays c) → BeginsStaying after
 begins_there image here c [] s p stay = tt
 begins_there image here c (d ∷ after) s p stay = subst (λ (x : Chunk). IsTrue (stays x)) (Spelled-unique image here c d p s.0) stay
 
@@ -176,7 +182,7 @@ seen_found image at name count start here header h u s f stay low =
     let a = chunks_after image h.0 (s.closed ++ s.run) here h.1.tiles s.spelled s.inside in
     around image at name count start here a.0 h u s low a.1 (begins_there image here f.chunk a.0 a.2 f.spelled (header_stay f.chunk (subst HeaderStays f.header_is stay)))
 
-none_there : (image : List ℕ) (here : ℕ) (after : List Chunk) → SpelledAll image here after (length image) → length image ≤ here → BeginsStaying after
+pub none_there : (image : List ℕ) (here : ℕ) (after : List Chunk) → SpelledAll image here after (length image) → length image ≤ here → BeginsStaying after
 none_there image here [] s past = tt
 none_there image here (d ∷ after) s past = let size = Spelled-size image here d s.0 in let a = size.0 in let b = size.1 in absurd (omega (arith, a, b, past))
 

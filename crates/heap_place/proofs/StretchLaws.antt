@@ -8,6 +8,7 @@ use Rattle.heap_model.specs.Slots.{IsSlot, table_end, area_start}
 use Rattle.heap_model.specs.Heap.{BodyHere, IsHeap, HeapAccepted}
 use Rattle.heap_model.specs.Reading.{chunks_of}
 use Rattle.heap_model.specs.Space.{NoneStays, room_of}
+use Rattle.heap_model.specs.Placing.{SameFrame}
 use Rattle.heap_model.specs.Layout.{Becomes, gap}
 use Rattle.heap_model.specs.Packing.{packed, lives, opened, OpensBehind}
 use Rattle.heap_laws.proofs.Chunks.{total-append, SpelledAll-split, SpelledAll-end}
@@ -30,6 +31,10 @@ stretch_run image before mid after stretch s = record { chunks = s.whole.chunks;
 
 pub is_run : (image : List ℕ) (stretch : Stretch) → IsStretch image stretch → IsRun image stretch.start stretch.end
 is_run image stretch s = record { before = s.before; mid = s.mid; after = s.after; run = stretch_run image s.before s.mid s.after stretch s.is }
+
+-- of a chunk that is among its own
+pub among_stretch : (image : List ℕ) (at name count : ℕ) (stretch : Stretch) → IsAmongAt image at name count stretch → IsStretch image stretch
+among_stretch image at name count stretch a = record { before = a.before; mid = a.front ++ movable a.bytes 0 a.owner name ∷ a.back; after = a.after; is = a.is }
 
 -- all room of chunks of which none stays is at their end
 last_loose : (room : ℕ) (cs : List Chunk) → NoneStays cs → last_room room cs ≡ room + room_of cs
@@ -79,8 +84,8 @@ module _ (old mid : List ℕ) (at name count : ℕ) (stretch : Stretch) (room : 
   packed_image : BecomesExactly old mid (a.before ++ (packed (a.front ++ v ∷ a.back) ++ a.after))
   packed_image = packs a.before (a.front ++ v ∷ a.back) a.after run
 
-  pub packed_accepted : HeapAccepted mid
-  packed_accepted = packed_image.frame.accepted
+  pub packed_frame : SameFrame old mid
+  packed_frame = packed_image.frame
 
   all_room : room ≡ room_of (a.front ++ v ∷ a.back)
   all_room =
@@ -99,7 +104,7 @@ module _ (old mid : List ℕ) (at name count : ℕ) (stretch : Stretch) (room : 
   chunks_then = packed_image.exact ∙ ap (λ (cs : List Chunk). a.before ++ (cs ++ a.after)) packed_is
 
   heap_then : IsHeap mid ((a.before ++ fore) ++ v ∷ (rear ++ (gap room ++ a.after)))
-  heap_then = heap_in_parts mid ((a.before ++ fore) ++ v ∷ (rear ++ (gap room ++ a.after))) packed_accepted (chunks_then ∙ regroup_around a.before fore rear (gap room) a.after v)
+  heap_then = heap_in_parts mid ((a.before ++ fore) ++ v ∷ (rear ++ (gap room ++ a.after))) packed_frame.accepted (chunks_then ∙ regroup_around a.before fore rear (gap room) a.after v)
 
   starts : area_start mid ≡ area_start old
   starts = exactly_start old mid (a.before ++ (packed (a.front ++ v ∷ a.back) ++ a.after)) packed_image

@@ -58,7 +58,7 @@ passed_parts image P at header h p found =
 
 -- ---- the free bytes
 
-free_of : (c : Chunk) → free_by (header_of c) ≡ free_size c
+pub free_of : (c : Chunk) → free_by (header_of c) ≡ free_size c
 free_of (free size) = refl
 free_of (movable bytes lock owner slot) = refl
 free_of (fixed bytes owner) = refl

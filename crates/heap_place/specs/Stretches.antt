@@ -1,9 +1,9 @@
 -- Stretches of an image, by where they begin and end, and the search for one.
-use Rattle.std.specs.Prelude.{◌≡◌, ◌+◌, ◌-◌, ◌++◌, ◌≤◌, ℕ, List, ◌∷◌, length}
+use Rattle.std.specs.Prelude.{◌≡◌, ◌+◌, ◌-◌, ◌++◌, ◌≤◌, ◌<◌, ℕ, List, ◌∷◌, length, All}
 use Rattle.heap_model.specs.Chunk.{Chunk, movable, total, SpelledAll}
 use Rattle.heap_model.specs.Slots.{area_start}
 use Rattle.heap_model.specs.Reading.{chunks_of}
-use Rattle.heap_model.specs.Space.{NoneStays}
+use Rattle.heap_model.specs.Space.{NoneStays, room_of, rooms_of, stretches}
 use Rattle.heap_model.specs.Layout.{Becomes}
 use Rattle.heap_model.specs.Packing.{packed, moved_by_packing, EndsStaying, WholeStretch}
 use Rattle.heap_place.specs.declared.found.Found.{Found}
@@ -66,3 +66,20 @@ pub record SeenUpTo (image : List ℕ) (at start here : ℕ) : Type 0 where
   pub from : start ≡ area_start image + total closed
   pub low : start ≤ at
   pub inside : here ≤ length image
+
+-- ---- the search for room
+
+-- a whole stretch stands there, and its room has so many bytes
+pub record HasRoom (image : List ℕ) (size : ℕ) (stretch : Stretch) : Type 0 where
+  pub before : List Chunk
+  pub mid : List Chunk
+  pub after : List Chunk
+  pub is : StretchIs image before mid after stretch
+  pub enough : size ≤ room_of mid
+
+-- the search has come to an offset: the stretches up to the last chunk that stays are short of a size,
+-- and behind it there is so much room so far
+pub record SeenRooms (image : List ℕ) (size start here room : ℕ) : Type 0 where
+  pub seen : SeenUpTo image start start here
+  pub room_is : room ≡ room_of seen.run
+  pub short : All (λ other. other < size) (rooms_of (stretches seen.closed))

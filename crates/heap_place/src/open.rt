@@ -2,6 +2,7 @@
 
 ghost use Rattle.std.specs.Prelude.{◌≡◌, ◌-◌};
 ghost use Rattle.heap_model.specs.Heap.{HeapAccepted};
+ghost use Rattle.heap_model.specs.Placing.{SameFrame};
 ghost use Rattle.heap_model.specs.Packing.{OpensBehind};
 ghost use Rattle.heap_place.specs.Stretches.{IsAmong};
 
@@ -19,7 +20,8 @@ use raw_region::Region;
 pub(crate) fn open_in(region: &mut Region, stretch: Stretch, found: Found)
     requires accepted { HeapAccepted region.old.bytes }
     requires among { IsAmong region.old.bytes found stretch }
-    ensures { OpensBehind region.old.bytes region.new.bytes (found.place.0 - 8) }
+    ensures opened { OpensBehind region.old.bytes region.new.bytes (found.place.0 - 8) }
+    ensures frame { SameFrame region.old.bytes region.new.bytes }
 {
     let room = pack(region, stretch.start, stretch.end).room;
     if room > 0 {

@@ -4,6 +4,7 @@ ghost use Rattle.std.specs.Prelude.{◌≡◌, ◌↔◌, ◌+◌, ◌-◌, IsTr
 ghost use Rattle.heap_model.specs.Heap.{HeapAccepted};
 ghost use Rattle.heap_model.specs.Reading.{chunks_of};
 ghost use Rattle.heap_model.specs.Space.{moved_bytes};
+ghost use Rattle.heap_model.specs.Placing.{SameFrame};
 ghost use Rattle.heap_model.specs.Layout.{Becomes};
 ghost use Rattle.heap_model.specs.Packing.{packed};
 ghost use Rattle.heap_place.specs.Stretches.{IsStretch, PacksStretch, MovesInStretch};
@@ -41,6 +42,7 @@ pub(crate) fn pack_stretch(region: &mut Region, stretch: Stretch) -> u32
     requires accepted { HeapAccepted region.old.bytes }
     requires stretch { IsStretch region.old.bytes stretch }
     ensures packed { PacksStretch region.old.bytes region.new.bytes stretch }
+    ensures frame { SameFrame region.old.bytes region.new.bytes }
     ensures moved { MovesInStretch region.old.bytes stretch result }
     ensures slid { region.new.slid ≡ region.old.slid + result }
 {

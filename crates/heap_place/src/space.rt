@@ -6,11 +6,12 @@ ghost use Rattle.heap_model.specs.Chunk.{movable, fixed, need, fixed_lock, is_ow
 ghost use Rattle.heap_model.specs.Slots.{IsSlot};
 ghost use Rattle.heap_model.specs.Heap.{HeapAccepted, directory_of};
 ghost use Rattle.heap_model.specs.Reading.{chunks_of, held};
-ghost use Rattle.heap_model.specs.Space.{NoRun, free_total, moved_bytes};
+ghost use Rattle.heap_model.specs.Space.{NoRun, Short, free_total, moved_bytes};
 ghost use Rattle.heap_model.specs.Packing.{packed, OpensBehind};
+ghost use Rattle.heap_model.specs.Placing.{SameFrame};
 ghost use Rattle.heap_model.specs.Layout.{Becomes, layout_of, owned_freed, Exchanges, Alters, in_front, freed, with_lock, with_owner, with_bytes, FreeUpTo, IsRoom, WritesPlain};
 ghost use Rattle.heap_place.specs.Found.{IsFound, IsOne, NothingAt, CanGoTo};
-ghost use Rattle.heap_place.specs.Stretches.{IsStretch, IsAmong, PacksStretch, MovesInStretch};
+ghost use Rattle.heap_place.specs.Stretches.{IsStretch, IsAmong, HasRoom, PacksStretch, MovesInStretch};
 
 use crate::alter::{relock_at, reown_at};
 use crate::claim::{claim_fixed_at, claim_movable, cut};
@@ -21,7 +22,7 @@ use crate::owned::release_owned;
 use crate::pack::{compact, pack_stretch};
 use crate::release::release;
 use crate::room::{Room, find_room};
-use crate::stretch::{Stretch, stretch_around};
+use crate::stretch::{Stretch, stretch_around, stretch_with_room};
 use crate::walks::free_bytes;
 use chunk_format::size_of_body;
 use heap_model::{Name, Place};
@@ -246,9 +247,21 @@ impl Space {
         requires accepted { HeapAccepted self.now.bytes }
         requires found { IsOne self.now.bytes found }
         requires unlocked { found.lock ≡ 0 }
-        ensures { IsAmong self.now.bytes found result }
+        ensures around { IsAmong self.now.bytes found result }
+        ensures stretch { IsStretch self.now.bytes result }
     {
         stretch_around(&self.region, found)
+    }
+
+    /// A stretch whose room has `size` bytes. None where the room of every stretch is less.
+    pub fn stretch_with_room(&self, size: u32) -> Option<Stretch>
+        requires accepted { HeapAccepted self.now.bytes }
+        requires some_size { 0 < size }
+        ensures stretch { IfSome result (IsStretch self.now.bytes) }
+        ensures room { IfSome result (HasRoom self.now.bytes size) }
+        ensures none { IfNone result (Short self.now.bytes size) }
+    {
+        stretch_with_room(&self.region, size)
     }
 
     /// Packs the chunks of one stretch, and answers how many bytes were slid.
@@ -256,6 +269,7 @@ impl Space {
         requires accepted { HeapAccepted self.old.bytes }
         requires stretch { IsStretch self.old.bytes stretch }
         ensures packed { PacksStretch self.old.bytes self.new.bytes stretch }
+        ensures frame { SameFrame self.old.bytes self.new.bytes }
         ensures moved { MovesInStretch self.old.bytes stretch result }
         ensures slid { self.new.slid ≡ self.old.slid + result }
         ensures rest { self.new ≡ record self.old { bytes = self.new.bytes; slid = self.new.slid } }
@@ -270,6 +284,7 @@ impl Space {
         requires found { IsOne self.old.bytes found }
         requires unlocked { found.lock ≡ 0 }
         ensures opened { OpensBehind self.old.bytes self.new.bytes (found.place.0 - 8) }
+        ensures frame { SameFrame self.old.bytes self.new.bytes }
         ensures rest { self.new ≡ record self.old { bytes = self.new.bytes; slid = self.new.slid } }
     {
         let stretch = stretch_around(&self.region, found);

@@ -1,12 +1,14 @@
 //! Stretches: longest runs of neighbouring chunks without one that stays.
 
-ghost use Rattle.std.specs.Prelude.{◌≡◌, ◌+◌, ◌-◌};
+ghost use Rattle.std.specs.Prelude.{◌≡◌, ◌<◌, ◌+◌, ◌-◌, IfSome, IfNone};
+ghost use Rattle.heap_model.specs.Space.{Short};
 ghost use Rattle.heap_model.specs.Heap.{HeapAccepted};
 ghost use Rattle.heap_place.specs.Found.{IsOne};
-ghost use Rattle.heap_place.specs.Stretches.{IsAmong};
+ghost use Rattle.heap_place.specs.Stretches.{IsStretch, IsAmong, HasRoom};
 
 use crate::found::Found;
 use crate::pack::stays;
+use crate::walks::size_if_free;
 use chunk_format::{Header, area_start};
 use raw_region::Region;
 
@@ -22,7 +24,8 @@ pub(crate) fn stretch_around(region: &Region, found: Found) -> Stretch
     requires accepted { HeapAccepted region.now.bytes }
     requires found { IsOne region.now.bytes found }
     requires unlocked { found.lock ≡ 0 }
-    ensures { IsAmong region.now.bytes found result }
+    ensures around { IsAmong region.now.bytes found result }
+    ensures stretch { IsStretch region.now.bytes result }
 {
     let at = found.place.0 - 8;
     let end = region.len() as u32;
@@ -39,4 +42,35 @@ pub(crate) fn stretch_around(region: &Region, found: Found) -> Stretch
         here += size;
     }
     Stretch { start, end: here }
+}
+
+/// The first stretch whose room has `size` bytes. None where every stretch is short of them.
+pub(crate) fn stretch_with_room(region: &Region, size: u32) -> Option<Stretch>
+    requires accepted { HeapAccepted region.now.bytes }
+    requires some_size { 0 < size }
+    ensures stretch { IfSome result (IsStretch region.now.bytes) }
+    ensures room { IfSome result (HasRoom region.now.bytes size) }
+    ensures none { IfNone result (Short region.now.bytes size) }
+{
+    let end = region.len() as u32;
+    let mut here = area_start(region);
+    let mut start = here;
+    let mut room = 0;
+    while here < end {
+        let (header, taken) = Header::at_with_size(region, here);
+        if stays(header) {
+            if room >= size {
+                return Some(Stretch { start, end: here });
+            }
+            start = here + taken;
+            room = 0;
+        } else {
+            room += size_if_free(header);
+        }
+        here += taken;
+    }
+    if room >= size {
+        return Some(Stretch { start, end: here });
+    }
+    None
 }

@@ -1,6 +1,7 @@
 use Rattle.std.proofs.Common.{◌-◌, ◌+◌, arith}
 use Rattle.heap_model.specs.Packing.{lives}
-use Rattle.heap_place.proofs.StretchLaws.{stretch_run, packed_accepted, slot_then, table_then, numbers, room_behind, opened_some, opened_none}
+use Rattle.heap_place.proofs.StretchLaws.{stretch_run, packed_frame, slot_then, table_then, numbers, room_behind, opened_some, opened_none}
+use Rattle.heap_laws.proofs.Becoming.{frame_then}
 use Rattle.heap_place.proofs.open.open_in.Goals as goal
 
 pub pack-room-requires-clause-run : goal.pack-room-requires-clause-run
@@ -39,15 +40,21 @@ pub overflow_sub-stretch : goal.overflow_sub-stretch
 overflow_sub-stretch c = (numbers c.args.region.now.bytes c.pack-room.new.region.bytes (c.args.found.place.0 - 8) c.args.found.name.0 c.args.found.length c.args.stretch c.pack-room.result.room c.requires.accepted c.requires.among c.pack-room.ensures.packed c.pack-room.ensures.room).within
 
 pub lift-requires-clause-accepted : goal.lift-requires-clause-accepted
-lift-requires-clause-accepted c = packed_accepted c.args.region.now.bytes c.pack-room.new.region.bytes (c.args.found.place.0 - 8) c.args.found.name.0 c.args.found.length c.args.stretch c.pack-room.result.room c.requires.accepted c.requires.among c.pack-room.ensures.packed c.pack-room.ensures.room
+lift-requires-clause-accepted c = (packed_frame c.args.region.now.bytes c.pack-room.new.region.bytes (c.args.found.place.0 - 8) c.args.found.name.0 c.args.found.length c.args.stretch c.pack-room.result.room c.requires.accepted c.requires.among c.pack-room.ensures.packed c.pack-room.ensures.room).accepted
 
 pub lift-requires-clause-behind : goal.lift-requires-clause-behind
 lift-requires-clause-behind c =
     let behind = (room_behind c.args.region.now.bytes c.pack-room.new.region.bytes (c.args.found.place.0 - 8) c.args.found.name.0 c.args.found.length c.args.stretch c.pack-room.result.room c.requires.accepted c.requires.among c.pack-room.ensures.packed c.pack-room.ensures.room (c.word_of-place.result - 8 + c.size_of_body.result) (omega arith) (let place = c.word_of-place.ensures in let size = c.size_of_body.ensures in omega (arith, place, size))) in
     record { before = _; mid = lives c.requires.among.back; after = c.requires.among.after; behind = behind }
 
-pub returns-then-room-gt0 : goal.returns-then-room-gt0
-returns-then-room-gt0 c = opened_some c.args.region.now.bytes c.pack-room.new.region.bytes (c.args.found.place.0 - 8) c.args.found.name.0 c.args.found.length c.args.stretch c.pack-room.result.room c.requires.accepted c.requires.among c.pack-room.ensures.packed c.pack-room.ensures.room c.lift.new.region.bytes (omega arith) (c.lift.ensures.lifted _ _ _ (room_behind c.args.region.now.bytes c.pack-room.new.region.bytes (c.args.found.place.0 - 8) c.args.found.name.0 c.args.found.length c.args.stretch c.pack-room.result.room c.requires.accepted c.requires.among c.pack-room.ensures.packed c.pack-room.ensures.room (c.word_of-place.result - 8 + c.size_of_body.result) (omega arith) (let place = c.word_of-place.ensures in let size = c.size_of_body.ensures in omega (arith, place, size))))
+pub returns-then-room-gt0-clause-opened : goal.returns-then-room-gt0-clause-opened
+returns-then-room-gt0-clause-opened c = opened_some c.args.region.now.bytes c.pack-room.new.region.bytes (c.args.found.place.0 - 8) c.args.found.name.0 c.args.found.length c.args.stretch c.pack-room.result.room c.requires.accepted c.requires.among c.pack-room.ensures.packed c.pack-room.ensures.room c.lift.new.region.bytes (omega arith) (c.lift.ensures.lifted _ _ _ (room_behind c.args.region.now.bytes c.pack-room.new.region.bytes (c.args.found.place.0 - 8) c.args.found.name.0 c.args.found.length c.args.stretch c.pack-room.result.room c.requires.accepted c.requires.among c.pack-room.ensures.packed c.pack-room.ensures.room (c.word_of-place.result - 8 + c.size_of_body.result) (omega arith) (let place = c.word_of-place.ensures in let size = c.size_of_body.ensures in omega (arith, place, size))))
 
-pub returns-else-room-gt0 : goal.returns-else-room-gt0
-returns-else-room-gt0 c = opened_none c.args.region.now.bytes c.pack-room.new.region.bytes (c.args.found.place.0 - 8) c.args.found.name.0 c.args.found.length c.args.stretch c.pack-room.result.room c.requires.accepted c.requires.among c.pack-room.ensures.packed c.pack-room.ensures.room (omega arith)
+pub returns-else-room-gt0-clause-opened : goal.returns-else-room-gt0-clause-opened
+returns-else-room-gt0-clause-opened c = opened_none c.args.region.now.bytes c.pack-room.new.region.bytes (c.args.found.place.0 - 8) c.args.found.name.0 c.args.found.length c.args.stretch c.pack-room.result.room c.requires.accepted c.requires.among c.pack-room.ensures.packed c.pack-room.ensures.room (omega arith)
+
+pub returns-then-room-gt0-clause-frame : goal.returns-then-room-gt0-clause-frame
+returns-then-room-gt0-clause-frame c = frame_then _ _ _ (packed_frame c.args.region.now.bytes c.pack-room.new.region.bytes (c.args.found.place.0 - 8) c.args.found.name.0 c.args.found.length c.args.stretch c.pack-room.result.room c.requires.accepted c.requires.among c.pack-room.ensures.packed c.pack-room.ensures.room) (c.lift.ensures.lifted _ _ _ (room_behind c.args.region.now.bytes c.pack-room.new.region.bytes (c.args.found.place.0 - 8) c.args.found.name.0 c.args.found.length c.args.stretch c.pack-room.result.room c.requires.accepted c.requires.among c.pack-room.ensures.packed c.pack-room.ensures.room (c.word_of-place.result - 8 + c.size_of_body.result) (omega arith) (let place = c.word_of-place.ensures in let size = c.size_of_body.ensures in omega (arith, place, size)))).frame
+
+pub returns-else-room-gt0-clause-frame : goal.returns-else-room-gt0-clause-frame
+returns-else-room-gt0-clause-frame c = packed_frame c.args.region.now.bytes c.pack-room.new.region.bytes (c.args.found.place.0 - 8) c.args.found.name.0 c.args.found.length c.args.stretch c.pack-room.result.room c.requires.accepted c.requires.among c.pack-room.ensures.packed c.pack-room.ensures.room

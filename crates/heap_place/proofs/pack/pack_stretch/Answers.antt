@@ -13,3 +13,8 @@ returns-clause-packed c = λ before mid after s.
 
 pub returns-clause-moved : goal.returns-clause-moved
 returns-clause-moved c = λ before mid after s. c.pack.ensures.moved before mid after (stretch_run c.args.region.now.bytes before mid after c.args.stretch s)
+
+pub returns-clause-frame : goal.returns-clause-frame
+returns-clause-frame c =
+    let s = c.requires.stretch in
+    (c.pack.ensures.packed s.before s.mid s.after (stretch_run c.args.region.now.bytes s.before s.mid s.after c.args.stretch s.is)).frame

@@ -1,6 +1,7 @@
 use Rattle.std.proofs.Common.{◌+◌, ◌-◌, sym, subst, arith}
 use Rattle.heap_place.specs.Stretches.{SeenUpTo}
 use Rattle.heap_place.proofs.SeenLaws.{unlocked, seen_start, seen_chunk, seen_more, seen_stay, seen_found, seen_all}
+use Rattle.heap_place.proofs.StretchLaws.{among_stretch}
 use Rattle.heap_place.proofs.stretch.stretch_around.Goals as goal
 use Rattle.heap_place.proofs.stretch.stretch_around.Goals.{then-stays+else-here-at, else-stays}
 
@@ -13,8 +14,8 @@ at_with_size-header-requires-clause-chunk c =
     let chunk = seen_chunk c.args.region.now.bytes (c.args.found.place.0 - 8) c.loop-here.start c.loop-here.here c.requires.accepted c.loop-here.invariant (omega arith) in
     record { chunk = chunk.0; spelled = chunk.1 }
 
-pub returns-then-here-at : goal.returns-then-here-at
-returns-then-here-at c =
+pub returns-then-here-at-clause-around : goal.returns-then-here-at-clause-around
+returns-then-here-at-clause-around c =
     seen_found c.args.region.now.bytes (c.args.found.place.0 - 8) c.args.found.name.0 c.args.found.length c.loop-here.start c.loop-here.here c.at_with_size-header.result.0 c.requires.accepted (unlocked c.args.region.now.bytes c.args.found c.requires.found c.requires.unlocked) c.loop-here.invariant c.at_with_size-header.ensures.header
     (c.stays.ensures.0 c.if-stays.true) (omega arith)
 
@@ -30,5 +31,12 @@ loop-here-preserved c = elim c.if-stays.branch [
       (seen_more c.args.region.now.bytes (c.args.found.place.0 - 8) c.loop-here.start c.loop-here.here c.at_with_size-header.result.1 c.at_with_size-header.result.0 c.loop-here.invariant c.at_with_size-header.ensures.header c.at_with_size-header.ensures.size (λ stay. let is = c.stays.ensures.1 stay in let isnt = w.if-stays.false in cc))
 ]
 
-pub returns : goal.returns
-returns c = seen_all c.args.region.now.bytes (c.args.found.place.0 - 8) c.args.found.name.0 c.args.found.length c.loop-here.start c.loop-here.here c.requires.accepted (unlocked c.args.region.now.bytes c.args.found c.requires.found c.requires.unlocked) c.loop-here.invariant (omega arith)
+pub returns-clause-around : goal.returns-clause-around
+returns-clause-around c = seen_all c.args.region.now.bytes (c.args.found.place.0 - 8) c.args.found.name.0 c.args.found.length c.loop-here.start c.loop-here.here c.requires.accepted (unlocked c.args.region.now.bytes c.args.found c.requires.found c.requires.unlocked) c.loop-here.invariant (omega arith)
+
+pub returns-then-here-at-clause-stretch : goal.returns-then-here-at-clause-stretch
+returns-then-here-at-clause-stretch c = among_stretch c.args.region.now.bytes (c.args.found.place.0 - 8) c.args.found.name.0 c.args.found.length _
+    (seen_found c.args.region.now.bytes (c.args.found.place.0 - 8) c.args.found.name.0 c.args.found.length c.loop-here.start c.loop-here.here c.at_with_size-header.result.0 c.requires.accepted (unlocked c.args.region.now.bytes c.args.found c.requires.found c.requires.unlocked) c.loop-here.invariant c.at_with_size-header.ensures.header (c.stays.ensures.0 c.if-stays.true) (omega arith))
+
+pub returns-clause-stretch : goal.returns-clause-stretch
+returns-clause-stretch c = among_stretch c.args.region.now.bytes (c.args.found.place.0 - 8) c.args.found.name.0 c.args.found.length _ (seen_all c.args.region.now.bytes (c.args.found.place.0 - 8) c.args.found.name.0 c.args.found.length c.loop-here.start c.loop-here.here c.requires.accepted (unlocked c.args.region.now.bytes c.args.found c.requires.found c.requires.unlocked) c.loop-here.invariant (omega arith))
