@@ -17,3 +17,5 @@ pub mod DropReads
 pub mod PackLaws
 pub mod SeenLaws
 pub mod StretchLaws
+pub mod ResizeLaws
+pub mod RunLaws
