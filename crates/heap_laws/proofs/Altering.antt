@@ -3,13 +3,13 @@ use Rattle.std.proofs.Common.{◌≡◌, ℕ, ◌+◌, ◌-◌, ◌*◌, ◌%◌
 use Rattle.std.specs.Prelude.{◌↔◌, ◌==◌, slice_range}
 use Rattle.std.proofs.lemmas.Bool.{eq-eqb}
 use Rattle.heap_model.specs.Bytes.{overwritten}
-use Rattle.heap_model.specs.Chunk.{Chunk, free, movable, fixed, fixed_lock, need, size_of, total, IsLive, Spelled}
+use Rattle.heap_model.specs.Chunk.{Chunk, free, movable, fixed, fixed_lock, need, size_of, total, IsLive, Spelled, SpelledAll}
 use Rattle.heap_model.specs.Slots.{table_end, area_start}
 use Rattle.heap_model.specs.Heap.{BodyHere, IsCallersIfFixed, ManagersHere, directory_of, IsHeap, HeapAccepted}
 use Rattle.heap_model.specs.Placed.{AnyPlaced}
 use Rattle.heap_model.specs.Meaning.{LiveChunk, NamedHere}
 use Rattle.heap_model.specs.Reading.{live_under}
-use Rattle.heap_model.specs.Space.{place_under, place_of}
+use Rattle.heap_model.specs.Space.{AllFree, place_under, place_of}
 use Rattle.heap_model.specs.Placing.{Finds}
 use Rattle.heap_model.specs.Layout.{Becomes, with_bytes}
 use Rattle.heap_laws.proofs.Becoming.{becomes_heap}
@@ -17,10 +17,10 @@ use Rattle.heap_laws.proofs.Deciding.{cond-true}
 use Rattle.heap_laws.proofs.Replacing.{Replaces, replaced_heap, SameSlots, kept_ties, kept_directory}
 use Rattle.heap_laws.proofs.Lives.{or_else}
 use Rattle.heap_laws.proofs.Meanings.{named_once}
-use Rattle.heap_laws.proofs.Freeing.{reads_place, unnamed, place_mid}
+use Rattle.heap_laws.proofs.Freeing.{any_free, every_free, reads_place, unnamed, place_mid}
 use Rattle.heap_laws.proofs.Finding.{read_heap, finds_spelled}
 use Rattle.heap_laws.proofs.Frames.{length-overwritten, slice-same, slice-overwritten-within}
-use Rattle.heap_laws.proofs.Chunks.{Spelled-size}
+use Rattle.heap_laws.proofs.Chunks.{total-append, Spelled-size, SpelledAll-end}
 use Rattle.heap_laws.proofs.Placed.{EveryPlaced-split}
 use Rattle.heap_laws.proofs.Writing.{WroteWithin, wrote_none, wrote_part, wrote_wider, wrote_apart, wrote_word_apart, WroteArea, area_replaces}
 
@@ -77,15 +77,17 @@ alike_bodies (fixed bytes owner) (free size) slot place at t = absurd t
 alike_bodies (fixed bytes owner) (movable others count holder named) slot place at t = absurd t
 alike_bodies (fixed bytes owner) (fixed others holder) slot place at t = (λ b. b, λ b. b)
 
-pub altered : (old new : List ℕ) (before : List Chunk) (c d : Chunk) (after : List Chunk) (at : ℕ) → IsHeap old (before ++ c ∷ after) → Replaces old new before (c ∷ []) (d ∷ []) after at → SameSlots old new → TiedAlike c d
-    → (ManagersHere (directory_of old) at c → ManagersHere (directory_of old) at d) → IsCallersIfFixed at d → IsHeap new (before ++ d ∷ after)
-altered old new before c d after at h r slots alike kept callers = replaced_heap old new before (c ∷ []) (d ∷ []) after at h r record {
-  ties = kept_ties old new before (c ∷ []) (d ∷ []) after at h r slots (λ slot place. (
-    λ b. elim b [ inl own ↦ inl ((alike_bodies c d slot place at alike).0 own) | inr none ↦ absurd none ],
-    λ b. elim b [ inl own ↦ inl ((alike_bodies c d slot place at alike).1 own) | inr none ↦ absurd none ],
+-- with free chunks behind it, which become other free ones
+pub altered_run : (old new : List ℕ) (before : List Chunk) (c : Chunk) (run : List Chunk) (d : Chunk) (left after : List Chunk) (at : ℕ) → IsHeap old (before ++ ((c ∷ run) ++ after)) → Replaces old new before (c ∷ run) (d ∷ left) after at → SameSlots old new → AllFree run → AllFree left
+    → TiedAlike c d → (ManagersHere (directory_of old) at c → ManagersHere (directory_of old) at d) → IsCallersIfFixed at d → IsHeap new (before ++ ((d ∷ left) ++ after))
+altered_run old new before c run d left after at h r slots free_run free_left alike kept callers = replaced_heap old new before (c ∷ run) (d ∷ left) after at h r record {
+  ties = kept_ties old new before (c ∷ run) (d ∷ left) after at h r slots (λ slot place. (
+    λ b. elim b [ inl own ↦ inl ((alike_bodies c d slot place at alike).0 own) | inr more ↦ absurd (any_free (BodyHere slot place) (λ k size n. n) (at + size_of c) run free_run more) ],
+    λ b. elim b [ inl own ↦ inl ((alike_bodies c d slot place at alike).1 own) | inr more ↦ absurd (any_free (BodyHere slot place) (λ k size n. n) (at + size_of d) left free_left more) ],
   ));
-  callers = (callers, tt);
-  directory = kept_directory old new before (c ∷ []) (d ∷ []) after at h r (λ m. elim m [ inl own ↦ inl (kept own) | inr none ↦ absurd none ]);
+  callers = (callers, every_free (at + size_of d) left free_left);
+  directory = kept_directory old new before (c ∷ run) (d ∷ left) after at h r
+      (λ m. elim m [ inl own ↦ inl (kept own) | inr more ↦ absurd (any_free (ManagersHere (directory_of old)) (λ k size n. n) (at + size_of c) run free_run more) ]);
 }
 
 -- ---- a free chunk is claimed for a fixed one
@@ -100,21 +102,34 @@ claimed_fixed old new before after at size bytes owner h r slots some_owner most
 
 -- ---- by what was written
 
+-- what stands in place of a chunk that was found and the free ones behind it
+pub record Rewritten (old new : List ℕ) (before : List Chunk) (c : Chunk) (run : List Chunk) (d : Chunk) (left rest : List Chunk) (at : ℕ) : Type 0 where
+  pub replaces : Replaces old new before (c ∷ run) (d ∷ left) rest at
+  pub heap : IsHeap new (before ++ ((d ∷ left) ++ rest))
+
+-- Bytes of the chunk and of free ones directly behind it were written, and now another chunk of its name
+-- stands there, with free ones behind it.
+pub rewritten : (old new : List ℕ) (name at : ℕ) (live : LiveChunk) (c : Chunk) (run : List Chunk) (d : Chunk) (left rest : List Chunk) → HeapAccepted old → (f : Finds old name live c at) → f.after ≡ run ++ rest → AllFree run → AllFree left → WroteWithin old new at (at + total (c ∷ run))
+    → SpelledAll new at (d ∷ left) (at + total (c ∷ run)) → TiedAlike c d → (ManagersHere (directory_of old) at c → ManagersHere (directory_of old) at d) → IsCallersIfFixed at d → Rewritten old new f.before c run d left rest at
+rewritten old new name at live c run d left rest h f parts free_run free_left w spelled alike kept callers =
+    let there : at ≡ area_start old + total f.before = f.there in
+    let heap : IsHeap old (f.before ++ ((c ∷ run) ++ rest)) = subst (λ (cs : List Chunk). IsHeap old cs) (f.chunks ∙ ap (λ (cs : List Chunk). f.before ++ c ∷ cs) parts) (read_heap old h) in
+    let sizes = SpelledAll-end old (area_start old) (f.before ++ ((c ∷ run) ++ rest)) (length old) heap.tiles.area in
+    let sum = total-append f.before ((c ∷ run) ++ rest) in
+    let more = total-append (c ∷ run) rest in
+    let least = (Spelled-size old at c (finds_spelled old name live c at h f)).0 in
+    let area : WroteArea old new at (at + total (c ∷ run)) = record { mid = new; slot = at; area = w; word = wrote_none new at (at + 4); is_slot = inl refl; there = omega arith; fits = omega arith } in
+    let r = area_replaces old new f.before (c ∷ run) (d ∷ left) rest at there (omega arith) area spelled in
+    let slots : SameSlots old new = record { same = λ slot s. let high : slot < table_end old = s.in_table in let whole : slot % 4 ≡ 0 = s.whole in wrote_word_apart old new at (at + total (c ∷ run)) slot w (inl (omega arith)) } in
+    record { replaces = r; heap = altered_run old new f.before c run d left rest at heap r slots free_run free_left alike kept callers }
+
 -- bytes of the chunk alone were written, and now another chunk of its size and its name stands there
 pub altered_write : (old new : List ℕ) (name at : ℕ) (live : LiveChunk) (c d : Chunk) → HeapAccepted old → (f : Finds old name live c at) → WroteWithin old new at (at + size_of c) → Spelled new at d → size_of d ≡ size_of c → TiedAlike c d
     → (ManagersHere (directory_of old) at c → ManagersHere (directory_of old) at d) → IsCallersIfFixed at d → Becomes old new (f.before ++ d ∷ f.after)
 altered_write old new name at live c d h f w spelled sizes alike kept callers =
-    let there : at ≡ area_start old + total f.before = f.there in
-    let heap : IsHeap old (f.before ++ c ∷ f.after) = subst (λ (cs : List Chunk). IsHeap old cs) f.chunks (read_heap old h) in
-    let size = Spelled-size old at c (finds_spelled old name live c at h f) in
-    let least = size.0 in
-    let inside = size.1 in
-    let wrote : WroteWithin old new at (at + total (c ∷ [])) = subst (λ (n : ℕ). WroteWithin old new at n) (let e : at + size_of c ≡ at + (size_of c + 0) = omega arith in e) w in
-    let area : WroteArea old new at (at + total (c ∷ [])) = record { mid = new; slot = at; area = wrote; word = wrote_none new at (at + 4); is_slot = inl refl; there = omega arith; fits = omega arith } in
-    let r = area_replaces old new f.before (c ∷ []) (d ∷ []) f.after at there (omega arith) area (spelled, omega arith) in
-    becomes_heap old new (f.before ++ d ∷ f.after) r.head
-    (altered old new f.before c d f.after at heap r
-    (record { same = λ slot s. let high : slot < table_end old = s.in_table in let whole : slot % 4 ≡ 0 = s.whole in wrote_word_apart old new at (at + size_of c) slot w (inl (omega arith)) }) alike kept callers)
+    let whole : at + size_of c ≡ at + total (c ∷ []) = omega arith in
+    let r = rewritten old new name at live c [] d [] f.after h f refl tt tt (subst (λ (n : ℕ). WroteWithin old new at n) whole w) (spelled, omega arith) alike kept callers in
+    becomes_heap old new (f.before ++ d ∷ f.after) r.replaces.head r.heap
 
 -- a fixed chunk that is found is a caller's
 pub finds_callers : (image : List ℕ) (name : ℕ) (live : LiveChunk) (c : Chunk) (at : ℕ) → HeapAccepted image → Finds image name live c at → IsCallersIfFixed at c

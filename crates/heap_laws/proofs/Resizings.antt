@@ -14,7 +14,7 @@ use Rattle.heap_model.specs.Meaning.{LiveChunk, NamedHere}
 use Rattle.heap_model.specs.Reading.{chunks_of, live_under}
 use Rattle.heap_model.specs.Space.{AllFree, NoneStays, room_of, free_front, free_behind_in, free_behind}
 use Rattle.heap_model.specs.Placing.{Finds}
-use Rattle.heap_model.specs.Layout.{merged, layout_of, Becomes, gap}
+use Rattle.heap_model.specs.Layout.{free_onto, merged, layout_of, Becomes, gap}
 use Rattle.heap_model.specs.Packing.{lives, packed, BeginsStaying, WholeStretch, opened, OpensBehind}
 use Rattle.heap_model.specs.Resizing.{with_length, shrunk, Shrinks, behind_front, grown, GrowsInPlace}
 use Rattle.heap_laws.proofs.Deciding.{cond-true, cond-false, none_some}
@@ -22,8 +22,8 @@ use Rattle.heap_laws.proofs.Placed.{TakesBytes}
 use Rattle.heap_laws.proofs.Freeing.{or_front, or_back}
 use Rattle.heap_laws.proofs.Altering.{named_live, named_place}
 use Rattle.heap_laws.proofs.Lives.{or_else, live_under-append}
-use Rattle.heap_laws.proofs.Layouts.{IsNotFree, free_front-merged, merged-live, merged-twice, total-merged, live_under-merged}
-use Rattle.heap_laws.proofs.Becoming.{becomes_behind}
+use Rattle.heap_laws.proofs.Layouts.{IsNotFree, free_front-merged, merged-front, merged-right, merged-back, merged-live, merged-twice, total-merged, live_under-merged}
+use Rattle.heap_laws.proofs.Becoming.{becomes_alike, becomes_behind}
 use Rattle.heap_laws.proofs.Exchanging.{layout_takes, exchanges_parts, gap_free, gap_total, NotBeside, named_no_other, named_beside, ChangesName, run_changes}
 use Rattle.heap_laws.proofs.Changing.{changes_as, some_place, named_live_chunk}
 use Rattle.heap_laws.proofs.Packings.{no_true, packed_slid}
@@ -97,17 +97,49 @@ grown-at there count at (b ∷ before) c after takes e =
     cond-false (at == there) _ _ (grind (arith, nat_tests)) ∙ ap (λ (ds : List Chunk). b ∷ ds) (grown-at there count (at + size_of b) before c after takes.1 (omega arith))
 
 -- the free chunks with which some begin, and those behind them
-record FrontParts (cs : List Chunk) : Type 0 where
-  run : List Chunk
-  all_free : AllFree run
-  sums : total run ≡ free_front cs
-  parts : cs ≡ run ++ behind_front cs
+pub record FrontParts (cs : List Chunk) : Type 0 where
+  pub run : List Chunk
+  pub all_free : AllFree run
+  pub sums : total run ≡ free_front cs
+  pub parts : cs ≡ run ++ behind_front cs
 
-front_parts : (cs : List Chunk) → FrontParts cs
+pub front_parts : (cs : List Chunk) → FrontParts cs
 front_parts [] = record { run = []; all_free = tt; sums = refl; parts = refl }
 front_parts (free size ∷ cs) = let p = front_parts cs in record { run = free size ∷ p.run; all_free = p.all_free; sums = ap (λ (n : ℕ). size + n) p.sums; parts = ap (λ (ds : List Chunk). free size ∷ ds) p.parts }
 front_parts (movable bytes lock owner slot ∷ cs) = record { run = []; all_free = tt; sums = refl; parts = refl }
 front_parts (fixed bytes owner ∷ cs) = record { run = []; all_free = tt; sums = refl; parts = refl }
+
+behind_onto : (size : ℕ) (cs : List Chunk) → behind_front (free_onto size cs) ≡ behind_front cs
+behind_onto size [] = refl
+behind_onto size (free more ∷ cs) = refl
+behind_onto size (movable bytes lock owner slot ∷ cs) = refl
+behind_onto size (fixed bytes owner ∷ cs) = refl
+
+behind_front-merged : (cs : List Chunk) → behind_front (merged cs) ≡ merged (behind_front cs)
+behind_front-merged [] = refl
+behind_front-merged (free size ∷ cs) = behind_onto size (merged cs) ∙ behind_front-merged cs
+behind_front-merged (movable bytes lock owner slot ∷ cs) = refl
+behind_front-merged (fixed bytes owner ∷ cs) = refl
+
+-- in parts of the image's chunks
+pub grows_parts : (old new : List ℕ) (there count : ℕ) (before : List Chunk) (c : Chunk) (after : List Chunk) → HeapAccepted old → IsNotFree c → chunks_of old ≡ before ++ c ∷ after → there ≡ area_start old + total before
+    → Becomes old new (before ++ ((with_length count c ∷ gap (size_of c + free_front after - need count)) ++ behind_front after)) → GrowsInPlace old new there count
+grows_parts old new there count before c after h live e is b =
+    let start : ℕ = area_start old in
+    let d : Chunk = with_length count c in
+    let left : ℕ = size_of c + free_front after - need count in
+    let layout : layout_of old ≡ merged before ++ c ∷ merged after = ap merged e ∙ merged-live before c after live in
+    let takes = subst (λ (cs : List Chunk). EveryPlaced TakesBytes start cs) layout (layout_takes old h) in
+    let front = free_front-merged after in
+    let size = size_of-with_length c count live in
+    let left_is : size_of c + free_front (merged after) - size_of d ≡ left = omega arith in
+    let parts : grown there count start (layout_of old) ≡ merged before ++ d ∷ (gap left ++ behind_front (merged after)) =
+    ap (grown there count start) layout ∙ grown-at there count start (merged before) c (merged after) takes (is ∙ ap (λ (n : ℕ). start + n) (sym (total-merged before)))
+    ∙ ap (λ (n : ℕ). merged before ++ d ∷ (gap n ++ behind_front (merged after))) left_is in
+    let tail : merged (gap left ++ behind_front (merged after)) ≡ merged (gap left ++ behind_front after) = ap (λ (cs : List Chunk). merged (gap left ++ cs)) (behind_front-merged after) ∙ merged-back (gap left) (behind_front after) in
+    let alike : merged (before ++ d ∷ (gap left ++ behind_front after)) ≡ merged (merged before ++ d ∷ (gap left ++ behind_front (merged after))) =
+    sym (merged-front before (d ∷ (gap left ++ behind_front (merged after))) ∙ merged-right before (d ∷ (gap left ++ behind_front (merged after))) (d ∷ (gap left ++ behind_front after)) (merged-right (d ∷ []) (gap left ++ behind_front (merged after)) (gap left ++ behind_front after) tail)) in
+    subst (λ (cs : List Chunk). Becomes old new cs) (sym parts) (becomes_alike old new _ _ alike b)
 
 pub grow_changes : (old new : List ℕ) (name place count : ℕ) (live : LiveChunk) (c : Chunk) → HeapAccepted old → 8 ≤ place → (f : Finds old name live c (place - 8)) → need count ≤ size_of c + free_front f.after → GrowsInPlace old new (place - 8) count
     → ChangesName old new name (Some (live_sized count live)) (Some place)

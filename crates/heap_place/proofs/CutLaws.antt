@@ -39,30 +39,30 @@ has_free image at size h = subst (λ (c : Chunk). Spelled image at c) (free_head
 
 -- ---- a run is carved
 
-gap_spelled : (old mid new : List ℕ) (at size at_rest rest end : ℕ) → at_rest ≡ at + size → end ≡ at_rest + rest → 8 ≤ size → end ≤ length new → length new ≡ length mid → WroteWithin mid new at (at + 4) → WroteRest old mid at_rest rest → SpelledAll new at_rest (gap rest) end
+pub gap_spelled : (old mid new : List ℕ) (at size at_rest rest end : ℕ) → at_rest ≡ at + size → end ≡ at_rest + rest → 8 ≤ size → end ≤ length new → length new ≡ length mid → WroteWithin mid new at (at + 8) → WroteRest old mid at_rest rest → SpelledAll new at_rest (gap rest) end
 gap_spelled old mid new at size at_rest zero end e f least inside len w r = omega arith
 gap_spelled old mid new at size at_rest (suc n) end e f least inside len w r = elim r [
   | inl none ↦ absurd (let z = none.0 in omega arith)
   | inr some ↦
       let there : IsFree mid at_rest (suc n) = has_free mid at_rest (suc n) some.1.1 in
-      (Spelled-same mid new at_rest (free (suc n)) (wrote_apart mid new at (at + 4) at_rest (at_rest + suc n) w (inr (omega arith, omega arith))) len there, omega arith)
+      (Spelled-same mid new at_rest (free (suc n)) (wrote_apart mid new at (at + 8) at_rest (at_rest + suc n) w (inr (omega arith, omega arith))) len there, omega arith)
 ]
 
-rest_within : (old mid : List ℕ) (at_rest rest low high : ℕ) → WroteRest old mid at_rest rest → low ≤ at_rest → at_rest + rest ≤ high → high ≤ length old → rest % 8 ≡ 0 → WroteWithin old mid low high
+pub rest_within : (old mid : List ℕ) (at_rest rest low high : ℕ) → WroteRest old mid at_rest rest → low ≤ at_rest → at_rest + rest ≤ high → high ≤ length old → rest % 8 ≡ 0 → WroteWithin old mid low high
 rest_within old mid at_rest rest low high r a b c whole = elim r [
   | inl none ↦ subst (λ (image : List ℕ). WroteWithin old image low high) (sym none.1) (wrote_none old low high)
   | inr some ↦ let positive = some.0 in wrote_wider old mid at_rest (at_rest + 4) low high (wrote_word old mid at_rest (2 ^ 31 + rest) some.1.0 (omega arith)) a (omega arith)
 ]
 
 -- what is left has a plain first word
-gap_plain : (old mid new : List ℕ) (at size at_rest rest : ℕ) → at_rest ≡ at + size → 8 ≤ size → at_rest + rest ≤ length mid → rest < 2 ^ 24 → rest % 8 ≡ 0 → WroteWithin mid new at (at + 4) → WroteRest old mid at_rest rest → length mid ≡ length old
+pub gap_plain : (old mid new : List ℕ) (at size at_rest rest : ℕ) → at_rest ≡ at + size → 8 ≤ size → at_rest + rest ≤ length mid → rest < 2 ^ 24 → rest % 8 ≡ 0 → WroteWithin mid new at (at + 8) → WroteRest old mid at_rest rest → length mid ≡ length old
     → (there : ℕ) → AnyPlaced (IsFreeAt there) at_rest (gap rest) → IsPlain (u32_at new there)
 gap_plain old mid new at size at_rest zero e least inside small whole w r len there h = absurd h
 gap_plain old mid new at size at_rest (suc n) e least inside small whole w r len there h = elim r [
   | inl none ↦ absurd (let z = none.0 in omega arith)
   | inr some ↦ elim h [
     | inl here ↦ subst (λ (k : ℕ). IsPlain (u32_at new k)) here
-        (plain_word (u32_at new at_rest) (suc n) (wrote_word_apart mid new at (at + 4) at_rest w (inr (omega arith, omega arith)) ∙ ap (λ (x : List ℕ). u32_at x at_rest) some.1.0 ∙ u32_at-written (2 ^ 31 + suc n) at_rest old (omega arith) (omega arith)) small)
+        (plain_word (u32_at new at_rest) (suc n) (wrote_word_apart mid new at (at + 8) at_rest w (inr (omega arith, omega arith)) ∙ ap (λ (x : List ℕ). u32_at x at_rest) some.1.0 ∙ u32_at-written (2 ^ 31 + suc n) at_rest old (omega arith) (omega arith)) small)
     | inr later ↦ absurd later
   ]
 ]
@@ -73,7 +73,7 @@ cut_plain : (old mid new : List ℕ) (at size rest : ℕ) → 8 ≤ size → at 
 cut_plain old mid new at size rest least inside small whole is r len there h = elim h [
   | inl here ↦ subst (λ (k : ℕ). IsPlain (u32_at new k)) here
       (plain_word (u32_at new at) size (ap (λ (x : List ℕ). u32_at x at) is ∙ u32_at-written (2 ^ 31 + size) at mid (omega arith) (omega arith)) (omega arith))
-  | inr later ↦ gap_plain old mid new at size (at + size) rest refl least inside (omega arith) whole (wrote_word mid new at (2 ^ 31 + size) is (omega arith)) r len there later
+  | inr later ↦ gap_plain old mid new at size (at + size) rest refl least inside (omega arith) whole (wrote_wider mid new at (at + 4) at (at + 8) (wrote_word mid new at (2 ^ 31 + size) is (omega arith)) (omega arith) (omega arith)) r len there later
 ]
 
 pub was_cut : (old mid new : List ℕ) (at room size : ℕ) → HeapAccepted old → IsRoom old at room → 8 ≤ size → size % 8 ≡ 0 → size ≤ room → WroteRest old mid (at + size) (room - size)
@@ -93,7 +93,7 @@ was_cut old mid new at room size accepted r least whole within wrote is header =
     let len = all.len in
     let area : WroteArea old new at (at + room) = record { mid = new; slot = at; area = all; word = wrote_none new at (at + 4); is_slot = inl refl; there = omega arith; fits = omega arith } in
     let others : List Chunk = free size ∷ gap rest in
-    let spelled : SpelledAll new at others (at + total r.run) = (has_free new at size header, gap_spelled old mid new at size (at + size) rest (at + total r.run) refl (omega arith) least (omega arith) (second.len) second wrote) in
+    let spelled : SpelledAll new at others (at + total r.run) = (has_free new at size header, gap_spelled old mid new at size (at + size) rest (at + total r.run) refl (omega arith) least (omega arith) (second.len) (wrote_wider mid new at (at + 4) at (at + 8) second (omega arith) (omega arith)) wrote) in
     let replaces = area_replaces old new r.before r.run others r.after at r.there m.inside (subst (λ (n : ℕ). WroteArea old new at (at + n)) sums area) spelled in
     let slots : SameSlots old new = record { same = λ slot s. let low_slot : slot < table_end old = s.in_table in let four : slot % 4 ≡ 0 = s.whole in wrote_word_apart old new at (at + room) slot all (inl (omega arith)) } in
     let new_heap = free_replaced old new r.before r.run others r.after at heap replaces slots r.all_free (gap_free rest) in

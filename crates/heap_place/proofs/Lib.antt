@@ -18,3 +18,5 @@ pub mod PackLaws
 pub mod SeenLaws
 pub mod StretchLaws
 pub mod RoomyLaws
+pub mod ResizeLaws
+pub mod RunLaws

@@ -3,3 +3,4 @@ pub mod Search
 pub mod Lifting
 pub mod Packs
 pub mod Stretches
+pub mod Resizes

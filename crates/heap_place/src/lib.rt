@@ -16,6 +16,7 @@
 //! | `room` | finds room for a chunk |
 //! | `claim` | makes a live chunk at the front of room |
 //! | `release` | makes a live chunk free |
+//! | `resize` | gives a live chunk another length |
 //! | `owned` | makes all chunks of an owner free |
 //! | `alter` | writes another lock count or owner of a live chunk |
 //! | `stretch` | finds a stretch |
@@ -33,6 +34,7 @@ mod open;
 mod owned;
 mod pack;
 mod release;
+mod resize;
 mod room;
 mod space;
 mod stretch;

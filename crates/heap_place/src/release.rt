@@ -31,7 +31,7 @@ pub(crate) fn release(region: &mut Region, found: Found) -> u32
 }
 
 /// The size of the free chunk at `at`, or 0 where none stands there.
-fn free_size(region: &Region, at: u32) -> u32
+pub(crate) fn free_size(region: &Region, at: u32) -> u32
     requires small { length region.now.bytes < 2 ^ 24 }
     ensures { result ≡ free_size_at region.now.bytes at }
 {

@@ -1,6 +1,7 @@
 //! The type that owns a heap's region.
 
 ghost use Rattle.std.specs.Prelude.{◌≡◌, ◌≢◌, ◌≤◌, ◌<◌, ◌+◌, ◌-◌, ◌++◌, ◌∷◌, ◌⊎◌, [], length, replicate, count_by, IfSome, IfNone, None};
+ghost use Rattle.std.specs.Bool.{OnTrue, OnFalse};
 ghost use Rattle.heap_model.specs.Bytes.{u32_at};
 ghost use Rattle.heap_model.specs.Chunk.{movable, fixed, need, fixed_lock, is_owned_by};
 ghost use Rattle.heap_model.specs.Slots.{IsSlot};
@@ -8,9 +9,11 @@ ghost use Rattle.heap_model.specs.Heap.{HeapAccepted, directory_of};
 ghost use Rattle.heap_model.specs.Reading.{chunks_of, held};
 ghost use Rattle.heap_model.specs.Space.{NoRun, Short, free_total, moved_bytes};
 ghost use Rattle.heap_model.specs.Packing.{packed, OpensBehind};
+ghost use Rattle.heap_model.specs.Resizing.{Shrinks, GrowsInPlace};
 ghost use Rattle.heap_model.specs.Placing.{SameFrame};
 ghost use Rattle.heap_model.specs.Layout.{Becomes, layout_of, owned_freed, Exchanges, Alters, in_front, freed, with_lock, with_owner, with_bytes, FreeUpTo, IsRoom, WritesPlain};
 ghost use Rattle.heap_place.specs.Found.{IsFound, IsOne, NothingAt, CanGoTo};
+ghost use Rattle.heap_place.specs.Resizes.{TellsWhetherInPlace};
 ghost use Rattle.heap_place.specs.Stretches.{IsStretch, IsAmong, HasRoom, PacksStretch, MovesInStretch};
 
 use crate::alter::{relock_at, reown_at};
@@ -21,6 +24,7 @@ use crate::open::open_in;
 use crate::owned::release_owned;
 use crate::pack::{compact, pack_stretch};
 use crate::release::release;
+use crate::resize::{grow_in_place_at, resize_at};
 use crate::room::{Room, find_room};
 use crate::stretch::{Stretch, stretch_around, stretch_with_room};
 use crate::walks::free_bytes;
@@ -228,6 +232,34 @@ impl Space {
     {
         self.region
             .fill(found.place.0 as usize + at as usize, count as usize, byte);
+    }
+
+    /// Gives a live chunk `count` bytes where it stands, where they fit into what it takes. Bytes that it
+    /// gains within its slack are zero, and what it takes no more is free. Nothing moves.
+    pub fn shrink(&mut self, found: Found, count: u32)
+        requires accepted { HeapAccepted self.old.bytes }
+        requires found { IsOne self.old.bytes found }
+        requires fits { need count ≤ need found.length }
+        ensures made { Shrinks self.old.bytes self.new.bytes (found.place.0 - 8) count }
+        ensures plain { WritesPlain self.old.bytes self.new.bytes }
+        ensures rest { self.new ≡ record self.old { bytes = self.new.bytes } }
+    {
+        resize_at(&mut self.region, found, count, 0);
+    }
+
+    /// Gives a live chunk `count` bytes where it stands, if its own and those of the free chunks directly
+    /// behind it suffice, and answers whether they do. Bytes that it gains are zero, and what is left is
+    /// free. Nothing moves.
+    pub fn grow_in_place(&mut self, found: Found, count: u32) -> bool
+        requires accepted { HeapAccepted self.old.bytes }
+        requires found { IsOne self.old.bytes found }
+        ensures made { OnTrue result (GrowsInPlace self.old.bytes self.new.bytes (found.place.0 - 8) count) }
+        ensures refused { OnFalse result (self.new ≡ self.old) }
+        ensures tells { TellsWhetherInPlace self.old.bytes found (need count) result }
+        ensures plain { WritesPlain self.old.bytes self.new.bytes }
+        ensures rest { self.new ≡ record self.old { bytes = self.new.bytes } }
+    {
+        grow_in_place_at(&mut self.region, found, count)
     }
 
     /// Packs the chunks of each stretch: they go to its front, and its room is behind them. Answers how many

@@ -1,0 +1,123 @@
+-- The free chunks directly behind a live one are found, and it grows over them.
+use Rattle.std.proofs.Common.{◌≡◌, ℕ, ◌+◌, ◌-◌, ◌<◌, ◌≤◌, true, false, List, [], ◌∷◌, ◌++◌, length, refl, sym, ap, subst, ◌∙◌, append_assoc, arith}
+use Rattle.heap_model.specs.Chunk.{Chunk, need, free, movable, fixed, size_of, SpelledAll}
+use Rattle.heap_model.specs.Slots.{area_start}
+use Rattle.heap_model.specs.Heap.{HeapAccepted}
+use Rattle.heap_model.specs.Space.{free_front}
+use Rattle.heap_model.specs.Layout.{Becomes, gap}
+use Rattle.heap_model.specs.Resizing.{with_length, behind_front, GrowsInPlace}
+use Rattle.heap_laws.proofs.Chunks.{total-append, Spelled-size, SpelledAll-split}
+use Rattle.heap_laws.proofs.Shapes.{chunk_at-spelled, chunk_at-none}
+use Rattle.heap_laws.proofs.Changing.{named_live_chunk}
+use Rattle.heap_laws.proofs.Resizings.{front_parts, grows_parts}
+use Rattle.heap_place.specs.declared.found.Found.{Found}
+use Rattle.heap_place.specs.Found.{IsOne}
+use Rattle.heap_place.specs.Search.{size_if_free, free_size_at}
+use Rattle.heap_place.specs.Resizes.{RunBehind, Resizes, Ends, IsBound, BeginsWithFree, TellsWhetherInPlace, RunsUpTo}
+use Rattle.heap_place.proofs.FoundLaws.{heap_in_parts, found_size}
+use Rattle.heap_place.proofs.ResizeLaws.{run_facts}
+
+-- ---- the walk
+
+-- what is read where some chunks begin
+record Reads (image : List ℕ) (at : ℕ) (cs : List Chunk) (size : ℕ) : Type 0 where
+  rest : List Chunk
+  spelled : 0 < size → SpelledAll image (at + size) rest (length image)
+  sums : 0 < size → free_front cs ≡ size + free_front rest
+  none : size ≡ 0 → free_front cs ≡ 0
+  inside : at + size ≤ length image
+
+reads : (image : List ℕ) (at : ℕ) (cs : List Chunk) → SpelledAll image at cs (length image) → Reads image at cs (free_size_at image at)
+reads image at [] s = subst (λ (n : ℕ). Reads image at [] n) (sym none) record { rest = []; spelled = λ p. absurd (omega arith); sums = λ p. absurd (omega arith); none = λ e. refl; inside = omega arith } where
+  none : free_size_at image at ≡ 0
+  none = ap size_if_free (chunk_at-none image at (λ c spelled. let size = Spelled-size image at c spelled in let least = size.0 in let inside = size.1 in omega arith))
+reads image at (free size ∷ cs) s = subst (λ (n : ℕ). Reads image at (free size ∷ cs) n) (sym (ap size_if_free (chunk_at-spelled image at (free size) s.0)))
+    record { rest = cs; spelled = λ p. s.1; sums = λ p. refl; none = λ e. let least = (Spelled-size image at (free size) s.0).0 in absurd (omega arith); inside = (Spelled-size image at (free size) s.0).1 }
+reads image at (movable bytes lock owner slot ∷ cs) s = subst (λ (n : ℕ). Reads image at (movable bytes lock owner slot ∷ cs) n) (sym (ap size_if_free (chunk_at-spelled image at (movable bytes lock owner slot) s.0)))
+    record { rest = []; spelled = λ p. absurd (omega arith); sums = λ p. absurd (omega arith); none = λ e. refl; inside = let i = (Spelled-size image at (movable bytes lock owner slot) s.0).1 in omega arith }
+reads image at (fixed bytes owner ∷ cs) s = subst (λ (n : ℕ). Reads image at (fixed bytes owner ∷ cs) n) (sym (ap size_if_free (chunk_at-spelled image at (fixed bytes owner) s.0)))
+    record { rest = []; spelled = λ p. absurd (omega arith); sums = λ p. absurd (omega arith); none = λ e. refl; inside = let i = (Spelled-size image at (fixed bytes owner) s.0).1 in omega arith }
+
+pub run_start : (image : List ℕ) (at size : ℕ) → HeapAccepted image → size ≡ free_size_at image at → RunsUpTo image at at size
+run_start image at size h e = record {
+  runs = λ before after x. record { rest = after; spelled = subst (λ (n : ℕ). SpelledAll image n after (length image)) (sym x.there) (SpelledAll-split image (area_start image) before after (length image) (heap_in_parts image (before ++ after) h x.chunks).tiles.area).1; sums = refl };
+  there = e;
+  behind = omega arith;
+}
+
+-- the free chunk that stands there lies within the image
+pub run_inside : (image : List ℕ) (at end size : ℕ) → IsBound image at → RunsUpTo image at end size → (end + size ≤ length image) × (at ≤ end)
+run_inside image at end size b r =
+    let x = r.runs b.before b.after b.ends in
+    let is = r.there in
+    let inside = (reads image end x.rest x.spelled).inside in
+    (omega arith, r.behind)
+
+pub run_more : (image : List ℕ) (at end size more : ℕ) → RunsUpTo image at end size → 0 < size → more ≡ free_size_at image (end + size) → RunsUpTo image at (end + size) more
+run_more image at end size more r some e = record {
+  runs = λ before after x.
+      let k = r.runs before after x in
+      let n = reads image end k.rest k.spelled in
+      let is = r.there in
+      let here : 0 < free_size_at image end = omega arith in
+      let sum = n.sums here in
+      let all = k.sums in
+      record { rest = n.rest; spelled = subst (λ (m : ℕ). SpelledAll image (end + m) n.rest (length image)) (sym is) (n.spelled here); sums = omega arith };
+  there = e;
+  behind = let low = r.behind in omega arith;
+}
+
+pub run_done : (image : List ℕ) (at end size : ℕ) → RunsUpTo image at end size → size ≡ 0 → BeginsWithFree image at (end - at)
+run_done image at end size r none before after x =
+    let k = r.runs before after x in
+    let is = r.there in
+    let empty = (reads image end k.rest k.spelled).none (omega arith) in
+    let all = k.sums in
+    omega arith
+
+-- ---- behind a chunk that was found
+
+ends_behind : (image : List ℕ) (found : Found) (own : ℕ) → own ≡ need found.length → (f : IsOne image found) → Ends image (found.place.0 - 8 + own) (f.finds.before ++ f.chunk ∷ []) f.finds.after
+ends_behind image found own e f =
+    let sum = total-append f.finds.before (f.chunk ∷ []) in
+    let size = found_size image found f in
+    let there = f.finds.there in
+    record { chunks = f.finds.chunks ∙ sym (append_assoc f.finds.before (f.chunk ∷ []) f.finds.after); there = omega arith }
+
+pub bound_behind : (image : List ℕ) (found : Found) (own : ℕ) → own ≡ need found.length → IsOne image found → IsBound image (found.place.0 - 8 + own)
+bound_behind image found own e f = record { before = f.finds.before ++ f.chunk ∷ []; after = f.finds.after; ends = ends_behind image found own e f }
+
+pub free_behind_found : (image : List ℕ) (found : Found) (own behind : ℕ) → own ≡ need found.length → (f : IsOne image found) → BeginsWithFree image (found.place.0 - 8 + own) behind → behind ≡ free_front f.finds.after
+free_behind_found image found own behind e f b = b (f.finds.before ++ f.chunk ∷ []) f.finds.after (ends_behind image found own e f)
+
+-- all of the free chunks with which those behind it begin
+pub all_behind : (image : List ℕ) (found : Found) (behind : ℕ) → (f : IsOne image found) → behind ≡ free_front f.finds.after → RunBehind image found behind
+all_behind image found behind f e = let p = front_parts f.finds.after in record { one = f; run = p.run; rest = behind_front f.finds.after; parts = p.parts; all_free = p.all_free; sums = e ∙ sym p.sums }
+
+pub grows : (old new : List ℕ) (found : Found) (count behind : ℕ) → HeapAccepted old → (f : IsOne old found) → behind ≡ free_front f.finds.after → Resizes old new found count behind → GrowsInPlace old new (found.place.0 - 8) count
+unfolding all_behind
+grows old new found count behind h one e x =
+    let f = one.finds in
+    let c : Chunk = one.chunk in
+    grows_parts old new (found.place.0 - 8) count f.before c f.after h (named_live_chunk found.name.0 (found.place.0 - 8) one.live c f.named) f.chunks f.there
+    (subst (λ (n : ℕ). Becomes old new (f.before ++ ((with_length count c ∷ gap (size_of c + n - need count)) ++ behind_front f.after))) e (x (all_behind old found behind one e)))
+
+-- ---- whether they suffice
+
+pub in_place_facts : (image : List ℕ) (found : Found) (own behind : ℕ) → HeapAccepted image → IsOne image found → own ≡ need found.length → BeginsWithFree image (found.place.0 - 8 + own) behind → (found.place.0 - 8 + (own + behind) ≤ length image) × (length image ≤ 16777208)
+in_place_facts image found own behind h f e b =
+    let facts = run_facts image found behind h (all_behind image found behind f (free_behind_found image found own behind e f b)) in
+    let inside = facts.inside in
+    (omega arith, facts.most)
+
+pub in_place_yes : (image : List ℕ) (found : Found) (count own behind : ℕ) → own ≡ need found.length → BeginsWithFree image (found.place.0 - 8 + own) behind → need count ≤ own + behind → TellsWhetherInPlace image found (need count) true
+in_place_yes image found count own behind e b fits f =
+    let is = free_behind_found image found own behind e f b in
+    let size = found_size image found f in
+    (λ yes. omega arith, λ enough. refl)
+
+pub in_place_no : (image : List ℕ) (found : Found) (count own behind : ℕ) → own ≡ need found.length → BeginsWithFree image (found.place.0 - 8 + own) behind → own + behind < need count → TellsWhetherInPlace image found (need count) false
+in_place_no image found count own behind e b short f =
+    let is = free_behind_found image found own behind e f b in
+    let size = found_size image found f in
+    (λ yes. absurd cc, λ enough. absurd (omega arith))

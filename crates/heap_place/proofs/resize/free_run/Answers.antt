@@ -1,0 +1,27 @@
+use Rattle.std.proofs.Common.{arith}
+use Rattle.heap_place.proofs.RunLaws.{run_start, run_inside, run_more, run_done}
+use Rattle.heap_place.proofs.resize.free_run.Goals as goal
+
+pub loop-size-init : goal.loop-size-init
+loop-size-init c = run_start c.args.region.now.bytes c.args.at c.free_size-size.result c.requires.accepted c.free_size-size.ensures
+
+pub overflow_add-end : goal.overflow_add-end
+overflow_add-end c =
+    let most = c.requires.accepted.1.tiles.head.most in
+    let r = run_inside c.args.region.now.bytes c.args.at c.loop-size.end c.loop-size.size c.requires.bound c.loop-size.invariant in
+    let inside = r.0 in omega arith
+
+pub loop-size-preserved : goal.loop-size-preserved
+loop-size-preserved c = run_more c.args.region.now.bytes c.args.at c.loop-size.end c.loop-size.size c.free_size-size-in-loop-size.result c.loop-size.invariant (omega arith) c.free_size-size-in-loop-size.ensures
+
+pub overflow_sub-result : goal.overflow_sub-result
+overflow_sub-result c =
+    let low = c.loop-size.invariant.behind in omega arith
+
+pub returns : goal.returns
+returns c = run_done c.args.region.now.bytes c.args.at c.loop-size.end c.loop-size.size c.loop-size.invariant (omega arith)
+
+pub loop-size-smaller : goal.loop-size-smaller
+loop-size-smaller c =
+    let r = run_inside c.args.region.now.bytes c.args.at c.loop-size.end c.loop-size.size c.requires.bound c.loop-size.invariant in
+    let inside = r.0 in omega arith

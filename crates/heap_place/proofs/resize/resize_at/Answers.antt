@@ -1,0 +1,78 @@
+use Rattle.std.proofs.Common.{◌-◌, ap, sym, subst, arith}
+use Rattle.heap_model.specs.Memory.{Memory}
+use Rattle.chunk_format.specs.Header.{size_by, IsWritable}
+use Rattle.heap_place.proofs.CutLaws.{rest_length}
+use Rattle.heap_place.proofs.ResizeLaws.{run_facts, sized_writable, resized_by}
+use Rattle.heap_place.proofs.resize.resize_at.Goals as goal
+
+pub size_of_body-size-requires : goal.size_of_body-size-requires
+size_of_body-size-requires c =
+    let f = run_facts c.args.region.now.bytes c.args.found c.args.behind c.requires.accepted c.requires.behind in
+    let inside = f.inside in let most = f.most in let fits = c.requires.fits in omega arith
+
+pub size_of_body-requires : goal.size_of_body-requires
+size_of_body-requires c =
+    let f = run_facts c.args.region.now.bytes c.args.found c.args.behind c.requires.accepted c.requires.behind in
+    let inside = f.inside in let most = f.most in omega arith
+
+pub overflow_add-left : goal.overflow_add-left
+overflow_add-left c =
+    let f = run_facts c.args.region.now.bytes c.args.found c.args.behind c.requires.accepted c.requires.behind in
+    let own = c.size_of_body.ensures in
+    let inside = f.inside in let most = f.most in omega arith
+
+pub fill-requires : goal.fill-requires
+fill-requires c =
+    let f = run_facts c.args.region.now.bytes c.args.found c.args.behind c.requires.accepted c.requires.behind in
+    let gained = c.saturating_sub-gained.ensures in
+    let low = f.low in let inside = f.inside in let body = f.body in let fits = c.requires.fits in omega arith
+
+pub overflow_add-at : goal.overflow_add-at
+overflow_add-at c =
+    let f = run_facts c.args.region.now.bytes c.args.found c.args.behind c.requires.accepted c.requires.behind in
+    let size = c.size_of_body-size.ensures in
+    let inside = f.inside in let most = f.most in let fits = c.requires.fits in omega arith
+
+pub write_rest-requires-clause-inside : goal.write_rest-requires-clause-inside
+write_rest-requires-clause-inside c =
+    let f = run_facts c.args.region.now.bytes c.args.found c.args.behind c.requires.accepted c.requires.behind in
+    let own = c.size_of_body.ensures in let size = c.size_of_body-size.ensures in let len = c.fill.ensures.len in
+    let inside = f.inside in let fits = c.requires.fits in omega arith
+
+pub write_rest-requires-clause-whole : goal.write_rest-requires-clause-whole
+write_rest-requires-clause-whole c =
+    let f = run_facts c.args.region.now.bytes c.args.found c.args.behind c.requires.accepted c.requires.behind in
+    let own = c.size_of_body.ensures in let size = c.size_of_body-size.ensures in
+    let whole = f.whole in let fits = c.requires.fits in omega arith
+
+pub write-requires-clause-inside : goal.write-requires-clause-inside
+write-requires-clause-inside c =
+    let f = run_facts c.args.region.now.bytes c.args.found c.args.behind c.requires.accepted c.requires.behind in
+    let own = c.size_of_body.ensures in let size = c.size_of_body-size.ensures in let fill = c.fill.ensures.len in
+    let inside = f.inside in let whole = f.whole in let fits = c.requires.fits in
+    let len = rest_length _ _ _ _ c.write_rest.ensures.wrote (omega arith) (omega arith) in
+    let is = ap size_by c.header_with.ensures in
+    let takes = (sized_writable c.args.region.now.bytes c.args.found c.args.count c.args.behind c.requires.accepted c.requires.behind c.requires.fits).1 in
+    omega arith
+
+pub write-requires-clause-small : goal.write-requires-clause-small
+write-requires-clause-small c =
+    let f = run_facts c.args.region.now.bytes c.args.found c.args.behind c.requires.accepted c.requires.behind in
+    let own = c.size_of_body.ensures in let size = c.size_of_body-size.ensures in let fill = c.fill.ensures.len in
+    let inside = f.inside in let whole = f.whole in let most = f.most in let fits = c.requires.fits in
+    let len = rest_length _ _ _ _ c.write_rest.ensures.wrote (omega arith) (omega arith) in
+    omega arith
+
+pub write-requires-clause-writable : goal.write-requires-clause-writable
+write-requires-clause-writable c =
+    subst (λ h. IsWritable (c.args.found.place.0 - 8) h) (sym c.header_with.ensures) (sized_writable c.args.region.now.bytes c.args.found c.args.count c.args.behind c.requires.accepted c.requires.behind c.requires.fits).0
+
+pub returns-clause-resized : goal.returns-clause-resized
+returns-clause-resized c = λ r.
+    (resized_by c.args.region.now.bytes c.fill.new.self.bytes c.write_rest.new.region.bytes c.write.new.region.bytes c.args.found c.args.count c.args.behind c.size_of_body-size.result c.size_of_body.result c.saturating_sub-gained.result c.header_with.result c.requires.accepted r c.requires.fits
+    c.size_of_body-size.ensures c.size_of_body.ensures c.saturating_sub-gained.ensures c.header_with.ensures (ap (λ (m : Memory). m.bytes) c.fill.ensures.after) c.write_rest.ensures.wrote (ap (λ (m : Memory). m.bytes) c.write.ensures.after) c.write.ensures.spelled).0
+
+pub returns-clause-plain : goal.returns-clause-plain
+returns-clause-plain c =
+    (resized_by c.args.region.now.bytes c.fill.new.self.bytes c.write_rest.new.region.bytes c.write.new.region.bytes c.args.found c.args.count c.args.behind c.size_of_body-size.result c.size_of_body.result c.saturating_sub-gained.result c.header_with.result c.requires.accepted c.requires.behind c.requires.fits
+    c.size_of_body-size.ensures c.size_of_body.ensures c.saturating_sub-gained.ensures c.header_with.ensures (ap (λ (m : Memory). m.bytes) c.fill.ensures.after) c.write_rest.ensures.wrote (ap (λ (m : Memory). m.bytes) c.write.ensures.after) c.write.ensures.spelled).1
