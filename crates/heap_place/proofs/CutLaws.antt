@@ -27,7 +27,7 @@ use Rattle.heap_place.proofs.FoundLaws.{heap_in_parts, middle_of}
 
 -- ---- headers of free chunks
 
-free_header : (size : ℕ) (c : Chunk) → headers.Free size ≡ header_of c → c ≡ free size
+pub free_header : (size : ℕ) (c : Chunk) → headers.Free size ≡ header_of c → c ≡ free size
 free_header size (free n) e = ap free (sym (same e)) where
   same : headers.Free size ≡ headers.Free n → size ≡ n
   same e = cc

@@ -8,7 +8,6 @@ use Rattle.heap_model.specs.Slots.{IsSlot, table_end, area_start}
 use Rattle.heap_model.specs.Heap.{BodyHere, IsBody, IsHeap, HeapAccepted}
 use Rattle.heap_model.specs.Reading.{chunks_of}
 use Rattle.heap_model.specs.Layout.{gap}
-use Rattle.heap_model.specs.Space.{AllFree}
 use Rattle.heap_laws.proofs.Frames.{slice-same, u32_at-written}
 use Rattle.heap_laws.proofs.Chunks.{total-append, Spelled-same, SpelledAll-split}
 use Rattle.heap_laws.proofs.Bodies.{IsBody-low, IsBody-high}
@@ -21,6 +20,8 @@ use Rattle.chunk_format.specs.declared.header.Header.TheVariants as headers
 use Rattle.heap_laws.proofs.Carrying.{Carries, slice-carried, slid_down}
 use Rattle.heap_place.specs.Packs.{BecomesExactly, Droppable}
 use Rattle.heap_place.proofs.FoundLaws.{heap_in_parts, Middle, middle_of}
+use Rattle.heap_laws.proofs.Exchanging.{gap_free, gap_total}
+use Rattle.heap_place.proofs.RoomLaws.{free_push}
 use Rattle.heap_place.proofs.CutLaws.{has_free, header_movable, wrote_words}
 use Rattle.heap_place.proofs.ExactLaws.{exactly_heap}
 
@@ -188,14 +189,6 @@ gap_some (suc more) some = refl
 pub gap_none : (room : ℕ) → room ≡ 0 → gap room ≡ []
 gap_none room none = ap gap none
 
-pub gap_total : (room : ℕ) → total (gap room) ≡ room
-gap_total zero = refl
-gap_total (suc more) = omega arith
-
-gap_all : (room size : ℕ) → AllFree (gap room ++ free size ∷ [])
-gap_all zero size = tt
-gap_all (suc more) size = tt
-
 pub record JoinFacts (old : List ℕ) (before : List Chunk) (size : ℕ) (after : List Chunk) (at room to : ℕ) : Type 0 where
   pub heap : IsHeap old (before ++ ((gap room ++ free size ∷ []) ++ after))
   pub middle : Middle old before (gap room ++ free size ∷ []) after to
@@ -228,7 +221,7 @@ joined old new before size after at room to f is header =
     let spelled : SpelledAll new to (free (room + size) ∷ []) (to + total mid) = (has_free new to (room + size) header, omega (arith, sizes)) in
     let r = area_replaces old new before mid (free (room + size) ∷ []) after to to_is inside w spelled in
     let slots : SameSlots old new = record { same = λ slot s. let high : slot < table_end old = s.in_table in let four : slot % 4 ≡ 0 = s.whole in wrote_word_apart old new to (to + total mid) slot all (inl (omega (arith, high, four, to_is))) } in
-    let heap = free_replaced old new before mid (free (room + size) ∷ []) after to f.heap r slots (gap_all room size) tt in
+    let heap = free_replaced old new before mid (free (room + size) ∷ []) after to f.heap r slots (free_push (gap room) size (gap_free room)) tt in
     let g : free (room + size) ∷ [] ≡ gap (room + size) = sym (gap_some (room + size) (omega (arith, least))) in
     let exact : BecomesExactly old new (before ++ free (room + size) ∷ after) = exactly_heap old new (before ++ free (room + size) ∷ after) r.head heap in
     subst (λ (cs : List Chunk). BecomesExactly old new (before ++ (cs ++ after))) g exact

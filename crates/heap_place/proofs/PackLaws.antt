@@ -21,7 +21,10 @@ use Rattle.heap_place.specs.Packs.{BecomesExactly, RunOf, IsRun, Packs, last_roo
 use Rattle.heap_place.proofs.FoundLaws.{heap_in_parts}
 use Rattle.heap_place.proofs.MendLaws.{header_there}
 use Rattle.heap_place.proofs.ExactLaws.{exactly_itself, exactly_then, exactly_becomes, exactly_start}
-use Rattle.heap_place.proofs.DropLaws.{gap_some, gap_none, gap_total, join_facts, joined}
+use Rattle.heap_place.proofs.DropLaws.{gap_some, gap_none, join_facts, joined}
+use Rattle.heap_laws.proofs.Exchanging.{gap_total}
+use Rattle.chunk_format.proofs.HeaderLaws.{size_by-header_of}
+use Rattle.heap_place.proofs.CutLaws.{free_header}
 
 -- ---- the chunk behind a room
 
@@ -40,14 +43,9 @@ behind_header old before c after at room header h b found = header_there old at 
 
 -- ---- a free one
 
-free_there : (c : Chunk) (n : ℕ) → headers.Free n ≡ header_of c → c ≡ free n
-free_there (free m) n e = let k : n ≡ m = cc in ap free (sym k)
-free_there (movable bytes lock owner slot) n e = absurd cc
-free_there (fixed bytes owner) n e = absurd cc
-
 pub join_writable : (old : List ℕ) (before : List Chunk) (c : Chunk) (after : List Chunk) (at room n size : ℕ) → HeapAccepted old → BehindRoom old before c after at room → HasHeader old at (headers.Free n) → size ≡ n → IsWritable (at - room) (headers.Free (room + size))
 join_writable old before c after at room n size h b found e =
-    let c_is = free_there c n (behind_header old before c after at room (headers.Free n) h b found) in
+    let c_is = free_header n c (behind_header old before c after at room (headers.Free n) h b found) in
     let f = join_facts old before n after at room (at - room) h (b.chunks ∙ ap (λ (d : Chunk). before ++ (gap room ++ d ∷ after)) c_is) b.there refl in
     let least : 8 ≤ n = f.is_free.header_fits in
     let whole = f.middle.whole in
@@ -59,7 +57,7 @@ join_writable old before c after at room n size h b found e =
 pub packed_free : (old new : List ℕ) (before : List Chunk) (c : Chunk) (after : List Chunk) (at room n size : ℕ) → HeapAccepted old → BehindRoom old before c after at room → HasHeader old at (headers.Free n) → size ≡ n
     → new ≡ overwritten old (at - room) (u32_bytes (2 ^ 31 + (room + size))) → HasHeader new (at - room) (headers.Free (room + size)) → PackedOne old new before c after room size 0 (room + size)
 packed_free old new before c after at room n size h b found e is written =
-    let c_is : c ≡ free size = free_there c n (behind_header old before c after at room (headers.Free n) h b found) ∙ ap free (sym e) in
+    let c_is : c ≡ free size = free_header n c (behind_header old before c after at room (headers.Free n) h b found) ∙ ap free (sym e) in
     let f = join_facts old before size after at room (at - room) h (b.chunks ∙ ap (λ (d : Chunk). before ++ (gap room ++ d ∷ after)) c_is) b.there refl in
     subst (λ (d : Chunk). PackedOne old new before d after room size 0 (room + size)) (sym c_is) record { becomes = joined old new before size after at room (at - room) f is written; size_is = refl; moved_is = refl; room_is = refl }
 
@@ -136,14 +134,10 @@ packed_staying old before c after at room size header h b found stay size_is =
     let chunks : chunks_of old ≡ before ++ (packed_one room c ++ after) = b.chunks ∙ ap (λ (cs : List Chunk). before ++ cs) (sym (append_assoc (gap room) (c ∷ []) after)) ∙ ap (λ (cs : List Chunk). before ++ (cs ++ after)) (sym s.0) in
     record {
       becomes = exactly_itself old _ h chunks;
-      size_is = size_is ∙ ap size_by e ∙ same_size c;
+      size_is = size_is ∙ ap size_by e ∙ size_by-header_of c;
       moved_is = sym s.1.0;
       room_is = sym s.1.1;
-    } where
-      same_size : (d : Chunk) → size_by (header_of d) ≡ size_of d
-      same_size (free n) = refl
-      same_size (movable bytes lock owner slot) = refl
-      same_size (fixed bytes owner) = refl
+    }
 
 -- where it stays, or has no room in front of it
 pub packed_kept : (old : List ℕ) (before : List Chunk) (c : Chunk) (after : List Chunk) (at room size : ℕ) (header : Header) → HeapAccepted old → BehindRoom old before c after at room → HasHeader old at header → ((n : ℕ) → header ≡ headers.Free n → ⊥) → size ≡ size_by header → HeaderStays header ⊎ ((HeaderStays header → ⊥) × (room ≡ 0))

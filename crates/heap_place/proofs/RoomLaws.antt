@@ -75,7 +75,7 @@ live_keeps : (cs : List Chunk) (c : Chunk) → IsNotFree c → KeepsApart (cs ++
 live_keeps cs c live others =
     ap merged (append_assoc cs (c ∷ []) others) ∙ merged-live cs c others live ∙ sym (append_assoc (merged cs) (c ∷ []) (merged others)) ∙ ap (λ (xs : List Chunk). xs ++ merged others) (sym (merged-live cs c [] live))
 
-free_push : (run : List Chunk) (n : ℕ) → AllFree run → AllFree (run ++ free n ∷ [])
+pub free_push : (run : List Chunk) (n : ℕ) → AllFree run → AllFree (run ++ free n ∷ [])
 free_push [] n f = tt
 free_push (free m ∷ run) n f = free_push run n f
 free_push (movable bytes lock owner slot ∷ run) n f = absurd f
