@@ -153,43 +153,38 @@ sized_body old filled new at count bytes body inside fits is same len_filled len
           ∙ sym (append-nil (take count bytes))
           ∙ ap (λ (n : ℕ). take count bytes ++ replicate n 0) (sym none)
 
--- how many bytes a live chunk has
-abbrev bytes_of : Chunk → ℕ
-bytes_of (free size) = 0
-bytes_of (movable bytes lock owner slot) = length bytes
-bytes_of (fixed bytes owner) = length bytes
-
-found_bytes : (image : List ℕ) (found : Found) → (f : IsOne image found) → bytes_of f.chunk ≡ found.length
-found_bytes image found f = by_chunk f.live f.chunk f.finds.named ∙ sym f.count where
-  by_chunk : (live : LiveChunk) (c : Chunk) → NamedHere found.name.0 live (found.place.0 - 8) c → bytes_of c ≡ length live.bytes
-  by_chunk live (free size) named = absurd named
-  by_chunk live (movable bytes lock owner slot) named = ap (λ (x : LiveChunk). length x.bytes) named.1
-  by_chunk live (fixed bytes owner) named = ap (λ (x : LiveChunk). length x.bytes) named.1
+-- the bytes of a live chunk
+abbrev pub body_of : Chunk → List ℕ
+body_of (free size) = []
+body_of (movable bytes lock owner slot) = bytes
+body_of (fixed bytes owner) = bytes
 
 -- the chunk of a header, and these bytes
-sized_spelled : (old filled new : List ℕ) (at count : ℕ) (c : Chunk) (length_was : ℕ) → IsNotFree c → Spelled old at c → bytes_of c ≡ length_was → at + need count ≤ length old → filled ≡ overwritten old (at + 8 + length_was) (replicate (count - length_was) 0)
-    → SameBetween (at + 8) (at + 8 + count) filled new → length filled ≡ length old → length new ≡ length old → HasHeader new at (header_of (with_length count c)) → Spelled new at (with_length count c)
-sized_spelled old filled new at count (free size) n live s e fits is same a b has = absurd live
-sized_spelled old filled new at count (movable bytes lock owner slot) n live s e fits is same a b has =
+pub sized_spelled : (new : List ℕ) (at count : ℕ) (c : Chunk) → IsNotFree c → slice_range new (at + 8) (at + 8 + count) ≡ sized_to (body_of c) count → HasHeader new at (header_of (with_length count c)) → Spelled new at (with_length count c)
+sized_spelled new at count (free size) live body has = absurd live
+sized_spelled new at count (movable bytes lock owner slot) live body has =
     let sized : List ℕ = sized_to bytes count in
     let len : length sized ≡ count = length-sized_to bytes count in
     let m = header_movable (length sized) lock owner slot has.chunk has.header_is in
     let t : Spelled new at (movable m.0 lock owner slot) = subst (λ (x : Chunk). Spelled new at x) m.1.0 has.spelled in
-    let inside = s.1.inside in
-    let body : slice_range new (at + 8) (at + 8 + count) ≡ sized =
-    sized_body old filled new at count bytes s.1.body (omega arith) (omega arith) (subst (λ (k : ℕ). filled ≡ overwritten old (at + 8 + k) (replicate (count - k) 0)) (sym e) is) same a b in
     let same_bytes : m.0 ≡ sized = sym t.1.body ∙ ap (λ (k : ℕ). slice_range new (at + 8) (at + 8 + k)) (m.1.1 ∙ len) ∙ body in
     subst (λ (x : List ℕ). Spelled new at (movable x lock owner slot)) same_bytes t
-sized_spelled old filled new at count (fixed bytes owner) n live s e fits is same a b has =
+sized_spelled new at count (fixed bytes owner) live body has =
     let sized : List ℕ = sized_to bytes count in
     let len : length sized ≡ count = length-sized_to bytes count in
     let m = header_fixed (length sized) owner has.chunk has.header_is in
     let t : Spelled new at (fixed m.0 owner) = subst (λ (x : Chunk). Spelled new at x) m.1.0 has.spelled in
-    let inside = s.inside in
-    let body : slice_range new (at + 8) (at + 8 + count) ≡ sized =
-    sized_body old filled new at count bytes s.body (omega arith) (omega arith) (subst (λ (k : ℕ). filled ≡ overwritten old (at + 8 + k) (replicate (count - k) 0)) (sym e) is) same a b in
     let same_bytes : m.0 ≡ sized = sym t.body ∙ ap (λ (k : ℕ). slice_range new (at + 8) (at + 8 + k)) (m.1.1 ∙ len) ∙ body in
     subst (λ (x : List ℕ). Spelled new at (fixed x owner)) same_bytes t
+
+-- where it stands in the image
+pub found_body : (image : List ℕ) (found : Found) → HeapAccepted image → (f : IsOne image found) → (slice_range image (found.place.0 - 8 + 8) (found.place.0 - 8 + 8 + length (body_of f.chunk)) ≡ body_of f.chunk) × (length (body_of f.chunk) ≡ found.length)
+found_body image found h f = let b = by_chunk f.live f.chunk (finds_spelled image found.name.0 f.live f.chunk (found.place.0 - 8) h f.finds) f.finds.named in (b.0, b.1 refl) where
+  by_chunk : (live : LiveChunk) (c : Chunk) → Spelled image (found.place.0 - 8) c → NamedHere found.name.0 live (found.place.0 - 8) c
+      → (slice_range image (found.place.0 - 8 + 8) (found.place.0 - 8 + 8 + length (body_of c)) ≡ body_of c) × (live ≡ f.live → length (body_of c) ≡ found.length)
+  by_chunk live (free size) s named = absurd named
+  by_chunk live (movable bytes lock owner slot) s named = (s.1.body, λ e. ap (λ (x : LiveChunk). length x.bytes) (named.1 ∙ e) ∙ sym f.count)
+  by_chunk live (fixed bytes owner) s named = (s.body, λ e. ap (λ (x : LiveChunk). length x.bytes) (named.1 ∙ e) ∙ sym f.count)
 
 -- ---- the chunk with another length
 
@@ -261,8 +256,11 @@ resized old filled mid new found count behind h r fits filled_is wrote is has =
     let same : SameBetween (at + 8) (at + 8 + count) filled new =
     SameBetween-then (at + 8) (at + 8 + count) filled mid new (wrote_apart filled mid (at + need count) (at + all) (at + 8) (at + 8 + count) w2 (inl (omega arith))) (wrote_apart mid new at (at + 8) (at + 8) (at + 8 + count) w3 (inr (omega arith, omega arith))) in
     let place : at + 8 ≡ found.place.0 = omega arith in
+    let was = found_body old found h one in
+    let many_bytes = was.1 in
     let spelled : Spelled new at d =
-    sized_spelled old filled new at count c found.length live (finds_spelled old found.name.0 one.live c at h f) (found_bytes old found one) (omega arith) (filled_is ∙ ap (λ (n : ℕ). overwritten old (n + found.length) zeros) (sym place)) same (omega arith) (omega arith) header in
+    sized_spelled new at count c live
+    (sized_body old filled new at count (body_of c) was.0 (omega arith) (omega arith) (filled_is ∙ ap (λ (n : ℕ). overwritten old n zeros) (let e : found.place.0 + found.length ≡ at + 8 + length (body_of c) = omega arith in e) ∙ ap (λ (n : ℕ). overwritten old (at + 8 + length (body_of c)) (replicate (count - n) 0)) (sym many_bytes)) same (omega arith) (omega arith)) header in
     let end : at + all ≡ at + total (c ∷ r.run) = omega arith in
     let behind_it : SpelledAll new (at + size_of d) (gap left) (at + total (c ∷ r.run)) =
     subst (λ (n : ℕ). SpelledAll new n (gap left) (at + total (c ∷ r.run))) (ap (λ (n : ℕ). at + n) (sym taken))
