@@ -17,3 +17,4 @@ pub mod DropReads
 pub mod PackLaws
 pub mod SeenLaws
 pub mod StretchLaws
+pub mod LargestLaws

@@ -2,11 +2,13 @@
 
 ghost use Rattle.std.specs.Prelude.{◌≡◌, ◌+◌, ◌-◌};
 ghost use Rattle.heap_model.specs.Heap.{HeapAccepted};
+ghost use Rattle.heap_model.specs.Space.{rooms, greatest};
 ghost use Rattle.heap_place.specs.Found.{IsOne};
 ghost use Rattle.heap_place.specs.Stretches.{IsAmong};
 
 use crate::found::Found;
 use crate::pack::stays;
+use crate::walks::size_if_free;
 use chunk_format::{Header, area_start};
 use raw_region::Region;
 
@@ -39,4 +41,26 @@ pub(crate) fn stretch_around(region: &Region, found: Found) -> Stretch
         here += size;
     }
     Stretch { start, end: here }
+}
+
+/// The greatest room that a stretch has, in bytes; 0 where there is no stretch.
+pub(crate) fn largest_room(region: &Region) -> u32
+    requires accepted { HeapAccepted region.now.bytes }
+    ensures { result ≡ greatest (rooms region.now.bytes) }
+{
+    let end = region.len() as u32;
+    let mut at = area_start(region);
+    let mut largest: u32 = 0;
+    let mut room = 0;
+    while at < end {
+        let (header, size) = Header::at_with_size(region, at);
+        if stays(header) {
+            largest = largest.max(room);
+            room = 0;
+        } else {
+            room += size_if_free(header);
+        }
+        at += size;
+    }
+    largest.max(room)
 }

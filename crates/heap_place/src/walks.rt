@@ -50,7 +50,7 @@ pub(crate) fn free_bytes(region: &Region) -> u32
 
 /// The size of a free chunk, and 0 of any other.
 #[inline]
-fn size_if_free(header: Header) -> u32
+pub(crate) fn size_if_free(header: Header) -> u32
     ensures { result ≡ free_by header }
 {
     match header {
