@@ -34,5 +34,5 @@ used_compacted old new used m b =
     record {
       accepted = b.frame.accepted;
       in_use = used_still old new used (same_slots old new b.frame.count) (λ slot s some empty.
-      some ((slot_unheld old slot m.accepted s).1 (sym (alike.holds slot) ∙ (slot_unheld new slot b.frame.accepted (slot_as old new slot b.frame.count s)).0 empty))) m.in_use;
+          some ((slot_unheld old slot m.accepted s).1 (sym (alike.holds slot) ∙ (slot_unheld new slot b.frame.accepted (slot_as old new slot b.frame.count s)).0 empty))) m.in_use;
     }

@@ -187,6 +187,37 @@ fn chunks_are_freed_by_their_owner(rt: HostRuntime) -> Result<(), Fail> {
     )
 }
 
+/// A locked chunk parts two stretches; the chunk between the rooms of the first moves.
+#[test]
+fn chunks_are_compacted(rt: HostRuntime) -> Result<(), Fail> {
+    check_replies(
+        &rt,
+        rt.alloc(),
+        BLANK,
+        "new a 8 1 = ok
+        new b 8 1 = ok
+        new c 8 1 = ok
+        lock c = ok 1
+        lock b = ok 1
+        set b 0 8 0x42 = ok
+        unlock b = ok 0
+        free a = ok
+        freebytes = ok 64
+        largest = ok 48
+        compact = ok
+        largest = ok 48
+        lock b = ok 1
+        read b 0 8 = ok 4242424242424242
+        unlock b = ok 0
+        unlock c = ok 0
+        largest = ok 64
+        compact = ok
+        freebytes = ok 64
+        largest = ok 64
+        new d 56 1 = ok",
+    )
+}
+
 #[test]
 fn the_image_is_written_behind_the_replies(rt: HostRuntime) -> Result<(), Fail> {
     let alloc = rt.alloc();
