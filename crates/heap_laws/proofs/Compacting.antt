@@ -32,7 +32,7 @@ use Rattle.heap_laws.proofs.Sliding.{slid_live, slid_place, slid_free, slid_room
 -- ---- the slots
 
 -- a slot is empty where it names nothing
-slot_unheld : (image : List ℕ) (slot : ℕ) → HeapAccepted image → IsSlot image slot → (u32_at image slot ≡ 0) ↔ (held image slot ≡ None)
+pub slot_unheld : (image : List ℕ) (slot : ℕ) → HeapAccepted image → IsSlot image slot → (u32_at image slot ≡ 0) ↔ (held image slot ≡ None)
 slot_unheld image slot h s = (λ e. held-is image (chunks_of image) slot (read_heap image h) ∙ empty_unheld image (chunks_of image) slot (read_heap image h) s e, λ e. by_place (u32_at image slot) refl e) where
   by_place : (place : ℕ) → u32_at image slot ≡ place → held image slot ≡ None → place ≡ 0
   by_place zero there none = refl

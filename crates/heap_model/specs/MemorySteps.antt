@@ -1,5 +1,5 @@
 -- What each call of the memory manager refuses, answers and does: one row a call, like a manual page.
-use Rattle.std.specs.Prelude.{◌≡◌, ◌<◌, ◌+◌, ◌-◌, ◌++◌, ◌⊎◌, ◌==◌, ℕ, true, false, List, [], ◌∷◌, length, not, slice_range, replicate, count_by, Option, Some, None, Result, Ok, Err}
+use Rattle.std.specs.Prelude.{◌≡◌, ◌<◌, ◌+◌, ◌-◌, ◌++◌, ◌⊎◌, ◌==◌, if◌then◌else◌, ℕ, Bool, true, false, List, [], ◌∷◌, length, not, slice_range, replicate, count_by, Option, Some, None, Result, Ok, Err}
 use Rattle.std.specs.Bool.{OnTrue}
 use Rattle.std.specs.List.{take_while}
 use Rattle.heap_model.specs.Chunk.{fixed_lock, need, is_owned_by}
@@ -233,16 +233,23 @@ row_of old call = row old (callers_map old.bytes) call
 abbrev pub MemoryStep : Memory → MemoryCall → Reply → Memory → Type 0
 MemoryStep old call reply new = StepBy (row_of old call) (AsBefore old new) (held old.bytes) reply new (held new.bytes)
 
+-- the calls that may slide chunks
+abbrev pub may_slide : MemoryCall → Bool
+may_slide (Resize name size) = true
+may_slide Compact = true
+may_slide call = false
+
 -- From an accepted heap the call does its step to an accepted heap of the same size, with as many
 -- slots and the same directory, where nothing locked has moved; also where it is refused. Of the
--- region's value its bytes alone may change, and a call that only asks leaves these too.
+-- region's value its bytes alone may change, and the count of slid ones where the call may slide
+-- chunks; a call that only asks leaves all of it.
 pub record Does (old : Memory) (call : MemoryCall) (reply : Reply) (new : Memory) : Type 0 where
   pub before : HeapAccepted old.bytes
   pub step : MemoryStep old call reply new
   pub frame : SameFrame old.bytes new.bytes
   pub still : Still old.bytes new.bytes
   pub asks : OnTrue (row_of old call).only_asks (new ≡ old)
-  pub rest : new ≡ record old { bytes = new.bytes }
+  pub rest : new ≡ record old { bytes = new.bytes; slid = if may_slide call then new.slid else old.slid }
 
 -- what a method answers, as a reply
 abbrev pub reply_of : {A : Type 0} → (A → Reply) → Result A Refusal → Reply

@@ -20,3 +20,4 @@ pub mod StretchLaws
 pub mod RoomyLaws
 pub mod ResizeLaws
 pub mod RunLaws
+pub mod LargestLaws

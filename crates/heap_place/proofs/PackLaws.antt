@@ -357,3 +357,6 @@ whole_run old start end h from to = record { before = []; mid = chunks_of old; a
 pub compacted_whole : (old new : List ℕ) (start end : ℕ) → HeapAccepted old → start ≡ area_start old → end ≡ length old → Packs old new start end → Becomes old new (packed (chunks_of old))
 compacted_whole old new start end h from to p =
     subst (λ (cs : List Chunk). Becomes old new cs) (append-nil (packed (chunks_of old))) (exactly_becomes old new (packed (chunks_of old) ++ []) (p [] (chunks_of old) [] (run_whole old start end h from to)))
+
+pub whole_exact : (old new : List ℕ) (start end : ℕ) → HeapAccepted old → start ≡ area_start old → end ≡ length old → Packs old new start end → chunks_of new ≡ packed (chunks_of old)
+whole_exact old new start end h from to p = (p [] (chunks_of old) [] (run_whole old start end h from to)).exact ∙ append-nil (packed (chunks_of old))

@@ -1,6 +1,6 @@
 -- Stretches of an image, by where they begin and end, and the search for one.
-use Rattle.std.specs.Prelude.{◌≡◌, ◌+◌, ◌-◌, ◌++◌, ◌≤◌, ◌<◌, ℕ, List, ◌∷◌, length, All}
-use Rattle.heap_model.specs.Chunk.{Chunk, movable, total, SpelledAll}
+use Rattle.std.specs.Prelude.{◌≡◌, ◌+◌, ◌-◌, ◌++◌, ◌≤◌, ◌<◌, max, ℕ, zero, suc, List, [], ◌∷◌, length, All}
+use Rattle.heap_model.specs.Chunk.{Chunk, free, movable, fixed, total, SpelledAll}
 use Rattle.heap_model.specs.Slots.{area_start}
 use Rattle.heap_model.specs.Reading.{chunks_of}
 use Rattle.heap_model.specs.Space.{NoneStays, room_of, rooms_of, stretches}
@@ -83,3 +83,16 @@ pub record SeenRooms (image : List ℕ) (size start here room : ℕ) : Type 0 wh
   pub seen : SeenUpTo image start start here
   pub room_is : room ≡ room_of seen.run
   pub short : All (λ other. other < size) (rooms_of (stretches seen.closed))
+
+-- the greatest room of some chunks, where so much room of their first stretch is in front of them
+abbrev pub greatest_behind : ℕ → List Chunk → ℕ
+greatest_behind room [] = room
+greatest_behind room (free size ∷ chunks) = greatest_behind (room + size) chunks
+greatest_behind room (movable bytes zero owner slot ∷ chunks) = greatest_behind room chunks
+greatest_behind room (movable bytes (suc count) owner slot ∷ chunks) = max room (greatest_behind 0 chunks)
+greatest_behind room (fixed bytes owner ∷ chunks) = max room (greatest_behind 0 chunks)
+
+-- of some chunks the last stretch has so much room, and the greatest of those in front of it is `largest`
+pub record HaveRooms (largest room : ℕ) (chunks : List Chunk) : Type 0 where
+  pub on : (others : List Chunk) → greatest_behind 0 (chunks ++ others) ≡ max largest (greatest_behind room others)
+  pub fits : room ≤ total chunks

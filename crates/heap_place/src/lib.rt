@@ -19,7 +19,7 @@
 //! | `resize` | gives a live chunk another length |
 //! | `owned` | makes all chunks of an owner free |
 //! | `alter` | writes another lock count or owner of a live chunk |
-//! | `stretch` | finds a stretch |
+//! | `stretch` | finds a stretch, and the greatest room of one |
 //! | `pack` | packs the chunks of each stretch, or of one |
 //! | `lift` | moves chunks up over the free chunk behind them |
 //! | `open` | opens room behind a chunk |

@@ -29,6 +29,7 @@ pub(crate) struct Outcome {
 pub(crate) fn compact(region: &mut Region) -> u32
     requires accepted { HeapAccepted region.old.bytes }
     ensures packed { Becomes region.old.bytes region.new.bytes (packed (chunks_of region.old.bytes)) }
+    ensures exact { chunks_of region.new.bytes ≡ packed (chunks_of region.old.bytes) }
     ensures moved { result ≡ moved_bytes region.old.bytes region.new.bytes }
     ensures slid { region.new.slid ≡ region.old.slid + result }
 {

@@ -7,7 +7,7 @@ ghost use Rattle.heap_model.specs.Chunk.{movable, fixed, need, fixed_lock, is_ow
 ghost use Rattle.heap_model.specs.Slots.{IsSlot};
 ghost use Rattle.heap_model.specs.Heap.{HeapAccepted, directory_of};
 ghost use Rattle.heap_model.specs.Reading.{chunks_of, held};
-ghost use Rattle.heap_model.specs.Space.{NoRun, Short, free_total, moved_bytes};
+ghost use Rattle.heap_model.specs.Space.{NoRun, Short, free_total, moved_bytes, rooms, greatest};
 ghost use Rattle.heap_model.specs.Packing.{packed, OpensBehind};
 ghost use Rattle.heap_model.specs.Resizing.{Shrinks, GrowsInPlace};
 ghost use Rattle.heap_model.specs.Placing.{SameFrame};
@@ -26,7 +26,7 @@ use crate::pack::{compact, pack_stretch};
 use crate::release::release;
 use crate::resize::{grow_in_place_at, resize_at};
 use crate::room::{Room, find_room};
-use crate::stretch::{Stretch, stretch_around, stretch_with_room};
+use crate::stretch::{Stretch, largest_room, stretch_around, stretch_with_room};
 use crate::walks::free_bytes;
 use chunk_format::size_of_body;
 use heap_model::{Name, Place};
@@ -99,6 +99,15 @@ impl Space {
         ensures { result ≡ free_total self.now.bytes }
     {
         free_bytes(&self.region)
+    }
+
+    /// The greatest room that a stretch has, in bytes: so much it would have in one run once it is packed.
+    /// 0 where there is no stretch. One walk over the chunks.
+    pub fn largest_room(&self) -> u32
+        requires accepted { HeapAccepted self.now.bytes }
+        ensures { result ≡ greatest (rooms self.now.bytes) }
+    {
+        largest_room(&self.region)
     }
 
     /// Room for a chunk of `size` bytes, header included: the front of a run of neighbouring free chunks.
@@ -267,6 +276,7 @@ impl Space {
     pub fn compact(&mut self) -> u32
         requires accepted { HeapAccepted self.old.bytes }
         ensures packed { Becomes self.old.bytes self.new.bytes (packed (chunks_of self.old.bytes)) }
+        ensures exact { chunks_of self.new.bytes ≡ packed (chunks_of self.old.bytes) }
         ensures moved { result ≡ moved_bytes self.old.bytes self.new.bytes }
         ensures slid { self.new.slid ≡ self.old.slid + result }
         ensures rest { self.new ≡ record self.old { bytes = self.new.bytes; slid = self.new.slid } }

@@ -1,7 +1,7 @@
 //! Stretches: longest runs of neighbouring chunks without one that stays.
 
 ghost use Rattle.std.specs.Prelude.{◌≡◌, ◌<◌, ◌+◌, ◌-◌, IfSome, IfNone};
-ghost use Rattle.heap_model.specs.Space.{Short};
+ghost use Rattle.heap_model.specs.Space.{Short, rooms, greatest};
 ghost use Rattle.heap_model.specs.Heap.{HeapAccepted};
 ghost use Rattle.heap_place.specs.Found.{IsOne};
 ghost use Rattle.heap_place.specs.Stretches.{IsStretch, IsAmong, HasRoom};
@@ -73,4 +73,26 @@ pub(crate) fn stretch_with_room(region: &Region, size: u32) -> Option<Stretch>
         return Some(Stretch { start, end: here });
     }
     None
+}
+
+/// The greatest room that a stretch has, in bytes; 0 where there is no stretch.
+pub(crate) fn largest_room(region: &Region) -> u32
+    requires accepted { HeapAccepted region.now.bytes }
+    ensures { result ≡ greatest (rooms region.now.bytes) }
+{
+    let end = region.len() as u32;
+    let mut at = area_start(region);
+    let mut largest: u32 = 0;
+    let mut room = 0;
+    while at < end {
+        let (header, size) = Header::at_with_size(region, at);
+        if stays(header) {
+            largest = largest.max(room);
+            room = 0;
+        } else {
+            room += size_if_free(header);
+        }
+        at += size;
+    }
+    largest.max(room)
 }

@@ -3,3 +3,4 @@ pub mod Altering
 pub mod Making
 pub mod Texts
 pub mod Recovering
+pub mod Moving

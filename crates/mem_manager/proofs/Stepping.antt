@@ -3,7 +3,7 @@
 use Rattle.std.proofs.Common.{◌≡◌, ℕ, ◌+◌, ◌-◌, ◌<◌, ◌≤◌, List, Bool, true, false, Option, Some, None, refl, sym, ap, subst, ◌∙◌, arith, inl, inr}
 use Rattle.std.proofs.lemmas.Bool.{cases_eq, eq-eqb}
 use Rattle.std.proofs.lemmas.Bool.Decides.{nat_tests}
-use Rattle.std.specs.Prelude.{◌==◌, ◌⊎◌, IsSome, Result, Ok, Err}
+use Rattle.std.specs.Prelude.{◌==◌, ◌⊎◌, if◌then◌else◌, IsSome, Result, Ok, Err}
 use Rattle.std.specs.Option.{ok_or}
 use Rattle.std.specs.Result.{IsErr, IsErrAnd}
 use Rattle.std.specs.Bool.{OnTrue}
@@ -16,7 +16,7 @@ use Rattle.heap_model.specs.Maps.{callers_map, updated, changed, changed_at}
 use Rattle.heap_model.specs.Space.{Still, place_of}
 use Rattle.heap_model.specs.Placing.{SameFrame}
 use Rattle.heap_model.specs.Refusals.{FirstBrings}
-use Rattle.heap_model.specs.MemorySteps.{Does, MemoryStep, Of, row_of, reply_of}
+use Rattle.heap_model.specs.MemorySteps.{Does, MemoryStep, Of, row_of, may_slide, reply_of}
 use Rattle.heap_model.specs.declared.call.MemoryCall.{MemoryCall}
 use Rattle.heap_model.specs.declared.call.Reply.{Reply}
 use Rattle.heap_model.specs.declared.call.Reply.TheVariants.{Refused}
@@ -64,6 +64,10 @@ asks_same : {A : Type 0} (asks : Bool) (x : A) → OnTrue asks (x ≡ x)
 asks_same true x = refl
 asks_same false x = tt
 
+nothing_slid : (slides : Bool) (region : Memory) → region ≡ record region { slid = if slides then region.slid else region.slid }
+nothing_slid true region = refl
+nothing_slid false region = refl
+
 pub unchanged : (region : Memory) (call : MemoryCall) (reply : Reply) → HeapAccepted region.bytes → MemoryStep region call reply region → Does region call reply region
 unchanged region call reply h step = record {
   before = h;
@@ -71,7 +75,7 @@ unchanged region call reply h step = record {
   frame = same_frame region.bytes h;
   still = λ name live held_there locked there. refl;
   asks = asks_same (row_of region call).only_asks region;
-  rest = refl;
+  rest = nothing_slid (may_slide call) region;
 }
 
 pub refused : (region : Memory) (call : MemoryCall) (refusal : Refusal) → HeapAccepted region.bytes → FirstBrings (row_of region call).refusals refusal → Does region call (Refused refusal) region

@@ -1,5 +1,5 @@
 //! The heap. The calls of its manager stand in the modules below: those that ask, that change a chunk
-//! where it stands, and that make and free chunks.
+//! where it stands, that make and free chunks, and that move them.
 
 ghost use Rattle.std.specs.Prelude.{◌≡◌, IfOk, IfErr, OnOk, OnErr};
 ghost use Rattle.heap_model.specs.Heap.{HeapAccepted};
@@ -8,6 +8,7 @@ ghost use Rattle.heap_check.specs.Faults.{IsFirstFault};
 mod asking;
 mod changing;
 mod making;
+mod moving;
 
 use heap_check::{HeapFault, check_heap};
 use heap_model::Place;

@@ -1,4 +1,4 @@
-//! The memory manager: chunks are made, asked for and freed by name.
+//! The memory manager: chunks are made, asked for, moved and freed by name.
 //!
 //! `Heap` owns a region that is an accepted heap. The contract of each of its methods is the step of
 //! the abstract store for that call: the reply is right, and what the image means afterwards is the

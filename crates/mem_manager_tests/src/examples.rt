@@ -40,6 +40,32 @@ fn chunks_are_made_and_freed(rt: HostRuntime) -> Result<(), Fail> {
     )
 }
 
+/// A chunk that moves overlaps where it goes to; where nothing is free in front of it, none moves.
+#[test]
+fn chunks_are_compacted(rt: HostRuntime) -> Result<(), Fail> {
+    check_lines(
+        &rt,
+        small(rt.alloc())?,
+        "handle_new 0 1 = named 16
+        handle_new 24 1 = named 20
+        handle_new 8 1 = named 24
+        largest_stretch = 40
+        compact = 0
+        free 16 = done
+        lock 20 = at 48 locks 1
+        write 20 0: 4142434445464748494a = done
+        largest_stretch = 40
+        compact = 0
+        unlock 20 = 0
+        largest_stretch = 48
+        compact = 48
+        largest_stretch = 48
+        lock 20 = at 40 locks 1
+        read 20 0 10 = x4142434445464748494a
+        lock 24 = at 72 locks 1",
+    )
+}
+
 /// A slot in front that was freed is found again.
 #[test]
 fn slots_run_out_before_bytes(rt: HostRuntime) -> Result<(), Fail> {

@@ -112,7 +112,7 @@ fn call_on_bytes(random: &mut Pcg32, alloc: Global, name: Name) -> Result<Memory
 
 /// A call that makes or frees chunks, or changes or asks for what stands in a header.
 fn call_on_chunk(random: &mut Pcg32, name: Name) -> MemoryCall {
-    match random.random_range(0u32..23) {
+    match random.random_range(0u32..26) {
         0..=5 => MemoryCall::HandleNew {
             size: any_size(random),
             owner: any_owner(random),
@@ -132,6 +132,8 @@ fn call_on_chunk(random: &mut Pcg32, name: Name) -> MemoryCall {
             owner: any_owner(random),
         },
         21 => MemoryCall::FreeBytes,
+        22 => MemoryCall::LargestStretch,
+        23..=24 => MemoryCall::Compact,
         _ => MemoryCall::FreeByOwner(any_owner(random)),
     }
 }

@@ -17,6 +17,8 @@ pub(crate) fn call_of(alloc: Global, line: &str) -> Result<MemoryCall, Fail> {
     let bytes = Bytes::of(hex::decode(alloc, digits)?);
     let call = match numbers.as_slice() {
         [] if word == "free_bytes" => MemoryCall::FreeBytes,
+        [] if word == "largest_stretch" => MemoryCall::LargestStretch,
+        [] if word == "compact" => MemoryCall::Compact,
         [number] => call_on(word, *number)?,
         [first, second] => call_with(word, *first, *second, bytes)?,
         [name, at, count] => MemoryCall::Read {
@@ -135,9 +137,9 @@ pub(crate) fn do_call(alloc: Global, heap: &mut Heap, call: &MemoryCall) -> Resu
         MemoryCall::Recover(place) => heap.recover(*place).map(Reply::Named),
         MemoryCall::FreeByOwner(owner) => heap.free_by_owner(*owner).map(Reply::Number),
         MemoryCall::FreeBytes => Ok(Reply::Number(heap.free_bytes())),
-        MemoryCall::Resize { .. } | MemoryCall::LargestStretch | MemoryCall::Compact => {
-            return Err("a call that a heap doesn't have yet")?;
-        }
+        MemoryCall::LargestStretch => Ok(Reply::Number(heap.largest_stretch())),
+        MemoryCall::Compact => Ok(Reply::Number(heap.compact())),
+        MemoryCall::Resize { .. } => return Err("a call that a heap doesn't have yet")?,
     };
     Ok(answer.unwrap_or_else(Reply::Refused))
 }

@@ -2,11 +2,9 @@
 use Rattle.std.specs.Prelude.{Bool, true, false}
 use Rattle.heap_model.specs.declared.call.Call.{Call}
 use Rattle.heap_model.specs.declared.call.Call.TheVariants.{Memory}
-use Rattle.heap_model.specs.declared.call.MemoryCall.TheVariants.{Resize, LargestStretch, Compact}
+use Rattle.heap_model.specs.declared.call.MemoryCall.TheVariants.{Resize}
 
--- No chunk grows or is compacted yet, and no stretch is looked for.
+-- No chunk grows yet.
 abbrev pub is_there : Call → Bool
 is_there (Memory (Resize name size)) = false
-is_there (Memory LargestStretch) = false
-is_there (Memory Compact) = false
 is_there (Memory call) = true

@@ -19,7 +19,7 @@ use Rattle.script_lines.specs.declared.line.Line.TheVariants.{Bind, New, On, Who
 use Rattle.script_lines.specs.declared.line.NewCall.TheVariants.{Handle, Ptr}
 use Rattle.script_lines.specs.declared.line.ChunkCall.{ChunkCall}
 use Rattle.script_lines.specs.declared.line.ChunkCall.TheVariants.{Free, SetOwner, Lock, Unlock, Size, Owner, Locks, Read, Write, Set, StrCopy}
-use Rattle.script_lines.specs.declared.line.HeapCall.TheVariants.{FreeByOwner, FreeBytes}
+use Rattle.script_lines.specs.declared.line.HeapCall.TheVariants.{FreeByOwner, FreeBytes, LargestStretch, Compact}
 
 -- ---- what labels stand for
 
@@ -66,6 +66,8 @@ call_of names (New label (Ptr size owner)) = Memory (calls.PtrNew size owner)
 call_of names (On label call) = Memory (call_on (names label.0) call)
 call_of names (Whole (FreeByOwner owner)) = Memory (calls.FreeByOwner owner)
 call_of names (Whole FreeBytes) = Memory calls.FreeBytes
+call_of names (Whole LargestStretch) = Memory calls.LargestStretch
+call_of names (Whole Compact) = Memory calls.Compact
 
 -- a line that asks for bytes
 abbrev pub is_read : Line → Bool
@@ -101,9 +103,10 @@ values_text (Locked place count) = codes " " ++ decimal count
 values_text (Data bytes) = codes " " ++ hex_text bytes
 values_text reply = []
 
--- `bind` asks for a size, which isn't printed
+-- `bind` asks for a size, and `compact` for how many bytes have moved, which aren't printed
 abbrev pub is_silent : Line → Bool
 is_silent (Bind label name) = true
+is_silent (Whole Compact) = true
 is_silent line = false
 
 abbrev pub reply_text : Bool → Reply → List ℕ

@@ -56,9 +56,9 @@ fn memory_call<A: Allowance>(memory: &A, heap: &mut Heap, call: &MemoryCall) -> 
         MemoryCall::Recover(place) => named(heap.recover(*place)),
         MemoryCall::FreeByOwner(owner) => number(heap.free_by_owner(*owner)),
         MemoryCall::FreeBytes => Reply::Number(heap.free_bytes()),
-        MemoryCall::Resize { .. } | MemoryCall::LargestStretch | MemoryCall::Compact => {
-            unreachable!()
-        }
+        MemoryCall::LargestStretch => Reply::Number(heap.largest_stretch()),
+        MemoryCall::Compact => Reply::Number(heap.compact()),
+        MemoryCall::Resize { .. } => unreachable!(),
     }
 }
 

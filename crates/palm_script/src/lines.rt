@@ -47,6 +47,8 @@ fn reply_to(heap: &mut Heap, names: &[Name], line: &Line) -> Reply
         Line::On(label, call) => reply_on(heap, names, *label, call),
         Line::Whole(HeapCall::FreeByOwner(owner)) => number(heap.free_by_owner(*owner)),
         Line::Whole(HeapCall::FreeBytes) => Reply::Number(heap.free_bytes()),
+        Line::Whole(HeapCall::LargestStretch) => Reply::Number(heap.largest_stretch()),
+        Line::Whole(HeapCall::Compact) => Reply::Number(heap.compact()),
     }
 }
 

@@ -10,7 +10,7 @@ ghost use Rattle.palm_script.specs.Lines.{hex_text, is_silent, reply_line, reply
 use heap_model::{Counted, Name, Refusal, Reply};
 use mem_manager::Locked;
 use palm_text::{Piece, WriteFault, put_pieces};
-use script_lines::Line;
+use script_lines::{HeapCall, Line};
 use std::io::Write;
 
 // ---- what a manager answers, as a reply
@@ -80,7 +80,7 @@ pub(crate) fn put_reply<W: Write>(
 fn says_nothing(line: &Line) -> bool
     ensures { result ≡ is_silent line.now }
 {
-    matches!(line, Line::Bind { .. })
+    matches!(line, Line::Bind { .. } | Line::Whole(HeapCall::Compact))
 }
 
 /// Prints `refused` with the number and the name of a refusal.

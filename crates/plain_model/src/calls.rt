@@ -48,9 +48,9 @@ impl PlainStore {
             MemoryCall::Recover(place) => self.recover(*place, before),
             MemoryCall::FreeByOwner(owner) => self.free_by_owner(*owner),
             MemoryCall::FreeBytes => Ok(Reply::Number(before.free_bytes())),
-            MemoryCall::Resize { .. } | MemoryCall::LargestStretch | MemoryCall::Compact => {
-                return None;
-            }
+            MemoryCall::LargestStretch => Ok(Reply::Number(before.largest_room())),
+            MemoryCall::Compact => Ok(Reply::Number(before.moved_bytes(after))),
+            MemoryCall::Resize { .. } => return None,
         };
         Some(answer.unwrap_or_else(Reply::Refused))
     }

@@ -47,6 +47,16 @@ pub struct Piece<'a> {
     pub live: Option<Live<'a>>,
 }
 
+impl<'a> Piece<'a> {
+    /// Whether it is a chunk that is locked or fixed.
+    pub fn stays(&self) -> bool {
+        match self.live {
+            Some(live) => live.kind != (Kind::Movable { locks: 0 }),
+            None => false,
+        }
+    }
+}
+
 /// A slot: its offset, and the place that it holds, 0 where it is free.
 #[derive(Clone, Copy)]
 struct Slot {
@@ -171,6 +181,47 @@ impl<'a> Image<'a> {
             all = all.saturating_add(run.size);
         }
         all
+    }
+
+    /// The greatest room of a stretch, 0 where there is none: the free bytes between two chunks that stay.
+    pub fn largest_room(&self) -> u32 {
+        let mut room = 0u32;
+        let mut largest = 0u32;
+        for piece in &self.pieces {
+            room = match piece.live {
+                None => room.saturating_add(piece.size),
+                Some(_) if piece.stays() => 0,
+                Some(_) => room,
+            };
+            largest = largest.max(room);
+        }
+        largest
+    }
+
+    /// The sizes together of the live chunks whose place is another in an image after this one.
+    pub fn moved_bytes(&self, after: &Image) -> u32 {
+        let mut moved = 0u32;
+        for piece in &self.pieces {
+            if let Some(live) = piece.live
+                && let Some(now) = after.piece(live.name)
+                && now.place != piece.place
+            {
+                moved = moved.saturating_add(piece.size);
+            }
+        }
+        moved
+    }
+
+    /// Whether nothing but a chunk that stays is behind a free one.
+    pub fn is_packed(&self) -> bool {
+        let mut is_behind_free = false;
+        for piece in &self.pieces {
+            if is_behind_free && !piece.stays() {
+                return false;
+            }
+            is_behind_free = piece.live.is_none();
+        }
+        true
     }
 
     /// How many slots are free.

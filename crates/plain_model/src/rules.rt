@@ -1,7 +1,7 @@
 //! What a call leaves alone, whatever it answers.
 
 use crate::calls::need;
-use crate::image::{Image, Kind, u32_at};
+use crate::image::{Image, u32_at};
 use heap_model::{MemoryCall, Name, Refusal, Reply};
 
 /// What a call did that it may not do.
@@ -15,6 +15,8 @@ pub enum Rule {
     Room,
     /// The chunk of this name moved, though it was locked or fixed, or nothing had to move.
     Moved(Name),
+    /// Compaction left a free chunk that isn't the last of its stretch.
+    Packed,
     /// The free header in front of this place was written with bits that mean nothing.
     FreeHeader(u32),
 }
@@ -36,6 +38,9 @@ pub fn broken_rule(
         && before.free_slots() == after.free_slots();
     if matches!(reply, Reply::Refused(_)) && !has_same_room {
         return Some(Rule::Room);
+    }
+    if matches!(call, MemoryCall::Compact) && !after.is_packed() {
+        return Some(Rule::Packed);
     }
     match first_moved(finds_room(call, before), before, after) {
         Some(name) => Some(Rule::Moved(name)),
@@ -77,7 +82,7 @@ fn finds_room(call: &MemoryCall, before: &Image) -> bool {
 fn first_moved(all: bool, before: &Image, after: &Image) -> Option<Name> {
     for piece in &before.pieces {
         let live = match piece.live {
-            Some(live) if all || live.kind != (Kind::Movable { locks: 0 }) => live,
+            Some(live) if all || piece.stays() => live,
             _ => continue,
         };
         match after.piece(live.name) {

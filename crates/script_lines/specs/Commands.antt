@@ -10,7 +10,7 @@ use Rattle.script_lines.specs.declared.line.NewCall.TheVariants as made
 use Rattle.script_lines.specs.declared.line.ChunkCall.TheVariants as chunk
 use Rattle.script_lines.specs.declared.line.HeapCall.TheVariants as heap
 use Rattle.script_lines.specs.declared.command.Command.{Command}
-use Rattle.script_lines.specs.declared.command.Command.TheVariants.{Bind, New, PtrNew, Free, SetOwner, Lock, Unlock, Size, Owner, Locks, Read, Write, Set, StrCopy, FreeByOwner, FreeBytes}
+use Rattle.script_lines.specs.declared.command.Command.TheVariants.{Bind, New, PtrNew, Free, SetOwner, Lock, Unlock, Size, Owner, Locks, Read, Write, Set, StrCopy, FreeByOwner, FreeBytes, Largest, Compact}
 use Rattle.script_lines.specs.declared.value.Kind.{Kind}
 use Rattle.script_lines.specs.declared.value.Kind.TheVariants as kinds
 use Rattle.script_lines.specs.declared.value.Kind.TheVariants.{Chunk}
@@ -78,6 +78,8 @@ row_of Set = record { word = codes "set"; shape = chunk_two_numbers_byte (λ lab
 row_of StrCopy = record { word = codes "strcopy"; shape = chunk_number_text (λ label at bytes. lines.On label (chunk.StrCopy at bytes)) }
 row_of FreeByOwner = record { word = codes "freeowner"; shape = byte_alone (λ owner. lines.Whole (heap.FreeByOwner owner)) }
 row_of FreeBytes = record { word = codes "freebytes"; shape = nothing (lines.Whole heap.FreeBytes) }
+row_of Largest = record { word = codes "largest"; shape = nothing (lines.Whole heap.LargestStretch) }
+row_of Compact = record { word = codes "compact"; shape = nothing (lines.Whole heap.Compact) }
 
 abbrev pub word_of : Command → List ℕ
 word_of command = (row_of command).word
@@ -90,7 +92,7 @@ line_of command values bytes = line_by (row_of command).shape values bytes
 
 -- every command
 abbrev pub commands : List Command
-commands = Bind ∷ New ∷ PtrNew ∷ Free ∷ SetOwner ∷ Lock ∷ Unlock ∷ Size ∷ Owner ∷ Locks ∷ Read ∷ Write ∷ Set ∷ StrCopy ∷ FreeByOwner ∷ FreeBytes ∷ []
+commands = Bind ∷ New ∷ PtrNew ∷ Free ∷ SetOwner ∷ Lock ∷ Unlock ∷ Size ∷ Owner ∷ Locks ∷ Read ∷ Write ∷ Set ∷ StrCopy ∷ FreeByOwner ∷ FreeBytes ∷ Largest ∷ Compact ∷ []
 
 -- the command of a word
 abbrev pub command_of : List ℕ → Option Command

@@ -31,10 +31,12 @@ pub(crate) enum Command {
     StrCopy,
     FreeByOwner,
     FreeBytes,
+    Largest,
+    Compact,
 }
 
 /// Every command.
-pub(crate) const COMMANDS: [Command; 16] = [
+pub(crate) const COMMANDS: [Command; 18] = [
     Command::Bind,
     Command::New,
     Command::PtrNew,
@@ -51,6 +53,8 @@ pub(crate) const COMMANDS: [Command; 16] = [
     Command::StrCopy,
     Command::FreeByOwner,
     Command::FreeBytes,
+    Command::Largest,
+    Command::Compact,
 ];
 
 /// A command's row: its word, which no other command has, and the kinds of the words behind it.
@@ -112,6 +116,8 @@ pub(crate) fn row_of(command: Command) -> CommandRow
         Command::StrCopy => row(b"strcopy", CHUNK_NUMBER_TEXT),
         Command::FreeByOwner => row(b"freeowner", BYTE),
         Command::FreeBytes => row(b"freebytes", NOTHING),
+        Command::Largest => row(b"largest", NOTHING),
+        Command::Compact => row(b"compact", NOTHING),
     }
 }
 
@@ -174,5 +180,7 @@ pub(crate) fn make_line(command: Command, values: &[Value], bytes: Bytes) -> Opt
         Command::FreeByOwner =>
             line_if!(values, &[Byte(owner)] => Line::Whole(HeapCall::FreeByOwner(owner))),
         Command::FreeBytes => line_if!(values, [] => Line::Whole(HeapCall::FreeBytes)),
+        Command::Largest => line_if!(values, [] => Line::Whole(HeapCall::LargestStretch)),
+        Command::Compact => line_if!(values, [] => Line::Whole(HeapCall::Compact)),
     }
 }

@@ -54,6 +54,8 @@ pub enum ChunkCall {
 pub enum HeapCall {
     FreeByOwner(u8),
     FreeBytes,
+    LargestStretch,
+    Compact,
 }
 
 impl Line {

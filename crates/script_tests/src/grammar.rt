@@ -31,6 +31,8 @@ fn put_line(text: &mut String, line: &Line) -> Result<(), AllocError> {
         Line::On(label, call) => put_call(text, label.0, call),
         Line::Whole(HeapCall::FreeByOwner(owner)) => write!(text, "freeowner {owner}"),
         Line::Whole(HeapCall::FreeBytes) => write!(text, "freebytes"),
+        Line::Whole(HeapCall::LargestStretch) => write!(text, "largest"),
+        Line::Whole(HeapCall::Compact) => write!(text, "compact"),
     }
 }
 
@@ -97,10 +99,10 @@ const COMMAND_CASES: [(&[u8], &str); 26] = [
     (b"strcopy a 8 \"x\"", "strcopy 0 8 /78;"),
     (b"freeowner 3", "freeowner 3;"),
     (b"freebytes", "freebytes;"),
+    (b"largest", "largest;"),
+    (b"compact", "compact;"),
     // no commands: others of the managers, other cases, parts, quoted words
     (b"resize a 8", "line 1 UnknownCommand"),
-    (b"largest", "line 1 UnknownCommand"),
-    (b"compact", "line 1 UnknownCommand"),
     (b"New a 8 1", "line 1 UnknownCommand"),
     (b"ne a 8 1", "line 1 UnknownCommand"),
     (b"newa 8 1", "line 1 UnknownCommand"),

@@ -96,7 +96,7 @@ fn lines_print_their_replies(rt: HostRuntime) -> Result<(), Fail> {
 }
 
 /// Images, and the lines that are run on them, each with its reply.
-const RUNS: [(&str, &str); 6] = [
+const RUNS: [(&str, &str); 7] = [
     // labels are bound
     (
         ONE_CHUNK,
@@ -183,6 +183,31 @@ const RUNS: [(&str, &str); 6] = [
         setowner b 3 = ok
         freeowner 3 = ok 1
         freebytes = ok 96",
+    ),
+    // a locked chunk parts two stretches; the chunk between the rooms of the first moves
+    (
+        BLANK,
+        "new a 8 1 = ok
+        new b 8 1 = ok
+        new c 8 1 = ok
+        lock c = ok 1
+        lock b = ok 1
+        set b 0 8 0x42 = ok
+        unlock b = ok 0
+        free a = ok
+        freebytes = ok 64
+        largest = ok 48
+        compact = ok
+        largest = ok 48
+        lock b = ok 1
+        read b 0 8 = ok 4242424242424242
+        unlock b = ok 0
+        unlock c = ok 0
+        largest = ok 64
+        compact = ok
+        freebytes = ok 64
+        largest = ok 64
+        new d 56 1 = ok",
     ),
 ];
 

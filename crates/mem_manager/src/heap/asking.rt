@@ -70,4 +70,12 @@ impl Heap {
     {
         self.space.free_bytes()
     }
+
+    /// The greatest room of a stretch, in bytes: the most that its free chunks come to once it is compacted.
+    /// A chunk takes 8 bytes more than its body, and whole units of 8. 0 where there is no stretch.
+    pub fn largest_stretch(&self) -> u32
+        ensures { Does self.now MemoryCall.LargestStretch (Reply.Number result) self.now }
+    {
+        self.space.largest_room()
+    }
 }

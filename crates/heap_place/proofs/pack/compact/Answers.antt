@@ -1,7 +1,7 @@
 use Rattle.std.proofs.Common.{[], sym, ◌∙◌}
 use Rattle.heap_model.specs.Reading.{chunks_of}
 use Rattle.heap_laws.proofs.Compacting.{packed_moved}
-use Rattle.heap_place.proofs.PackLaws.{run_whole, whole_run, compacted_whole}
+use Rattle.heap_place.proofs.PackLaws.{run_whole, whole_run, compacted_whole, whole_exact}
 use Rattle.heap_place.proofs.pack.compact.Goals as goal
 
 pub pack-requires-clause-run : goal.pack-requires-clause-run
@@ -9,6 +9,9 @@ pack-requires-clause-run c = whole_run c.args.region.now.bytes c.area_start-star
 
 pub returns-clause-packed : goal.returns-clause-packed
 returns-clause-packed c = compacted_whole c.args.region.now.bytes c.pack.new.region.bytes c.area_start-start.result c.len-end.result c.requires.accepted c.area_start-start.ensures c.len-end.ensures c.pack.ensures.packed
+
+pub returns-clause-exact : goal.returns-clause-exact
+returns-clause-exact c = whole_exact c.args.region.now.bytes c.pack.new.region.bytes c.area_start-start.result c.len-end.result c.requires.accepted c.area_start-start.ensures c.len-end.ensures c.pack.ensures.packed
 
 pub returns-clause-moved : goal.returns-clause-moved
 returns-clause-moved c =
