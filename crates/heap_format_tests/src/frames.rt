@@ -3,8 +3,8 @@
 ghost use Rattle.std.specs.Prelude.{◌≡◌, length, IfOk};
 
 use chunk_format::{
-    BlankFault, area_start, blank, blank_from, directory, has_magic, head_end, reserved, size_field,
-    slot_count,
+    BlankFault, area_start, blank, blank_from, directory, has_magic, head_end, reserved,
+    size_field, slot_count,
 };
 use heap_model::Allowance;
 use raw_region::Region;
