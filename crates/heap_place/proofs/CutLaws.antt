@@ -263,7 +263,7 @@ claimed_write old h z new at count owner slot accepted r s empty h_is header z_i
     let replaces : Replaces old new r.before (free size ∷ []) (movable (replicate count 0) 0 owner slot ∷ []) r.after at = area_replaces old new r.before (free size ∷ []) (movable (replicate count 0) 0 owner slot ∷ []) r.after at is (omega arith) wrote (spelled, omega arith) in
     let now : u32_at new slot ≡ at + 8 = ap (λ (x : List ℕ). u32_at x slot) new_is ∙ u32_at-written (at + 8) slot z (omega arith) (omega arith) in
     let others : OtherSlots old new slot = record { same = λ t ts ne. area_slots old new at (at + (size + 0)) t wrote ts (omega arith) (λ e. ne (sym (slot_of e))) } in
-    let c = claimed old new r.before r.after at size (replicate count 0) owner slot heap replaces s empty now others in (
+    let c = claimed old new r.before r.after at (free size) (replicate count 0) owner slot tt heap replaces s empty now others in (
       claimed_front old new at size (movable (replicate count 0) 0 owner slot) accepted r takes (becomes_heap old new (r.before ++ movable (replicate count 0) 0 owner slot ∷ r.after) replaces.head c),
       replaced_plain old new r.before (free size ∷ []) (movable (replicate count 0) 0 owner slot ∷ []) r.after at r.chunks c replaces (live_plain new at (movable (replicate count 0) 0 owner slot) refl (omega arith)),
     ) where
