@@ -1,6 +1,6 @@
 -- Lists of chunks in which free neighbours are made one: what is the same of them.
 use Rattle.std.proofs.Common.{Bool, false, cond, ◌≡◌, ℕ, zero, suc, ◌+◌, ◌<◌, ◌≤◌, List, [], ◌∷◌, ◌++◌, length, Option, Some, None, refl, sym, ap, subst, ◌∙◌, append-nil, arith, inl, inr}
-use Rattle.std.specs.Prelude.{count_by, sum_by, filter, ◌==◌, ◌↔◌, if◌then◌else◌}
+use Rattle.std.specs.Prelude.{All, count_by, sum_by, filter, ◌==◌, ◌↔◌, if◌then◌else◌}
 use Rattle.std.proofs.lemmas.List.Sums.{sum_by-cons}
 use Rattle.heap_model.specs.Chunk.{Chunk, free, movable, fixed, fixed_lock, need, total, free_size}
 use Rattle.heap_model.specs.Placed.{EveryPlaced, AnyPlaced}
@@ -413,3 +413,26 @@ pub no_run-layout : (cs ds : List Chunk) (size : ℕ) → merged cs ≡ merged d
 no_run-layout cs ds size e h =
     let some : sum_by free_size [] < size = h [] [] cs refl tt in
     below-no_run ds size some (subst (λ (xs : List Chunk). AllBelow size xs) e (no_run-below cs size h))
+
+-- where each stretch has less room there is no run of so many bytes
+onto_short : (n size : ℕ) (ms : List (Option ℕ)) → All (λ k. k < size) (marked (mark_onto n ms)) → (n < size) × All (λ k. k < size) (marked ms)
+onto_short n size [] h = (All-head (λ (k : ℕ). k < size) n [] h, All-nil (λ (k : ℕ). k < size))
+onto_short n size (None ∷ ms) h = (All-head (λ (k : ℕ). k < size) n (marked ms) h, All-tail (λ (k : ℕ). k < size) n (marked ms) h)
+onto_short n size (Some room ∷ ms) h =
+    let all : n + room < size = All-head (λ (k : ℕ). k < size) (n + room) (marked ms) h in
+    (omega arith, All-cons (λ (k : ℕ). k < size) room (marked ms) (omega arith) (All-tail (λ (k : ℕ). k < size) (n + room) (marked ms) h))
+
+short_below : (cs : List Chunk) (size : ℕ) → 0 < size → All (λ k. k < size) (marked (marks (runs_between cs))) → AllBelow size cs
+short_below [] size some h = All-nil (λ (c : Chunk). free_size c < size)
+short_below (free n ∷ cs) size some h =
+    let t = onto_short n size (marks (runs_between cs)) (subst (λ (ms : List (Option ℕ)). All (λ k. k < size) (marked ms)) (marks_onto (free n) (runs_between cs)) h) in
+    All-cons (λ (c : Chunk). free_size c < size) (free n) cs t.0 (short_below cs size some t.1)
+short_below (movable bytes zero owner slot ∷ cs) size some h =
+    let t = onto_short 0 size (marks (runs_between cs)) (subst (λ (ms : List (Option ℕ)). All (λ k. k < size) (marked ms)) (marks_onto (movable bytes 0 owner slot) (runs_between cs)) h) in
+    All-cons (λ (c : Chunk). free_size c < size) (movable bytes 0 owner slot) cs some (short_below cs size some t.1)
+short_below (movable bytes (suc count) owner slot ∷ cs) size some h = All-cons (λ (c : Chunk). free_size c < size) (movable bytes (suc count) owner slot) cs some (short_below cs size some h)
+short_below (fixed bytes owner ∷ cs) size some h = All-cons (λ (c : Chunk). free_size c < size) (fixed bytes owner) cs some (short_below cs size some h)
+
+pub short_no_run : (cs : List Chunk) (size : ℕ) → 0 < size → All (λ room. room < size) (rooms_of (stretches cs)) → NoRun cs size
+short_no_run cs size some h =
+    below-no_run cs size some (short_below (merged cs) size some (subst (λ (rs : List ℕ). All (λ room. room < size) rs) (sym (rooms-merged cs) ∙ marked_rooms (runs_between (merged cs))) h))

@@ -28,3 +28,4 @@ pub mod Compacting
 pub mod Stretches
 pub mod Resizings
 pub mod Relocating
+pub mod Fitting
