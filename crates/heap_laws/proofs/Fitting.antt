@@ -1,8 +1,9 @@
 -- Whether so many bytes fit: into a run of free chunks, into a stretch, or into a chunk and what is free
 -- behind it.
-use Rattle.std.proofs.Common.{◌≡◌, ℕ, ◌+◌, ◌<◌, ◌≤◌, List, [], ◌∷◌, ◌++◌, length, refl, sym, ap, subst, ◌∙◌, arith, Bool, true, false, cond, Option, Some, None, zero, suc}
+use Rattle.std.proofs.Common.{sum_by, ◌≡◌, ℕ, ◌+◌, ◌<◌, ◌≤◌, List, [], ◌∷◌, ◌++◌, length, refl, sym, ap, subst, ◌∙◌, arith, Bool, true, false, cond, Option, Some, None, zero, suc}
+use Rattle.std.proofs.lemmas.List.Sums.{sum_by-cons}
 use Rattle.std.proofs.lemmas.List.Elements.{All-nil, All-cons, All-head, All-tail, All-weaker}
-use Rattle.std.specs.Prelude.{All}
+use Rattle.std.specs.Prelude.{◌==◌, All}
 use Rattle.heap_model.specs.Chunk.{Chunk, free, movable, fixed, need, size_of, total, free_size}
 use Rattle.heap_model.specs.Slots.{area_start}
 use Rattle.heap_model.specs.Heap.{HeapAccepted}
@@ -104,10 +105,10 @@ rooms_below cs size low =
 freed_within : (cs : List Chunk) (name : ℕ) → sum_by free_size (with_freed cs name) ≤ total cs
 freed_within [] name = let none : sum_by free_size [] ≡ 0 = refl in omega arith
 freed_within (free size ∷ cs) name = let e = sum_by-cons free_size (free size) (with_freed cs name) in let ih = freed_within cs name in omega arith
-freed_within (movable bytes lock owner slot ∷ cs) name = freed_one (slot == name) where
-  freed_one : (b : Bool) → sum_by free_size (cond b (free (need (length bytes))) (movable bytes lock owner slot) ∷ with_freed cs name) ≤ need (length bytes) + total cs
-  freed_one true = let e = sum_by-cons free_size (free (need (length bytes))) (with_freed cs name) in let ih = freed_within cs name in omega arith
-  freed_one false = let e = sum_by-cons free_size (movable bytes lock owner slot) (with_freed cs name) in let ih = freed_within cs name in omega arith
+freed_within (movable bytes lock owner slot ∷ cs) name = freed_one (slot == name) (freed_within cs name) where
+  freed_one : (b : Bool) → sum_by free_size (with_freed cs name) ≤ total cs → sum_by free_size (cond b (free (need (length bytes))) (movable bytes lock owner slot) ∷ with_freed cs name) ≤ need (length bytes) + total cs
+  freed_one true ih = let e = sum_by-cons free_size (free (need (length bytes))) (with_freed cs name) in omega arith
+  freed_one false ih = let e = sum_by-cons free_size (movable bytes lock owner slot) (with_freed cs name) in omega arith
 freed_within (fixed bytes owner ∷ cs) name = let e = sum_by-cons free_size (fixed bytes owner) (with_freed cs name) in let ih = freed_within cs name in omega arith
 
 free_within : (cs : List Chunk) → sum_by free_size cs ≤ total cs

@@ -1,0 +1,34 @@
+-- What another length for a chunk comes to, wherever its bytes are found: by names, since the chunk and
+-- others of one stretch may have moved.
+use Rattle.std.specs.Prelude.{◌≡◌, ◌≤◌, ◌+◌, ◌-◌, ◌++◌, ℕ, List, ◌∷◌, length, Some}
+use Rattle.heap_model.specs.Chunk.{Chunk, movable, need, total}
+use Rattle.heap_model.specs.Slots.{area_start}
+use Rattle.heap_model.specs.Meaning.{LiveChunk}
+use Rattle.heap_model.specs.Reading.{held}
+use Rattle.heap_model.specs.Maps.{sized}
+use Rattle.heap_model.specs.Space.{Still, free_behind, room_of}
+use Rattle.heap_model.specs.Placing.{SameFrame}
+use Rattle.heap_model.specs.Packing.{WholeStretch}
+use Rattle.heap_place.specs.declared.found.Found.{Found}
+
+-- a movable chunk without locks has this name
+pub record IsLoose (image : List ℕ) (name : ℕ) : Type 0 where
+  pub live : LiveChunk
+  pub is_held : held image name ≡ Some live
+  pub unlocked : live.lock ≡ 0
+
+-- a name's chunk has so many bytes: its first ones, or all of them and zeros behind
+pub record Resized (old new : List ℕ) (name count : ℕ) : Type 0 where
+  pub frame : SameFrame old new
+  pub map : (other : ℕ) → held new other ≡ sized (held old) name count other
+  pub still : Still old new
+
+-- it has so many, with what is free directly behind it
+abbrev pub FitsInPlace : List ℕ → ℕ → ℕ → Type 0
+FitsInPlace image name size = (live : LiveChunk) → held image name ≡ Some live → size ≤ need (length live.bytes) + free_behind image name
+
+-- the room of its stretch and its own bytes are so many
+abbrev pub FitsInStretch : List ℕ → Found → ℕ → Type 0
+FitsInStretch image found size =
+    (before front : List Chunk) (bytes : List ℕ) (owner slot : ℕ) (back after : List Chunk) → WholeStretch image before (front ++ movable bytes 0 owner slot ∷ back) after
+    → found.place.0 - 8 ≡ area_start image + total before + total front → size ≤ need (length bytes) + room_of (front ++ back)
