@@ -27,8 +27,15 @@ pub record Resized (old new : List ℕ) (name count : ℕ) : Type 0 where
 abbrev pub FitsInPlace : List ℕ → ℕ → ℕ → Type 0
 FitsInPlace image name size = (live : LiveChunk) → held image name ≡ Some live → size ≤ need (length live.bytes) + free_behind image name
 
--- the room of its stretch and its own bytes are so many
-abbrev pub FitsInStretch : List ℕ → Found → ℕ → Type 0
-FitsInStretch image found size =
-    (before front : List Chunk) (bytes : List ℕ) (owner slot : ℕ) (back after : List Chunk) → WholeStretch image before (front ++ movable bytes 0 owner slot ∷ back) after
-    → found.place.0 - 8 ≡ area_start image + total before + total front → size ≤ need (length bytes) + room_of (front ++ back)
+-- a movable chunk without locks was found, and the room of its stretch and its own bytes are so many
+pub record FitsInStretch (image : List ℕ) (found : Found) (size : ℕ) : Type 0 where
+  pub before : List Chunk
+  pub front : List Chunk
+  pub bytes : List ℕ
+  pub owner : ℕ
+  pub back : List Chunk
+  pub after : List Chunk
+  pub whole : WholeStretch image before (front ++ movable bytes 0 owner found.name.0 ∷ back) after
+  pub there : found.place.0 - 8 ≡ area_start image + total before + total front
+  pub many : found.length ≡ length bytes
+  pub enough : size ≤ need (length bytes) + room_of (front ++ back)

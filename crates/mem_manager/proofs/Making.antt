@@ -30,7 +30,8 @@ use Rattle.heap_place.specs.declared.found.Found.{Found}
 use Rattle.heap_place.specs.Found.{IsFound}
 use Rattle.heap_place.proofs.WalkLaws.{free_within}
 use Rattle.mem_manager.specs.Lookup.{IsManaged}
-use Rattle.mem_manager.proofs.Stepping.{known, of_known, not_of_known, is_known, refused, OnlyBytes, held_updated, still_others}
+use Rattle.mem_manager.proofs.Stepping.{known, of_known, not_of_known, is_known, refused, OnlyBytes, still_others}
+use Rattle.heap_laws.proofs.Updating.{held_updated}
 
 -- ---- free
 

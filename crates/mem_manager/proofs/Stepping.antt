@@ -29,6 +29,7 @@ use Rattle.heap_laws.proofs.Finding.{finds_held, callers_some}
 use Rattle.heap_laws.proofs.Altering.{finds_place}
 use Rattle.heap_laws.proofs.Becoming.{same_frame}
 use Rattle.heap_laws.proofs.Exchanging.{ChangesName}
+use Rattle.heap_laws.proofs.Updating.{held_updated}
 use Rattle.master_table.proofs.TableLaws.{used_still}
 use Rattle.heap_place.specs.declared.found.Found.{Found}
 use Rattle.heap_place.specs.Found.{IsFound, IsOne}
@@ -97,12 +98,6 @@ for_none None is none = cc
 for_none (Some value) is none = absurd cc
 
 -- ---- one name is changed
-
-pub held_updated : (old new : List ℕ) (name : ℕ) (now : Option LiveChunk) (there : Option ℕ) → ChangesName old new name now there → (n : ℕ) → held new n ≡ updated (held old) name now n
-held_updated old new name now there ch n = elim (cases_eq n name) [
-  | inl same ↦ ap (held new) same ∙ ch.here ∙ sym (cond-true (n == name) _ _ (eq-eqb n name same))
-  | inr apart ↦ ch.others n apart ∙ sym (cond-false (n == name) _ _ (grind (arith, nat_tests)))
-]
 
 pub still_others : (old new : List ℕ) (name : ℕ) (now : Option LiveChunk) (there : Option ℕ) → ChangesName old new name now there → (held old name ≡ None) ⊎ (now ≡ None) → Still old new
 still_others old new name now there ch gone_or_made n live held_there locked is_there = elim (cases_eq n name) [
