@@ -33,6 +33,10 @@ free_inside there at (fixed bytes owner ∷ cs) sizes h = elim h [
 pub plain_word : (word size : ℕ) → word ≡ 2 ^ 31 + size → size < 2 ^ 24 → IsPlain word
 plain_word word size is small = omega arith
 
+-- so the free one in front has, and those behind it
+pub free_plain : (image : List ℕ) (at size : ℕ) (cs : List Chunk) → u32_at image at ≡ 2 ^ 31 + size → size < 2 ^ 24 → ((there : ℕ) → AnyPlaced (IsFreeAt there) (at + size) cs → IsPlain (u32_at image there)) → (there : ℕ) → AnyPlaced (IsFreeAt there) at (free size ∷ cs) → IsPlain (u32_at image there)
+free_plain image at size cs is small behind there h = elim h [ inl here ↦ subst (λ (k : ℕ). IsPlain (u32_at image k)) here (plain_word (u32_at image at) size is small) | inr later ↦ behind there later ]
+
 -- no live chunk is one
 pub live_plain : (image : List ℕ) (at : ℕ) (chunk : Chunk) → free_size chunk ≡ 0 → 8 ≤ size_of chunk → (there : ℕ) → AnyPlaced (IsFreeAt there) at (chunk ∷ []) → IsPlain (u32_at image there)
 live_plain image at (free size) none least there h = absurd (omega arith)

@@ -278,6 +278,7 @@ impl Space {
         ensures packed { Becomes self.old.bytes self.new.bytes (packed (chunks_of self.old.bytes)) }
         ensures exact { chunks_of self.new.bytes ≡ packed (chunks_of self.old.bytes) }
         ensures moved { result ≡ moved_bytes self.old.bytes self.new.bytes }
+        ensures plain { WritesPlain self.old.bytes self.new.bytes }
         ensures slid { self.new.slid ≡ self.old.slid + result }
         ensures rest { self.new ≡ record self.old { bytes = self.new.bytes; slid = self.new.slid } }
     {
@@ -313,6 +314,7 @@ impl Space {
         ensures packed { PacksStretch self.old.bytes self.new.bytes stretch }
         ensures frame { SameFrame self.old.bytes self.new.bytes }
         ensures moved { MovesInStretch self.old.bytes stretch result }
+        ensures plain { WritesPlain self.old.bytes self.new.bytes }
         ensures slid { self.new.slid ≡ self.old.slid + result }
         ensures rest { self.new ≡ record self.old { bytes = self.new.bytes; slid = self.new.slid } }
     {
