@@ -21,11 +21,6 @@ use Rattle.heap_place.proofs.CutLaws.{header_movable, wrote_words, wrote_head}
 
 -- ---- whose body lies in some bytes
 
-body_high : (slot place at : ℕ) (c : Chunk) → BodyHere slot place at c → at + 8 ≡ place
-body_high slot place at (free size) b = absurd b
-body_high slot place at (movable bytes lock owner named) b = b.1
-body_high slot place at (fixed bytes owner) b = absurd b
-
 -- a slot that holds a place among the bytes of a chunk holds the place of that chunk
 whose : (old : List ℕ) (front : List Chunk) (c : Chunk) (back : List Chunk) (at slot : ℕ) → IsHeap old (front ++ c ∷ back) → at ≡ area_start old + total front → IsSlot old slot → at < u32_at old slot → u32_at old slot ≤ at + size_of c → BodyHere slot (u32_at old slot) at c
 whose old front c back at slot h there s low high =
