@@ -322,7 +322,7 @@ stretch_behind room (fixed bytes owner ∷ cs) n = absurd n
 pub stretch_packed : (cs : List Chunk) → NoneStays cs → packed cs ≡ lives cs ++ gap (room_of cs)
 stretch_packed cs n = stretch_behind 0 cs n ∙ ap (λ (k : ℕ). lives cs ++ gap k) (let e : 0 + room_of cs ≡ room_of cs = omega arith in e)
 
-lives_twice : (cs : List Chunk) → lives (lives cs) ≡ lives cs
+pub lives_twice : (cs : List Chunk) → lives (lives cs) ≡ lives cs
 lives_twice [] = refl
 lives_twice (free size ∷ cs) = lives_twice cs
 lives_twice (movable bytes lock owner slot ∷ cs) = ap (λ (ds : List Chunk). movable bytes lock owner slot ∷ ds) (lives_twice cs)

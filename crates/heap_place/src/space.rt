@@ -329,6 +329,7 @@ impl Space {
         requires unlocked { found.lock ≡ 0 }
         ensures opened { OpensBehind self.old.bytes self.new.bytes (found.place.0 - 8) }
         ensures frame { SameFrame self.old.bytes self.new.bytes }
+        ensures plain { WritesPlain self.old.bytes self.new.bytes }
         ensures rest { self.new ≡ record self.old { bytes = self.new.bytes; slid = self.new.slid } }
     {
         let stretch = stretch_around(&self.region, found);
