@@ -278,6 +278,7 @@ impl Space {
         ensures packed { Becomes self.old.bytes self.new.bytes (packed (chunks_of self.old.bytes)) }
         ensures exact { chunks_of self.new.bytes ≡ packed (chunks_of self.old.bytes) }
         ensures moved { result ≡ moved_bytes self.old.bytes self.new.bytes }
+        ensures plain { WritesPlain self.old.bytes self.new.bytes }
         ensures slid { self.new.slid ≡ self.old.slid + result }
         ensures rest { self.new ≡ record self.old { bytes = self.new.bytes; slid = self.new.slid } }
     {
@@ -322,6 +323,7 @@ impl Space {
         ensures packed { PacksStretch self.old.bytes self.new.bytes stretch }
         ensures frame { SameFrame self.old.bytes self.new.bytes }
         ensures moved { MovesInStretch self.old.bytes stretch result }
+        ensures plain { WritesPlain self.old.bytes self.new.bytes }
         ensures slid { self.new.slid ≡ self.old.slid + result }
         ensures rest { self.new ≡ record self.old { bytes = self.new.bytes; slid = self.new.slid } }
     {
@@ -336,6 +338,7 @@ impl Space {
         requires unlocked { found.lock ≡ 0 }
         ensures opened { OpensBehind self.old.bytes self.new.bytes (found.place.0 - 8) }
         ensures frame { SameFrame self.old.bytes self.new.bytes }
+        ensures plain { WritesPlain self.old.bytes self.new.bytes }
         ensures rest { self.new ≡ record self.old { bytes = self.new.bytes; slid = self.new.slid } }
     {
         let stretch = stretch_around(&self.region, found);
