@@ -10,7 +10,7 @@ use Rattle.heap_model.specs.Heap.{HeapAccepted}
 use Rattle.heap_model.specs.Meaning.{LiveChunk}
 use Rattle.heap_model.specs.Reading.{held}
 use Rattle.heap_model.specs.Maps.{changed, sized}
-use Rattle.heap_model.specs.Space.{ShortFor, Short, free_behind, free_front, place_of, room_of}
+use Rattle.heap_model.specs.Space.{ShortFor, Short, FitsInPlace, free_behind, free_front, place_of, room_of}
 use Rattle.heap_model.specs.Placing.{Finds}
 use Rattle.heap_model.specs.Layout.{IsRoom}
 use Rattle.heap_model.specs.Packing.{SlidesOneStretch, OpensBehind}
@@ -31,7 +31,7 @@ use Rattle.heap_place.specs.Found.{IsFound, IsOne}
 use Rattle.heap_place.specs.Relocation.{RelocatesFound}
 use Rattle.heap_place.specs.Resizes.{TellsWhetherInPlace}
 use Rattle.heap_place.specs.Stretches.{IsAmong, HasRoomOf}
-use Rattle.heap_compact.specs.Resized.{IsLoose, Resized, FitsInPlace, FitsInStretch}
+use Rattle.heap_compact.specs.Resized.{IsLoose, Resized, FitsInStretch}
 
 -- what was found is the chunk of its own name
 pub one_of : (image : List ℕ) (name : ℕ) (found : Found) → IsFound image name found → IsOne image found

@@ -6,7 +6,7 @@ use Rattle.heap_model.specs.Slots.{area_start}
 use Rattle.heap_model.specs.Meaning.{LiveChunk}
 use Rattle.heap_model.specs.Reading.{held}
 use Rattle.heap_model.specs.Maps.{sized}
-use Rattle.heap_model.specs.Space.{Still, free_behind, room_of}
+use Rattle.heap_model.specs.Space.{Still, room_of}
 use Rattle.heap_model.specs.Placing.{SameFrame}
 use Rattle.heap_model.specs.Packing.{WholeStretch}
 use Rattle.heap_place.specs.declared.found.Found.{Found}
@@ -22,10 +22,6 @@ pub record Resized (old new : List ℕ) (name count : ℕ) : Type 0 where
   pub frame : SameFrame old new
   pub map : (other : ℕ) → held new other ≡ sized (held old) name count other
   pub still : Still old new
-
--- it has so many, with what is free directly behind it
-abbrev pub FitsInPlace : List ℕ → ℕ → ℕ → Type 0
-FitsInPlace image name size = (live : LiveChunk) → held image name ≡ Some live → size ≤ need (length live.bytes) + free_behind image name
 
 -- a movable chunk without locks was found, and the room of its stretch and its own bytes are so many
 pub record FitsInStretch (image : List ℕ) (found : Found) (size : ℕ) : Type 0 where

@@ -4,10 +4,10 @@ ghost use Rattle.std.specs.Prelude.{◌≡◌, ◌≢◌, ◌≤◌};
 ghost use Rattle.std.specs.Bool.{OnTrue, OnFalse};
 ghost use Rattle.heap_model.specs.Chunk.{need};
 ghost use Rattle.heap_model.specs.Heap.{HeapAccepted, directory_of};
-ghost use Rattle.heap_model.specs.Space.{ShortFor};
+ghost use Rattle.heap_model.specs.Space.{ShortFor, FitsInPlace};
 ghost use Rattle.heap_model.specs.Layout.{IsRoom};
 ghost use Rattle.heap_place.specs.Found.{IsOne};
-ghost use Rattle.heap_compact.specs.Resized.{IsLoose, Resized, FitsInPlace, FitsInStretch};
+ghost use Rattle.heap_compact.specs.Resized.{IsLoose, Resized, FitsInStretch};
 
 use crate::making::room_by_packing;
 use chunk_format::{chunk_size, size_of_body};
