@@ -20,14 +20,14 @@ onto_twice m n (free k ∷ cs) = ap (λ (x : ℕ). free x ∷ cs) (let e : m + n
 onto_twice m n (movable bytes lock owner slot ∷ cs) = refl
 onto_twice m n (fixed bytes owner ∷ cs) = refl
 
--- the same for what sees of a free chunk only how much further on the others begin
+-- what sees of a free chunk only how much further on the others begin sees two in a row as one
 pub onto_shifted : {A : Type 0} (f : ℕ → List Chunk → A) → ((at n : ℕ) (cs : List Chunk) → f at (free n ∷ cs) ≡ f (at + n) cs) → (at n : ℕ) (cs : List Chunk) → f at (free_onto n cs) ≡ f (at + n) cs
 onto_shifted f shifts at n [] = shifts at n []
 onto_shifted f shifts at n (free m ∷ cs) = shifts at (n + m) cs ∙ ap (λ (k : ℕ). f k cs) (let e : at + (n + m) ≡ at + n + m = omega arith in e) ∙ sym (shifts (at + n) m cs)
 onto_shifted f shifts at n (movable bytes lock owner slot ∷ cs) = shifts at n (movable bytes lock owner slot ∷ cs)
 onto_shifted f shifts at n (fixed bytes owner ∷ cs) = shifts at n (fixed bytes owner ∷ cs)
 
--- and for what adds its size
+-- and so does what adds its size
 onto_sum : (sum : List Chunk → ℕ) → ((n : ℕ) (cs : List Chunk) → sum (free n ∷ cs) ≡ n + sum cs) → (n : ℕ) (cs : List Chunk) → sum (free_onto n cs) ≡ n + sum cs
 onto_sum sum each n cs = let e : 0 + sum (free_onto n cs) ≡ 0 + n + sum cs = onto_shifted (λ at cs. at + sum cs) (λ at n cs. let e = each n cs in omega arith) 0 n cs in omega arith
 

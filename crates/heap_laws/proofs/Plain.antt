@@ -35,7 +35,7 @@ free_inside there at (fixed bytes owner ∷ cs) sizes h = elim h [
 pub plain_word : (word size : ℕ) → word ≡ 2 ^ 31 + size → size < 2 ^ 24 → IsPlain word
 plain_word word size is small = omega arith
 
--- so the free one in front has, and those behind it
+-- so has the free one in front of some, if those have
 pub free_plain : (image : List ℕ) (at size : ℕ) (cs : List Chunk) → u32_at image at ≡ 2 ^ 31 + size → size < 2 ^ 24 → ((there : ℕ) → AnyPlaced (IsFreeAt there) (at + size) cs → IsPlain (u32_at image there)) → (there : ℕ) → AnyPlaced (IsFreeAt there) at (free size ∷ cs) → IsPlain (u32_at image there)
 free_plain image at size cs is small behind there h = elim h [ inl here ↦ subst (λ (k : ℕ). IsPlain (u32_at image k)) here (plain_word (u32_at image at) size is small) | inr later ↦ behind there later ]
 
