@@ -1,11 +1,11 @@
 -- The steps of calls that make chunks and free them.
-use Rattle.std.proofs.Common.{◌≡◌, ◌≢◌, ℕ, ◌+◌, ◌<◌, ◌≤◌, List, ◌++◌, length, replicate, Option, Some, None, refl, sym, ap, subst, ◌∙◌, arith, inl, inr}
+use Rattle.std.proofs.Common.{◌≡◌, ◌≢◌, ℕ, ◌+◌, ◌<◌, ◌≤◌, List, length, replicate, Option, Some, None, refl, sym, ap, subst, ◌∙◌, arith, inl, inr}
 use Rattle.std.proofs.lemmas.List.{length-replicate}
-use Rattle.std.specs.Prelude.{count_by}
+use Rattle.std.specs.Prelude.{count_by, IfSome}
+use Rattle.master_table.specs.declared.table.FreeSlot.{FreeSlot}
 use Rattle.heap_model.specs.Memory.{Memory}
-use Rattle.heap_model.specs.Chunk.{Chunk, movable, fixed, fixed_lock, need, is_owned_by}
-use Rattle.heap_model.specs.Slots.{area_start}
-use Rattle.heap_model.specs.Heap.{IsHeap, HeapAccepted}
+use Rattle.heap_model.specs.Chunk.{movable, fixed, fixed_lock, need, is_owned_by}
+use Rattle.heap_model.specs.Heap.{HeapAccepted}
 use Rattle.heap_model.specs.Meaning.{LiveChunk}
 use Rattle.heap_model.specs.Reading.{chunks_of, held}
 use Rattle.heap_model.specs.Maps.{callers_map}
@@ -21,20 +21,17 @@ use Rattle.master_table.specs.Table.{IsFirstEmpty, NotAmong}
 use Rattle.master_table.proofs.TableLaws.{used_fewer, used_apart, used_set}
 use Rattle.heap_laws.proofs.Meanings.{held-is, empty_unheld}
 use Rattle.heap_laws.proofs.Slots.{same_slots}
-use Rattle.heap_laws.proofs.Chunks.{total-append, SpelledAll-end}
 use Rattle.heap_laws.proofs.Accepted.{heap_of_read}
-use Rattle.heap_laws.proofs.Freeing.{free_sum}
 use Rattle.heap_laws.proofs.Exchanging.{ChangesName}
 use Rattle.heap_laws.proofs.Changing.{claim_changes, room_unheld}
 use Rattle.heap_laws.proofs.Owning.{owned-merged, owned_held, owned_place}
 use Rattle.heap_place.specs.declared.found.Found.{Found}
 use Rattle.heap_place.specs.Found.{IsFound}
-use Rattle.heap_place.proofs.WalkLaws.{free_within}
 use Rattle.heap_laws.proofs.Becoming.{frame_then}
 use Rattle.heap_laws.proofs.Compacting.{slides_alike}
 use Rattle.mem_manager.specs.Lookup.{IsManaged}
-use Rattle.mem_manager.proofs.Moving.{BytesAndSlid, rest_then, held_then, still_then}
-use Rattle.mem_manager.proofs.Stepping.{known, of_known, not_of_known, is_known, refused, OnlyBytes, still_others}
+use Rattle.mem_manager.proofs.Moving.{BytesAndSlid, rest_then, held_then, still_then, first_slid, used_slid}
+use Rattle.mem_manager.proofs.Stepping.{known, of_known, not_of_known, is_known, refused, OnlyBytes, still_others, used_altered}
 use Rattle.heap_laws.proofs.Updating.{held_updated}
 
 -- ---- free
@@ -146,3 +143,30 @@ owner_freed old new owner count h caller b counted rest = record {
   asks = tt;
   rest = rest;
 }
+
+-- ---- where chunks of one stretch have slid before
+
+pub new_claimed : (old mid new : List ℕ) (at room size owner slot before : ℕ) → HeapAccepted old → SlidesOneStretch old mid → IsFirstEmpty old slot before → IsRoom mid at room → need size ≤ room → Exchanges mid new at (in_front (movable (replicate size 0) 0 owner slot))
+    → ChangesName mid new slot (Some (zeros size 0 owner)) (Some (at + 8))
+new_claimed old mid new at room size owner slot before h s first r fits x =
+    new_changes mid new at room size owner slot s.becomes.frame.accepted r fits (slot_unheld mid slot before s.becomes.frame.accepted (first_slid old mid slot before h s first)) x
+
+pub new_unheld : (old mid : List ℕ) (slot before : ℕ) → HeapAccepted old → SlidesOneStretch old mid → IsFirstEmpty old slot before → held mid slot ≡ None
+new_unheld old mid slot before h s first = slot_unheld mid slot before s.becomes.frame.accepted (first_slid old mid slot before h s first)
+
+-- the slot that was found, of the region that is the heap's value
+pub as_first : (region read : Memory) (result : Option FreeSlot) (slot : FreeSlot) → read ≡ region → result ≡ Some slot → IfSome result (λ slot. IsFirstEmpty read.bytes slot.name.0 slot.before) → IsFirstEmpty region.bytes slot.name.0 slot.before
+as_first region read result slot same is first =
+    subst (λ (m : Memory). IsFirstEmpty m.bytes slot.name.0 slot.before) same (subst (λ (x : Option FreeSlot). IfSome x (λ slot. IsFirstEmpty read.bytes slot.name.0 slot.before)) is first)
+
+pub ptr_unheld : (old mid : List ℕ) (at room size : ℕ) → SlidesOneStretch old mid → IsRoom mid at room → need size ≤ room → held mid (at + 8) ≡ None
+ptr_unheld old mid at room size s r fits = room_unheld mid at room s.becomes.frame.accepted (omega arith) r
+
+pub ptr_claimed : (old mid new : List ℕ) (at room size owner name : ℕ) → name ≡ at + 8 → SlidesOneStretch old mid → IsRoom mid at room → need size ≤ room → Exchanges mid new at (in_front (fixed (replicate size 0) owner)) → ChangesName mid new name (Some (zeros size fixed_lock owner)) (Some (at + 8))
+ptr_claimed old mid new at room size owner name is s r fits x =
+    subst (λ (n : ℕ). ChangesName mid new n (Some (zeros size fixed_lock owner)) (Some (at + 8))) (sym is) (ptr_changes mid new at room size owner s.becomes.frame.accepted r fits x)
+
+-- the same slots are in use
+pub used_ptr : (old mid new : List ℕ) (used at room size owner : ℕ) → IsManaged old used → SlidesOneStretch old mid → IsRoom mid at room → need size ≤ room → Exchanges mid new at (in_front (fixed (replicate size 0) owner)) → IsManaged new used
+used_ptr old mid new used at room size owner m s r fits x =
+    used_altered mid new used (at + 8) _ _ (used_slid old mid used m s.becomes.frame (slides_alike old mid m.accepted s)) (ptr_changes mid new at room size owner s.becomes.frame.accepted r fits x)

@@ -38,8 +38,9 @@ impl Heap {
         ensures one_stretch { MovesOneStretch self.old.bytes self.new.bytes }
         ensures refused { OnErr result (self.new ≡ self.old) }
     {
+        let region = self.space.region();
         check_owner(owner)?;
-        let slot = free_slot(self.space.region(), self.used).ok_or(Refusal::NotEnoughSpace)?;
+        let slot = free_slot(region, self.used).ok_or(Refusal::NotEnoughSpace)?;
         let room = room_for(&mut self.space, size)?;
         self.space.claim(room, slot.name, size, owner);
         self.used = slot.before;
@@ -55,9 +56,10 @@ impl Heap {
         ensures one_stretch { MovesOneStretch self.old.bytes self.new.bytes }
         ensures refused { OnErr result (self.new ≡ self.old) }
     {
+        let space = &mut self.space;
         check_owner(owner)?;
-        let room = room_for(&mut self.space, size)?;
-        Ok(self.space.claim_fixed(room, size, owner))
+        let room = room_for(space, size)?;
+        Ok(space.claim_fixed(room, size, owner))
     }
 
     /// Frees a chunk that is a caller's and has no lock; a fixed one may be freed.
