@@ -1,5 +1,5 @@
 -- A name's chunk with another length: where it stands, elsewhere, and once a stretch has slid.
-use Rattle.std.proofs.Common.{◌≡◌, ◌≢◌, ℕ, ◌+◌, ◌-◌, ◌<◌, ◌≤◌, List, ◌∷◌, ◌++◌, length, Bool, Option, Some, None, refl, sym, ap, subst, ◌∙◌, arith, inl, inr}
+use Rattle.std.proofs.Common.{◌≡◌, ◌≢◌, ℕ, ◌+◌, ◌-◌, ◌<◌, ◌≤◌, List, [], ◌∷◌, ◌++◌, length, Bool, Option, Some, None, refl, sym, ap, subst, ◌∙◌, arith, inl, inr}
 use Rattle.std.proofs.lemmas.Bool.{cases_eq, OnTrue_at}
 use Rattle.std.specs.Prelude.{◌==◌, if◌then◌else◌, IsSome, IsTrue, ◌↔◌}
 use Rattle.std.specs.Bool.{OnTrue}
@@ -8,9 +8,9 @@ use Rattle.heap_model.specs.Chunk.{Chunk, free, movable, fixed, fixed_lock, need
 use Rattle.heap_model.specs.Slots.{area_start}
 use Rattle.heap_model.specs.Heap.{HeapAccepted}
 use Rattle.heap_model.specs.Meaning.{LiveChunk}
-use Rattle.heap_model.specs.Reading.{held}
+use Rattle.heap_model.specs.Reading.{chunks_of, held}
 use Rattle.heap_model.specs.Maps.{changed, sized}
-use Rattle.heap_model.specs.Space.{ShortFor, Short, FitsInPlace, free_behind, free_front, place_of, room_of}
+use Rattle.heap_model.specs.Space.{ShortFor, Short, FitsInPlace, MovesAlone, MovesOneStretchAnd, free_behind, free_front, place_of, room_of}
 use Rattle.heap_model.specs.Placing.{Finds}
 use Rattle.heap_model.specs.Layout.{IsRoom}
 use Rattle.heap_model.specs.Packing.{SlidesOneStretch, OpensBehind}
@@ -20,7 +20,7 @@ use Rattle.heap_laws.proofs.Becoming.{frame_then}
 use Rattle.heap_laws.proofs.Exchanging.{ChangesName}
 use Rattle.heap_laws.proofs.Resizings.{live_sized, grow_changes, finds_behind, opened_behind}
 use Rattle.heap_laws.proofs.Relocating.{relocate_changes}
-use Rattle.heap_laws.proofs.Compacting.{slides_alike, opens_one}
+use Rattle.heap_laws.proofs.Compacting.{slides_alike, slides_move_one, opens_one}
 use Rattle.heap_laws.proofs.Stretches.{short_for_parts, room_of-middle}
 use Rattle.heap_laws.proofs.Updating.{held_updated}
 use Rattle.heap_place.proofs.FoundLaws.{found_inside, middle_of, heap_in_parts}
@@ -62,26 +62,34 @@ changed_resized old new name count live there e unlocked ch = record {
   ];
 }
 
+-- and no other chunk has moved
+pub ChangedAlone : List ℕ → List ℕ → ℕ → ℕ → Type 0
+ChangedAlone old new name count = Resized old new name count × MovesAlone old new name
+
+changed_alone : (old new : List ℕ) (name count : ℕ) (live : LiveChunk) (there : Option ℕ) → held old name ≡ Some live → live.lock ≡ 0 → ChangesName old new name (Some (live_sized count live)) there → ChangedAlone old new name count
+unfolding ChangedAlone
+changed_alone old new name count live there e unlocked ch = (changed_resized old new name count live there e unlocked ch, λ other apart was is. ch.places other apart)
+
 pub grown_resized : (old new : List ℕ) (found : Found) (count : ℕ) (told : Bool) → HeapAccepted old → IsOne old found → found.lock ≡ 0 → FitsInPlace old found.name.0 (need count) → TellsWhetherInPlace old found (need count) told → OnTrue told (GrowsInPlace old new (found.place.0 - 8) count)
-    → Resized old new found.name.0 count
+    → ChangedAlone old new found.name.0 count
 grown_resized old new found count told h f unlocked fits tells grows = by_chunk f.chunk f.finds (fits f.live (one_held old found h f)) (tells f) where
-  by_chunk : (c : Chunk) (g : Finds old found.name.0 f.live c (found.place.0 - 8)) → need count ≤ need (length f.live.bytes) + free_behind old found.name.0 → (IsTrue told ↔ (need count ≤ size_of c + free_front g.after)) → Resized old new found.name.0 count
+  by_chunk : (c : Chunk) (g : Finds old found.name.0 f.live c (found.place.0 - 8)) → need count ≤ need (length f.live.bytes) + free_behind old found.name.0 → (IsTrue told ↔ (need count ≤ size_of c + free_front g.after)) → ChangedAlone old new found.name.0 count
   by_chunk (free size) g enough tell = absurd g.named
   by_chunk (fixed bytes owner) g enough tell = let lock : f.live.lock ≡ fixed_lock = ap (λ (x : LiveChunk). x.lock) (sym g.named.1) in let is = f.lock_is in absurd (omega (arith, unlocked, lock, is))
   by_chunk (movable bytes lock owner slot) g enough tell =
       let behind = finds_behind old found.name.0 (found.place.0 - 8) f.live bytes lock owner slot h g in
       let same : need (length f.live.bytes) ≡ need (length bytes) = ap (λ (x : LiveChunk). need (length x.bytes)) (sym g.named.1) in
       let reaches : need count ≤ need (length bytes) + free_front g.after = omega arith in
-      changed_resized old new found.name.0 count f.live (Some found.place.0) (one_held old found h f) (sym f.lock_is ∙ unlocked)
+      changed_alone old new found.name.0 count f.live (Some found.place.0) (one_held old found h f) (sym f.lock_is ∙ unlocked)
       (grow_changes old new found.name.0 found.place.0 count f.live (movable bytes lock owner slot) h f.behind_header g reaches (OnTrue_at (tell.1 reaches) grows))
 
-pub relocated_resized : (old new : List ℕ) (found : Found) (at size count : ℕ) → HeapAccepted old → IsOne old found → found.lock ≡ 0 → IsRoom old at size → need count ≤ size → RelocatesFound old new found at count → Resized old new found.name.0 count
+pub relocated_resized : (old new : List ℕ) (found : Found) (at size count : ℕ) → HeapAccepted old → IsOne old found → found.lock ≡ 0 → IsRoom old at size → need count ≤ size → RelocatesFound old new found at count → ChangedAlone old new found.name.0 count
 relocated_resized old new found at size count h f unlocked r fits moved = by_chunk f.chunk f.finds (moved f) where
-  by_chunk : (c : Chunk) (g : Finds old found.name.0 f.live c (found.place.0 - 8)) → Relocates old new (found.place.0 - 8) at (with_length count c) → Resized old new found.name.0 count
+  by_chunk : (c : Chunk) (g : Finds old found.name.0 f.live c (found.place.0 - 8)) → Relocates old new (found.place.0 - 8) at (with_length count c) → ChangedAlone old new found.name.0 count
   by_chunk (free n) g x = absurd g.named
   by_chunk (fixed bytes owner) g x = let lock : f.live.lock ≡ fixed_lock = ap (λ (y : LiveChunk). y.lock) (sym g.named.1) in let is = f.lock_is in absurd (omega (arith, unlocked, lock, is))
   by_chunk (movable bytes lock owner slot) g x =
-      changed_resized old new found.name.0 count f.live (Some (at + 8)) (one_held old found h f) (sym f.lock_is ∙ unlocked)
+      changed_alone old new found.name.0 count f.live (Some (at + 8)) (one_held old found h f) (sym f.lock_is ∙ unlocked)
       (relocate_changes old new found.name.0 (found.place.0 - 8) at size count f.live bytes lock owner slot h g (omega arith) r fits x)
 
 -- ---- a stretch has slid before
@@ -101,6 +109,28 @@ slid_then old mid new name count h s r =
     } where
       some_held : (x : Option LiveChunk) (live : LiveChunk) → x ≡ Some live → IsSome x
       some_held x live e = subst (λ (y : Option LiveChunk). IsSome y) (sym e) refl
+
+-- the chunk alone moves, or others of the stretch that slid before
+pub alone_one : (old new : List ℕ) (name : ℕ) → MovesAlone old new name → MovesOneStretchAnd old new name
+alone_one old new name alone = record { before = []; mid = []; after = chunks_of old; chunks = refl; none_stays = tt; others = λ other apart none was is. alone other apart was is }
+
+pub itself_alone : (image : List ℕ) (name : ℕ) → MovesOneStretchAnd image image name
+itself_alone image name = alone_one image image name (λ other apart was is. refl)
+
+pub slid_alone : (old mid new : List ℕ) (name : ℕ) → HeapAccepted old → SlidesOneStretch old mid → MovesAlone mid new name → MovesOneStretchAnd old new name
+slid_alone old mid new name h s alone =
+    let alike = slides_alike old mid h s in
+    let one = slides_move_one old mid s in
+    record {
+      before = one.before;
+      mid = one.mid;
+      after = one.after;
+      chunks = one.chunks;
+      none_stays = one.none_stays;
+      others = λ other apart none was is.
+          let still : IsSome (held mid other) = subst (λ (x : Option LiveChunk). IsSome x) (sym (alike.holds other)) was in
+          alone other apart still is ∙ one.others other none was still;
+    }
 
 -- ---- in its own stretch
 
@@ -146,10 +176,11 @@ short_own image found stretch room size h a r low =
 
 -- ---- by the name that was asked for
 
-pub resized_here : (old new : List ℕ) (name count : ℕ) (found : Found) → IsFound old name found → Resized old new found.name.0 count → Resized old new name count
-resized_here old new name count found f r = subst (λ (n : ℕ). Resized old new n count) f.name_is r
+pub resized_here : (old new : List ℕ) (name count : ℕ) (found : Found) → IsFound old name found → ChangedAlone old new found.name.0 count → Resized old new name count × MovesAlone old new name
+unfolding ChangedAlone
+resized_here old new name count found f r = subst (λ (n : ℕ). Resized old new n count × MovesAlone old new n) f.name_is r
 
-pub resized_named : (old new : List ℕ) (name count : ℕ) (found : Found) → IsFound old name found → (IsOne old found → FitsInPlace old found.name.0 (need count) → Resized old new found.name.0 count) → FitsInPlace old name (need count) → Resized old new name count
+pub resized_named : (old new : List ℕ) (name count : ℕ) (found : Found) → IsFound old name found → (IsOne old found → FitsInPlace old found.name.0 (need count) → ChangedAlone old new found.name.0 count) → FitsInPlace old name (need count) → Resized old new name count × MovesAlone old new name
 resized_named old new name count found f done fits = resized_here old new name count found f (done (one_of old name found f) (subst (λ (n : ℕ). FitsInPlace old n (need count)) (sym f.name_is) fits))
 
 -- ---- what is taken and free fits into a region

@@ -4,7 +4,7 @@ ghost use Rattle.std.specs.Prelude.{◌≡◌, ◌≢◌, ◌≤◌};
 ghost use Rattle.std.specs.Bool.{OnTrue, OnFalse};
 ghost use Rattle.heap_model.specs.Chunk.{need};
 ghost use Rattle.heap_model.specs.Heap.{HeapAccepted, directory_of};
-ghost use Rattle.heap_model.specs.Space.{ShortFor, FitsInPlace};
+ghost use Rattle.heap_model.specs.Space.{ShortFor, FitsInPlace, MovesAlone, MovesOneStretchAnd};
 ghost use Rattle.heap_model.specs.Layout.{IsRoom};
 ghost use Rattle.heap_place.specs.Found.{IsOne};
 ghost use Rattle.heap_compact.specs.Resized.{IsLoose, Resized, FitsInStretch};
@@ -26,6 +26,7 @@ pub fn resize_by_moving(space: &mut Space, found: Found, count: u32) -> bool
     ensures resized { OnTrue result (Resized space.old.bytes space.new.bytes found.name.0 count) }
     ensures not_short { OnTrue result (ShortFor space.old.bytes found.name.0 (need count) → ⊥) }
     ensures short { OnFalse result (ShortFor space.old.bytes found.name.0 (need count)) }
+    ensures one_stretch { MovesOneStretchAnd space.old.bytes space.new.bytes found.name.0 }
     ensures refused { OnFalse result (space.new ≡ space.old) }
     ensures rest { space.new ≡ record space.old { bytes = space.new.bytes; slid = space.new.slid } }
 {
@@ -59,6 +60,7 @@ fn relocate_named(space: &mut Space, name: Name, room: Room, count: u32)
     requires room { IsRoom space.old.bytes room.at room.size }
     requires enough { need count ≤ room.size }
     ensures resized { Resized space.old.bytes space.new.bytes name.0 count }
+    ensures alone { MovesAlone space.old.bytes space.new.bytes name.0 }
     ensures rest { space.new ≡ record space.old { bytes = space.new.bytes; slid = space.new.slid } }
 {
     if let Some(found) = space.find(name) {
@@ -73,6 +75,7 @@ fn grow_in_stretch(space: &mut Space, found: Found, count: u32)
     requires unlocked { found.lock ≡ 0 }
     requires fits { FitsInStretch space.old.bytes found (need count) }
     ensures resized { Resized space.old.bytes space.new.bytes found.name.0 count }
+    ensures one_stretch { MovesOneStretchAnd space.old.bytes space.new.bytes found.name.0 }
     ensures rest { space.new ≡ record space.old { bytes = space.new.bytes; slid = space.new.slid } }
 {
     space.open_behind(found);
@@ -85,6 +88,7 @@ fn grow_named(space: &mut Space, name: Name, count: u32)
     requires loose { IsLoose space.old.bytes name.0 }
     requires fits { FitsInPlace space.old.bytes name.0 (need count) }
     ensures resized { Resized space.old.bytes space.new.bytes name.0 count }
+    ensures alone { MovesAlone space.old.bytes space.new.bytes name.0 }
     ensures rest { space.new ≡ record space.old { bytes = space.new.bytes } }
 {
     if let Some(found) = space.find(name) {

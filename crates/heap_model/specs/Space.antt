@@ -1,5 +1,5 @@
 -- Free chunks and free slots: how much there is, and where. And where live chunks are.
-use Rattle.std.specs.Prelude.{◌≡◌, ◌<◌, ◌≤◌, ◌+◌, ◌++◌, ◌==◌, max, if◌then◌else◌, ℕ, zero, suc, Bool, true, false, List, [], ◌∷◌, length, filter, count_by, sum_by, Option, Some, None, IsSome, All}
+use Rattle.std.specs.Prelude.{◌≡◌, ◌≢◌, ◌<◌, ◌≤◌, ◌+◌, ◌++◌, ◌==◌, max, if◌then◌else◌, ℕ, zero, suc, Bool, true, false, List, [], ◌∷◌, length, filter, count_by, sum_by, Option, Some, None, IsSome, All}
 use Rattle.heap_model.specs.Bytes.{u32_at}
 use Rattle.heap_model.specs.Chunk.{Chunk, free, movable, fixed, need, total, free_size}
 use Rattle.heap_model.specs.Slots.{slots_of, area_start}
@@ -144,6 +144,19 @@ pub record MovesOneStretch (old new : List ℕ) : Type 0 where
   pub chunks : chunks_of old ≡ before ++ (mid ++ after)
   pub none_stays : NoneStays mid
   pub others : (name : ℕ) → live_under (area_start old + total before) mid name ≡ None → IsSome (held old name) → IsSome (held new name) → place_of new name ≡ place_of old name
+
+-- no chunk but one name's has another place
+abbrev pub MovesAlone : List ℕ → List ℕ → ℕ → Type 0
+MovesAlone old new moved = (name : ℕ) → name ≢ moved → IsSome (held old name) → IsSome (held new name) → place_of new name ≡ place_of old name
+
+-- The same of all but one name's and those of one stretch.
+pub record MovesOneStretchAnd (old new : List ℕ) (moved : ℕ) : Type 0 where
+  pub before : List Chunk
+  pub mid : List Chunk
+  pub after : List Chunk
+  pub chunks : chunks_of old ≡ before ++ (mid ++ after)
+  pub none_stays : NoneStays mid
+  pub others : (name : ℕ) → name ≢ moved → live_under (area_start old + total before) mid name ≡ None → IsSome (held old name) → IsSome (held new name) → place_of new name ≡ place_of old name
 
 abbrev pub is_there : Option ℕ → ℕ → Bool
 is_there None place = false

@@ -5,6 +5,7 @@ ghost use Rattle.heap_model.specs.Bytes.{u32_at};
 ghost use Rattle.heap_model.specs.Chunk.{fixed, fixed_lock, need};
 ghost use Rattle.heap_model.specs.Slots.{IsSlot};
 ghost use Rattle.heap_model.specs.Heap.{HeapAccepted, directory_of};
+ghost use Rattle.heap_model.specs.Placing.{SameFrame};
 ghost use Rattle.heap_model.specs.Layout.{Alters, Exchanges, in_front, IsRoom, WritesPlain};
 ghost use Rattle.heap_place.specs.Found.{IsOne};
 ghost use Rattle.heap_place.specs.Relocation.{stand_in, KeepsFound, Copies, with_name, RelocatesFound};
@@ -31,6 +32,7 @@ pub(crate) fn relocate(region: &mut Region, found: Found, room: Room, count: u32
     requires room { IsRoom region.old.bytes room.at room.size }
     requires enough { need count ≤ room.size }
     ensures moved { RelocatesFound region.old.bytes region.new.bytes found room.at count }
+    ensures frame { SameFrame region.old.bytes region.new.bytes }
     ensures plain { WritesPlain region.old.bytes region.new.bytes }
     ensures slid { region.new.slid ≡ region.old.slid + min found.length count }
 {

@@ -355,6 +355,7 @@ impl Space {
         requires room { IsRoom self.old.bytes room.at room.size }
         requires enough { need count ≤ room.size }
         ensures moved { RelocatesFound self.old.bytes self.new.bytes found room.at count }
+        ensures frame { SameFrame self.old.bytes self.new.bytes }
         ensures plain { WritesPlain self.old.bytes self.new.bytes }
         ensures slid { self.new.slid ≡ self.old.slid + min found.length count }
     {

@@ -115,3 +115,18 @@ pub(crate) fn grow_in_place(space: &mut Space, name: Name, count: u32) -> Option
     let found = space.find(name)?;
     Some(space.grow_in_place(found, count))
 }
+
+/// Moves the movable chunk of a name, which has no locks, to the first room that has `count` bytes. None
+/// where there is no such chunk or no such room, and for the directory.
+pub(crate) fn relocate(space: &mut Space, name: Name, count: u32) -> Option<()>
+    requires accepted { HeapAccepted space.old.bytes }
+    ensures { HeapAccepted space.new.bytes }
+{
+    let found = space.find(name)?;
+    if found.lock > 0 || found.name.0 == directory(space.region()) {
+        return None;
+    }
+    let room = space.place(chunk_size(count)?)?;
+    space.relocate(found, room, count);
+    Some(())
+}

@@ -1,6 +1,6 @@
 //! The bytes that a chunk leaves which gets another length where it stands.
 
-use crate::heaps::{accepted, bytes, grow_in_place, shrink};
+use crate::heaps::{accepted, bytes, grow_in_place, relocate, shrink};
 use heap_model::Name;
 use raw_region::Region;
 use std::alloc::Global;
@@ -172,6 +172,73 @@ fn chunks_that_stay_get_other_lengths(rt: HostRuntime) -> Result<(), Fail> {
         assert_eq!(rt; shrink(&mut space, name, 3), Some(()), "{name:?}");
         let shrunk = heap_with(rt.alloc(), SHRUNK, kind)?;
         assert_eq!(rt; bytes(space.region()), bytes(&shrunk), "{name:?}");
+    }
+    Ok(())
+}
+
+/// Behind a head of 128 bytes with 4 slots: a chunk of 10 bytes, of the slot 16, one of 8 bytes and a free one.
+const IN_FRONT: &str = "50484931 00000080 0004 0000 00000000 00000028 00000040 00*8 \
+    06000018 01FFFFF8 4142434445464748494A FFFFFFFFFFFF 00000010 02FFFFEE 6162636465666768 \
+    80000038 00*52";
+
+/// A free chunk, then the one of 8 bytes, the one of 10, and another free one.
+const BEHIND: &str = "50484931 00000080 0004 0000 00000000 00000058 00000048 00*8 \
+    80000020 FFFFFFFF FFFFFFFFFFFFFFFF FFFFFFFFFFFFFFFF FFFFFFFFFFFFFFFF \
+    00000010 02FFFFEA 6162636465666768 06000018 01FFFFE0 4142434445464748494A FFFFFFFFFFFF \
+    80000018 00*20";
+
+/// A chunk that is relocated has its first bytes, and zeros behind them; its slot holds the new place, and
+/// its old header is that of a free chunk, joined with one behind it.
+#[test]
+fn a_chunk_goes_to_room_elsewhere(rt: HostRuntime) -> Result<(), Fail> {
+    for (before, count, after) in [
+        (
+            IN_FRONT,
+            12,
+            "50484931 00000080 0004 0000 00000000 00000050 00000040 00*8 \
+                80000018 01FFFFF8 4142434445464748494A FFFFFFFFFFFF 00000010 02FFFFEE 6162636465666768 \
+                04000018 01FFFFE4 4142434445464748494A 00*6 80000020 00*28",
+        ),
+        (
+            IN_FRONT,
+            3,
+            "50484931 00000080 0004 0000 00000000 00000050 00000040 00*8 \
+                80000018 01FFFFF8 4142434445464748494A FFFFFFFFFFFF 00000010 02FFFFEE 6162636465666768 \
+                05000010 01FFFFE4 414243 00*5 80000028 00*36",
+        ),
+        (
+            BEHIND,
+            24,
+            "50484931 00000080 0004 0000 00000000 00000028 00000048 00*8 \
+                00000020 01FFFFF8 4142434445464748494A 00*14 \
+                00000010 02FFFFEA 6162636465666768 80000030 01FFFFE0 4142434445464748494A FFFFFFFFFFFF \
+                80000018 00*20",
+        ),
+    ] {
+        let mut space = accepted(image(rt.alloc(), before, "")?)?;
+        assert_eq!(rt;
+            relocate(&mut space, Name(16), count),
+            Some(()),
+            "{count} bytes"
+        );
+        let after = image(rt.alloc(), after, "")?;
+        assert_eq!(rt; bytes(space.region()), bytes(&after), "{count} bytes");
+    }
+    Ok(())
+}
+
+/// One that has no room elsewhere stays, as does a locked one.
+#[test]
+fn a_chunk_without_room_elsewhere_stays(rt: HostRuntime) -> Result<(), Fail> {
+    for (changes, count) in [("", 49), ("36: 11FFFFF8", 12)] {
+        let before = image(rt.alloc(), IN_FRONT, changes)?;
+        let mut space = accepted(image(rt.alloc(), IN_FRONT, changes)?)?;
+        assert_eq!(rt;
+            relocate(&mut space, Name(16), count),
+            None,
+            "{count} bytes"
+        );
+        assert_eq!(rt; bytes(space.region()), bytes(&before), "{count} bytes");
     }
     Ok(())
 }

@@ -11,7 +11,7 @@ use Rattle.heap_model.specs.Heap.{HeapAccepted}
 use Rattle.heap_model.specs.Meaning.{LiveChunk}
 use Rattle.heap_model.specs.Reading.{held}
 use Rattle.heap_model.specs.Maps.{changed}
-use Rattle.heap_model.specs.Space.{ShortFor, FitsInPlace, MovesNothing, free_behind, free_front}
+use Rattle.heap_model.specs.Space.{ShortFor, FitsInPlace, MovesNothing, free_behind, free_front, MovesOneStretchAnd}
 use Rattle.heap_model.specs.Placing.{Finds}
 use Rattle.heap_model.specs.Resizing.{GrowsInPlace}
 use Rattle.heap_model.specs.MemorySteps.{Does, IsLocked}
@@ -31,6 +31,7 @@ use Rattle.heap_place.specs.declared.found.Found.{Found}
 use Rattle.heap_place.specs.Found.{IsFound}
 use Rattle.heap_place.specs.Resizes.{TellsWhetherInPlace}
 use Rattle.heap_compact.specs.Resized.{Resized}
+use Rattle.heap_compact.proofs.ResizedLaws.{alone_one}
 use Rattle.master_table.proofs.TableLaws.{used_still}
 use Rattle.mem_manager.specs.Lookup.{IsManaged}
 use Rattle.mem_manager.proofs.Stepping.{known, of_known, not_of_known, is_known, refused, altered, slot_as, OnlyBytes}
@@ -177,6 +178,9 @@ grown_moves_nothing old new name found size told h f tells told_true grows =
     changes_move_nothing old new name _ _ (grown_changes old new name found size told h f tells told_true grows) (λ was is. sym (finds_place old name f.live f.chunk (found.place.0 - 8) h f.finds ∙ ap some_place there)) where
       some_place : ℕ → Option ℕ
       some_place n = Some n
+
+pub nothing_alone : (old new : List ℕ) (name : ℕ) → MovesNothing old new → MovesOneStretchAnd old new name
+nothing_alone old new name nothing = alone_one old new name (λ other apart was is. nothing other was is)
 
 -- ---- elsewhere, or once others have made way
 

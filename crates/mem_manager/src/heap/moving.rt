@@ -2,7 +2,7 @@
 
 ghost use Rattle.std.specs.Prelude.{◌≡◌, ◌+◌, OnErr};
 ghost use Rattle.heap_model.specs.Chunk.{need};
-ghost use Rattle.heap_model.specs.Space.{FitsInPlace, MovesNothing};
+ghost use Rattle.heap_model.specs.Space.{FitsInPlace, MovesNothing, MovesOneStretchAnd};
 ghost use Rattle.heap_model.specs.Reading.{chunks_of};
 ghost use Rattle.heap_model.specs.Packing.{Packed, Slid};
 ghost use Rattle.heap_model.specs.MemorySteps.{Does, reply_of};
@@ -35,6 +35,7 @@ impl Heap {
     pub fn resize(&mut self, name: Name, size: u32) -> Result<(), Refusal>
         ensures does { Does self.old (MemoryCall.Resize name size) (reply_of (λ done. Reply.Done) result) self.new }
         ensures unmoved { FitsInPlace self.old.bytes name.0 (need size) → MovesNothing self.old.bytes self.new.bytes }
+        ensures one_stretch { MovesOneStretchAnd self.old.bytes self.new.bytes name.0 }
         ensures refused { OnErr result (self.new ≡ self.old) }
     {
         let found = find(&self.space, name)?;

@@ -6,6 +6,12 @@ relocate-requires-clause-unlocked c = loose_lock c.args.space.now.bytes c.args.n
 
 pub returns-in-Some-clause-resized : goal.returns-in-Some-clause-resized
 returns-in-Some-clause-resized c =
-    resized_here c.args.space.now.bytes c.relocate.new.self.bytes c.args.name.0 c.args.count c.in-Some.found c.in-Some.ensures.found
+    (resized_here c.args.space.now.bytes c.relocate.new.self.bytes c.args.name.0 c.args.count c.in-Some.found c.in-Some.ensures.found
     (relocated_resized c.args.space.now.bytes c.relocate.new.self.bytes c.in-Some.found c.args.room.at c.args.room.size c.args.count c.requires.accepted (one_of c.args.space.now.bytes c.args.name.0 c.in-Some.found c.in-Some.ensures.found)
-    (loose_lock c.args.space.now.bytes c.args.name.0 c.in-Some.found c.requires.accepted c.requires.loose c.in-Some.ensures.found) c.requires.room c.requires.enough c.relocate.ensures.moved)
+    (loose_lock c.args.space.now.bytes c.args.name.0 c.in-Some.found c.requires.accepted c.requires.loose c.in-Some.ensures.found) c.requires.room c.requires.enough c.relocate.ensures.moved)).0
+
+pub returns-in-Some-clause-alone : goal.returns-in-Some-clause-alone
+returns-in-Some-clause-alone c =
+    (resized_here c.args.space.now.bytes c.relocate.new.self.bytes c.args.name.0 c.args.count c.in-Some.found c.in-Some.ensures.found
+    (relocated_resized c.args.space.now.bytes c.relocate.new.self.bytes c.in-Some.found c.args.room.at c.args.room.size c.args.count c.requires.accepted (one_of c.args.space.now.bytes c.args.name.0 c.in-Some.found c.in-Some.ensures.found)
+    (loose_lock c.args.space.now.bytes c.args.name.0 c.in-Some.found c.requires.accepted c.requires.loose c.in-Some.ensures.found) c.requires.room c.requires.enough c.relocate.ensures.moved)).1

@@ -1,8 +1,9 @@
 use Rattle.std.proofs.Common.{◌≡◌, ℕ, ◌+◌, sym, subst, arith}
-use Rattle.heap_model.specs.Space.{Short}
+use Rattle.heap_model.specs.Space.{Short, MovesOneStretchAnd}
+use Rattle.heap_model.specs.Memory.{Memory}
 use Rattle.heap_model.specs.Chunk.{need}
 use Rattle.heap_laws.proofs.Fitting.{room_not_short_for, short_for_beyond}
-use Rattle.heap_compact.proofs.ResizedLaws.{is_loose, loose_slid, slid_then, fits_in_stretch, fits_not_short, short_own, own_fits, room_fits}
+use Rattle.heap_compact.proofs.ResizedLaws.{is_loose, loose_slid, slid_then, slid_alone, alone_one, itself_alone, fits_in_stretch, fits_not_short, short_own, own_fits, room_fits}
 use Rattle.heap_compact.proofs.growing.resize_by_moving.Goals as goal
 
 pub returns-in-None-clause-short : goal.returns-in-None-clause-short
@@ -65,3 +66,17 @@ returns-in-None-room_by_packing-clause-short c =
     let less = c.if-size_of_body-room_of.false in
     (short_own c.args.space.now.bytes c.args.found c.stretch_around-stretch.result c.room_of.result (need c.args.count) c.requires.accepted c.stretch_around-stretch.ensures.around c.room_of.ensures (omega arith)).1
     (subst (λ (n : ℕ). Short c.args.space.now.bytes n) same c.in-None-room_by_packing.ensures.short)
+
+pub returns-in-None-clause-one_stretch : goal.returns-in-None-clause-one_stretch
+returns-in-None-clause-one_stretch c = itself_alone c.args.space.now.bytes c.args.found.name.0
+
+pub returns-in-Some-place-clause-one_stretch : goal.returns-in-Some-place-clause-one_stretch
+returns-in-Some-place-clause-one_stretch c = alone_one c.args.space.now.bytes c.relocate_named.new.space.bytes c.args.found.name.0 c.relocate_named.ensures.alone
+
+pub returns-in-Some-room_by_packing-clause-one_stretch : goal.returns-in-Some-room_by_packing-clause-one_stretch
+returns-in-Some-room_by_packing-clause-one_stretch c =
+    slid_alone c.args.space.now.bytes c.room_by_packing.new.space.bytes c.relocate_named-in-Some-room_by_packing.new.space.bytes c.args.found.name.0 c.requires.accepted c.in-Some-room_by_packing.ensures.slides c.relocate_named-in-Some-room_by_packing.ensures.alone
+
+pub returns-in-None-room_by_packing-clause-one_stretch : goal.returns-in-None-room_by_packing-clause-one_stretch
+returns-in-None-room_by_packing-clause-one_stretch c =
+    subst (λ (m : Memory). MovesOneStretchAnd c.args.space.now.bytes m.bytes c.args.found.name.0) (sym c.in-None-room_by_packing.ensures.refused) (itself_alone c.args.space.now.bytes c.args.found.name.0)

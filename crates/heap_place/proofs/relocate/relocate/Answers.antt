@@ -40,3 +40,8 @@ pub returns-clause-plain : goal.returns-clause-plain
 returns-clause-plain c =
     plain_then c.args.region.now.bytes c.release.new.region.bytes c.take_name.new.region.bytes
     (plain_then c.args.region.now.bytes c.copy_bytes.new.region.bytes c.release.new.region.bytes (plain_then c.args.region.now.bytes c.stand_in_at-there.new.region.bytes c.copy_bytes.new.region.bytes c.stand_in_at-there.ensures.plain c.copy_bytes.ensures.plain) c.release.ensures.plain) c.take_name.ensures.plain
+
+pub returns-clause-frame : goal.returns-clause-frame
+returns-clause-frame c =
+    (relocated_found c.args.region.now.bytes c.stand_in_at-there.new.region.bytes c.copy_bytes.new.region.bytes c.release.new.region.bytes c.take_name.new.region.bytes c.args.found c.stand_in_at-there.result c.args.room.at c.args.room.size c.args.count c.requires.accepted c.requires.found c.requires.unlocked
+    c.requires.room c.requires.enough c.stand_in_at-there.ensures.is c.stand_in_at-there.ensures.made c.stand_in_at-there.ensures.others c.copy_bytes.ensures.copied c.release.ensures.gone c.take_name.ensures.made).frame

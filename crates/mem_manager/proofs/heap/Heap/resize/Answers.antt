@@ -1,7 +1,7 @@
 use Rattle.std.proofs.Common.{◌≡◌, ℕ, sym, subst, ◌∙◌, arith}
 use Rattle.heap_model.specs.Memory.{Memory}
 use Rattle.heap_model.specs.Chunk.{need}
-use Rattle.heap_model.specs.Space.{ShortFor, FitsInPlace, MovesNothing}
+use Rattle.heap_model.specs.Space.{ShortFor, FitsInPlace, MovesNothing, MovesOneStretchAnd}
 use Rattle.heap_model.specs.MemorySteps.{Does}
 use Rattle.heap_model.specs.declared.call.MemoryCall.TheVariants.{Resize}
 use Rattle.heap_model.specs.declared.call.Reply.{Reply}
@@ -9,10 +9,11 @@ use Rattle.heap_model.specs.declared.refusal.Refusal.{Refusal}
 use Rattle.heap_model.specs.Heap.{HeapAccepted}
 use Rattle.heap_place.specs.Found.{IsFound}
 use Rattle.heap_compact.specs.Resized.{Resized}
+use Rattle.heap_compact.proofs.ResizedLaws.{itself_alone}
 use Rattle.mem_manager.proofs.Stepping.{handed_on, used_altered}
 use Rattle.mem_manager.proofs.Altering.{lock_small, not_the_directory}
 use Rattle.mem_manager.proofs.Moving.{BytesAndSlid}
-use Rattle.mem_manager.proofs.Growing.{never_fits, resize_database, resize_fixed, resize_locked, resize_short, grown_changes, resize_grown, grown_moves_nothing, resize_moved, used_resized}
+use Rattle.mem_manager.proofs.Growing.{never_fits, resize_database, resize_fixed, resize_locked, resize_short, grown_changes, resize_grown, grown_moves_nothing, nothing_alone, resize_moved, used_resized}
 use Rattle.mem_manager.proofs.heap.Heap.resize.Goals as goal
 
 pub returns-in_err-check_callers-clause-does : goal.returns-in_err-check_callers-clause-does
@@ -80,3 +81,30 @@ pub returns-clause-unmoved : goal.returns-clause-unmoved
 returns-clause-unmoved c fits =
     absurd (never_fits c.self.inside.space.bytes c.args.name.0 c.in_ok-found.found (need c.args.size) c.grow_in_place.result c.self.invariant.accepted c.in_ok-found.ensures.found c.in_ok-check_movable.ensures.ok c.grow_in_place.ensures.tells c.if-grow_in_place.false
     (subst (λ (m : Memory). FitsInPlace m.bytes c.args.name.0 (need c.args.size)) (sym c.self.view_is) fits))
+
+pub returns-in_err-found-clause-one_stretch : goal.returns-in_err-found-clause-one_stretch
+returns-in_err-found-clause-one_stretch c = itself_alone c.args.self.now.bytes c.args.name.0
+
+pub returns-in_err-check_callers-clause-one_stretch : goal.returns-in_err-check_callers-clause-one_stretch
+returns-in_err-check_callers-clause-one_stretch c = itself_alone c.args.self.now.bytes c.args.name.0
+
+pub returns-in_err-check_movable-clause-one_stretch : goal.returns-in_err-check_movable-clause-one_stretch
+returns-in_err-check_movable-clause-one_stretch c = itself_alone c.args.self.now.bytes c.args.name.0
+
+pub returns-then-grow_in_place-clause-one_stretch : goal.returns-then-grow_in_place-clause-one_stretch
+returns-then-grow_in_place-clause-one_stretch c =
+    subst (λ (m : Memory). MovesOneStretchAnd m.bytes c.grow_in_place.new.self.bytes c.args.name.0) c.self.view_is (nothing_alone c.self.inside.space.bytes c.grow_in_place.new.self.bytes c.args.name.0
+    (grown_moves_nothing c.self.inside.space.bytes c.grow_in_place.new.self.bytes c.args.name.0 c.in_ok-found.found c.args.size c.grow_in_place.result c.self.invariant.accepted c.in_ok-found.ensures.found c.grow_in_place.ensures.tells c.if-grow_in_place.true c.grow_in_place.ensures.made))
+
+pub returns-then-found-gt0-clause-one_stretch : goal.returns-then-found-gt0-clause-one_stretch
+returns-then-found-gt0-clause-one_stretch c =
+    subst (λ (m : Memory). MovesOneStretchAnd c.args.self.now.bytes m.bytes c.args.name.0) (sym (c.if-grow_in_place.ensures.refused ∙ c.self.view_is)) (itself_alone c.args.self.now.bytes c.args.name.0)
+
+pub returns-then-not-resize_by_moving-clause-one_stretch : goal.returns-then-not-resize_by_moving-clause-one_stretch
+returns-then-not-resize_by_moving-clause-one_stretch c =
+    subst (λ (m : Memory). MovesOneStretchAnd c.args.self.now.bytes m.bytes c.args.name.0) (sym (c.if-not-resize_by_moving.ensures.refused ∙ c.if-grow_in_place.ensures.refused ∙ c.self.view_is)) (itself_alone c.args.self.now.bytes c.args.name.0)
+
+pub returns-clause-one_stretch : goal.returns-clause-one_stretch
+returns-clause-one_stretch c =
+    subst (λ (n : ℕ). MovesOneStretchAnd c.args.self.now.bytes c.resize_by_moving.new.space.bytes n) c.in_ok-found.ensures.found.name_is
+    (subst (λ (m : Memory). MovesOneStretchAnd m.bytes c.resize_by_moving.new.space.bytes c.in_ok-found.found.name.0) (c.if-grow_in_place.ensures.refused ∙ c.self.view_is) c.resize_by_moving.ensures.one_stretch)
