@@ -3,7 +3,7 @@ use Rattle.std.proofs.Common.{◌≡◌, ℕ, ◌+◌, ◌-◌, ◌*◌, ◌%◌
 use Rattle.std.specs.Prelude.{◌↔◌, ◌==◌, slice_range}
 use Rattle.std.proofs.lemmas.Bool.{eq-eqb}
 use Rattle.heap_model.specs.Bytes.{overwritten}
-use Rattle.heap_model.specs.Chunk.{Chunk, free, movable, fixed, fixed_lock, need, size_of, total, IsLive, Spelled, SpelledAll}
+use Rattle.heap_model.specs.Chunk.{Chunk, free, movable, fixed, fixed_lock, need, size_of, total, free_size, IsLive, Spelled, SpelledAll}
 use Rattle.heap_model.specs.Slots.{table_end, area_start}
 use Rattle.heap_model.specs.Heap.{BodyHere, IsCallersIfFixed, ManagersHere, directory_of, IsHeap, HeapAccepted}
 use Rattle.heap_model.specs.Placed.{AnyPlaced}
@@ -11,9 +11,10 @@ use Rattle.heap_model.specs.Meaning.{LiveChunk, NamedHere}
 use Rattle.heap_model.specs.Reading.{live_under}
 use Rattle.heap_model.specs.Space.{AllFree, place_under, place_of}
 use Rattle.heap_model.specs.Placing.{Finds}
-use Rattle.heap_model.specs.Layout.{Becomes, with_bytes}
+use Rattle.heap_model.specs.Layout.{Becomes, with_bytes, WritesPlain}
 use Rattle.heap_laws.proofs.Becoming.{becomes_heap}
 use Rattle.heap_laws.proofs.Deciding.{cond-true}
+use Rattle.heap_laws.proofs.Plain.{live_plain, replaced_plain}
 use Rattle.heap_laws.proofs.Replacing.{Replaces, replaced_heap, SameSlots, kept_ties, kept_directory}
 use Rattle.heap_laws.proofs.Lives.{or_else}
 use Rattle.heap_laws.proofs.Meanings.{named_once}
@@ -125,11 +126,11 @@ rewritten old new name at live c run d left rest h f parts free_run free_left w 
 
 -- bytes of the chunk alone were written, and now another chunk of its size and its name stands there
 pub altered_write : (old new : List ℕ) (name at : ℕ) (live : LiveChunk) (c d : Chunk) → HeapAccepted old → (f : Finds old name live c at) → WroteWithin old new at (at + size_of c) → Spelled new at d → size_of d ≡ size_of c → TiedAlike c d
-    → (ManagersHere (directory_of old) at c → ManagersHere (directory_of old) at d) → IsCallersIfFixed at d → Becomes old new (f.before ++ d ∷ f.after)
-altered_write old new name at live c d h f w spelled sizes alike kept callers =
+    → (ManagersHere (directory_of old) at c → ManagersHere (directory_of old) at d) → IsCallersIfFixed at d → free_size d ≡ 0 → Becomes old new (f.before ++ d ∷ f.after) × WritesPlain old new
+altered_write old new name at live c d h f w spelled sizes alike kept callers taken =
     let whole : at + size_of c ≡ at + total (c ∷ []) = omega arith in
     let r = rewritten old new name at live c [] d [] f.after h f refl tt tt (subst (λ (n : ℕ). WroteWithin old new at n) whole w) (spelled, omega arith) alike kept callers in
-    becomes_heap old new (f.before ++ d ∷ f.after) r.replaces.head r.heap
+    (becomes_heap old new (f.before ++ d ∷ f.after) r.replaces.head r.heap, replaced_plain old new f.before (c ∷ []) (d ∷ []) f.after at f.chunks r.heap r.replaces (live_plain new at d taken (Spelled-size new at d spelled).0))
 
 -- a fixed chunk that is found is a caller's
 pub finds_callers : (image : List ℕ) (name : ℕ) (live : LiveChunk) (c : Chunk) (at : ℕ) → HeapAccepted image → Finds image name live c at → IsCallersIfFixed at c
@@ -163,7 +164,7 @@ overwritten_body old new at k bytes part lock owner h_offset s within is =
 
 -- part of a body is written over
 pub body_written : (old new : List ℕ) (name at k : ℕ) (live : LiveChunk) (c : Chunk) (part : List ℕ) → HeapAccepted old → (f : Finds old name live c at) → k + length part ≤ length live.bytes → new ≡ overwritten old (at + 8 + k) part
-    → Becomes old new (f.before ++ with_bytes k part c ∷ f.after)
+    → Becomes old new (f.before ++ with_bytes k part c ∷ f.after) × WritesPlain old new
 body_written old new name at k live (free size) part h f within is = absurd f.named
 body_written old new name at k live (movable bytes lock owner slot) part h f within is =
     let e : record { bytes = bytes; lock = lock; owner = owner } ≡ live = f.named.1 in
@@ -171,12 +172,12 @@ body_written old new name at k live (movable bytes lock owner slot) part h f wit
     let s : Spelled old at (movable bytes lock owner slot) = finds_spelled old name live (movable bytes lock owner slot) at h f in
     let b = overwritten_body old new at k bytes part lock owner s.0 s.1 fits is in
     altered_write old new name at live (movable bytes lock owner slot) (movable (overwritten bytes k part) lock owner slot) h f b.1 (s.0, b.0, s.2, s.3, s.4)
-    (ap need (length-overwritten bytes k part fits)) refl (λ m. m) tt
+    (ap need (length-overwritten bytes k part fits)) refl (λ m. m) tt refl
 body_written old new name at k live (fixed bytes owner) part h f within is =
     let fits : k + length part ≤ length bytes = subst (λ (x : LiveChunk). k + length part ≤ length x.bytes) (sym f.named.1) within in
     let s : Spelled old at (fixed bytes owner) = finds_spelled old name live (fixed bytes owner) at h f in
     let b = overwritten_body old new at k bytes part fixed_lock owner 0 s fits is in
-    altered_write old new name at live (fixed bytes owner) (fixed (overwritten bytes k part) owner) h f b.1 b.0 (ap need (length-overwritten bytes k part fits)) tt (λ m. m) (finds_callers old name live (fixed bytes owner) at h f)
+    altered_write old new name at live (fixed bytes owner) (fixed (overwritten bytes k part) owner) h f b.1 b.0 (ap need (length-overwritten bytes k part fits)) tt (λ m. m) (finds_callers old name live (fixed bytes owner) at h f) refl
 
 -- ---- a header is written over another
 
@@ -196,8 +197,8 @@ pub movable_relabelled : (old new : List ℕ) (name at : ℕ) (live : LiveChunk)
 movable_relabelled old new name at live bytes others lock owner slot count holder h f kept w t len =
     let s : Spelled old at (movable bytes lock owner slot) = finds_spelled old name live (movable bytes lock owner slot) at h f in
     let same : others ≡ bytes = body_stays old new at bytes others lock owner s.0 count holder t.0 s.1 t.1 len w in
-    altered_write old new name at live (movable bytes lock owner slot) (movable bytes count holder slot) h f
-    (wrote_wider old new at (at + 8) at (at + need (length bytes)) w (omega arith) (omega arith)) (subst (λ (b : List ℕ). Spelled new at (movable b count holder slot)) same t) refl refl (λ m. (m.0, kept m.0 m.1)) tt
+    (altered_write old new name at live (movable bytes lock owner slot) (movable bytes count holder slot) h f
+    (wrote_wider old new at (at + 8) at (at + need (length bytes)) w (omega arith) (omega arith)) (subst (λ (b : List ℕ). Spelled new at (movable b count holder slot)) same t) refl refl (λ m. (m.0, kept m.0 m.1)) tt refl).0
 
 -- of a fixed chunk
 pub fixed_relabelled : (old new : List ℕ) (name at : ℕ) (live : LiveChunk) (bytes others : List ℕ) (owner holder : ℕ) → HeapAccepted old → (f : Finds old name live (fixed bytes owner) at) → 0 < holder → holder < 15 → WroteWithin old new at (at + 8)
@@ -205,5 +206,5 @@ pub fixed_relabelled : (old new : List ℕ) (name at : ℕ) (live : LiveChunk) (
 fixed_relabelled old new name at live bytes others owner holder h f some_owner most_owner w t len =
     let s : Spelled old at (fixed bytes owner) = finds_spelled old name live (fixed bytes owner) at h f in
     let same : others ≡ bytes = body_stays old new at bytes others fixed_lock owner 0 fixed_lock holder 0 s t len w in
-    altered_write old new name at live (fixed bytes owner) (fixed bytes holder) h f
-    (wrote_wider old new at (at + 8) at (at + need (length bytes)) w (omega arith) (omega arith)) (subst (λ (b : List ℕ). Spelled new at (fixed b holder)) same t) refl tt (λ m. m) (some_owner, most_owner)
+    (altered_write old new name at live (fixed bytes owner) (fixed bytes holder) h f
+    (wrote_wider old new at (at + 8) at (at + need (length bytes)) w (omega arith) (omega arith)) (subst (λ (b : List ℕ). Spelled new at (fixed b holder)) same t) refl tt (λ m. m) (some_owner, most_owner) refl).0

@@ -78,18 +78,33 @@ bodies_named name place at (c ∷ cs) b = elim b [
   | inr later ↦ let n = bodies_named name place (at + size_of c) cs later in (n.0, inr n.1)
 ]
 
--- ---- a free chunk is claimed for a movable one
+-- ---- a free chunk, or a fixed one, becomes a movable one
 
-claimed_ties : (old new : List ℕ) (before after : List Chunk) (at size : ℕ) (bytes : List ℕ) (owner slot : ℕ) → IsHeap old (before ++ (free size ∷ after)) → Replaces old new before (free size ∷ []) (movable bytes 0 owner slot ∷ []) after at
+abbrev pub IsNotMovable : Chunk → Type 0
+IsNotMovable (free size) = Unit {0}
+IsNotMovable (movable bytes lock owner slot) = ⊥
+IsNotMovable (fixed bytes owner) = Unit {0}
+
+no_body : (slot place at : ℕ) (c : Chunk) → IsNotMovable c → BodyHere slot place at c → ⊥
+no_body slot place at (free size) n b = b
+no_body slot place at (movable bytes lock owner named) n b = n
+no_body slot place at (fixed bytes owner) n b = b
+
+no_managers : (slot at : ℕ) (c : Chunk) → IsNotMovable c → ManagersHere slot at c → ⊥
+no_managers slot at (free size) n m = m
+no_managers slot at (movable bytes lock owner named) n m = n
+no_managers slot at (fixed bytes owner) n m = m
+
+claimed_ties : (old new : List ℕ) (before after : List Chunk) (at : ℕ) (c : Chunk) (bytes : List ℕ) (owner slot : ℕ) → IsNotMovable c → IsHeap old (before ++ c ∷ after) → Replaces old new before (c ∷ []) (movable bytes 0 owner slot ∷ []) after at
     → IsSlot old slot → u32_at old slot ≡ 0 → u32_at new slot ≡ at + 8 → OtherSlots old new slot
     → (t place : ℕ) → 0 < place → ((IsSlot old t × (u32_at new t ≡ place)) ↔ IsBody (area_start old) (before ++ (movable bytes 0 owner slot ∷ after)) t place)
-claimed_ties old new before after at size bytes owner slot h r s empty now others t place positive =
+claimed_ties old new before after at c bytes owner slot none h r s empty now others t place positive =
     elim (cases_eq t slot) [ inl same ↦ mine same | inr apart ↦ other apart ] where
       start : ℕ
       start = area_start old
 
-      sizes : need (length bytes) + 0 ≡ size + 0
-      sizes = replaced_total old new before (free size ∷ []) (movable bytes 0 owner slot ∷ []) after at r
+      sizes : need (length bytes) + 0 ≡ size_of c + 0
+      sizes = replaced_total old new before (c ∷ []) (movable bytes 0 owner slot ∷ []) after at r
 
       there : at ≡ start + total before
       there = r.there
@@ -97,13 +112,13 @@ claimed_ties old new before after at size bytes owner slot h r s empty now other
       new_list : List Chunk
       new_list = before ++ (movable bytes 0 owner slot ∷ after)
 
-      old_body : (u : ℕ) → u ≢ slot → IsBody start new_list u place → IsBody start (before ++ (free size ∷ after)) u place
-      old_body u apart b = any_replaced (BodyHere u place) start before (movable bytes 0 owner slot ∷ []) (free size ∷ []) after (sym sizes)
-          (λ m. elim m [ inl own ↦ absurd (apart (sym own.0)) | inr none ↦ absurd none ]) b
+      old_body : (u : ℕ) → u ≢ slot → IsBody start new_list u place → IsBody start (before ++ c ∷ after) u place
+      old_body u apart b = any_replaced (BodyHere u place) start before (movable bytes 0 owner slot ∷ []) (c ∷ []) after (sym sizes)
+          (λ m. elim m [ inl own ↦ absurd (apart (sym own.0)) | inr nothing ↦ absurd nothing ]) b
 
-      new_body : (u : ℕ) → IsBody start (before ++ (free size ∷ after)) u place → IsBody start new_list u place
-      new_body u b = any_replaced (BodyHere u place) start before (free size ∷ []) (movable bytes 0 owner slot ∷ []) after sizes
-          (λ m. elim m [ inl own ↦ absurd own | inr none ↦ absurd none ]) b
+      new_body : (u : ℕ) → IsBody start (before ++ c ∷ after) u place → IsBody start new_list u place
+      new_body u b = any_replaced (BodyHere u place) start before (c ∷ []) (movable bytes 0 owner slot ∷ []) after sizes
+          (λ m. elim m [ inl own ↦ absurd (no_body u place _ c none own) | inr nothing ↦ absurd nothing ]) b
 
       other : t ≢ slot → ((IsSlot old t × (u32_at new t ≡ place)) ↔ IsBody start new_list t place)
       other apart = (
@@ -116,14 +131,14 @@ claimed_ties old new before after at size bytes owner slot h r s empty now other
         λ k. let is : start + total before + 8 ≡ place = let e = k.1 in let f : u32_at new t ≡ at + 8 = ap (u32_at new) same ∙ now in omega arith in
             AnyPlaced-right (BodyHere t place) start before (movable bytes 0 owner slot ∷ after) (inl (sym same, is)),
         λ b. elim (AnyPlaced-split (BodyHere t place) start before (movable bytes 0 owner slot ∷ after) b) [
-          | inl front ↦ absurd (used (AnyPlaced-left (BodyHere t place) start before (free size ∷ after) front))
+          | inl front ↦ absurd (used (AnyPlaced-left (BodyHere t place) start before (c ∷ after) front))
           | inr rest ↦ elim rest [
             | inl own ↦ let is = own.1 in (subst (λ (n : ℕ). IsSlot old n) (sym same) s, ap (u32_at new) same ∙ now ∙ (let e : at + 8 ≡ place = omega arith in e))
-            | inr back ↦ absurd (used (AnyPlaced-right (BodyHere t place) start before (free size ∷ after) (inr (subst (λ (n : ℕ). AnyPlaced (BodyHere t place) (start + total before + n) after) (let e : need (length bytes) ≡ size = omega arith in e) back))))
+            | inr back ↦ absurd (used (AnyPlaced-right (BodyHere t place) start before (c ∷ after) (inr (subst (λ (n : ℕ). AnyPlaced (BodyHere t place) (start + total before + n) after) (let e : need (length bytes) ≡ size_of c = omega arith in e) back))))
           ]
         ],
       ) where
-        used : IsBody start (before ++ (free size ∷ after)) t place → ⊥
+        used : IsBody start (before ++ c ∷ after) t place → ⊥
         used b = let k = (h.tied t place positive).1 b in let e = k.1 in let z : u32_at old t ≡ 0 = ap (u32_at old) same ∙ empty in omega arith
 
 -- the maps where the middle chunks are one chunk of a name, or free chunks
@@ -158,12 +173,12 @@ other_live at bytes lock owner slot name cs apart = cond-false (slot == name) _ 
 other_place : (at : ℕ) (bytes : List ℕ) (lock owner slot name : ℕ) (cs : List Chunk) → name ≢ slot → place_under at (movable bytes lock owner slot ∷ cs) name ≡ place_under (at + need (length bytes)) cs name
 other_place at bytes lock owner slot name cs apart = cond-false (slot == name) _ _ (grind (arith, nat_tests))
 
-pub claimed : (old new : List ℕ) (before after : List Chunk) (at size : ℕ) (bytes : List ℕ) (owner slot : ℕ) → IsHeap old (before ++ (free size ∷ after)) → Replaces old new before (free size ∷ []) (movable bytes 0 owner slot ∷ []) after at
+pub claimed : (old new : List ℕ) (before after : List Chunk) (at : ℕ) (c : Chunk) (bytes : List ℕ) (owner slot : ℕ) → IsNotMovable c → IsHeap old (before ++ c ∷ after) → Replaces old new before (c ∷ []) (movable bytes 0 owner slot ∷ []) after at
     → IsSlot old slot → u32_at old slot ≡ 0 → u32_at new slot ≡ at + 8 → OtherSlots old new slot → IsHeap new (before ++ (movable bytes 0 owner slot ∷ after))
-claimed old new before after at size bytes owner slot h r s empty now others = replaced_heap old new before (free size ∷ []) (movable bytes 0 owner slot ∷ []) after at h r record {
-  ties = claimed_ties old new before after at size bytes owner slot h r s empty now others;
+claimed old new before after at c bytes owner slot none h r s empty now others = replaced_heap old new before (c ∷ []) (movable bytes 0 owner slot ∷ []) after at h r record {
+  ties = claimed_ties old new before after at c bytes owner slot none h r s empty now others;
   callers = (tt, tt);
-  directory = kept_directory old new before (free size ∷ []) (movable bytes 0 owner slot ∷ []) after at h r (λ m. elim m [ inl own ↦ absurd own | inr none ↦ absurd none ]);
+  directory = kept_directory old new before (c ∷ []) (movable bytes 0 owner slot ∷ []) after at h r (λ m. elim m [ inl own ↦ absurd (no_managers (directory_of old) at c none own) | inr nothing ↦ absurd nothing ]);
 }
 
 -- ---- a live chunk is given back, with the free chunks behind it

@@ -1,6 +1,6 @@
 -- Lists of chunks in which free neighbours are made one: what is the same of them.
 use Rattle.std.proofs.Common.{Bool, false, cond, ◌≡◌, ℕ, zero, suc, ◌+◌, ◌<◌, ◌≤◌, List, [], ◌∷◌, ◌++◌, length, Option, Some, None, refl, sym, ap, subst, ◌∙◌, append-nil, arith, inl, inr}
-use Rattle.std.specs.Prelude.{count_by, sum_by, filter, ◌==◌, ◌↔◌, if◌then◌else◌}
+use Rattle.std.specs.Prelude.{All, count_by, sum_by, filter, ◌==◌, ◌↔◌, if◌then◌else◌}
 use Rattle.std.proofs.lemmas.List.Sums.{sum_by-cons}
 use Rattle.heap_model.specs.Chunk.{Chunk, free, movable, fixed, fixed_lock, need, total, free_size}
 use Rattle.heap_model.specs.Placed.{EveryPlaced, AnyPlaced}
@@ -19,6 +19,17 @@ onto_twice m n [] = refl
 onto_twice m n (free k ∷ cs) = ap (λ (x : ℕ). free x ∷ cs) (let e : m + n + k ≡ m + (n + k) = omega arith in e)
 onto_twice m n (movable bytes lock owner slot ∷ cs) = refl
 onto_twice m n (fixed bytes owner ∷ cs) = refl
+
+-- what sees of a free chunk only how much further on the others begin sees two in a row as one
+pub onto_shifted : {A : Type 0} (f : ℕ → List Chunk → A) → ((at n : ℕ) (cs : List Chunk) → f at (free n ∷ cs) ≡ f (at + n) cs) → (at n : ℕ) (cs : List Chunk) → f at (free_onto n cs) ≡ f (at + n) cs
+onto_shifted f shifts at n [] = shifts at n []
+onto_shifted f shifts at n (free m ∷ cs) = shifts at (n + m) cs ∙ ap (λ (k : ℕ). f k cs) (let e : at + (n + m) ≡ at + n + m = omega arith in e) ∙ sym (shifts (at + n) m cs)
+onto_shifted f shifts at n (movable bytes lock owner slot ∷ cs) = shifts at n (movable bytes lock owner slot ∷ cs)
+onto_shifted f shifts at n (fixed bytes owner ∷ cs) = shifts at n (fixed bytes owner ∷ cs)
+
+-- and so does what adds its size
+onto_sum : (sum : List Chunk → ℕ) → ((n : ℕ) (cs : List Chunk) → sum (free n ∷ cs) ≡ n + sum cs) → (n : ℕ) (cs : List Chunk) → sum (free_onto n cs) ≡ n + sum cs
+onto_sum sum each n cs = let e : 0 + sum (free_onto n cs) ≡ 0 + n + sum cs = onto_shifted (λ at cs. at + sum cs) (λ at n cs. let e = each n cs in omega arith) 0 n cs in omega arith
 
 onto_append : (n : ℕ) (ds ys : List Chunk) → merged (free_onto n ds ++ ys) ≡ free_onto n (merged (ds ++ ys))
 onto_append n [] ys = refl
@@ -117,53 +128,29 @@ takes-merged at (fixed bytes owner ∷ cs) h = (h.0, takes-merged (at + need (le
 
 -- ---- what is a function of the layout
 
-onto_live : (at n : ℕ) (cs : List Chunk) (name : ℕ) → live_under at (free_onto n cs) name ≡ live_under (at + n) cs name
-onto_live at n [] name = refl
-onto_live at n (free m ∷ cs) name = ap (λ (k : ℕ). live_under k cs name) (let e : at + (n + m) ≡ at + n + m = omega arith in e)
-onto_live at n (movable bytes lock owner slot ∷ cs) name = refl
-onto_live at n (fixed bytes owner ∷ cs) name = refl
-
 pub live_under-merged : (at : ℕ) (cs : List Chunk) (name : ℕ) → live_under at (merged cs) name ≡ live_under at cs name
 live_under-merged at [] name = refl
-live_under-merged at (free n ∷ cs) name = onto_live at n (merged cs) name ∙ live_under-merged (at + n) cs name
+live_under-merged at (free n ∷ cs) name = onto_shifted (λ at cs. live_under at cs name) (λ at n cs. refl) at n (merged cs) ∙ live_under-merged (at + n) cs name
 live_under-merged at (movable bytes lock owner slot ∷ cs) name =
     ap (λ (o : Option LiveChunk). if slot == name then Some (record { bytes = bytes; lock = lock; owner = owner }) else o) (live_under-merged (at + need (length bytes)) cs name)
 live_under-merged at (fixed bytes owner ∷ cs) name =
     ap (λ (o : Option LiveChunk). if (at + 8) == name then Some (record { bytes = bytes; lock = fixed_lock; owner = owner }) else o) (live_under-merged (at + need (length bytes)) cs name)
 
-onto_place : (at n : ℕ) (cs : List Chunk) (name : ℕ) → place_under at (free_onto n cs) name ≡ place_under (at + n) cs name
-onto_place at n [] name = refl
-onto_place at n (free m ∷ cs) name = ap (λ (k : ℕ). place_under k cs name) (let e : at + (n + m) ≡ at + n + m = omega arith in e)
-onto_place at n (movable bytes lock owner slot ∷ cs) name = refl
-onto_place at n (fixed bytes owner ∷ cs) name = refl
-
 pub place_under-merged : (at : ℕ) (cs : List Chunk) (name : ℕ) → place_under at (merged cs) name ≡ place_under at cs name
 place_under-merged at [] name = refl
-place_under-merged at (free n ∷ cs) name = onto_place at n (merged cs) name ∙ place_under-merged (at + n) cs name
+place_under-merged at (free n ∷ cs) name = onto_shifted (λ at cs. place_under at cs name) (λ at n cs. refl) at n (merged cs) ∙ place_under-merged (at + n) cs name
 place_under-merged at (movable bytes lock owner slot ∷ cs) name = ap (λ (o : Option ℕ). if slot == name then Some (at + 8) else o) (place_under-merged (at + need (length bytes)) cs name)
 place_under-merged at (fixed bytes owner ∷ cs) name = ap (λ (o : Option ℕ). if (at + 8) == name then Some (at + 8) else o) (place_under-merged (at + need (length bytes)) cs name)
 
-onto_total : (n : ℕ) (cs : List Chunk) → total (free_onto n cs) ≡ n + total cs
-onto_total n [] = refl
-onto_total n (free m ∷ cs) = omega arith
-onto_total n (movable bytes lock owner slot ∷ cs) = refl
-onto_total n (fixed bytes owner ∷ cs) = refl
-
 pub total-merged : (cs : List Chunk) → total (merged cs) ≡ total cs
 total-merged [] = refl
-total-merged (free n ∷ cs) = onto_total n (merged cs) ∙ ap (λ (k : ℕ). n + k) (total-merged cs)
+total-merged (free n ∷ cs) = onto_sum total (λ n cs. refl) n (merged cs) ∙ ap (λ (k : ℕ). n + k) (total-merged cs)
 total-merged (movable bytes lock owner slot ∷ cs) = ap (λ (k : ℕ). need (length bytes) + k) (total-merged cs)
 total-merged (fixed bytes owner ∷ cs) = ap (λ (k : ℕ). need (length bytes) + k) (total-merged cs)
 
-onto_free : (n : ℕ) (cs : List Chunk) → sum_by free_size (free_onto n cs) ≡ n + sum_by free_size cs
-onto_free n [] = sum_by-cons free_size (free n) []
-onto_free n (free m ∷ cs) = let a = sum_by-cons free_size (free (n + m)) cs in let b = sum_by-cons free_size (free m) cs in omega arith
-onto_free n (movable bytes lock owner slot ∷ cs) = sum_by-cons free_size (free n) (movable bytes lock owner slot ∷ cs)
-onto_free n (fixed bytes owner ∷ cs) = sum_by-cons free_size (free n) (fixed bytes owner ∷ cs)
-
 pub free_total-merged : (cs : List Chunk) → sum_by free_size (merged cs) ≡ sum_by free_size cs
 free_total-merged [] = refl
-free_total-merged (free n ∷ cs) = onto_free n (merged cs) ∙ ap (λ (k : ℕ). n + k) (free_total-merged cs) ∙ sym (sum_by-cons free_size (free n) cs)
+free_total-merged (free n ∷ cs) = onto_sum (sum_by free_size) (λ n cs. sum_by-cons free_size (free n) cs) n (merged cs) ∙ ap (λ (k : ℕ). n + k) (free_total-merged cs) ∙ sym (sum_by-cons free_size (free n) cs)
 free_total-merged (movable bytes lock owner slot ∷ cs) =
     let a = sum_by-cons free_size (movable bytes lock owner slot) (merged cs) in let b = sum_by-cons free_size (movable bytes lock owner slot) cs in let ih = free_total-merged cs in omega arith
 free_total-merged (fixed bytes owner ∷ cs) =
@@ -176,18 +163,12 @@ free_fails test none n cs =
     let zero_there : cond {A = ℕ} (test (free n)) 1 0 ≡ 0 = cond-false (test (free n)) 1 0 (none n) in
     omega arith
 
-onto_count : (test : Chunk → Bool) → ((n : ℕ) → test (free n) ≡ false) → (n : ℕ) (cs : List Chunk) → count_by test (free_onto n cs) ≡ count_by test cs
-onto_count test none n [] = free_fails test none n []
-onto_count test none n (free m ∷ cs) = free_fails test none (n + m) cs ∙ sym (free_fails test none m cs)
-onto_count test none n (movable bytes lock owner slot ∷ cs) = free_fails test none n (movable bytes lock owner slot ∷ cs)
-onto_count test none n (fixed bytes owner ∷ cs) = free_fails test none n (fixed bytes owner ∷ cs)
-
 count_front : (test : Chunk → Bool) (c : Chunk) (xs ys : List Chunk) → count_by test xs ≡ count_by test ys → count_by test (c ∷ xs) ≡ count_by test (c ∷ ys)
 count_front test c xs ys e = let a = sum_by-cons (λ (d : Chunk). cond (test d) 1 0) c xs in let b = sum_by-cons (λ (d : Chunk). cond (test d) 1 0) c ys in omega arith
 
 pub count-merged : (test : Chunk → Bool) → ((n : ℕ) → test (free n) ≡ false) → (cs : List Chunk) → count_by test (merged cs) ≡ count_by test cs
 count-merged test none [] = refl
-count-merged test none (free n ∷ cs) = onto_count test none n (merged cs) ∙ count-merged test none cs ∙ sym (free_fails test none n cs)
+count-merged test none (free n ∷ cs) = onto_shifted (λ at cs. count_by test cs) (λ at n cs. free_fails test none n cs) 0 n (merged cs) ∙ count-merged test none cs ∙ sym (free_fails test none n cs)
 count-merged test none (movable bytes lock owner slot ∷ cs) = count_front test (movable bytes lock owner slot) (merged cs) cs (count-merged test none cs)
 count-merged test none (fixed bytes owner ∷ cs) = count_front test (fixed bytes owner) (merged cs) cs (count-merged test none cs)
 
@@ -286,27 +267,15 @@ with_freed-merged (movable bytes lock owner slot ∷ cs) name =
     merged-right ((if slot == name then free (need (length bytes)) else movable bytes lock owner slot) ∷ []) (with_freed (merged cs) name) (with_freed cs name) (with_freed-merged cs name)
 with_freed-merged (fixed bytes owner ∷ cs) name = ap (λ (ds : List Chunk). fixed bytes owner ∷ ds) (with_freed-merged cs name)
 
-onto_front : (n : ℕ) (cs : List Chunk) → free_front (free_onto n cs) ≡ n + free_front cs
-onto_front n [] = refl
-onto_front n (free m ∷ cs) = omega arith
-onto_front n (movable bytes lock owner slot ∷ cs) = refl
-onto_front n (fixed bytes owner ∷ cs) = refl
-
 pub free_front-merged : (cs : List Chunk) → free_front (merged cs) ≡ free_front cs
 free_front-merged [] = refl
-free_front-merged (free n ∷ cs) = onto_front n (merged cs) ∙ ap (λ (k : ℕ). n + k) (free_front-merged cs)
+free_front-merged (free n ∷ cs) = onto_sum free_front (λ n cs. refl) n (merged cs) ∙ ap (λ (k : ℕ). n + k) (free_front-merged cs)
 free_front-merged (movable bytes lock owner slot ∷ cs) = refl
 free_front-merged (fixed bytes owner ∷ cs) = refl
 
-onto_behind : (n : ℕ) (cs : List Chunk) (name : ℕ) → free_behind_in (free_onto n cs) name ≡ free_behind_in cs name
-onto_behind n [] name = refl
-onto_behind n (free m ∷ cs) name = refl
-onto_behind n (movable bytes lock owner slot ∷ cs) name = refl
-onto_behind n (fixed bytes owner ∷ cs) name = refl
-
 pub free_behind-merged : (cs : List Chunk) (name : ℕ) → free_behind_in (merged cs) name ≡ free_behind_in cs name
 free_behind-merged [] name = refl
-free_behind-merged (free n ∷ cs) name = onto_behind n (merged cs) name ∙ free_behind-merged cs name
+free_behind-merged (free n ∷ cs) name = onto_shifted (λ at cs. free_behind_in cs name) (λ at n cs. refl) 0 n (merged cs) ∙ free_behind-merged cs name
 free_behind-merged (movable bytes lock owner slot ∷ cs) name =
     ap (λ (k : ℕ). if slot == name then k else free_behind_in (merged cs) name) (free_front-merged cs) ∙ ap (λ (k : ℕ). if slot == name then free_front cs else k) (free_behind-merged cs name)
 free_behind-merged (fixed bytes owner ∷ cs) name = free_behind-merged cs name
@@ -413,3 +382,26 @@ pub no_run-layout : (cs ds : List Chunk) (size : ℕ) → merged cs ≡ merged d
 no_run-layout cs ds size e h =
     let some : sum_by free_size [] < size = h [] [] cs refl tt in
     below-no_run ds size some (subst (λ (xs : List Chunk). AllBelow size xs) e (no_run-below cs size h))
+
+-- where each stretch has less room there is no run of so many bytes
+onto_short : (n size : ℕ) (ms : List (Option ℕ)) → All (λ k. k < size) (marked (mark_onto n ms)) → (n < size) × All (λ k. k < size) (marked ms)
+onto_short n size [] h = (All-head (λ (k : ℕ). k < size) n [] h, All-nil (λ (k : ℕ). k < size))
+onto_short n size (None ∷ ms) h = (All-head (λ (k : ℕ). k < size) n (marked ms) h, All-tail (λ (k : ℕ). k < size) n (marked ms) h)
+onto_short n size (Some room ∷ ms) h =
+    let all : n + room < size = All-head (λ (k : ℕ). k < size) (n + room) (marked ms) h in
+    (omega arith, All-cons (λ (k : ℕ). k < size) room (marked ms) (omega arith) (All-tail (λ (k : ℕ). k < size) (n + room) (marked ms) h))
+
+short_below : (cs : List Chunk) (size : ℕ) → 0 < size → All (λ k. k < size) (marked (marks (runs_between cs))) → AllBelow size cs
+short_below [] size some h = All-nil (λ (c : Chunk). free_size c < size)
+short_below (free n ∷ cs) size some h =
+    let t = onto_short n size (marks (runs_between cs)) (subst (λ (ms : List (Option ℕ)). All (λ k. k < size) (marked ms)) (marks_onto (free n) (runs_between cs)) h) in
+    All-cons (λ (c : Chunk). free_size c < size) (free n) cs t.0 (short_below cs size some t.1)
+short_below (movable bytes zero owner slot ∷ cs) size some h =
+    let t = onto_short 0 size (marks (runs_between cs)) (subst (λ (ms : List (Option ℕ)). All (λ k. k < size) (marked ms)) (marks_onto (movable bytes 0 owner slot) (runs_between cs)) h) in
+    All-cons (λ (c : Chunk). free_size c < size) (movable bytes 0 owner slot) cs some (short_below cs size some t.1)
+short_below (movable bytes (suc count) owner slot ∷ cs) size some h = All-cons (λ (c : Chunk). free_size c < size) (movable bytes (suc count) owner slot) cs some (short_below cs size some h)
+short_below (fixed bytes owner ∷ cs) size some h = All-cons (λ (c : Chunk). free_size c < size) (fixed bytes owner) cs some (short_below cs size some h)
+
+pub short_no_run : (cs : List Chunk) (size : ℕ) → 0 < size → All (λ room. room < size) (rooms_of (stretches cs)) → NoRun cs size
+short_no_run cs size some h =
+    below-no_run cs size some (short_below (merged cs) size some (subst (λ (rs : List ℕ). All (λ room. room < size) rs) (sym (rooms-merged cs) ∙ marked_rooms (runs_between (merged cs))) h))

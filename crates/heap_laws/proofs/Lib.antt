@@ -28,3 +28,5 @@ pub mod Compacting
 pub mod Stretches
 pub mod Resizings
 pub mod Relocating
+pub mod Updating
+pub mod Fitting

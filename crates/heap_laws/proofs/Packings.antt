@@ -5,23 +5,18 @@ use Rattle.std.proofs.lemmas.List.Elements.{All-nil, All-cons, All-head, All-tai
 use Rattle.heap_model.specs.Chunk.{Chunk, free, movable, fixed, need, total}
 use Rattle.heap_model.specs.Placed.{EveryPlaced}
 use Rattle.heap_model.specs.Space.{onto_first, runs_between, has_chunk}
-use Rattle.heap_model.specs.Layout.{free_onto, merged, gap}
+use Rattle.heap_model.specs.Layout.{merged, gap}
 use Rattle.heap_model.specs.Packing.{FreeIsLast, Packed, lives, staying, Slid, packed_behind, packed, BeginsStaying}
 use Rattle.heap_laws.proofs.Chunks.{total-append}
 use Rattle.heap_laws.proofs.Placed.{TakesBytes}
+use Rattle.heap_laws.proofs.Layouts.{onto_shifted}
 use Rattle.heap_laws.proofs.Exchanging.{gap_total}
 
 -- ---- packing is of the layout
 
-onto_packed : (room n : ℕ) (cs : List Chunk) → packed_behind room (free_onto n cs) ≡ packed_behind (room + n) cs
-onto_packed room n [] = refl
-onto_packed room n (free m ∷ cs) = ap (λ (k : ℕ). packed_behind k cs) (let e : room + (n + m) ≡ room + n + m = omega arith in e)
-onto_packed room n (movable bytes lock owner slot ∷ cs) = refl
-onto_packed room n (fixed bytes owner ∷ cs) = refl
-
 packed_behind-merged : (room : ℕ) (cs : List Chunk) → packed_behind room (merged cs) ≡ packed_behind room cs
 packed_behind-merged room [] = refl
-packed_behind-merged room (free n ∷ cs) = onto_packed room n (merged cs) ∙ packed_behind-merged (room + n) cs
+packed_behind-merged room (free n ∷ cs) = onto_shifted packed_behind (λ at n cs. refl) room n (merged cs) ∙ packed_behind-merged (room + n) cs
 packed_behind-merged room (movable bytes zero owner slot ∷ cs) = ap (λ (ds : List Chunk). movable bytes 0 owner slot ∷ ds) (packed_behind-merged room cs)
 packed_behind-merged room (movable bytes (suc count) owner slot ∷ cs) = ap (λ (ds : List Chunk). gap room ++ movable bytes (suc count) owner slot ∷ ds) (packed_behind-merged 0 cs)
 packed_behind-merged room (fixed bytes owner ∷ cs) = ap (λ (ds : List Chunk). gap room ++ fixed bytes owner ∷ ds) (packed_behind-merged 0 cs)

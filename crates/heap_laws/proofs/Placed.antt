@@ -26,10 +26,6 @@ EveryPlaced-split P at (c ∷ xs) ys h =
 pub EveryPlaced-push : (P : ℕ → Chunk → Type 0) (at : ℕ) (cs : List Chunk) (c : Chunk) (end : ℕ) → end ≡ at + total cs → EveryPlaced P at cs → P end c → EveryPlaced P at (cs ++ c ∷ [])
 EveryPlaced-push P at cs c end e h p = EveryPlaced-append P at cs (c ∷ []) h (subst (λ (n : ℕ). P n c) e p, tt)
 
-pub EveryPlaced-map : (P Q : ℕ → Chunk → Type 0) → ((at : ℕ) (c : Chunk) → P at c → Q at c) → (at : ℕ) (cs : List Chunk) → EveryPlaced P at cs → EveryPlaced Q at cs
-EveryPlaced-map P Q each at [] h = tt
-EveryPlaced-map P Q each at (c ∷ cs) h = (each at c h.0, EveryPlaced-map P Q each (at + size_of c) cs h.1)
-
 -- ---- some chunk
 
 move_any : (P : ℕ → Chunk → Type 0) (m n : ℕ) (cs : List Chunk) → m ≡ n → AnyPlaced P m cs → AnyPlaced P n cs

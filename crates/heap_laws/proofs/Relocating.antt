@@ -12,7 +12,7 @@ use Rattle.heap_model.specs.Meaning.{LiveChunk, NamedHere}
 use Rattle.heap_model.specs.Reading.{chunks_of, held, live_under}
 use Rattle.heap_model.specs.Space.{place_under, place_of}
 use Rattle.heap_model.specs.Placing.{Finds}
-use Rattle.heap_model.specs.Layout.{merged, layout_of, Becomes, gap, in_front, freed, IsRoom}
+use Rattle.heap_model.specs.Layout.{merged, layout_of, Becomes, Exchanges, Alters, gap, in_front, freed, IsRoom}
 use Rattle.heap_model.specs.Resizing.{with_length, relocated, Relocates}
 use Rattle.heap_laws.proofs.Deciding.{cond-true, cond-false}
 use Rattle.heap_laws.proofs.Chunks.{total-append}
@@ -21,9 +21,9 @@ use Rattle.heap_laws.proofs.Replacing.{any_replaced}
 use Rattle.heap_laws.proofs.Meanings.{held-is, live_under-is}
 use Rattle.heap_laws.proofs.Finding.{read_heap}
 use Rattle.heap_laws.proofs.Lives.{live_replaced, place_replaced}
-use Rattle.heap_laws.proofs.Layouts.{any-layout, merged-live, merged-twice, total-merged}
-use Rattle.heap_laws.proofs.Becoming.{becomes_start, becomes_held, becomes_place, becomes_body, becomes_slot}
-use Rattle.heap_laws.proofs.Exchanging.{layout_takes, gap_free, gap_total, RoomInLayout, room_in_layout, NoOther, free_no_other, named_no_other, held_parts, place_parts, ChangesName}
+use Rattle.heap_laws.proofs.Layouts.{IsNotFree, any-layout, merged-front, merged-right, merged-live, merged-twice, total-merged}
+use Rattle.heap_laws.proofs.Becoming.{frame_then, becomes_start, becomes_held, becomes_place, becomes_body, becomes_slot}
+use Rattle.heap_laws.proofs.Exchanging.{exchanges_layout, layout_takes, gap_free, gap_total, RoomInLayout, room_in_layout, NoOther, free_no_other, named_no_other, held_parts, place_parts, ChangesName}
 use Rattle.heap_laws.proofs.Changing.{changes_as}
 use Rattle.heap_laws.proofs.Compacting.{body_placed}
 use Rattle.heap_laws.proofs.Stretches.{heads}
@@ -269,3 +269,100 @@ relocate_changes old new name here there size count live bytes lock owner slot h
       done ds x (AnyPlaced-right At start front ((d ∷ gap left) ++ (mid ++ freed c ∷ after)) (inl (is first, (f.named.0, place))))
       (two_change old new front (free room.more ∷ []) (d ∷ gap left) mid (c ∷ []) (freed c ∷ []) after name h (alike cs e) x sizes refl (free_no_other name _ (free room.more ∷ []) tt) (named_no_other name _ now d (gap left) (is first) (gap_free left))
       (named_no_other name _ live c [] (was first) tt) (free_no_other name _ (freed c ∷ []) tt))
+
+-- ---- in steps: a stand-in is made there, gets the bytes, and gets the name once the chunk is free
+
+-- a live chunk is altered among others
+altered_layout : (old new : List ℕ) (there : ℕ) (change : Chunk → Chunk) (before : List Chunk) (c : Chunk) (after : List Chunk) → HeapAccepted old → IsNotFree c → layout_of old ≡ merged (before ++ c ∷ after) → there ≡ area_start old + total before → Alters old new there change
+    → layout_of new ≡ merged (before ++ change c ∷ after)
+altered_layout old new there change before c after h live e is x =
+    ((exchanges_layout old new there (λ d. change d ∷ []) (merged before) c (merged after) h (e ∙ merged-live before c after live) (is ∙ ap (λ (n : ℕ). area_start old + n) (sym (total-merged before)))).0 x).layout
+    ∙ merged-front before (change c ∷ merged after)
+    ∙ merged-right before (change c ∷ merged after) (change c ∷ after) (merged-right (change c ∷ []) (merged after) after (merged-twice after))
+
+pub relocates : (s0 s1 s2 s3 s4 : List ℕ) (here there size : ℕ) (before : List Chunk) (bytes : List ℕ) (lock owner slot : ℕ) (after : List Chunk) (f g d : Chunk) (write make : Chunk → Chunk) → HeapAccepted s0 → chunks_of s0 ≡ before ++ movable bytes lock owner slot ∷ after
+    → here ≡ area_start s0 + total before → 0 < size → IsRoom s0 there size → size_of d ≤ size → IsNotFree f → IsNotFree g → size_of f ≡ size_of d → size_of g ≡ size_of d → write f ≡ g → make g ≡ d
+    → Exchanges s0 s1 there (in_front f) → Alters s1 s2 there write → Alters s2 s3 here freed → Alters s3 s4 there make → Relocates s0 s4 here there d
+relocates s0 s1 s2 s3 s4 here there size before bytes lock owner slot after f g d write make h chunks from some r fits f_live g_live f_size g_size f_is g_is x1 x2 x3 x4 =
+    record { frame = frame_then s0 s3 s4 (frame_then s0 s2 s3 (frame_then s0 s1 s2 x1.frame x2.frame) x3.frame) x4.frame; layout = elim (two_cuts (merged before) c (merged after) front (free room.more) room.behind (λ e. cc) (sym layout ∙ room.layout)) [ inl k ↦ behind k | inr k ↦ in_front_of k ] } where
+      c : Chunk
+      c = movable bytes lock owner slot
+
+      start : ℕ
+      start = area_start s0
+
+      front : List Chunk
+      front = merged r.before
+
+      room : RoomInLayout s0 there size r.before r.after
+      room = room_in_layout s0 there size h some r
+
+      rest : List Chunk
+      rest = gap (room.more - size_of d) ++ room.behind
+
+      layout : layout_of s0 ≡ merged before ++ c ∷ merged after
+      layout = ap merged chunks ∙ merged-live before c after tt
+
+      from_merged : here ≡ start + total (merged before)
+      from_merged = from ∙ ap (λ (n : ℕ). start + n) (sym (total-merged before))
+
+      to : there ≡ start + total front
+      to = r.there ∙ ap (λ (n : ℕ). start + n) (sym (total-merged r.before))
+
+      start1 : area_start s1 ≡ start
+      start1 = becomes_start s0 s1 _ x1
+
+      start2 : area_start s2 ≡ start
+      start2 = becomes_start s1 s2 _ x2 ∙ start1
+
+      start3 : area_start s3 ≡ start
+      start3 = becomes_start s2 s3 _ x3 ∙ start2
+
+      takes : (cs : List Chunk) → layout_of s0 ≡ cs → EveryPlaced TakesBytes start cs
+      takes cs e = subst (λ (ds : List Chunk). EveryPlaced TakesBytes start ds) e (layout_takes s0 h)
+
+      made : layout_of s1 ≡ merged (front ++ f ∷ rest)
+      made = ((exchanges_layout s0 s1 there (in_front f) front (free room.more) room.behind h room.layout to).0 x1).layout ∙ ap (λ (n : ℕ). merged (front ++ f ∷ (gap (room.more - n) ++ room.behind))) f_size
+
+      written : layout_of s2 ≡ merged (front ++ g ∷ rest)
+      written = altered_layout s1 s2 there write front f rest x1.frame.accepted f_live made (to ∙ ap (λ (n : ℕ). n + total front) (sym start1)) x2 ∙ ap (λ (x : Chunk). merged (front ++ x ∷ rest)) f_is
+
+      behind : CutBehind (merged before) c (merged after) front (free room.more) room.behind → layout_of s4 ≡ merged (relocated here there d start (layout_of s0))
+      behind k =
+          let mid : List Chunk = k.mid in
+          let cs : List Chunk = merged before ++ c ∷ (mid ++ free room.more ∷ room.behind) in
+          let e : layout_of s0 ≡ cs = layout ∙ ap (λ (xs : List Chunk). merged before ++ c ∷ xs) k.back in
+          let sum = ap total k.front ∙ total-append (merged before) (c ∷ mid) in
+          let sums = total-append (merged before) (freed c ∷ mid) in
+          let apart : there ≡ here + size_of c + total mid = omega (arith, from_merged, to, sum) in
+          let in_cut : (x y : Chunk) → (merged before ++ x ∷ mid) ++ y ∷ rest ≡ merged before ++ x ∷ (mid ++ y ∷ rest) = λ x y. append_assoc (merged before) (x ∷ mid) (y ∷ rest) in
+          let before_it = from_merged ∙ ap (λ (n : ℕ). n + total (merged before)) (sym start2) in
+          let gone : layout_of s3 ≡ merged (merged before ++ freed c ∷ (mid ++ g ∷ rest)) =
+          altered_layout s2 s3 here freed (merged before) c (mid ++ g ∷ rest) x2.frame.accepted tt (written ∙ ap (λ (xs : List Chunk). merged (xs ++ g ∷ rest)) k.front ∙ ap merged (in_cut c g)) before_it x3 in
+          let place : there ≡ area_start s3 + total (merged before ++ freed c ∷ mid) = omega (arith, from_merged, apart, sums, start3) in
+          altered_layout s3 s4 there make (merged before ++ freed c ∷ mid) g rest x3.frame.accepted g_live (gone ∙ ap merged (sym (in_cut (freed c) g))) place x4
+          ∙ ap (λ (x : Chunk). merged ((merged before ++ freed c ∷ mid) ++ x ∷ rest)) g_is
+          ∙ ap merged (in_cut (freed c) d)
+          ∙ ap merged (sym (ap (relocated here there d start) e ∙ relocated-behind here there d start (merged before) c mid room.more room.behind (takes cs e) from_merged apart))
+
+      in_front_of : CutBehind front (free room.more) room.behind (merged before) c (merged after) → layout_of s4 ≡ merged (relocated here there d start (layout_of s0))
+      in_front_of k =
+          let mid : List Chunk = k.mid in
+          let left : List Chunk = gap (room.more - size_of d) in
+          let cs : List Chunk = front ++ free room.more ∷ (mid ++ c ∷ merged after) in
+          let e : layout_of s0 ≡ cs = room.layout ∙ ap (λ (xs : List Chunk). front ++ free room.more ∷ xs) k.back in
+          let sum = ap total k.front ∙ total-append front (free room.more ∷ mid) in
+          let sums = total-append front (g ∷ (left ++ mid)) in
+          let more = total-append left mid in
+          let all = gap_total (room.more - size_of d) in
+          let within = room.within in
+          let apart : here ≡ there + room.more + total mid = omega (arith, from_merged, to, sum) in
+          let in_cut : (x : Chunk) → front ++ g ∷ (left ++ (mid ++ x ∷ merged after)) ≡ (front ++ g ∷ (left ++ mid)) ++ x ∷ merged after =
+          λ x. ap (λ (xs : List Chunk). front ++ g ∷ xs) (sym (append_assoc left mid (x ∷ merged after))) ∙ sym (append_assoc front (g ∷ (left ++ mid)) (x ∷ merged after)) in
+          let was : layout_of s2 ≡ merged ((front ++ g ∷ (left ++ mid)) ++ c ∷ merged after) = written ∙ ap (λ (xs : List Chunk). merged (front ++ g ∷ (left ++ xs))) k.back ∙ ap merged (in_cut c) in
+          let place : here ≡ area_start s2 + total (front ++ g ∷ (left ++ mid)) = omega (arith, apart, to, sums, more, all, start2, g_size) in
+          let gone : layout_of s3 ≡ merged (front ++ g ∷ (left ++ (mid ++ freed c ∷ merged after))) =
+          altered_layout s2 s3 here freed (front ++ g ∷ (left ++ mid)) c (merged after) x2.frame.accepted tt was place x3 ∙ ap merged (sym (in_cut (freed c))) in
+          altered_layout s3 s4 there make front g (left ++ (mid ++ freed c ∷ merged after)) x3.frame.accepted g_live gone (to ∙ ap (λ (n : ℕ). n + total front) (sym start3)) x4
+          ∙ ap (λ (x : Chunk). merged (front ++ x ∷ (left ++ (mid ++ freed c ∷ merged after)))) g_is
+          ∙ ap merged (sym (ap (relocated here there d start) e ∙ relocated-front here there d start front room.more mid c (merged after) (takes cs e) to apart))

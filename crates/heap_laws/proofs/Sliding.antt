@@ -9,12 +9,12 @@ use Rattle.heap_model.specs.Placed.{EveryPlaced}
 use Rattle.heap_model.specs.Meaning.{LiveChunk}
 use Rattle.heap_model.specs.Reading.{live_under}
 use Rattle.heap_model.specs.Space.{NoRun, NoneStays, rooms_of, room_of, stretches, runs_between, place_under}
-use Rattle.heap_model.specs.Layout.{free_onto, merged, AllBelow, gap}
+use Rattle.heap_model.specs.Layout.{merged, AllBelow, gap}
 use Rattle.heap_model.specs.Packing.{lives, staying, Slid, packed_behind, packed, opened}
 use Rattle.heap_laws.proofs.Chunks.{total-append}
 use Rattle.heap_laws.proofs.Placed.{TakesBytes}
 use Rattle.heap_laws.proofs.Lives.{move_live, move_place}
-use Rattle.heap_laws.proofs.Layouts.{total-merged, no_run-below, below-no_run, marks, marked, mark_onto, marked_rooms, marks_onto, mark_twice}
+use Rattle.heap_laws.proofs.Layouts.{onto_shifted, total-merged, no_run-below, below-no_run, marks, marked, mark_onto, marked_rooms, marks_onto, mark_twice}
 use Rattle.heap_laws.proofs.Exchanging.{gap_total}
 use Rattle.heap_laws.proofs.Packings.{merged-packed, slid_packed, lives_gap}
 
@@ -206,27 +206,15 @@ no_run-packed at cs size some takes =
 
 -- ---- layouts
 
-onto_lives : (n : ℕ) (cs : List Chunk) → lives (free_onto n cs) ≡ lives cs
-onto_lives n [] = refl
-onto_lives n (free m ∷ cs) = refl
-onto_lives n (movable bytes lock owner slot ∷ cs) = refl
-onto_lives n (fixed bytes owner ∷ cs) = refl
-
 lives-merged : (cs : List Chunk) → lives (merged cs) ≡ lives cs
 lives-merged [] = refl
-lives-merged (free n ∷ cs) = onto_lives n (merged cs) ∙ lives-merged cs
+lives-merged (free n ∷ cs) = onto_shifted (λ at cs. lives cs) (λ at n cs. refl) 0 n (merged cs) ∙ lives-merged cs
 lives-merged (movable bytes lock owner slot ∷ cs) = ap (λ (ds : List Chunk). movable bytes lock owner slot ∷ ds) (lives-merged cs)
 lives-merged (fixed bytes owner ∷ cs) = ap (λ (ds : List Chunk). fixed bytes owner ∷ ds) (lives-merged cs)
 
-onto_staying : (at n : ℕ) (cs : List Chunk) → staying at (free_onto n cs) ≡ staying (at + n) cs
-onto_staying at n [] = refl
-onto_staying at n (free m ∷ cs) = ap (λ (k : ℕ). staying k cs) (let e : at + (n + m) ≡ at + n + m = omega arith in e)
-onto_staying at n (movable bytes lock owner slot ∷ cs) = refl
-onto_staying at n (fixed bytes owner ∷ cs) = refl
-
 staying-merged : (at : ℕ) (cs : List Chunk) → staying at (merged cs) ≡ staying at cs
 staying-merged at [] = refl
-staying-merged at (free n ∷ cs) = onto_staying at n (merged cs) ∙ staying-merged (at + n) cs
+staying-merged at (free n ∷ cs) = onto_shifted staying (λ at n cs. refl) at n (merged cs) ∙ staying-merged (at + n) cs
 staying-merged at (movable bytes zero owner slot ∷ cs) = staying-merged (at + need (length bytes)) cs
 staying-merged at (movable bytes (suc count) owner slot ∷ cs) = ap (λ (offsets : List ℕ). at ∷ offsets) (staying-merged (at + need (length bytes)) cs)
 staying-merged at (fixed bytes owner ∷ cs) = ap (λ (offsets : List ℕ). at ∷ offsets) (staying-merged (at + need (length bytes)) cs)
@@ -334,7 +322,7 @@ stretch_behind room (fixed bytes owner ∷ cs) n = absurd n
 pub stretch_packed : (cs : List Chunk) → NoneStays cs → packed cs ≡ lives cs ++ gap (room_of cs)
 stretch_packed cs n = stretch_behind 0 cs n ∙ ap (λ (k : ℕ). lives cs ++ gap k) (let e : 0 + room_of cs ≡ room_of cs = omega arith in e)
 
-lives_twice : (cs : List Chunk) → lives (lives cs) ≡ lives cs
+pub lives_twice : (cs : List Chunk) → lives (lives cs) ≡ lives cs
 lives_twice [] = refl
 lives_twice (free size ∷ cs) = lives_twice cs
 lives_twice (movable bytes lock owner slot ∷ cs) = ap (λ (ds : List Chunk). movable bytes lock owner slot ∷ ds) (lives_twice cs)

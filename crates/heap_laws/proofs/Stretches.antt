@@ -170,7 +170,7 @@ pub room_among : (before : List Chunk) (c : Chunk) (cs after : List Chunk) → N
     → rooms_of (stretches (before ++ ((c ∷ cs) ++ after))) ≡ rooms_of (stretches before) ++ room_of (c ∷ cs) ∷ rooms_of (stretches after)
 room_among before c cs after n in_front behind = ap rooms_of (stretch_among before c cs after n in_front behind) ∙ rooms_of-append (stretches before) ((c ∷ cs) ∷ stretches after)
 
-All-back : (P : ℕ → Type 0) (xs ys : List ℕ) → All P (xs ++ ys) → All P ys
+pub All-back : (P : ℕ → Type 0) (xs ys : List ℕ) → All P (xs ++ ys) → All P ys
 All-back P [] ys h = h
 All-back P (x ∷ xs) ys h = All-back P xs ys (All-tail P x (xs ++ ys) h)
 
@@ -205,7 +205,7 @@ freed_none at (fixed bytes owner ∷ cs) name e = passed ((at + 8) == name) _ _ 
   passed true x rest e f = absurd (none_some (Some x) x e refl)
   passed false x rest e f = ap (λ (ds : List Chunk). fixed bytes owner ∷ ds) (f e)
 
-with_freed-append : (xs ys : List Chunk) (name : ℕ) → with_freed (xs ++ ys) name ≡ with_freed xs name ++ with_freed ys name
+pub with_freed-append : (xs ys : List Chunk) (name : ℕ) → with_freed (xs ++ ys) name ≡ with_freed xs name ++ with_freed ys name
 with_freed-append [] ys name = refl
 with_freed-append (free size ∷ xs) ys name = ap (λ (cs : List Chunk). free size ∷ cs) (with_freed-append xs ys name)
 with_freed-append (movable bytes lock owner slot ∷ xs) ys name = ap (λ (cs : List Chunk). cond (slot == name) (free (need (length bytes))) (movable bytes lock owner slot) ∷ cs) (with_freed-append xs ys name)
@@ -219,7 +219,7 @@ room_of-middle front c back =
     omega arith
 
 -- the chunks with a movable one of theirs freed
-freed_middle : (image : List ℕ) (before : List Chunk) (bytes : List ℕ) (lock owner slot : ℕ) (after : List Chunk) → HeapAccepted image → chunks_of image ≡ before ++ movable bytes lock owner slot ∷ after
+pub freed_middle : (image : List ℕ) (before : List Chunk) (bytes : List ℕ) (lock owner slot : ℕ) (after : List Chunk) → HeapAccepted image → chunks_of image ≡ before ++ movable bytes lock owner slot ∷ after
     → with_freed (chunks_of image) slot ≡ before ++ free (need (length bytes)) ∷ after
 freed_middle image before bytes lock owner slot after h e =
     let start : ℕ = area_start image in

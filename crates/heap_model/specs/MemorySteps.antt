@@ -8,7 +8,7 @@ use Rattle.heap_model.specs.Heap.{HeapAccepted}
 use Rattle.heap_model.specs.Meaning.{LiveChunk, ChunkMap}
 use Rattle.heap_model.specs.Reading.{chunks_of, held}
 use Rattle.heap_model.specs.Maps.{made, gone, put, sized, relocked, reowned, without_owner, callers_map}
-use Rattle.heap_model.specs.Space.{free_total, free_slots, NoRun, ShortFor, free_behind, rooms, greatest, place_of, Still, moved_bytes}
+use Rattle.heap_model.specs.Space.{free_total, free_slots, Short, ShortFor, free_behind, rooms, greatest, place_of, Still, moved_bytes}
 use Rattle.heap_model.specs.Placing.{SameFrame}
 use Rattle.heap_model.specs.Refusals.{Check, ◌brings◌, ◌may_bring◌}
 use Rattle.heap_model.specs.Steps.{Row, StepBy, done, number, named, locked, data_of, becomes, becomes_named, stays}
@@ -61,7 +61,7 @@ row old map (HandleNew size owner) = record {
   only_asks = false;
   refusals =
       (IsNoCaller owner brings InvalidOwner)
-      ∷ (((free_slots old.bytes ≡ 0) ⊎ NoRun (chunks_of old.bytes) (need size)) brings NotEnoughSpace)
+      ∷ (((free_slots old.bytes ≡ 0) ⊎ Short old.bytes (need size)) brings NotEnoughSpace)
       ∷ [];
   answers = named (λ name. held old.bytes name.0 ≡ None);
   effect = becomes_named (λ name all. made all name.0 size owner 0);
@@ -70,7 +70,7 @@ row old map (PtrNew size owner) = record {
   only_asks = false;
   refusals =
       (IsNoCaller owner brings InvalidOwner)
-      ∷ (NoRun (chunks_of old.bytes) (need size) brings NotEnoughSpace)
+      ∷ (Short old.bytes (need size) brings NotEnoughSpace)
       ∷ [];
   answers = named (λ name. held old.bytes name.0 ≡ None);
   effect = becomes_named (λ name all. made all name.0 size owner fixed_lock);
@@ -235,6 +235,8 @@ MemoryStep old call reply new = StepBy (row_of old call) (AsBefore old new) (hel
 
 -- the calls that may slide chunks
 abbrev pub may_slide : MemoryCall → Bool
+may_slide (HandleNew size owner) = true
+may_slide (PtrNew size owner) = true
 may_slide (Resize name size) = true
 may_slide Compact = true
 may_slide call = false

@@ -1,5 +1,5 @@
 -- Free chunks and free slots: how much there is, and where. And where live chunks are.
-use Rattle.std.specs.Prelude.{◌≡◌, ◌<◌, ◌+◌, ◌++◌, ◌==◌, max, if◌then◌else◌, ℕ, zero, suc, Bool, true, false, List, [], ◌∷◌, length, filter, count_by, sum_by, Option, Some, None, IsSome, All}
+use Rattle.std.specs.Prelude.{◌≡◌, ◌<◌, ◌≤◌, ◌+◌, ◌++◌, ◌==◌, max, if◌then◌else◌, ℕ, zero, suc, Bool, true, false, List, [], ◌∷◌, length, filter, count_by, sum_by, Option, Some, None, IsSome, All}
 use Rattle.heap_model.specs.Bytes.{u32_at}
 use Rattle.heap_model.specs.Chunk.{Chunk, free, movable, fixed, need, total, free_size}
 use Rattle.heap_model.specs.Slots.{slots_of, area_start}
@@ -105,6 +105,10 @@ free_behind_in (fixed bytes owner ∷ chunks) name = free_behind_in chunks name
 
 abbrev pub free_behind : List ℕ → ℕ → ℕ
 free_behind image name = free_behind_in (chunks_of image) name
+
+-- so many bytes a name's chunk has, with what is free directly behind it
+abbrev pub FitsInPlace : List ℕ → ℕ → ℕ → Type 0
+FitsInPlace image name size = (live : LiveChunk) → held image name ≡ Some live → size ≤ need (length live.bytes) + free_behind image name
 
 -- the greatest room, or 0 where there is no stretch
 abbrev pub greatest : List ℕ → ℕ

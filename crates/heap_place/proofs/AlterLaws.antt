@@ -7,7 +7,7 @@ use Rattle.heap_model.specs.Chunk.{Chunk, free, movable, fixed, fixed_lock, Spel
 use Rattle.heap_model.specs.Heap.{HeapAccepted}
 use Rattle.heap_model.specs.Meaning.{LiveChunk}
 use Rattle.heap_model.specs.Placing.{Finds}
-use Rattle.heap_model.specs.Layout.{Becomes, Alters, with_lock, with_owner, with_bytes}
+use Rattle.heap_model.specs.Layout.{Becomes, Alters, with_lock, with_owner, with_bytes, WritesPlain}
 use Rattle.heap_laws.proofs.Frames.{overwritten-behind}
 use Rattle.heap_laws.proofs.Writing.{WroteWithin, wrote_word, wrote_wider}
 use Rattle.heap_laws.proofs.Finding.{finds_spelled}
@@ -28,7 +28,7 @@ wrote_second old new found word h f is =
     wrote_wider old new (at + 4) (at + 4 + 4) at (at + 8) (wrote_word old new (at + 4) word is (omega arith)) (omega arith) (omega arith)
 
 -- a chunk that was found is changed, where the rest is as it was
-changed_there : (old new : List ℕ) (found : Found) (change : Chunk → Chunk) → HeapAccepted old → (f : IsOne old found) → Becomes old new (f.finds.before ++ change f.chunk ∷ f.finds.after) → Alters old new (found.place.0 - 8) change
+pub changed_there : (old new : List ℕ) (found : Found) (change : Chunk → Chunk) → HeapAccepted old → (f : IsOne old found) → Becomes old new (f.finds.before ++ change f.chunk ∷ f.finds.after) → Alters old new (found.place.0 - 8) change
 changed_there old new found change h f b =
     let at : ℕ = found.place.0 - 8 in
     (exchanges_parts old new at (λ chunk. change chunk ∷ []) f.finds.before f.chunk f.finds.after h (named_live_chunk found.name.0 at f.live f.chunk f.finds.named) f.finds.chunks f.finds.there).1 b
@@ -74,24 +74,23 @@ reowned_there old new found owner word h f can re is =
 
 -- ---- bytes of a body
 
-pub written_there : (old new : List ℕ) (found : Found) (at : ℕ) (part : List ℕ) → HeapAccepted old → IsOne old found → at + length part ≤ found.length → new ≡ overwritten old (found.place.0 + at) part → Alters old new (found.place.0 - 8) (with_bytes at part)
+pub written_there : (old new : List ℕ) (found : Found) (at : ℕ) (part : List ℕ) → HeapAccepted old → IsOne old found → at + length part ≤ found.length → new ≡ overwritten old (found.place.0 + at) part → Alters old new (found.place.0 - 8) (with_bytes at part) × WritesPlain old new
 written_there old new found at part h f within is =
     let low = f.behind_header in
     let len = f.count in
     let there : found.place.0 - 8 + 8 ≡ found.place.0 = omega arith in
     let place : ℕ = found.place.0 - 8 in
-    changed_there old new found (with_bytes at part) h f
-    (body_written old new found.name.0 place at f.live f.chunk part h f.finds (omega arith) (is ∙ ap (λ (n : ℕ). overwritten old (n + at) part) (sym there)))
+    let done = body_written old new found.name.0 place at f.live f.chunk part h f.finds (omega arith) (is ∙ ap (λ (n : ℕ). overwritten old (n + at) part) (sym there)) in
+    (changed_there old new found (with_bytes at part) h f done.0, done.1)
 
 pub filled_there : (old new : List ℕ) (found : Found) (at count byte : ℕ) → HeapAccepted old → IsOne old found → at + count ≤ found.length → new ≡ overwritten old (found.place.0 + at) (replicate count byte) → Alters old new (found.place.0 - 8) (with_bytes at (replicate count byte))
 filled_there old new found at count byte h f within is =
     let many : length (replicate {A = ℕ} count byte) ≡ count = length-replicate count byte in
-    written_there old new found at (replicate count byte) h f (omega arith) is
+    (written_there old new found at (replicate count byte) h f (omega arith) is).0
 
 pub ended_there : (old mid new : List ℕ) (found : Found) (at : ℕ) (part : List ℕ) → HeapAccepted old → IsOne old found → at + length part + 1 ≤ found.length → mid ≡ overwritten old (found.place.0 + at) part → new ≡ overwritten mid (found.place.0 + at + length part) (0 ∷ [])
     → Alters old new (found.place.0 - 8) (with_bytes at (part ++ 0 ∷ []))
 ended_there old mid new found at part h f within mid_is new_is =
     let inside = bytes_inside old found h f in
     let more : length (part ++ 0 ∷ []) ≡ length part + 1 = length-append part (0 ∷ []) in
-    written_there old new found at (part ++ 0 ∷ []) h f (omega arith)
-    (new_is ∙ ap (λ (x : List ℕ). overwritten x (found.place.0 + at + length part) (0 ∷ [])) mid_is ∙ overwritten-behind old (found.place.0 + at) part (0 ∷ []) (found.place.0 + at + length part) refl (omega arith))
+    (written_there old new found at (part ++ 0 ∷ []) h f (omega arith) (new_is ∙ ap (λ (x : List ℕ). overwritten x (found.place.0 + at + length part) (0 ∷ [])) mid_is ∙ overwritten-behind old (found.place.0 + at) part (0 ∷ []) (found.place.0 + at + length part) refl (omega arith))).0

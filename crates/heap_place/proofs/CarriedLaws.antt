@@ -28,7 +28,3 @@ SpelledAll-carried xs ys at by (c ∷ cs) end carry inside s =
       subst (λ (n : ℕ). SpelledAll ys n (all_carried by cs) (end + by)) next
           (SpelledAll-carried xs ys (at + size_of c) by cs end (Carries-within by at end (at + size_of c) end xs ys carry (omega arith) (omega arith)) inside s.1),
     )
-
-pub carried_total : (by : ℕ) (cs : List Chunk) → total (all_carried by cs) ≡ total cs
-carried_total by [] = refl
-carried_total by (c ∷ cs) = let size = carried_size by c in let ih = carried_total by cs in omega arith

@@ -1,11 +1,11 @@
 -- The bytes of some chunks are carried up over the free chunk behind them, and a free header is written
 -- where they began.
-use Rattle.std.proofs.Common.{◌≡◌, ℕ, ◌+◌, ◌-◌, ◌%◌, ◌^◌, ◌<◌, ◌≤◌, List, [], ◌∷◌, ◌++◌, length, take, drop, refl, sym, subst, append_assoc, arith, inl, length-take, length-drop}
-use Rattle.heap_model.specs.Bytes.{u32_bytes, overwritten}
+use Rattle.std.proofs.Common.{◌≡◌, ℕ, ◌+◌, ◌-◌, ◌%◌, ◌^◌, ◌<◌, ◌≤◌, List, [], ◌∷◌, ◌++◌, length, take, drop, refl, sym, ap, subst, ◌∙◌, append_assoc, arith, inl, inr, length-take, length-drop}
+use Rattle.heap_model.specs.Bytes.{u32_at, u32_bytes, overwritten}
 use Rattle.heap_model.specs.Chunk.{Chunk, free, total, IsFree, SpelledAll}
 use Rattle.heap_model.specs.Slots.{table_end, area_start}
 use Rattle.heap_model.specs.Heap.{IsHeap, HeapAccepted}
-use Rattle.heap_laws.proofs.Frames.{SameBetween, SameBetween-within}
+use Rattle.heap_laws.proofs.Frames.{SameBetween, SameBetween-within, u32_at-same, u32_at-written}
 use Rattle.heap_laws.proofs.Chunks.{total-append, SpelledAll-split}
 use Rattle.heap_laws.proofs.Replacing.{same_count, same_directory, replaced_tiles}
 use Rattle.heap_laws.proofs.Writing.{WroteWithin, wrote_part, wrote_word, wrote_wider, WroteArea, area_replaces, area_slots}
@@ -51,6 +51,7 @@ carried_up old mid new before moved after start end gap h b mid_is new_is header
     let there = b.from in
     let inside : start + total (moved ++ free gap ∷ []) ≤ length old = f.middle.inside in
     let least : 8 ≤ gap = f.is_free.header_fits in
+    let most = f.middle.most in
     let count : n ≡ total moved = omega (arith, ends) in
     let last : start + n ≡ start + total moved = omega (arith, ends) in
     let many : length part ≡ n = simp (length-take, length-drop) (omega (arith, inside, sizes, count)) in
@@ -83,6 +84,11 @@ carried_up old mid new before moved after start end gap h b mid_is new_is header
       directory = same_directory old new r.head;
       lifted = λ slot s low high. absurd (omega (arith, low, high, there));
       kept = λ slot s out. area_slots old new start (start + total (moved ++ free gap ∷ [])) slot w s (omega (arith, inside)) (λ is. let high : slot < table_end old = s.in_table in omega (arith, is, high, starts));
+      plain = subst (λ (k : ℕ). u32_at new k ≡ 2 ^ 31 + gap) there (ap (λ (image : List ℕ). u32_at image start) new_is ∙ u32_at-written (2 ^ 31 + gap) start mid (omega (arith, inside, sizes, len, least)) (omega (arith, inside, sizes, most)));
+      apart = λ k low out. sym (elim out [
+        | inl front ↦ u32_at-same k old new (area_start old) start r.front low (omega (arith, front, there))
+        | inr back ↦ let from = back.0 in u32_at-same k old new (start + total (moved ++ free gap ∷ [])) (length old) r.back (omega (arith, from, sizes)) back.1
+      ]);
     }
 
 -- the numbers of it

@@ -18,7 +18,7 @@ use Rattle.heap_laws.proofs.Freeing.{free_replaced, OtherSlots, claimed}
 use Rattle.heap_laws.proofs.Layouts.{merged-left, merged-right, runs-merged}
 use Rattle.heap_laws.proofs.Becoming.{becomes_heap, becomes_alike}
 use Rattle.heap_laws.proofs.Exchanging.{gap_free, claims_parts}
-use Rattle.heap_laws.proofs.Plain.{plain_word, live_plain, replaced_plain}
+use Rattle.heap_laws.proofs.Plain.{free_plain, live_plain, replaced_plain}
 use Rattle.heap_laws.proofs.Altering.{overwritten_body, claimed_fixed}
 use Rattle.chunk_format.specs.declared.header.Header.TheVariants as headers
 use Rattle.chunk_format.specs.Header.{header_of, HasHeader, header_bytes, live_words, h_offset_to}
@@ -60,21 +60,15 @@ pub gap_plain : (old mid new : List ℕ) (at size at_rest rest : ℕ) → at_res
 gap_plain old mid new at size at_rest zero e least inside small whole w r len there h = absurd h
 gap_plain old mid new at size at_rest (suc n) e least inside small whole w r len there h = elim r [
   | inl none ↦ absurd (let z = none.0 in omega arith)
-  | inr some ↦ elim h [
-    | inl here ↦ subst (λ (k : ℕ). IsPlain (u32_at new k)) here
-        (plain_word (u32_at new at_rest) (suc n) (wrote_word_apart mid new at (at + 8) at_rest w (inr (omega arith, omega arith)) ∙ ap (λ (x : List ℕ). u32_at x at_rest) some.1.0 ∙ u32_at-written (2 ^ 31 + suc n) at_rest old (omega arith) (omega arith)) small)
-    | inr later ↦ absurd later
-  ]
+  | inr some ↦ free_plain new at_rest (suc n) [] (wrote_word_apart mid new at (at + 8) at_rest w (inr (omega arith, omega arith)) ∙ ap (λ (x : List ℕ). u32_at x at_rest) some.1.0 ∙ u32_at-written (2 ^ 31 + suc n) at_rest old (omega arith) (omega arith)) small (λ there none. absurd none) there h
 ]
 
 -- and so has what was cut off
 cut_plain : (old mid new : List ℕ) (at size rest : ℕ) → 8 ≤ size → at + size + rest ≤ length mid → size + rest < 2 ^ 24 → rest % 8 ≡ 0 → new ≡ overwritten mid at (u32_bytes (2 ^ 31 + size)) → WroteRest old mid (at + size) rest → length mid ≡ length old
     → (there : ℕ) → AnyPlaced (IsFreeAt there) at (free size ∷ gap rest) → IsPlain (u32_at new there)
-cut_plain old mid new at size rest least inside small whole is r len there h = elim h [
-  | inl here ↦ subst (λ (k : ℕ). IsPlain (u32_at new k)) here
-      (plain_word (u32_at new at) size (ap (λ (x : List ℕ). u32_at x at) is ∙ u32_at-written (2 ^ 31 + size) at mid (omega arith) (omega arith)) (omega arith))
-  | inr later ↦ gap_plain old mid new at size (at + size) rest refl least inside (omega arith) whole (wrote_wider mid new at (at + 4) at (at + 8) (wrote_word mid new at (2 ^ 31 + size) is (omega arith)) (omega arith) (omega arith)) r len there later
-]
+cut_plain old mid new at size rest least inside small whole is r len =
+    free_plain new at size (gap rest) (ap (λ (x : List ℕ). u32_at x at) is ∙ u32_at-written (2 ^ 31 + size) at mid (omega arith) (omega arith)) (omega arith)
+    (gap_plain old mid new at size (at + size) rest refl least inside (omega arith) whole (wrote_wider mid new at (at + 4) at (at + 8) (wrote_word mid new at (2 ^ 31 + size) is (omega arith)) (omega arith) (omega arith)) r len)
 
 pub was_cut : (old mid new : List ℕ) (at room size : ℕ) → HeapAccepted old → IsRoom old at room → 8 ≤ size → size % 8 ≡ 0 → size ≤ room → WroteRest old mid (at + size) (room - size)
     → new ≡ overwritten mid at (u32_bytes (2 ^ 31 + size)) → HasHeader new at (headers.Free size) → Becomes old new (chunks_of old) × IsCut new at size × WritesPlain old new
@@ -263,7 +257,7 @@ claimed_write old h z new at count owner slot accepted r s empty h_is header z_i
     let replaces : Replaces old new r.before (free size ∷ []) (movable (replicate count 0) 0 owner slot ∷ []) r.after at = area_replaces old new r.before (free size ∷ []) (movable (replicate count 0) 0 owner slot ∷ []) r.after at is (omega arith) wrote (spelled, omega arith) in
     let now : u32_at new slot ≡ at + 8 = ap (λ (x : List ℕ). u32_at x slot) new_is ∙ u32_at-written (at + 8) slot z (omega arith) (omega arith) in
     let others : OtherSlots old new slot = record { same = λ t ts ne. area_slots old new at (at + (size + 0)) t wrote ts (omega arith) (λ e. ne (sym (slot_of e))) } in
-    let c = claimed old new r.before r.after at size (replicate count 0) owner slot heap replaces s empty now others in (
+    let c = claimed old new r.before r.after at (free size) (replicate count 0) owner slot tt heap replaces s empty now others in (
       claimed_front old new at size (movable (replicate count 0) 0 owner slot) accepted r takes (becomes_heap old new (r.before ++ movable (replicate count 0) 0 owner slot ∷ r.after) replaces.head c),
       replaced_plain old new r.before (free size ∷ []) (movable (replicate count 0) 0 owner slot ∷ []) r.after at r.chunks c replaces (live_plain new at (movable (replicate count 0) 0 owner slot) refl (omega arith)),
     ) where

@@ -3,7 +3,7 @@ use Rattle.std.proofs.Common.{◌≡◌, ◌≢◌, ℕ, zero, suc, ◌+◌, ◌
 use Rattle.std.proofs.lemmas.Bool.{cases_eq}
 use Rattle.std.specs.Prelude.{◌↔◌, slice_range}
 use Rattle.heap_model.specs.Bytes.{u32_at, u32_bytes, overwritten}
-use Rattle.heap_model.specs.Chunk.{Chunk, free, movable, need, total, IsFree, Spelled, SpelledAll}
+use Rattle.heap_model.specs.Chunk.{Chunk, free, movable, need, size_of, total, IsFree, Spelled, SpelledAll}
 use Rattle.heap_model.specs.Slots.{IsSlot, table_end, area_start}
 use Rattle.heap_model.specs.Heap.{BodyHere, IsBody, IsHeap, HeapAccepted}
 use Rattle.heap_model.specs.Reading.{chunks_of}
@@ -14,6 +14,8 @@ use Rattle.heap_laws.proofs.Bodies.{IsBody-low, IsBody-high}
 use Rattle.heap_laws.proofs.Placed.{AnyPlaced-mid, AnyPlaced-split, AnyPlaced-left, AnyPlaced-right}
 use Rattle.heap_laws.proofs.Replacing.{replaced_heap, SameSlots, kept_directory}
 use Rattle.heap_laws.proofs.Writing.{WroteWithin, wrote_part, wrote_word, wrote_wider, wrote_then, wrote_none, wrote_apart, wrote_word_apart, WroteArea, area_replaces, area_slots}
+use Rattle.heap_laws.proofs.Runs.{chunks_of-tiled}
+use Rattle.heap_laws.proofs.Plain.{free_plain, replaced_plain}
 use Rattle.heap_laws.proofs.Freeing.{free_replaced}
 use Rattle.chunk_format.specs.Header.{HasHeader, live_words, h_offset_to}
 use Rattle.chunk_format.specs.declared.header.Header.TheVariants as headers
@@ -178,7 +180,12 @@ dropped old slid head hole new before bytes lock owner slot after at room to siz
       callers = (tt, (tt, tt));
       directory = kept_directory old new before (free room ∷ c ∷ []) (c ∷ free room ∷ []) after to f.heap r (λ m. elim m [ inl none ↦ absurd none | inr more ↦ elim more [ inl mine ↦ inl mine | inr none ↦ absurd none ] ]);
     } in
-    exactly_heap old new (before ++ c ∷ free room ∷ after) r.head heap
+    let hole_word : u32_at new (to + size) ≡ 2 ^ 31 + room = wrote_word_apart hole new slot (slot + 4) (to + size) four (inr (omega (arith, slot_end, to_is), omega (arith, inside, size_is, least, len_1, len_2, len_3))) ∙ ap (λ (bs : List ℕ). u32_at bs (to + size)) hole_is ∙ u32_at-written (2 ^ 31 + room) (to + size) head (omega (arith, inside, size_is, least, len_1, len_2)) (omega (arith, inside, most)) in
+    let plain = replaced_plain old new before (free room ∷ c ∷ []) (c ∷ free room ∷ []) after to (chunks_of-tiled old (before ++ free room ∷ c ∷ after) f.heap.tiles) heap r (λ there h. elim h [
+      | inl none ↦ absurd none
+      | inr more ↦ free_plain new (to + size_of c) room [] (subst (λ (n : ℕ). u32_at new (to + n) ≡ 2 ^ 31 + room) size_is hole_word) (omega (arith, inside, most)) (λ there none. absurd none) there more
+    ]) in
+    exactly_heap old new (before ++ c ∷ free room ∷ after) r.head heap plain
 
 -- ---- a free chunk that is joined
 
@@ -223,5 +230,8 @@ joined old new before size after at room to f is header =
     let slots : SameSlots old new = record { same = λ slot s. let high : slot < table_end old = s.in_table in let four : slot % 4 ≡ 0 = s.whole in wrote_word_apart old new to (to + total mid) slot all (inl (omega (arith, high, four, to_is))) } in
     let heap = free_replaced old new before mid (free (room + size) ∷ []) after to f.heap r slots (free_push (gap room) size (gap_free room)) tt in
     let g : free (room + size) ∷ [] ≡ gap (room + size) = sym (gap_some (room + size) (omega (arith, least))) in
-    let exact : BecomesExactly old new (before ++ free (room + size) ∷ after) = exactly_heap old new (before ++ free (room + size) ∷ after) r.head heap in
+    let most = f.middle.most in
+    let written : u32_at new to ≡ 2 ^ 31 + (room + size) = ap (λ (bs : List ℕ). u32_at bs to) is ∙ u32_at-written (2 ^ 31 + (room + size)) to old (omega (arith, inside, sizes, least)) (omega (arith, inside, sizes, most)) in
+    let plain = replaced_plain old new before mid (free (room + size) ∷ []) after to (chunks_of-tiled old (before ++ (mid ++ after)) f.heap.tiles) heap r (free_plain new to (room + size) [] written (omega (arith, inside, sizes, most)) (λ there none. absurd none)) in
+    let exact : BecomesExactly old new (before ++ free (room + size) ∷ after) = exactly_heap old new (before ++ free (room + size) ∷ after) r.head heap plain in
     subst (λ (cs : List Chunk). BecomesExactly old new (before ++ (cs ++ after))) g exact

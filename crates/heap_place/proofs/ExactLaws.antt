@@ -4,20 +4,21 @@ use Rattle.heap_model.specs.Chunk.{Chunk}
 use Rattle.heap_model.specs.Slots.{area_start}
 use Rattle.heap_model.specs.Heap.{IsHeap, HeapAccepted}
 use Rattle.heap_model.specs.Reading.{chunks_of}
-use Rattle.heap_model.specs.Layout.{merged, Becomes}
+use Rattle.heap_model.specs.Layout.{merged, Becomes, WritesPlain}
 use Rattle.heap_laws.proofs.Runs.{chunks_of-tiled}
 use Rattle.heap_laws.proofs.Replacing.{SameHead}
 use Rattle.heap_laws.proofs.Becoming.{frame_of, same_frame, frame_then, becomes_start}
+use Rattle.heap_laws.proofs.Plain.{plain_same, plain_then}
 use Rattle.heap_place.specs.Packs.{BecomesExactly}
 
-pub exactly_heap : (old new : List ℕ) (cs : List Chunk) → SameHead old new → IsHeap new cs → BecomesExactly old new cs
-exactly_heap old new cs same h = record { frame = frame_of old new cs same h; exact = chunks_of-tiled new cs h.tiles }
+pub exactly_heap : (old new : List ℕ) (cs : List Chunk) → SameHead old new → IsHeap new cs → WritesPlain old new → BecomesExactly old new cs
+exactly_heap old new cs same h plain = record { frame = frame_of old new cs same h; exact = chunks_of-tiled new cs h.tiles; plain = plain }
 
 pub exactly_itself : (image : List ℕ) (cs : List Chunk) → HeapAccepted image → chunks_of image ≡ cs → BecomesExactly image image cs
-exactly_itself image cs h is = record { frame = same_frame image h; exact = is }
+exactly_itself image cs h is = record { frame = same_frame image h; exact = is; plain = plain_same image }
 
 pub exactly_then : (old mid new : List ℕ) (cs ds : List Chunk) → BecomesExactly old mid cs → BecomesExactly mid new ds → BecomesExactly old new ds
-exactly_then old mid new cs ds a b = record { frame = frame_then old mid new a.frame b.frame; exact = b.exact }
+exactly_then old mid new cs ds a b = record { frame = frame_then old mid new a.frame b.frame; exact = b.exact; plain = plain_then old mid new a.plain b.plain }
 
 pub exactly_becomes : (old new : List ℕ) (cs : List Chunk) → BecomesExactly old new cs → Becomes old new cs
 exactly_becomes old new cs b = record { frame = b.frame; layout = ap merged b.exact }

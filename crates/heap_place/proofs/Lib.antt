@@ -21,3 +21,5 @@ pub mod RoomyLaws
 pub mod ResizeLaws
 pub mod RunLaws
 pub mod LargestLaws
+pub mod RelocateLaws
+pub mod SummingLaws

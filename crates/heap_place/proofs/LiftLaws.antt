@@ -1,5 +1,5 @@
 -- Chunks are lifted over the free chunk behind them.
-use Rattle.std.proofs.Common.{◌≡◌, ℕ, ◌+◌, ◌-◌, ◌*◌, ◌/◌, ◌<◌, List, [], ◌∷◌, ◌++◌, length, refl, sym, ap, subst, ◌∙◌, arith, inl, inr}
+use Rattle.std.proofs.Common.{◌≡◌, ℕ, ◌+◌, ◌-◌, ◌*◌, ◌/◌, ◌^◌, ◌<◌, List, [], ◌∷◌, ◌++◌, length, refl, sym, ap, subst, ◌∙◌, append_assoc, arith, inl, inr}
 use Rattle.std.specs.Prelude.{◌⊎◌, ◌↔◌}
 use Rattle.std.proofs.lemmas.Bool.{cases_eq}
 use Rattle.heap_model.specs.Bytes.{u32_at}
@@ -7,9 +7,13 @@ use Rattle.heap_model.specs.Chunk.{Chunk, free, movable, fixed, need, size_of, t
 use Rattle.heap_model.specs.Slots.{IsSlot, slot_count, table_end, area_start}
 use Rattle.heap_model.specs.Heap.{BodyHere, IsBody, IsCallersIfFixed, ManagersHere, directory_of, HasDirectory, IsHeap}
 use Rattle.heap_model.specs.Placed.{EveryPlaced, AnyPlaced}
-use Rattle.heap_model.specs.Layout.{merged, Becomes}
+use Rattle.heap_model.specs.Reading.{chunks_of}
+use Rattle.heap_model.specs.Layout.{merged, Becomes, WritesPlain}
+use Rattle.heap_model.specs.Packing.{lives}
 use Rattle.heap_laws.proofs.Bodies.{IsBody-low, IsBody-high}
 use Rattle.heap_laws.proofs.Placed.{EveryPlaced-append, EveryPlaced-split, AnyPlaced-left, AnyPlaced-right, AnyPlaced-split}
+use Rattle.heap_laws.proofs.Chunks.{total-append}
+use Rattle.heap_laws.proofs.Plain.{free_plain, lives_plain, middle_plain}
 use Rattle.heap_laws.proofs.Runs.{chunks_of-tiled}
 use Rattle.heap_place.specs.Lifting.{Lifting}
 
@@ -200,3 +204,13 @@ module _ (old image : List ℕ) (before moved after : List Chunk) (gap at : ℕ)
     frame = record { accepted = (before ++ free gap ∷ (moved ++ after), heap_again); len = l.len; count = l.count; directory = l.directory };
     layout = ap merged (chunks_of-tiled image (before ++ free gap ∷ (moved ++ after)) l.tiles);
   }
+
+  pub lift_plain : gap < 2 ^ 24 → lives moved ≡ moved → WritesPlain old image
+  lift_plain small live =
+      let sizes = total-append moved (free gap ∷ []) in
+      let was : chunks_of old ≡ before ++ ((moved ++ free gap ∷ []) ++ after) =
+      chunks_of-tiled old (before ++ (moved ++ free gap ∷ after)) l.heap.tiles ∙ ap (λ (cs : List Chunk). before ++ cs) (sym (append_assoc moved (free gap ∷ []) after)) in
+      let word : u32_at image start ≡ 2 ^ 31 + gap = subst (λ (k : ℕ). u32_at image k ≡ 2 ^ 31 + gap) (sym is_start) l.plain in
+      middle_plain old image before (moved ++ free gap ∷ []) (free gap ∷ moved) after start was l.tiles new_start is_start (omega (arith, sizes)) l.len
+      (λ there low out. l.apart there low (elim out [ inl front ↦ inl (omega (arith, front, is_start)) | inr back ↦ let from = back.0 in inr (omega (arith, from, sizes, end), back.1) ]))
+      (free_plain image start gap moved word small (lives_plain image (start + gap) moved live))

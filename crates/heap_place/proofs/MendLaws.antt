@@ -2,10 +2,10 @@
 use Rattle.std.proofs.Common.{◌≡◌, ◌≢◌, ℕ, ◌+◌, ◌-◌, ◌*◌, ◌/◌, ◌%◌, ◌^◌, ◌<◌, ◌≤◌, List, [], ◌∷◌, ◌++◌, length, refl, sym, ap, subst, ◌∙◌, append_assoc, arith, inl, inr}
 use Rattle.std.proofs.lemmas.Bool.{cases_eq, cases_lt}
 use Rattle.heap_model.specs.Bytes.{u32_at, u32_bytes, overwritten}
-use Rattle.heap_model.specs.Chunk.{Chunk, free, movable, fixed, need, size_of, total, Spelled}
+use Rattle.heap_model.specs.Chunk.{Chunk, free, movable, fixed, need, size_of, total, Spelled, SpelledAll}
 use Rattle.heap_model.specs.Slots.{IsSlot, slot_count, table_end, area_start}
 use Rattle.heap_model.specs.Heap.{Tiles, BodyHere, IsBody, IsHeap}
-use Rattle.heap_laws.proofs.Frames.{u32_at-written}
+use Rattle.heap_laws.proofs.Frames.{u32_at-same, u32_at-written}
 use Rattle.heap_laws.proofs.Chunks.{total-append, Spelled-size, Spelled-same, Spelled-unique, SpelledAll-split}
 use Rattle.heap_laws.proofs.Bodies.{IsBody-low, IsBody-high}
 use Rattle.heap_laws.proofs.Placed.{AnyPlaced-mid, AnyPlaced-split}
@@ -20,11 +20,6 @@ use Rattle.heap_place.proofs.FoundLaws.{total_whole}
 use Rattle.heap_place.proofs.CutLaws.{header_movable, wrote_words, wrote_head}
 
 -- ---- whose body lies in some bytes
-
-body_high : (slot place at : ℕ) (c : Chunk) → BodyHere slot place at c → at + 8 ≡ place
-body_high slot place at (free size) b = absurd b
-body_high slot place at (movable bytes lock owner named) b = b.1
-body_high slot place at (fixed bytes owner) b = absurd b
 
 -- a slot that holds a place among the bytes of a chunk holds the place of that chunk
 whose : (old : List ℕ) (front : List Chunk) (c : Chunk) (back : List Chunk) (at slot : ℕ) → IsHeap old (front ++ c ∷ back) → at ≡ area_start old + total front → IsSlot old slot → at < u32_at old slot → u32_at old slot ≤ at + size_of c → BodyHere slot (u32_at old slot) at c
@@ -56,6 +51,7 @@ pub record NextOf (old image : List ℕ) (before done : List Chunk) (c : Chunk) 
   pub most : length image ≤ 16777208
   pub starts : area_start image ≡ area_start old
   pub inside : at + size_of (carried gap c) ≤ length image
+  pub least : 8 ≤ gap
 
 pub next_of : (old image : List ℕ) (before done : List Chunk) (c : Chunk) (rest after : List Chunk) (gap at : ℕ) → Lifting old image before done (c ∷ rest) after gap at → NextOf old image before done c rest after gap at
 next_of old image before done c rest after gap at l =
@@ -71,6 +67,7 @@ next_of old image before done c rest after gap at l =
     let parts = SpelledAll-split image (area_start image) front (carried gap c ∷ others) (length image) tiles.area in
     let spelled : Spelled image at (carried gap c) = subst (λ (n : ℕ). Spelled image n (carried gap c)) (sym at_is) parts.1.0 in
     let units = total_whole image (area_start image) front (area_start image + total front) parts.0 in
+    let in_front : SpelledAll image (area_start image + total before) (free gap ∷ done) (area_start image + total front) = (SpelledAll-split image (area_start image) before (free gap ∷ done) (area_start image + total front) parts.0).1 in
     let size = Spelled-size image at (carried gap c) spelled in
     record {
       was = area_start old + total (before ++ done);
@@ -86,6 +83,7 @@ next_of old image before done c rest after gap at l =
       most = l.tiles.head.most;
       starts = starts;
       inside = size.1;
+      least = in_front.0.header_fits;
     }
 
 -- the tiles, with it among those that are mended
@@ -116,6 +114,8 @@ step_kept old image before done c rest after gap at same no_body l =
         | inr within ↦ l.lifted slot s low within
       ];
       kept = λ slot s out. l.kept slot s (elim out [ inl front ↦ inl front | inr beyond ↦ inr (omega (arith, beyond)) ]);
+      plain = l.plain;
+      apart = λ there low out. l.apart there low (elim out [ inl front ↦ inl front | inr back ↦ let from = back.0 in inr (omega (arith, from), back.1) ]);
     }
 
 -- ---- a movable chunk
@@ -162,6 +162,9 @@ step_mended old image mid new before done bytes lock owner slot rest after gap a
     let at_is = n.at_is in
     let start_is = n.start_is in
     let there = n.there in
+    let starts = n.starts in
+    let least = n.least in
+    let image_len = l.len in
     let held = m.held in
     let inside : at + need (length bytes) ≤ length image = n.inside in
     let most = n.most in
@@ -209,6 +212,14 @@ step_mended old image mid new before done bytes lock owner slot rest after gap a
       kept = λ other o out. elim (cases_eq other slot) [
         | inl is ↦ let e = ap (u32_at old) is in absurd (elim out [ inl low ↦ omega (arith, low, held, start_is, e) | inr beyond ↦ omega (arith, beyond, held, at_is, e) ])
         | inr isnt ↦ slots other o isnt ∙ l.kept other o (elim out [ inl low ↦ inl low | inr beyond ↦ inr (omega (arith, beyond)) ])
+      ];
+      plain = sym (u32_at-same (area_start old + total before) image new (area_start image) at r.front (omega (arith, starts)) (omega (arith, start_is, at_is, least))) ∙ l.plain;
+      apart = λ k low out. elim out [
+        | inl front_of ↦ sym (u32_at-same k image new (area_start image) at r.front (omega (arith, low, starts)) (omega (arith, front_of, start_is, at_is))) ∙ l.apart k low (inl front_of)
+        | inr back ↦
+            let from = back.0 in
+            let to = back.1 in
+            sym (u32_at-same k image new (at + total (carried gap c ∷ [])) (length image) r.back (omega (arith, from)) (omega (arith, to, image_len))) ∙ l.apart k low (inr (omega (arith, from), back.1))
       ];
     }
 

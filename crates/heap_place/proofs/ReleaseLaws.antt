@@ -7,7 +7,7 @@ use Rattle.heap_model.specs.Heap.{ManagersHere, directory_of, IsHeap, HeapAccept
 use Rattle.heap_model.specs.Meaning.{LiveChunk, NamedHere}
 use Rattle.heap_model.specs.Reading.{chunks_of}
 use Rattle.heap_model.specs.Space.{AllFree}
-use Rattle.heap_model.specs.Layout.{merged, Alters, FreeUpTo, freed, IsPlain, WritesPlain}
+use Rattle.heap_model.specs.Layout.{merged, Alters, FreeUpTo, freed, WritesPlain}
 use Rattle.heap_model.specs.Placing.{Finds}
 use Rattle.heap_laws.proofs.Frames.{u32_at-written}
 use Rattle.heap_laws.proofs.Chunks.{Spelled-size, Spelled-same}
@@ -19,7 +19,7 @@ use Rattle.heap_laws.proofs.Becoming.{becomes_heap, becomes_alike}
 use Rattle.heap_laws.proofs.Exchanging.{exchanges_parts}
 use Rattle.heap_laws.proofs.Changing.{named_live_chunk}
 use Rattle.heap_laws.proofs.Writing.{WroteWithin, wrote_none, wrote_word, wrote_wider, wrote_apart, wrote_word_apart, WroteArea, area_replaces, area_slots}
-use Rattle.heap_laws.proofs.Plain.{plain_word, replaced_plain}
+use Rattle.heap_laws.proofs.Plain.{free_plain, replaced_plain}
 use Rattle.heap_laws.proofs.Freeing.{OtherSlots, ClearsSlot, released}
 use Rattle.chunk_format.specs.declared.header.Header.TheVariants as headers
 use Rattle.chunk_format.specs.Header.{HasHeader}
@@ -156,10 +156,7 @@ gave_back old mid new at all name live chunk accepted own f sums is header empti
       (exchanges_parts old new at (λ c. freed c ∷ []) g.before chunk (g.run ++ g.rest) accepted (named_live_chunk name at live chunk f.named) g.chunks there).1
           (becomes_alike old new (g.before ++ free all ∷ g.rest) (g.before ++ free (size_of chunk) ∷ (g.run ++ g.rest)) alike (becomes_heap old new (g.before ++ free all ∷ g.rest) replaces.head heap)),
       record { before = g.before; run = free all ∷ []; after = g.rest; chunks = chunks_of-tiled new (g.before ++ free all ∷ g.rest) heap.tiles; all_free = tt; from = omega arith; to = omega arith; least = omega arith },
-      replaced_plain old new g.before (chunk ∷ g.run) (free all ∷ []) g.rest at g.chunks heap replaces (λ there h. elim h [
-        | inl here ↦ subst (λ (k : ℕ). IsPlain (u32_at new k)) here (plain_word (u32_at new at) all w.word (omega arith))
-        | inr later ↦ absurd later
-      ]),
+      replaced_plain old new g.before (chunk ∷ g.run) (free all ∷ []) g.rest at g.chunks heap replaces (free_plain new at all [] w.word (omega arith) (λ there none. absurd none)),
     )
 
 -- ---- of a chunk that was found

@@ -9,12 +9,12 @@ use Rattle.heap_model.specs.Heap.{BodyHere, IsHeap, HeapAccepted}
 use Rattle.heap_model.specs.Reading.{chunks_of}
 use Rattle.heap_model.specs.Space.{NoneStays, room_of}
 use Rattle.heap_model.specs.Placing.{SameFrame}
-use Rattle.heap_model.specs.Layout.{Becomes, gap}
+use Rattle.heap_model.specs.Layout.{Becomes, gap, WritesPlain}
 use Rattle.heap_model.specs.Packing.{packed, lives, opened, OpensBehind}
 use Rattle.heap_laws.proofs.Chunks.{total-append, SpelledAll-split, SpelledAll-end}
 use Rattle.heap_laws.proofs.Placed.{AnyPlaced-mid}
 use Rattle.heap_laws.proofs.Becoming.{frame_then}
-use Rattle.heap_laws.proofs.Sliding.{lives-append, lives_total, stretch_packed}
+use Rattle.heap_laws.proofs.Sliding.{lives-append, lives_total, lives_twice, stretch_packed}
 use Rattle.heap_laws.proofs.Stretches.{room_of-middle, one_stretch}
 use Rattle.heap_place.specs.declared.stretch.Stretch.{Stretch}
 use Rattle.heap_place.specs.Lifting.{FreeBehind}
@@ -86,6 +86,9 @@ module _ (old mid : List ℕ) (at name count : ℕ) (stretch : Stretch) (room : 
 
   pub packed_frame : SameFrame old mid
   packed_frame = packed_image.frame
+
+  pub packed_plain : WritesPlain old mid
+  packed_plain = packed_image.plain
 
   all_room : room ≡ room_of (a.front ++ v ∷ a.back)
   all_room =
@@ -165,6 +168,7 @@ module _ (old mid : List ℕ) (at name count : ℕ) (stretch : Stretch) (room : 
       let two = total-append fore (v ∷ []) in
       record {
         chunks = chunks_then ∙ ap (λ (g : List Chunk). a.before ++ (((fore ++ v ∷ rear) ++ g) ++ a.after)) (gap_some room some) ∙ regroup a.before fore rear a.after v (free room);
+        live = lives_twice a.back;
         from = omega (arith, start_is, place_is, one, two, starts, from, many);
         to = omega (arith, start_is, place_is, ends, many);
       }

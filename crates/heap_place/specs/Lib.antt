@@ -4,3 +4,4 @@ pub mod Lifting
 pub mod Packs
 pub mod Stretches
 pub mod Resizes
+pub mod Relocation

@@ -4,17 +4,18 @@ use Rattle.std.specs.Prelude.{◌≡◌, ◌<◌, ◌+◌, ◌++◌, ◌==◌, i
 use Rattle.heap_model.specs.Chunk.{Chunk, free, movable, fixed, need, size_of, total}
 use Rattle.heap_model.specs.Slots.{area_start}
 use Rattle.heap_model.specs.Reading.{chunks_of}
-use Rattle.heap_model.specs.Layout.{gap}
+use Rattle.heap_model.specs.Layout.{gap, WritesPlain}
 use Rattle.heap_model.specs.Packing.{packed_behind, packed, moved_behind, moved_by_packing}
 use Rattle.heap_model.specs.Placing.{SameFrame}
 use Rattle.chunk_format.specs.declared.header.Header.{Header}
 use Rattle.chunk_format.specs.declared.header.Header.TheVariants as headers
 
--- The image has become an accepted heap with these very chunks, in the same frame. `Becomes` leaves open
--- how runs of free ones are split.
+-- The image has become an accepted heap with these very chunks, in the same frame, and each header of a
+-- free one that was written is plain. `Becomes` leaves open how runs of free ones are split.
 pub record BecomesExactly (old new : List ℕ) (chunks : List Chunk) : Type 0 where
   pub frame : SameFrame old new
   pub exact : chunks_of new ≡ chunks
+  pub plain : WritesPlain old new
 
 -- ---- some chunks in a row
 

@@ -96,3 +96,20 @@ greatest_behind room (fixed bytes owner ∷ chunks) = max room (greatest_behind 
 pub record HaveRooms (largest room : ℕ) (chunks : List Chunk) : Type 0 where
   pub on : (others : List Chunk) → greatest_behind 0 (chunks ++ others) ≡ max largest (greatest_behind room others)
   pub fits : room ≤ total chunks
+
+-- ---- the room of one stretch
+
+-- so much room a stretch has
+abbrev pub HasRoomOf : List ℕ → Stretch → ℕ → Type 0
+HasRoomOf image stretch room = (before mid after : List Chunk) → StretchIs image before mid after stretch → room ≡ room_of mid
+
+-- a walk over some chunks, which begin at an offset, has come to another, and passed so much room
+pub record Summed (mid : List Chunk) (start at room : ℕ) : Type 0 where
+  pub front : List Chunk
+  pub rest : List Chunk
+  pub parts : mid ≡ front ++ rest
+  pub there : at ≡ start + total front
+  pub sums : room ≡ room_of front
+
+abbrev pub SumsUpTo : List ℕ → Stretch → ℕ → ℕ → Type 0
+SumsUpTo image stretch at room = (before mid after : List Chunk) → StretchIs image before mid after stretch → Summed mid stretch.start at room

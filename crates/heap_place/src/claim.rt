@@ -10,7 +10,7 @@ ghost use Rattle.heap_model.specs.Layout.{Becomes, Exchanges, in_front, IsRoom, 
 ghost use Rattle.heap_place.specs.Search.{IsCut, WroteRest};
 
 use crate::room::Room;
-use chunk_format::Header;
+use chunk_format::{Header, size_of_body};
 use heap_model::{Name, Place};
 use raw_region::Region;
 
@@ -65,8 +65,25 @@ pub(crate) fn claim_movable(region: &mut Region, at: u32, slot: Name, count: u32
     master_table::set(region, slot, Place(at + 8));
 }
 
+/// Makes the front of room a fixed chunk of `count` zeros, and answers its name.
+pub(crate) fn claim_fixed(region: &mut Region, room: Room, count: u32, owner: u8) -> Name
+    requires accepted { HeapAccepted region.old.bytes }
+    requires room { IsRoom region.old.bytes room.at room.size }
+    requires enough { need count ≤ room.size }
+    requires some_owner { 0 < owner }
+    requires most_owner { owner < 15 }
+    ensures made { Exchanges region.old.bytes region.new.bytes room.at (in_front (fixed (replicate count 0) owner)) }
+    ensures name { result.0 ≡ room.at + 8 }
+    ensures plain { WritesPlain region.old.bytes region.new.bytes }
+    ensures rest { region.new ≡ record region.old { bytes = region.new.bytes } }
+{
+    cut(region, room, size_of_body(count));
+    claim_fixed_at(region, room.at, count, owner);
+    Name(room.at + 8)
+}
+
 /// Makes the free chunk at `at` a fixed one of zeros.
-pub(crate) fn claim_fixed_at(region: &mut Region, at: u32, count: u32, owner: u8)
+fn claim_fixed_at(region: &mut Region, at: u32, count: u32, owner: u8)
     requires accepted { HeapAccepted region.old.bytes }
     requires cut { IsCut region.old.bytes at (need count) }
     requires some_owner { 0 < owner }

@@ -23,6 +23,7 @@
 //! | `pack` | packs the chunks of each stretch, or of one |
 //! | `lift` | moves chunks up over the free chunk behind them |
 //! | `open` | opens room behind a chunk |
+//! | `relocate` | moves a chunk to room elsewhere |
 #![tactic(auto)]
 
 mod alter;
@@ -34,6 +35,7 @@ mod open;
 mod owned;
 mod pack;
 mod release;
+mod relocate;
 mod resize;
 mod room;
 mod space;

@@ -2,18 +2,20 @@
 
 ghost use Rattle.std.specs.Prelude.{◌≡◌, ◌+◌, ◌-◌, ◌<◌, ◌^◌, length};
 ghost use Rattle.heap_model.specs.Heap.{HeapAccepted};
+ghost use Rattle.heap_model.specs.Layout.{WritesPlain};
 ghost use Rattle.heap_place.specs.Lifting.{IsCarried, MendsOne, AreCarried, MendsAll, HasFreeBehind, Lifts};
 
 use chunk_format::Header;
 use heap_model::{Name, Place};
 use raw_region::Region;
 
-/// Moves the chunks from `start` up to `end` behind the free chunk that follows them, whose size is
+/// Moves the live chunks from `start` up to `end` behind the free chunk that follows them, whose size is
 /// `gap`: their bytes in one slide, and then each one's slot and the way to it in turn.
 pub(crate) fn lift(region: &mut Region, start: u32, end: u32, gap: u32)
     requires accepted { HeapAccepted region.old.bytes }
     requires behind { HasFreeBehind region.old.bytes start end gap }
     ensures lifted { Lifts region.old.bytes region.new.bytes start end gap }
+    ensures plain { WritesPlain region.old.bytes region.new.bytes }
     ensures slid { region.new.slid ≡ region.old.slid + (end - start) }
 {
     let from = start as usize;

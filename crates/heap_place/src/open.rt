@@ -3,6 +3,7 @@
 ghost use Rattle.std.specs.Prelude.{◌≡◌, ◌-◌};
 ghost use Rattle.heap_model.specs.Heap.{HeapAccepted};
 ghost use Rattle.heap_model.specs.Placing.{SameFrame};
+ghost use Rattle.heap_model.specs.Layout.{WritesPlain};
 ghost use Rattle.heap_model.specs.Packing.{OpensBehind};
 ghost use Rattle.heap_place.specs.Stretches.{IsAmong};
 
@@ -22,6 +23,7 @@ pub(crate) fn open_in(region: &mut Region, stretch: Stretch, found: Found)
     requires among { IsAmong region.old.bytes found stretch }
     ensures opened { OpensBehind region.old.bytes region.new.bytes (found.place.0 - 8) }
     ensures frame { SameFrame region.old.bytes region.new.bytes }
+    ensures plain { WritesPlain region.old.bytes region.new.bytes }
 {
     let room = pack(region, stretch.start, stretch.end).room;
     if room > 0 {

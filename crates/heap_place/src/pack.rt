@@ -5,7 +5,7 @@ ghost use Rattle.heap_model.specs.Heap.{HeapAccepted};
 ghost use Rattle.heap_model.specs.Reading.{chunks_of};
 ghost use Rattle.heap_model.specs.Space.{moved_bytes};
 ghost use Rattle.heap_model.specs.Placing.{SameFrame};
-ghost use Rattle.heap_model.specs.Layout.{Becomes};
+ghost use Rattle.heap_model.specs.Layout.{Becomes, WritesPlain};
 ghost use Rattle.heap_model.specs.Packing.{packed};
 ghost use Rattle.heap_place.specs.Stretches.{IsStretch, PacksStretch, MovesInStretch};
 ghost use Rattle.heap_place.specs.Packs.{IsRun, Packs, MovesInRun, LeavesRoom, IsBehindRoom, PacksOne, IsDroppable, Drops, HeaderStays};
@@ -31,6 +31,7 @@ pub(crate) fn compact(region: &mut Region) -> u32
     ensures packed { Becomes region.old.bytes region.new.bytes (packed (chunks_of region.old.bytes)) }
     ensures exact { chunks_of region.new.bytes ≡ packed (chunks_of region.old.bytes) }
     ensures moved { result ≡ moved_bytes region.old.bytes region.new.bytes }
+    ensures plain { WritesPlain region.old.bytes region.new.bytes }
     ensures slid { region.new.slid ≡ region.old.slid + result }
 {
     let start = area_start(region);
@@ -45,6 +46,7 @@ pub(crate) fn pack_stretch(region: &mut Region, stretch: Stretch) -> u32
     ensures packed { PacksStretch region.old.bytes region.new.bytes stretch }
     ensures frame { SameFrame region.old.bytes region.new.bytes }
     ensures moved { MovesInStretch region.old.bytes stretch result }
+    ensures plain { WritesPlain region.old.bytes region.new.bytes }
     ensures slid { region.new.slid ≡ region.old.slid + result }
 {
     pack(region, stretch.start, stretch.end).slid

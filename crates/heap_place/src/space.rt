@@ -1,6 +1,6 @@
 //! The type that owns a heap's region.
 
-ghost use Rattle.std.specs.Prelude.{◌≡◌, ◌≢◌, ◌≤◌, ◌<◌, ◌+◌, ◌-◌, ◌++◌, ◌∷◌, ◌⊎◌, [], length, replicate, count_by, IfSome, IfNone, None};
+ghost use Rattle.std.specs.Prelude.{◌≡◌, ◌≢◌, ◌≤◌, ◌<◌, ◌+◌, ◌-◌, ◌++◌, ◌∷◌, ◌⊎◌, [], length, replicate, min, count_by, IfSome, IfNone, None};
 ghost use Rattle.std.specs.Bool.{OnTrue, OnFalse};
 ghost use Rattle.heap_model.specs.Bytes.{u32_at};
 ghost use Rattle.heap_model.specs.Chunk.{movable, fixed, need, fixed_lock, is_owned_by};
@@ -14,19 +14,21 @@ ghost use Rattle.heap_model.specs.Placing.{SameFrame};
 ghost use Rattle.heap_model.specs.Layout.{Becomes, layout_of, owned_freed, Exchanges, Alters, in_front, freed, with_lock, with_owner, with_bytes, FreeUpTo, IsRoom, WritesPlain};
 ghost use Rattle.heap_place.specs.Found.{IsFound, IsOne, NothingAt, CanGoTo};
 ghost use Rattle.heap_place.specs.Resizes.{TellsWhetherInPlace};
-ghost use Rattle.heap_place.specs.Stretches.{IsStretch, IsAmong, HasRoom, PacksStretch, MovesInStretch};
+ghost use Rattle.heap_place.specs.Relocation.{RelocatesFound};
+ghost use Rattle.heap_place.specs.Stretches.{IsStretch, IsAmong, HasRoom, HasRoomOf, PacksStretch, MovesInStretch};
 
 use crate::alter::{relock_at, reown_at};
-use crate::claim::{claim_fixed_at, claim_movable, cut};
+use crate::claim::{claim_fixed, claim_movable, cut};
 use crate::found::Found;
 use crate::lookup::{find_named, find_placed};
 use crate::open::open_in;
 use crate::owned::release_owned;
 use crate::pack::{compact, pack_stretch};
 use crate::release::release;
+use crate::relocate::relocate;
 use crate::resize::{grow_in_place_at, resize_at};
 use crate::room::{Room, find_room};
-use crate::stretch::{Stretch, largest_room, stretch_around, stretch_with_room};
+use crate::stretch::{Stretch, largest_room, room_of_stretch, stretch_around, stretch_with_room};
 use crate::walks::free_bytes;
 use chunk_format::size_of_body;
 use heap_model::{Name, Place};
@@ -150,9 +152,7 @@ impl Space {
         ensures plain { WritesPlain self.old.bytes self.new.bytes }
         ensures rest { self.new ≡ record self.old { bytes = self.new.bytes } }
     {
-        cut(&mut self.region, room, size_of_body(count));
-        claim_fixed_at(&mut self.region, room.at, count, owner);
-        Name(room.at + 8)
+        claim_fixed(&mut self.region, room, count, owner)
     }
 
     /// Makes a live chunk free, and answers how many bytes are free from its header on, up to where the
@@ -278,6 +278,7 @@ impl Space {
         ensures packed { Becomes self.old.bytes self.new.bytes (packed (chunks_of self.old.bytes)) }
         ensures exact { chunks_of self.new.bytes ≡ packed (chunks_of self.old.bytes) }
         ensures moved { result ≡ moved_bytes self.old.bytes self.new.bytes }
+        ensures plain { WritesPlain self.old.bytes self.new.bytes }
         ensures slid { self.new.slid ≡ self.old.slid + result }
         ensures rest { self.new ≡ record self.old { bytes = self.new.bytes; slid = self.new.slid } }
     {
@@ -306,6 +307,15 @@ impl Space {
         stretch_with_room(&self.region, size)
     }
 
+    /// The sizes of a stretch's free chunks together, in bytes.
+    pub fn room_of(&self, stretch: Stretch) -> u32
+        requires accepted { HeapAccepted self.now.bytes }
+        requires stretch { IsStretch self.now.bytes stretch }
+        ensures { HasRoomOf self.now.bytes stretch result }
+    {
+        room_of_stretch(&self.region, stretch)
+    }
+
     /// Packs the chunks of one stretch, and answers how many bytes were slid.
     pub fn pack_stretch(&mut self, stretch: Stretch) -> u32
         requires accepted { HeapAccepted self.old.bytes }
@@ -313,6 +323,7 @@ impl Space {
         ensures packed { PacksStretch self.old.bytes self.new.bytes stretch }
         ensures frame { SameFrame self.old.bytes self.new.bytes }
         ensures moved { MovesInStretch self.old.bytes stretch result }
+        ensures plain { WritesPlain self.old.bytes self.new.bytes }
         ensures slid { self.new.slid ≡ self.old.slid + result }
         ensures rest { self.new ≡ record self.old { bytes = self.new.bytes; slid = self.new.slid } }
     {
@@ -327,9 +338,26 @@ impl Space {
         requires unlocked { found.lock ≡ 0 }
         ensures opened { OpensBehind self.old.bytes self.new.bytes (found.place.0 - 8) }
         ensures frame { SameFrame self.old.bytes self.new.bytes }
+        ensures plain { WritesPlain self.old.bytes self.new.bytes }
         ensures rest { self.new ≡ record self.old { bytes = self.new.bytes; slid = self.new.slid } }
     {
         let stretch = stretch_around(&self.region, found);
         open_in(&mut self.region, stretch, found);
+    }
+
+    /// Moves a movable chunk without locks to the front of room, and gives it `count` bytes there: its
+    /// first ones, or all of them and zeros behind. No other chunk moves. The directory is not moved.
+    pub fn relocate(&mut self, found: Found, room: Room, count: u32)
+        requires accepted { HeapAccepted self.old.bytes }
+        requires found { IsOne self.old.bytes found }
+        requires unlocked { found.lock ≡ 0 }
+        requires no_directory { found.name.0 ≢ directory_of self.old.bytes }
+        requires room { IsRoom self.old.bytes room.at room.size }
+        requires enough { need count ≤ room.size }
+        ensures moved { RelocatesFound self.old.bytes self.new.bytes found room.at count }
+        ensures plain { WritesPlain self.old.bytes self.new.bytes }
+        ensures slid { self.new.slid ≡ self.old.slid + min found.length count }
+    {
+        relocate(&mut self.region, found, room, count);
     }
 }

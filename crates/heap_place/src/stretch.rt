@@ -4,7 +4,7 @@ ghost use Rattle.std.specs.Prelude.{◌≡◌, ◌<◌, ◌+◌, ◌-◌, IfSome
 ghost use Rattle.heap_model.specs.Space.{Short, rooms, greatest};
 ghost use Rattle.heap_model.specs.Heap.{HeapAccepted};
 ghost use Rattle.heap_place.specs.Found.{IsOne};
-ghost use Rattle.heap_place.specs.Stretches.{IsStretch, IsAmong, HasRoom};
+ghost use Rattle.heap_place.specs.Stretches.{IsStretch, IsAmong, HasRoom, HasRoomOf};
 
 use crate::found::Found;
 use crate::pack::stays;
@@ -73,6 +73,22 @@ pub(crate) fn stretch_with_room(region: &Region, size: u32) -> Option<Stretch>
         return Some(Stretch { start, end: here });
     }
     None
+}
+
+/// The sizes of a stretch's free chunks together.
+pub(crate) fn room_of_stretch(region: &Region, stretch: Stretch) -> u32
+    requires accepted { HeapAccepted region.now.bytes }
+    requires stretch { IsStretch region.now.bytes stretch }
+    ensures { HasRoomOf region.now.bytes stretch result }
+{
+    let mut at = stretch.start;
+    let mut room = 0;
+    while at < stretch.end {
+        let (header, size) = Header::at_with_size(region, at);
+        room += size_if_free(header);
+        at += size;
+    }
+    room
 }
 
 /// The greatest room that a stretch has, in bytes; 0 where there is no stretch.

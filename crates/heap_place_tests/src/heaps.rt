@@ -17,7 +17,13 @@ pub(crate) use test_images::changed_words as image;
 pub(crate) fn heap(alloc: Global, words: &[(usize, u32)]) -> Result<Space, Fail>
     ensures { IfOk result (λ space. HeapAccepted space.bytes) }
 {
-    let region = image(alloc, words)?;
+    accepted(image(alloc, words)?)
+}
+
+/// The space of a region that the checker accepts.
+pub(crate) fn accepted(region: Region) -> Result<Space, Fail>
+    ensures { IfOk result (λ space. HeapAccepted space.bytes) }
+{
     match check_heap(&region) {
         Ok(_) => Ok(Space::new(region)),
         Err(_) => Err("no heap")?,
@@ -85,4 +91,27 @@ pub(crate) fn give_back_owned(space: &mut Space, owner: u8) -> u32
     ensures { HeapAccepted space.new.bytes }
 {
     space.give_back_owned(owner)
+}
+
+/// Gives the chunk of a name `count` bytes, and says whether they fit into what it takes.
+pub(crate) fn shrink(space: &mut Space, name: Name, count: u32) -> Option<()>
+    requires accepted { HeapAccepted space.old.bytes }
+    ensures { HeapAccepted space.new.bytes }
+{
+    let found = space.find(name)?;
+    if chunk_size(count)? > chunk_size(found.length)? {
+        return None;
+    }
+    space.shrink(found, count);
+    Some(())
+}
+
+/// Gives the chunk of a name `count` bytes where it stands, and says whether it could. None where there is
+/// no such chunk.
+pub(crate) fn grow_in_place(space: &mut Space, name: Name, count: u32) -> Option<bool>
+    requires accepted { HeapAccepted space.old.bytes }
+    ensures { HeapAccepted space.new.bytes }
+{
+    let found = space.find(name)?;
+    Some(space.grow_in_place(found, count))
 }

@@ -1,4 +1,4 @@
-//! Chunks that are placed, claimed and given back in heaps of 128 bytes with 4 slots.
+//! Chunks that are placed, claimed, resized and given back in heaps of 128 bytes with 4 slots.
 //!
 //! Such a heap's chunks begin at 32, and a free chunk that fills it has 96 bytes. This crate has no
 //! code but its tests.
@@ -6,5 +6,7 @@
 
 #[cfg(test)]
 mod heaps;
+#[cfg(test)]
+mod resized;
 #[cfg(test)]
 mod tests;

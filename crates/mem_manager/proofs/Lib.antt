@@ -4,3 +4,4 @@ pub mod Making
 pub mod Texts
 pub mod Recovering
 pub mod Moving
+pub mod Growing

@@ -1,15 +1,16 @@
 -- The steps of calls that make chunks and free them.
-use Rattle.std.proofs.Common.{◌≡◌, ◌≢◌, ℕ, ◌+◌, ◌<◌, ◌≤◌, List, ◌++◌, length, replicate, Option, Some, None, refl, sym, ap, subst, ◌∙◌, arith, inl, inr}
+use Rattle.std.proofs.Common.{◌≡◌, ◌≢◌, ℕ, ◌+◌, ◌<◌, ◌≤◌, List, length, replicate, Option, Some, None, refl, sym, ap, subst, ◌∙◌, arith, inl, inr}
 use Rattle.std.proofs.lemmas.List.{length-replicate}
-use Rattle.std.specs.Prelude.{count_by}
+use Rattle.std.specs.Prelude.{count_by, IfSome}
+use Rattle.master_table.specs.declared.table.FreeSlot.{FreeSlot}
 use Rattle.heap_model.specs.Memory.{Memory}
-use Rattle.heap_model.specs.Chunk.{Chunk, movable, fixed, fixed_lock, need, is_owned_by}
-use Rattle.heap_model.specs.Slots.{area_start}
-use Rattle.heap_model.specs.Heap.{IsHeap, HeapAccepted}
+use Rattle.heap_model.specs.Chunk.{movable, fixed, fixed_lock, need, is_owned_by}
+use Rattle.heap_model.specs.Heap.{HeapAccepted}
 use Rattle.heap_model.specs.Meaning.{LiveChunk}
 use Rattle.heap_model.specs.Reading.{chunks_of, held}
 use Rattle.heap_model.specs.Maps.{callers_map}
-use Rattle.heap_model.specs.Space.{NoRun, free_slots}
+use Rattle.heap_model.specs.Space.{Short, free_slots}
+use Rattle.heap_model.specs.Packing.{SlidesOneStretch}
 use Rattle.heap_model.specs.Layout.{layout_of, Becomes, Exchanges, in_front, owned_freed, IsRoom}
 use Rattle.heap_model.specs.MemorySteps.{Does, IsNoCaller, IsLocked}
 use Rattle.heap_model.specs.declared.names.Name.{Name}
@@ -20,17 +21,18 @@ use Rattle.master_table.specs.Table.{IsFirstEmpty, NotAmong}
 use Rattle.master_table.proofs.TableLaws.{used_fewer, used_apart, used_set}
 use Rattle.heap_laws.proofs.Meanings.{held-is, empty_unheld}
 use Rattle.heap_laws.proofs.Slots.{same_slots}
-use Rattle.heap_laws.proofs.Chunks.{total-append, SpelledAll-end}
 use Rattle.heap_laws.proofs.Accepted.{heap_of_read}
-use Rattle.heap_laws.proofs.Freeing.{free_sum}
 use Rattle.heap_laws.proofs.Exchanging.{ChangesName}
 use Rattle.heap_laws.proofs.Changing.{claim_changes, room_unheld}
 use Rattle.heap_laws.proofs.Owning.{owned-merged, owned_held, owned_place}
 use Rattle.heap_place.specs.declared.found.Found.{Found}
 use Rattle.heap_place.specs.Found.{IsFound}
-use Rattle.heap_place.proofs.WalkLaws.{free_within}
+use Rattle.heap_laws.proofs.Becoming.{frame_then}
+use Rattle.heap_laws.proofs.Compacting.{slides_alike}
 use Rattle.mem_manager.specs.Lookup.{IsManaged}
-use Rattle.mem_manager.proofs.Stepping.{known, of_known, not_of_known, is_known, refused, OnlyBytes, held_updated, still_others}
+use Rattle.mem_manager.proofs.Moving.{BytesAndSlid, rest_then, held_then, still_then, first_slid, used_slid}
+use Rattle.mem_manager.proofs.Stepping.{known, of_known, not_of_known, is_known, refused, OnlyBytes, still_others, used_altered}
+use Rattle.heap_laws.proofs.Updating.{held_updated}
 
 -- ---- free
 
@@ -70,48 +72,31 @@ used_freed old new used fewer name m most apart ch = record {
 
 -- ---- a new handle
 
-pub new_no_run : (region : Memory) (size owner : ℕ) → HeapAccepted region.bytes → (IsNoCaller owner → ⊥) → NoRun (chunks_of region.bytes) (need size) → Does region (HandleNew size owner) (Refused NotEnoughSpace) region
-new_no_run region size owner h caller none = refused region (HandleNew size owner) NotEnoughSpace h (inr (caller, inl (inr none, refl)))
-
--- all chunks together have no more bytes than a heap
-pub no_run_so_big : (image : List ℕ) (size : ℕ) → HeapAccepted image → 16777208 < size → NoRun (chunks_of image) size
-no_run_so_big image size h big before run after parts f =
-    let heap : IsHeap image (before ++ (run ++ after)) = subst (λ (cs : List Chunk). IsHeap image cs) parts (heap_of_read image h.0 h.1) in
-    let most = h.1.tiles.head.most in
-    let end = SpelledAll-end image (area_start image) (before ++ (run ++ after)) (length image) heap.tiles.area in
-    let first = total-append before (run ++ after) in
-    let second = total-append run after in
-    let within = free_within run in
-    omega arith
+pub new_short : (region : Memory) (size owner : ℕ) → HeapAccepted region.bytes → (IsNoCaller owner → ⊥) → Short region.bytes (need size) → Does region (HandleNew size owner) (Refused NotEnoughSpace) region
+new_short region size owner h caller none = refused region (HandleNew size owner) NotEnoughSpace h (inr (caller, inl (inr none, refl)))
 
 -- a chunk of zeros
 abbrev pub zeros : ℕ → ℕ → ℕ → LiveChunk
 zeros size lock owner = record { bytes = replicate size 0; lock = lock; owner = owner }
 
-pub new_made : (old new : Memory) (size owner : ℕ) (name : Name) (there : Option ℕ) → HeapAccepted old.bytes → (IsNoCaller owner → ⊥) → (free_slots old.bytes ≡ 0 → ⊥) → (NoRun (chunks_of old.bytes) (need size) → ⊥) → held old.bytes name.0 ≡ None
-    → ChangesName old.bytes new.bytes name.0 (Some (zeros size 0 owner)) there → OnlyBytes old new → Does old (HandleNew size owner) (Named name) new
-new_made old new size owner name there h caller slots run empty ch rest = record {
-  before = h;
-  step = ((caller, (λ short. elim short [ inl none ↦ slots none | inr none ↦ run none ], tt)), (empty, held_updated old.bytes new.bytes name.0 (Some (zeros size 0 owner)) there ch));
-  frame = ch.frame;
-  still = still_others old.bytes new.bytes name.0 (Some (zeros size 0 owner)) there ch (inl empty);
-  asks = tt;
-  rest = rest;
-}
+pub new_made : (old mid new : Memory) (size owner : ℕ) (name : Name) (there : Option ℕ) → HeapAccepted old.bytes → (IsNoCaller owner → ⊥) → (free_slots old.bytes ≡ 0 → ⊥) → (Short old.bytes (need size) → ⊥) → held mid.bytes name.0 ≡ None → SlidesOneStretch old.bytes mid.bytes → BytesAndSlid old mid
+    → ChangesName mid.bytes new.bytes name.0 (Some (zeros size 0 owner)) there → OnlyBytes mid new → Does old (HandleNew size owner) (Named name) new
+new_made old mid new size owner name there h caller slots room empty slides first ch rest =
+    let alike = slides_alike old.bytes mid.bytes h slides in
+    record {
+      before = h;
+      step = ((caller, (λ short. elim short [ inl none ↦ slots none | inr none ↦ room none ], tt)), (sym (alike.holds name.0) ∙ empty, held_then old.bytes mid.bytes new.bytes name.0 (Some (zeros size 0 owner)) there alike ch));
+      frame = frame_then old.bytes mid.bytes new.bytes slides.becomes.frame ch.frame;
+      still = still_then old.bytes mid.bytes new.bytes alike (still_others mid.bytes new.bytes name.0 (Some (zeros size 0 owner)) there ch (inl empty));
+      asks = tt;
+      rest = rest_then old mid new first rest;
+    }
 
 -- what changes is its name, which stood for nothing
 pub new_changes : (old new : List ℕ) (at room size owner slot : ℕ) → HeapAccepted old → IsRoom old at room → need size ≤ room → held old slot ≡ None → Exchanges old new at (in_front (movable (replicate size 0) 0 owner slot)) → ChangesName old new slot (Some (zeros size 0 owner)) (Some (at + 8))
 new_changes old new at room size owner slot h r fits none x =
     let takes : need (length (replicate {A = ℕ} size 0)) ≡ need size = ap need (length-replicate size 0) in
     claim_changes old new at room slot (zeros size 0 owner) (movable (replicate size 0) 0 owner slot) h (omega arith) r none x (omega arith) (refl, refl)
-
--- a run that has the size is one
-pub is_run : (image : List ℕ) (at room size : ℕ) → IsRoom image at room → size ≤ room → NoRun (chunks_of image) size → ⊥
-is_run image at room size r enough none =
-    let short = none r.before r.run r.after r.chunks r.all_free in
-    let sum = free_sum r.run r.all_free in
-    let sums = r.sums in
-    omega arith
 
 -- ---- the slot of a new handle
 
@@ -126,19 +111,21 @@ used_made old new slot before now there first ch = record { accepted = ch.frame.
 
 -- ---- a new fixed chunk
 
-pub ptr_no_run : (region : Memory) (size owner : ℕ) → HeapAccepted region.bytes → (IsNoCaller owner → ⊥) → NoRun (chunks_of region.bytes) (need size) → Does region (PtrNew size owner) (Refused NotEnoughSpace) region
-ptr_no_run region size owner h caller none = refused region (PtrNew size owner) NotEnoughSpace h (inr (caller, inl (none, refl)))
+pub ptr_short : (region : Memory) (size owner : ℕ) → HeapAccepted region.bytes → (IsNoCaller owner → ⊥) → Short region.bytes (need size) → Does region (PtrNew size owner) (Refused NotEnoughSpace) region
+ptr_short region size owner h caller none = refused region (PtrNew size owner) NotEnoughSpace h (inr (caller, inl (none, refl)))
 
-pub ptr_made : (old new : Memory) (size owner : ℕ) (name : Name) (there : Option ℕ) → HeapAccepted old.bytes → (IsNoCaller owner → ⊥) → (NoRun (chunks_of old.bytes) (need size) → ⊥) → held old.bytes name.0 ≡ None
-    → ChangesName old.bytes new.bytes name.0 (Some (zeros size fixed_lock owner)) there → OnlyBytes old new → Does old (PtrNew size owner) (Named name) new
-ptr_made old new size owner name there h caller run empty ch rest = record {
-  before = h;
-  step = ((caller, (run, tt)), (empty, held_updated old.bytes new.bytes name.0 (Some (zeros size fixed_lock owner)) there ch));
-  frame = ch.frame;
-  still = still_others old.bytes new.bytes name.0 (Some (zeros size fixed_lock owner)) there ch (inl empty);
-  asks = tt;
-  rest = rest;
-}
+pub ptr_made : (old mid new : Memory) (size owner : ℕ) (name : Name) (there : Option ℕ) → HeapAccepted old.bytes → (IsNoCaller owner → ⊥) → (Short old.bytes (need size) → ⊥) → held mid.bytes name.0 ≡ None → SlidesOneStretch old.bytes mid.bytes → BytesAndSlid old mid
+    → ChangesName mid.bytes new.bytes name.0 (Some (zeros size fixed_lock owner)) there → OnlyBytes mid new → Does old (PtrNew size owner) (Named name) new
+ptr_made old mid new size owner name there h caller room empty slides first ch rest =
+    let alike = slides_alike old.bytes mid.bytes h slides in
+    record {
+      before = h;
+      step = ((caller, (room, tt)), (sym (alike.holds name.0) ∙ empty, held_then old.bytes mid.bytes new.bytes name.0 (Some (zeros size fixed_lock owner)) there alike ch));
+      frame = frame_then old.bytes mid.bytes new.bytes slides.becomes.frame ch.frame;
+      still = still_then old.bytes mid.bytes new.bytes alike (still_others mid.bytes new.bytes name.0 (Some (zeros size fixed_lock owner)) there ch (inl empty));
+      asks = tt;
+      rest = rest_then old mid new first rest;
+    }
 
 pub ptr_changes : (old new : List ℕ) (at room size owner : ℕ) → HeapAccepted old → IsRoom old at room → need size ≤ room → Exchanges old new at (in_front (fixed (replicate size 0) owner)) → ChangesName old new (at + 8) (Some (zeros size fixed_lock owner)) (Some (at + 8))
 ptr_changes old new at room size owner h r fits x =
@@ -156,3 +143,30 @@ owner_freed old new owner count h caller b counted rest = record {
   asks = tt;
   rest = rest;
 }
+
+-- ---- where chunks of one stretch have slid before
+
+pub new_claimed : (old mid new : List ℕ) (at room size owner slot before : ℕ) → HeapAccepted old → SlidesOneStretch old mid → IsFirstEmpty old slot before → IsRoom mid at room → need size ≤ room → Exchanges mid new at (in_front (movable (replicate size 0) 0 owner slot))
+    → ChangesName mid new slot (Some (zeros size 0 owner)) (Some (at + 8))
+new_claimed old mid new at room size owner slot before h s first r fits x =
+    new_changes mid new at room size owner slot s.becomes.frame.accepted r fits (slot_unheld mid slot before s.becomes.frame.accepted (first_slid old mid slot before h s first)) x
+
+pub new_unheld : (old mid : List ℕ) (slot before : ℕ) → HeapAccepted old → SlidesOneStretch old mid → IsFirstEmpty old slot before → held mid slot ≡ None
+new_unheld old mid slot before h s first = slot_unheld mid slot before s.becomes.frame.accepted (first_slid old mid slot before h s first)
+
+-- the slot that was found, of the region that is the heap's value
+pub as_first : (region read : Memory) (result : Option FreeSlot) (slot : FreeSlot) → read ≡ region → result ≡ Some slot → IfSome result (λ slot. IsFirstEmpty read.bytes slot.name.0 slot.before) → IsFirstEmpty region.bytes slot.name.0 slot.before
+as_first region read result slot same is first =
+    subst (λ (m : Memory). IsFirstEmpty m.bytes slot.name.0 slot.before) same (subst (λ (x : Option FreeSlot). IfSome x (λ slot. IsFirstEmpty read.bytes slot.name.0 slot.before)) is first)
+
+pub ptr_unheld : (old mid : List ℕ) (at room size : ℕ) → SlidesOneStretch old mid → IsRoom mid at room → need size ≤ room → held mid (at + 8) ≡ None
+ptr_unheld old mid at room size s r fits = room_unheld mid at room s.becomes.frame.accepted (omega arith) r
+
+pub ptr_claimed : (old mid new : List ℕ) (at room size owner name : ℕ) → name ≡ at + 8 → SlidesOneStretch old mid → IsRoom mid at room → need size ≤ room → Exchanges mid new at (in_front (fixed (replicate size 0) owner)) → ChangesName mid new name (Some (zeros size fixed_lock owner)) (Some (at + 8))
+ptr_claimed old mid new at room size owner name is s r fits x =
+    subst (λ (n : ℕ). ChangesName mid new n (Some (zeros size fixed_lock owner)) (Some (at + 8))) (sym is) (ptr_changes mid new at room size owner s.becomes.frame.accepted r fits x)
+
+-- the same slots are in use
+pub used_ptr : (old mid new : List ℕ) (used at room size owner : ℕ) → IsManaged old used → SlidesOneStretch old mid → IsRoom mid at room → need size ≤ room → Exchanges mid new at (in_front (fixed (replicate size 0) owner)) → IsManaged new used
+used_ptr old mid new used at room size owner m s r fits x =
+    used_altered mid new used (at + 8) _ _ (used_slid old mid used m s.becomes.frame (slides_alike old mid m.accepted s)) (ptr_changes mid new at room size owner s.becomes.frame.accepted r fits x)

@@ -1,21 +1,35 @@
--- The step of compaction.
-use Rattle.std.proofs.Common.{◌≡◌, ℕ, List, sym, ◌∙◌}
+-- The step of compaction, and what there is where chunks of one stretch have slid.
+use Rattle.std.proofs.Common.{◌≡◌, ℕ, List, Option, Some, None, refl, sym, ap, subst, ◌∙◌}
+use Rattle.std.specs.Prelude.{◌==◌, ◌↔◌, if◌then◌else◌, IsSome}
+use Rattle.heap_model.specs.Bytes.{u32_at}
+use Rattle.heap_model.specs.Slots.{IsSlot}
+use Rattle.heap_model.specs.Meaning.{LiveChunk}
+use Rattle.heap_model.specs.Maps.{updated}
 use Rattle.heap_model.specs.Memory.{Memory}
 use Rattle.heap_model.specs.Heap.{HeapAccepted}
-use Rattle.heap_model.specs.Reading.{chunks_of}
-use Rattle.heap_model.specs.Space.{moved_bytes}
+use Rattle.heap_model.specs.Reading.{chunks_of, held}
+use Rattle.heap_model.specs.Space.{moved_bytes, Still, MovesNothing, MovesOneStretch}
+use Rattle.heap_model.specs.Placing.{SameFrame}
 use Rattle.heap_model.specs.Layout.{Becomes}
-use Rattle.heap_model.specs.Packing.{packed}
+use Rattle.heap_model.specs.Packing.{packed, SlidesOneStretch}
 use Rattle.heap_model.specs.MemorySteps.{Does}
 use Rattle.heap_model.specs.declared.call.MemoryCall.TheVariants.{Compact}
 use Rattle.heap_model.specs.declared.call.Reply.TheVariants.{Number}
 use Rattle.heap_laws.proofs.Slots.{same_slots}
-use Rattle.heap_laws.proofs.Compacting.{packed_alike, slot_unheld}
+use Rattle.heap_laws.specs.Laws.{SlidAlike}
+use Rattle.heap_laws.proofs.Exchanging.{ChangesName}
+use Rattle.heap_laws.proofs.Updating.{held_updated}
+use Rattle.heap_laws.proofs.Compacting.{packed_alike, slot_unheld, slides_alike, slides_move_one, changes_move_nothing, moves_then_nothing, nothing_moves_one}
+use Rattle.master_table.specs.Table.{IsFirstEmpty}
 use Rattle.master_table.proofs.TableLaws.{used_still}
 use Rattle.mem_manager.specs.Lookup.{IsManaged}
-use Rattle.mem_manager.proofs.Stepping.{slot_as}
+use Rattle.mem_manager.proofs.Stepping.{slot_as, OnlyBytes}
 
-pub compacted : (old new : Memory) (count : ℕ) → HeapAccepted old.bytes → Becomes old.bytes new.bytes (packed (chunks_of old.bytes)) → count ≡ moved_bytes old.bytes new.bytes → new ≡ record old { bytes = new.bytes; slid = new.slid } → Does old Compact (Number count) new
+-- of a region's value its bytes and the count of slid ones have changed
+abbrev pub BytesAndSlid : Memory → Memory → Type 0
+BytesAndSlid old new = new ≡ record old { bytes = new.bytes; slid = new.slid }
+
+pub compacted : (old new : Memory) (count : ℕ) → HeapAccepted old.bytes → Becomes old.bytes new.bytes (packed (chunks_of old.bytes)) → count ≡ moved_bytes old.bytes new.bytes → BytesAndSlid old new → Does old Compact (Number count) new
 compacted old new count h b moved rest =
     let alike = packed_alike old.bytes new.bytes h b in
     record {
@@ -27,12 +41,67 @@ compacted old new count h b moved rest =
       rest = rest;
     }
 
+-- ---- chunks slide, and what they stand for stays
+
+slots_slid : (old new : List ℕ) (slot : ℕ) → HeapAccepted old → SameFrame old new → SlidAlike old new → IsSlot old slot → (u32_at old slot ≡ 0) ↔ (u32_at new slot ≡ 0)
+slots_slid old new slot h frame alike s =
+    let was = slot_unheld old slot h s in
+    let is = slot_unheld new slot frame.accepted (slot_as old new slot frame.count s) in
+    (λ e. is.1 (alike.holds slot ∙ was.0 e), λ e. was.1 (sym (alike.holds slot) ∙ is.0 e))
+
 -- the same slots are in use
+pub used_slid : (old new : List ℕ) (used : ℕ) → IsManaged old used → SameFrame old new → SlidAlike old new → IsManaged new used
+used_slid old new used m frame alike = record {
+  accepted = frame.accepted;
+  in_use = used_still old new used (same_slots old new frame.count) (λ slot s some empty. some ((slots_slid old new slot m.accepted frame alike s).1 empty)) m.in_use;
+}
+
 pub used_compacted : (old new : List ℕ) (used : ℕ) → IsManaged old used → Becomes old new (packed (chunks_of old)) → IsManaged new used
-used_compacted old new used m b =
-    let alike = packed_alike old new m.accepted b in
+used_compacted old new used m b = used_slid old new used m b.frame (packed_alike old new m.accepted b)
+
+-- and the first empty one is the same
+pub first_slid : (old new : List ℕ) (slot before : ℕ) → HeapAccepted old → SlidesOneStretch old new → IsFirstEmpty old slot before → IsFirstEmpty new slot before
+first_slid old new slot before h s first =
+    let alike = slides_alike old new h s in
+    let frame = s.becomes.frame in
+    let stands = first.stands in
     record {
-      accepted = b.frame.accepted;
-      in_use = used_still old new used (same_slots old new b.frame.count) (λ slot s some empty.
-          some ((slot_unheld old slot m.accepted s).1 (sym (alike.holds slot) ∙ (slot_unheld new slot b.frame.accepted (slot_as old new slot b.frame.count s)).0 empty))) m.in_use;
+      stands = record { front = stands.front; rest = stands.rest; parts = same_slots old new frame.count ∙ stands.parts; before = stands.before };
+      is_slot = slot_as old new slot frame.count first.is_slot;
+      empty = (slots_slid old new slot h frame alike first.is_slot).0 first.empty;
+      used = used_still old new before (same_slots old new frame.count) (λ other t some empty. some ((slots_slid old new other h frame alike t).1 empty)) first.used;
     }
+
+-- ---- chunks of one stretch slide, and then one name changes
+
+pub rest_then : (old mid new : Memory) → BytesAndSlid old mid → OnlyBytes mid new → BytesAndSlid old new
+rest_then old mid new first second =
+    second ∙ ap (λ (m : Memory). record m { bytes = new.bytes }) first ∙ ap (λ (n : ℕ). record old { bytes = new.bytes; slid = n }) (sym (ap (λ (m : Memory). m.slid) second))
+
+pub held_then : (old mid new : List ℕ) (name : ℕ) (now : Option LiveChunk) (there : Option ℕ) → SlidAlike old mid → ChangesName mid new name now there → (n : ℕ) → held new n ≡ updated (held old) name now n
+held_then old mid new name now there alike ch n = held_updated mid new name now there ch n ∙ ap (λ (x : Option LiveChunk). if n == name then now else x) (alike.holds n)
+
+some_there : {x : Option LiveChunk} {live : LiveChunk} → x ≡ Some live → IsSome x
+some_there e = subst (λ (y : Option LiveChunk). IsSome y) (sym e) refl
+
+none_there : {x : Option LiveChunk} → x ≡ None → IsSome x → ⊥
+none_there e some = let no : IsSome {T = LiveChunk} None = subst (λ (y : Option LiveChunk). IsSome y) e some in absurd cc
+
+pub still_then : (old mid new : List ℕ) → SlidAlike old mid → Still mid new → Still old new
+still_then old mid new alike s n live e locked is = s n live (alike.holds n ∙ e) locked is ∙ alike.stays n live e locked (some_there (alike.holds n ∙ e))
+
+-- a name that stood for nothing is made
+pub made_moves_nothing : (old new : List ℕ) (name : ℕ) (now : Option LiveChunk) (there : Option ℕ) → held old name ≡ None → ChangesName old new name now there → MovesNothing old new
+made_moves_nothing old new name now there none ch = changes_move_nothing old new name now there ch (λ was is. absurd (none_there none was))
+
+pub one_stretch_then : (old mid new : List ℕ) → HeapAccepted old → SlidesOneStretch old mid → MovesNothing mid new → MovesOneStretch old new
+one_stretch_then old mid new h s nothing =
+    let alike = slides_alike old mid h s in
+    moves_then_nothing old mid new (slides_move_one old mid s) (λ name was is. subst (λ (x : Option LiveChunk). IsSome x) (sym (alike.holds name)) was) nothing
+
+pub nothing_then : (old mid new : Memory) → mid ≡ old → MovesNothing mid.bytes new.bytes → MovesNothing old.bytes new.bytes
+nothing_then old mid new same moved = subst (λ (m : Memory). MovesNothing m.bytes new.bytes) same moved
+
+-- a call that leaves the region as it is
+pub itself_one : (image : List ℕ) → MovesOneStretch image image
+itself_one image = nothing_moves_one image image (λ name was is. refl)

@@ -1,9 +1,8 @@
 -- The words of the steps: what callers may name, calls that leave the region as it is, and what there is
 -- where one name is changed.
 use Rattle.std.proofs.Common.{◌≡◌, ℕ, ◌+◌, ◌-◌, ◌<◌, ◌≤◌, List, Bool, true, false, Option, Some, None, refl, sym, ap, subst, ◌∙◌, arith, inl, inr}
-use Rattle.std.proofs.lemmas.Bool.{cases_eq, eq-eqb}
-use Rattle.std.proofs.lemmas.Bool.Decides.{nat_tests}
-use Rattle.std.specs.Prelude.{◌==◌, ◌⊎◌, if◌then◌else◌, IsSome, Result, Ok, Err}
+use Rattle.std.proofs.lemmas.Bool.{cases_eq}
+use Rattle.std.specs.Prelude.{◌⊎◌, if◌then◌else◌, IsSome, Result, Ok, Err}
 use Rattle.std.specs.Option.{ok_or}
 use Rattle.std.specs.Result.{IsErr, IsErrAnd}
 use Rattle.std.specs.Bool.{OnTrue}
@@ -21,7 +20,6 @@ use Rattle.heap_model.specs.declared.call.MemoryCall.{MemoryCall}
 use Rattle.heap_model.specs.declared.call.Reply.{Reply}
 use Rattle.heap_model.specs.declared.call.Reply.TheVariants.{Refused}
 use Rattle.heap_model.specs.declared.refusal.Refusal.{Refusal}
-use Rattle.heap_laws.proofs.Deciding.{cond-true, cond-false}
 use Rattle.heap_laws.proofs.Meanings.{held-is, empty_unheld}
 use Rattle.heap_laws.proofs.Slots.{same_slots}
 use Rattle.heap_laws.proofs.Accepted.{heap_of_read}
@@ -29,6 +27,7 @@ use Rattle.heap_laws.proofs.Finding.{finds_held, callers_some}
 use Rattle.heap_laws.proofs.Altering.{finds_place}
 use Rattle.heap_laws.proofs.Becoming.{same_frame}
 use Rattle.heap_laws.proofs.Exchanging.{ChangesName}
+use Rattle.heap_laws.proofs.Updating.{held_updated}
 use Rattle.master_table.proofs.TableLaws.{used_still}
 use Rattle.heap_place.specs.declared.found.Found.{Found}
 use Rattle.heap_place.specs.Found.{IsFound, IsOne}
@@ -97,12 +96,6 @@ for_none None is none = cc
 for_none (Some value) is none = absurd cc
 
 -- ---- one name is changed
-
-pub held_updated : (old new : List ℕ) (name : ℕ) (now : Option LiveChunk) (there : Option ℕ) → ChangesName old new name now there → (n : ℕ) → held new n ≡ updated (held old) name now n
-held_updated old new name now there ch n = elim (cases_eq n name) [
-  | inl same ↦ ap (held new) same ∙ ch.here ∙ sym (cond-true (n == name) _ _ (eq-eqb n name same))
-  | inr apart ↦ ch.others n apart ∙ sym (cond-false (n == name) _ _ (grind (arith, nat_tests)))
-]
 
 pub still_others : (old new : List ℕ) (name : ℕ) (now : Option LiveChunk) (there : Option ℕ) → ChangesName old new name now there → (held old name ≡ None) ⊎ (now ≡ None) → Still old new
 still_others old new name now there ch gone_or_made n live held_there locked is_there = elim (cases_eq n name) [

@@ -1,6 +1,12 @@
 //! Calls that make chunks and free them.
 
-ghost use Rattle.std.specs.Prelude.{◌≡◌, ◌≤◌, ◌<◌, ℕ, length};
+ghost use Rattle.std.specs.Prelude.{◌≡◌, ◌≤◌, ◌<◌, ℕ, length, IfOk, OnOk, IfErr, OnErr};
+ghost use Rattle.heap_model.specs.Chunk.{need};
+ghost use Rattle.heap_model.specs.Heap.{HeapAccepted};
+ghost use Rattle.heap_model.specs.Reading.{chunks_of};
+ghost use Rattle.heap_model.specs.Space.{NoRun, Short, MovesNothing, MovesOneStretch};
+ghost use Rattle.heap_model.specs.Packing.{SlidesOneStretch};
+ghost use Rattle.heap_model.specs.Layout.{IsRoom};
 ghost use Rattle.heap_model.specs.MemorySteps.{Does, reply_of};
 ghost use Rattle.heap_model.specs.declared.call.MemoryCall.{MemoryCall};
 ghost use Rattle.heap_model.specs.declared.call.Reply.{Reply};
@@ -11,7 +17,9 @@ use crate::bounds::check_owner;
 use crate::heap::Heap;
 use crate::lookup::{check_callers, find};
 use chunk_format::{FIXED_LOCK, chunk_size};
+use heap_compact::make_room;
 use heap_model::{Name, Refusal};
+use heap_place::{Room, Space};
 use master_table::{free_slot, slots_before};
 use raw_region::Region;
 
@@ -19,31 +27,38 @@ impl Heap {
     /// Makes a movable chunk of `size` zeros, without a lock, for an owner of 1 to 14. Its name is the offset
     /// of a slot that was empty.
     ///
-    /// Refused: `InvalidOwner`; `NotEnoughSpace`, where no slot is free, or no run of neighbouring free
-    /// chunks has the room.
+    /// Where no run of neighbouring free chunks has the room, the chunks of one stretch are packed, and
+    /// those of no other move.
+    ///
+    /// Refused: `InvalidOwner`; `NotEnoughSpace`, where no slot is free, or no stretch has the room. Then
+    /// nothing has changed.
     pub fn handle_new(&mut self, size: u32, owner: u8) -> Result<Name, Refusal>
-        ensures { Does self.old (MemoryCall.HandleNew size owner) (reply_of (λ name. Reply.Named name) result) self.new }
+        ensures does { Does self.old (MemoryCall.HandleNew size owner) (reply_of (λ name. Reply.Named name) result) self.new }
+        ensures unmoved { (NoRun (chunks_of self.old.bytes) (need size) → ⊥) → MovesNothing self.old.bytes self.new.bytes }
+        ensures one_stretch { MovesOneStretch self.old.bytes self.new.bytes }
+        ensures refused { OnErr result (self.new ≡ self.old) }
     {
         let region = self.space.region();
         check_owner(owner)?;
         let slot = free_slot(region, self.used).ok_or(Refusal::NotEnoughSpace)?;
-        let needed = chunk_size(size).ok_or(Refusal::NotEnoughSpace)?;
-        let room = self.space.place(needed).ok_or(Refusal::NotEnoughSpace)?;
+        let room = room_for(&mut self.space, size)?;
         self.space.claim(room, slot.name, size, owner);
         self.used = slot.before;
         Ok(slot.name)
     }
 
-    /// Makes a fixed chunk of `size` zeros.
+    /// Makes a fixed chunk of `size` zeros. What moves is as with a movable one.
     ///
-    /// Refused: `InvalidOwner`; `NotEnoughSpace`, where no run of neighbouring free chunks has the room.
+    /// Refused: `InvalidOwner`; `NotEnoughSpace`, where no stretch has the room. Then nothing has changed.
     pub fn ptr_new(&mut self, size: u32, owner: u8) -> Result<Name, Refusal>
-        ensures { Does self.old (MemoryCall.PtrNew size owner) (reply_of (λ name. Reply.Named name) result) self.new }
+        ensures does { Does self.old (MemoryCall.PtrNew size owner) (reply_of (λ name. Reply.Named name) result) self.new }
+        ensures unmoved { (NoRun (chunks_of self.old.bytes) (need size) → ⊥) → MovesNothing self.old.bytes self.new.bytes }
+        ensures one_stretch { MovesOneStretch self.old.bytes self.new.bytes }
+        ensures refused { OnErr result (self.new ≡ self.old) }
     {
         let space = &mut self.space;
         check_owner(owner)?;
-        let needed = chunk_size(size).ok_or(Refusal::NotEnoughSpace)?;
-        let room = space.place(needed).ok_or(Refusal::NotEnoughSpace)?;
+        let room = room_for(space, size)?;
         Ok(space.claim_fixed(room, size, owner))
     }
 
@@ -74,6 +89,29 @@ impl Heap {
         let count = space.give_back_owned(owner);
         self.used = 0;
         Ok(count)
+    }
+}
+
+/// Room for a chunk of `size` bytes, for which one stretch is packed where it has to be.
+fn room_for(space: &mut Space, size: u32) -> Result<Room, Refusal>
+    requires accepted { HeapAccepted space.old.bytes }
+    ensures room { IfOk result (λ room. IsRoom space.new.bytes room.at room.size) }
+    ensures enough { IfOk result (λ room. need size ≤ room.size) }
+    ensures not_short { OnOk result (Short space.old.bytes (need size) → ⊥) }
+    ensures short { OnErr result (Short space.old.bytes (need size)) }
+    ensures refusal { IfErr result (λ refusal. refusal ≡ Refusal.NotEnoughSpace) }
+    ensures refused { OnErr result (space.new ≡ space.old) }
+    ensures unmoved { (NoRun (chunks_of space.old.bytes) (need size) → ⊥) → space.new ≡ space.old }
+    ensures slides { SlidesOneStretch space.old.bytes space.new.bytes }
+    ensures rest { space.new ≡ record space.old { bytes = space.new.bytes; slid = space.new.slid } }
+{
+    let needed = match chunk_size(size) {
+        Some(needed) => needed,
+        None => return Err(Refusal::NotEnoughSpace),
+    };
+    match make_room(space, needed) {
+        Some(room) => Ok(room),
+        None => Err(Refusal::NotEnoughSpace),
     }
 }
 

@@ -1,7 +1,8 @@
 use Rattle.std.proofs.Common.{◌-◌, ◌+◌, arith}
 use Rattle.heap_model.specs.Packing.{lives}
-use Rattle.heap_place.proofs.StretchLaws.{stretch_run, packed_frame, slot_then, table_then, numbers, room_behind, opened_some, opened_none}
+use Rattle.heap_place.proofs.StretchLaws.{stretch_run, packed_frame, packed_plain, slot_then, table_then, numbers, room_behind, opened_some, opened_none}
 use Rattle.heap_laws.proofs.Becoming.{frame_then}
+use Rattle.heap_laws.proofs.Plain.{plain_then}
 use Rattle.heap_place.proofs.open.open_in.Goals as goal
 
 pub pack-room-requires-clause-run : goal.pack-room-requires-clause-run
@@ -58,3 +59,9 @@ returns-then-room-gt0-clause-frame c = frame_then _ _ _ (packed_frame c.args.reg
 
 pub returns-else-room-gt0-clause-frame : goal.returns-else-room-gt0-clause-frame
 returns-else-room-gt0-clause-frame c = packed_frame c.args.region.now.bytes c.pack-room.new.region.bytes (c.args.found.place.0 - 8) c.args.found.name.0 c.args.found.length c.args.stretch c.pack-room.result.room c.requires.accepted c.requires.among c.pack-room.ensures.packed c.pack-room.ensures.room
+
+pub returns-then-room-gt0-clause-plain : goal.returns-then-room-gt0-clause-plain
+returns-then-room-gt0-clause-plain c = plain_then c.args.region.now.bytes c.pack-room.new.region.bytes c.lift.new.region.bytes (packed_plain c.args.region.now.bytes c.pack-room.new.region.bytes (c.args.found.place.0 - 8) c.args.found.name.0 c.args.found.length c.args.stretch c.pack-room.result.room c.requires.accepted c.requires.among c.pack-room.ensures.packed c.pack-room.ensures.room) c.lift.ensures.plain
+
+pub returns-else-room-gt0-clause-plain : goal.returns-else-room-gt0-clause-plain
+returns-else-room-gt0-clause-plain c = packed_plain c.args.region.now.bytes c.pack-room.new.region.bytes (c.args.found.place.0 - 8) c.args.found.name.0 c.args.found.length c.args.stretch c.pack-room.result.room c.requires.accepted c.requires.among c.pack-room.ensures.packed c.pack-room.ensures.room

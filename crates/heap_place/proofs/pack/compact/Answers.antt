@@ -17,3 +17,7 @@ pub returns-clause-moved : goal.returns-clause-moved
 returns-clause-moved c =
     c.pack.ensures.moved [] (chunks_of c.args.region.now.bytes) [] (run_whole c.args.region.now.bytes c.area_start-start.result c.len-end.result c.requires.accepted c.area_start-start.ensures c.len-end.ensures)
     ∙ sym (packed_moved c.args.region.now.bytes c.pack.new.region.bytes (compacted_whole c.args.region.now.bytes c.pack.new.region.bytes c.area_start-start.result c.len-end.result c.requires.accepted c.area_start-start.ensures c.len-end.ensures c.pack.ensures.packed))
+
+pub returns-clause-plain : goal.returns-clause-plain
+returns-clause-plain c =
+    (c.pack.ensures.packed [] (chunks_of c.args.region.now.bytes) [] (run_whole c.args.region.now.bytes c.area_start-start.result c.len-end.result c.requires.accepted c.area_start-start.ensures c.len-end.ensures)).plain

@@ -18,3 +18,8 @@ pub returns-clause-frame : goal.returns-clause-frame
 returns-clause-frame c =
     let s = c.requires.stretch in
     (c.pack.ensures.packed s.before s.mid s.after (stretch_run c.args.region.now.bytes s.before s.mid s.after c.args.stretch s.is)).frame
+
+pub returns-clause-plain : goal.returns-clause-plain
+returns-clause-plain c =
+    let s = c.requires.stretch in
+    (c.pack.ensures.packed s.before s.mid s.after (stretch_run c.args.region.now.bytes s.before s.mid s.after c.args.stretch s.is)).plain

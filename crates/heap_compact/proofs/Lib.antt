@@ -1,0 +1,2 @@
+pub mod ResizedLaws
+pub mod MakingLaws

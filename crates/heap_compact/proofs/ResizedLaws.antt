@@ -1,0 +1,168 @@
+-- A name's chunk with another length: where it stands, elsewhere, and once a stretch has slid.
+use Rattle.std.proofs.Common.{◌≡◌, ◌≢◌, ℕ, ◌+◌, ◌-◌, ◌<◌, ◌≤◌, List, ◌∷◌, ◌++◌, length, Bool, Option, Some, None, refl, sym, ap, subst, ◌∙◌, arith, inl, inr}
+use Rattle.std.proofs.lemmas.Bool.{cases_eq, OnTrue_at}
+use Rattle.std.specs.Prelude.{◌==◌, if◌then◌else◌, IsSome, IsTrue, ◌↔◌}
+use Rattle.std.specs.Bool.{OnTrue}
+use Rattle.heap_model.specs.Bytes.{sized_to}
+use Rattle.heap_model.specs.Chunk.{Chunk, free, movable, fixed, fixed_lock, need, size_of, total}
+use Rattle.heap_model.specs.Slots.{area_start}
+use Rattle.heap_model.specs.Heap.{HeapAccepted}
+use Rattle.heap_model.specs.Meaning.{LiveChunk}
+use Rattle.heap_model.specs.Reading.{held}
+use Rattle.heap_model.specs.Maps.{changed, sized}
+use Rattle.heap_model.specs.Space.{ShortFor, Short, FitsInPlace, free_behind, free_front, place_of, room_of}
+use Rattle.heap_model.specs.Placing.{Finds}
+use Rattle.heap_model.specs.Layout.{IsRoom}
+use Rattle.heap_model.specs.Packing.{SlidesOneStretch, OpensBehind}
+use Rattle.heap_model.specs.Resizing.{with_length, GrowsInPlace, Relocates}
+use Rattle.heap_laws.proofs.Finding.{finds_held}
+use Rattle.heap_laws.proofs.Becoming.{frame_then}
+use Rattle.heap_laws.proofs.Exchanging.{ChangesName}
+use Rattle.heap_laws.proofs.Resizings.{live_sized, grow_changes, finds_behind, opened_behind}
+use Rattle.heap_laws.proofs.Relocating.{relocate_changes}
+use Rattle.heap_laws.proofs.Compacting.{slides_alike, opens_one}
+use Rattle.heap_laws.proofs.Stretches.{short_for_parts, room_of-middle}
+use Rattle.heap_laws.proofs.Updating.{held_updated}
+use Rattle.heap_place.proofs.FoundLaws.{found_inside, middle_of, heap_in_parts}
+use Rattle.heap_place.proofs.WalkLaws.{free_within}
+use Rattle.heap_place.specs.declared.found.Found.{Found}
+use Rattle.heap_place.specs.declared.stretch.Stretch.{Stretch}
+use Rattle.heap_place.specs.Found.{IsFound, IsOne}
+use Rattle.heap_place.specs.Relocation.{RelocatesFound}
+use Rattle.heap_place.specs.Resizes.{TellsWhetherInPlace}
+use Rattle.heap_place.specs.Stretches.{IsAmong, HasRoomOf}
+use Rattle.heap_compact.specs.Resized.{IsLoose, Resized, FitsInStretch}
+
+-- what was found is the chunk of its own name
+pub one_of : (image : List ℕ) (name : ℕ) (found : Found) → IsFound image name found → IsOne image found
+one_of image name found f = subst (λ (n : ℕ). IsFound image n found) (sym f.name_is) f
+
+pub one_held : (image : List ℕ) (found : Found) → HeapAccepted image → (f : IsOne image found) → held image found.name.0 ≡ Some f.live
+one_held image found h f = finds_held image found.name.0 f.live f.chunk (found.place.0 - 8) h f.finds
+
+same_live : {x y : LiveChunk} → Some x ≡ Some y → x ≡ y
+same_live e = cc
+
+-- a chunk without locks is loose, and a loose one has none
+pub is_loose : (image : List ℕ) (found : Found) → HeapAccepted image → IsOne image found → found.lock ≡ 0 → IsLoose image found.name.0
+is_loose image found h f none = record { live = f.live; is_held = one_held image found h f; unlocked = sym f.lock_is ∙ none }
+
+pub loose_lock : (image : List ℕ) (name : ℕ) (found : Found) → HeapAccepted image → IsLoose image name → IsFound image name found → found.lock ≡ 0
+loose_lock image name found h l f = f.lock_is ∙ ap (λ (x : LiveChunk). x.lock) (same_live (sym (finds_held image name f.live f.chunk (found.place.0 - 8) h f.finds) ∙ l.is_held)) ∙ l.unlocked
+
+-- ---- one name has changed
+
+pub changed_resized : (old new : List ℕ) (name count : ℕ) (live : LiveChunk) (there : Option ℕ) → held old name ≡ Some live → live.lock ≡ 0 → ChangesName old new name (Some (live_sized count live)) there → Resized old new name count
+changed_resized old new name count live there e unlocked ch = record {
+  frame = ch.frame;
+  map = λ other. held_updated old new name (Some (live_sized count live)) there ch other ∙ ap (λ (x : Option LiveChunk). if other == name then x else held old other) (ap (changed (λ (x : LiveChunk). record x { bytes = sized_to x.bytes count })) (sym e));
+  still = λ n other is locked some. elim (cases_eq n name) [
+    | inl same ↦ let lock : other.lock ≡ 0 = ap (λ (x : LiveChunk). x.lock) (same_live (sym is ∙ ap (held old) same ∙ e)) ∙ unlocked in absurd (omega arith)
+    | inr apart ↦ ch.places n apart
+  ];
+}
+
+pub grown_resized : (old new : List ℕ) (found : Found) (count : ℕ) (told : Bool) → HeapAccepted old → IsOne old found → found.lock ≡ 0 → FitsInPlace old found.name.0 (need count) → TellsWhetherInPlace old found (need count) told → OnTrue told (GrowsInPlace old new (found.place.0 - 8) count)
+    → Resized old new found.name.0 count
+grown_resized old new found count told h f unlocked fits tells grows = by_chunk f.chunk f.finds (fits f.live (one_held old found h f)) (tells f) where
+  by_chunk : (c : Chunk) (g : Finds old found.name.0 f.live c (found.place.0 - 8)) → need count ≤ need (length f.live.bytes) + free_behind old found.name.0 → (IsTrue told ↔ (need count ≤ size_of c + free_front g.after)) → Resized old new found.name.0 count
+  by_chunk (free size) g enough tell = absurd g.named
+  by_chunk (fixed bytes owner) g enough tell = let lock : f.live.lock ≡ fixed_lock = ap (λ (x : LiveChunk). x.lock) (sym g.named.1) in let is = f.lock_is in absurd (omega (arith, unlocked, lock, is))
+  by_chunk (movable bytes lock owner slot) g enough tell =
+      let behind = finds_behind old found.name.0 (found.place.0 - 8) f.live bytes lock owner slot h g in
+      let same : need (length f.live.bytes) ≡ need (length bytes) = ap (λ (x : LiveChunk). need (length x.bytes)) (sym g.named.1) in
+      let reaches : need count ≤ need (length bytes) + free_front g.after = omega arith in
+      changed_resized old new found.name.0 count f.live (Some found.place.0) (one_held old found h f) (sym f.lock_is ∙ unlocked)
+      (grow_changes old new found.name.0 found.place.0 count f.live (movable bytes lock owner slot) h f.behind_header g reaches (OnTrue_at (tell.1 reaches) grows))
+
+pub relocated_resized : (old new : List ℕ) (found : Found) (at size count : ℕ) → HeapAccepted old → IsOne old found → found.lock ≡ 0 → IsRoom old at size → need count ≤ size → RelocatesFound old new found at count → Resized old new found.name.0 count
+relocated_resized old new found at size count h f unlocked r fits moved = by_chunk f.chunk f.finds (moved f) where
+  by_chunk : (c : Chunk) (g : Finds old found.name.0 f.live c (found.place.0 - 8)) → Relocates old new (found.place.0 - 8) at (with_length count c) → Resized old new found.name.0 count
+  by_chunk (free n) g x = absurd g.named
+  by_chunk (fixed bytes owner) g x = let lock : f.live.lock ≡ fixed_lock = ap (λ (y : LiveChunk). y.lock) (sym g.named.1) in let is = f.lock_is in absurd (omega (arith, unlocked, lock, is))
+  by_chunk (movable bytes lock owner slot) g x =
+      changed_resized old new found.name.0 count f.live (Some (at + 8)) (one_held old found h f) (sym f.lock_is ∙ unlocked)
+      (relocate_changes old new found.name.0 (found.place.0 - 8) at size count f.live bytes lock owner slot h g (omega arith) r fits x)
+
+-- ---- a stretch has slid before
+
+pub loose_slid : (old new : List ℕ) (name : ℕ) → HeapAccepted old → SlidesOneStretch old new → IsLoose old name → IsLoose new name
+loose_slid old new name h s l = record { live = l.live; is_held = (slides_alike old new h s).holds name ∙ l.is_held; unlocked = l.unlocked }
+
+pub slid_then : (old mid new : List ℕ) (name count : ℕ) → HeapAccepted old → SlidesOneStretch old mid → Resized mid new name count → Resized old new name count
+slid_then old mid new name count h s r =
+    let alike = slides_alike old mid h s in
+    record {
+      frame = frame_then old mid new s.becomes.frame r.frame;
+      map = λ other. r.map other
+          ∙ ap (λ (x : Option LiveChunk). if other == name then changed (λ (y : LiveChunk). record y { bytes = sized_to y.bytes count }) x else held mid other) (alike.holds name)
+          ∙ ap (λ (x : Option LiveChunk). if other == name then changed (λ (y : LiveChunk). record y { bytes = sized_to y.bytes count }) (held old name) else x) (alike.holds other);
+      still = λ n live e locked is. r.still n live (alike.holds n ∙ e) locked is ∙ alike.stays n live e locked (some_held (held mid n) live (alike.holds n ∙ e));
+    } where
+      some_held : (x : Option LiveChunk) (live : LiveChunk) → x ≡ Some live → IsSome x
+      some_held x live e = subst (λ (y : Option LiveChunk). IsSome y) (sym e) refl
+
+-- ---- in its own stretch
+
+pub opens_slides : (old new : List ℕ) (found : Found) (size : ℕ) → FitsInStretch old found size → OpensBehind old new (found.place.0 - 8) → SlidesOneStretch old new
+opens_slides old new found size k o = opens_one old new (found.place.0 - 8) k.before k.front k.bytes k.owner found.name.0 k.back k.after k.whole k.there o
+
+-- once room is opened behind the chunk it fits there
+pub fits_opened : (old new : List ℕ) (found : Found) (size : ℕ) → HeapAccepted old → IsOne old found → (k : FitsInStretch old found size) → OpensBehind old new (found.place.0 - 8) → FitsInPlace new found.name.0 size
+fits_opened old new found size h f k o live e =
+    let alike = slides_alike old new h (opens_slides old new found size k o) in
+    let behind = opened_behind old new (found.place.0 - 8) k.before k.front k.bytes k.owner found.name.0 k.back k.after h k.whole k.there o in
+    let same : live ≡ f.live = same_live (sym e ∙ alike.holds found.name.0 ∙ one_held old found h f) in
+    let many : need (length live.bytes) ≡ need (length k.bytes) = ap (λ (x : LiveChunk). need (length x.bytes)) same ∙ ap need (sym f.count ∙ k.many) in
+    let enough = k.enough in
+    omega arith
+
+-- the stretch that was found around it, with its room
+pub room_among_own : (image : List ℕ) (found : Found) (stretch : Stretch) (room : ℕ) → (a : IsAmong image found stretch) → HasRoomOf image stretch room → room ≡ room_of (a.front ++ a.back)
+room_among_own image found stretch room a r =
+    let is = r a.before (a.front ++ movable a.bytes 0 a.owner found.name.0 ∷ a.back) a.after a.is in
+    let own = room_of-middle a.front (movable a.bytes 0 a.owner found.name.0) a.back in
+    omega arith
+
+pub fits_in_stretch : (image : List ℕ) (found : Found) (stretch : Stretch) (room size : ℕ) → IsAmong image found stretch → HasRoomOf image stretch room → size ≤ need found.length + room → FitsInStretch image found size
+fits_in_stretch image found stretch room size a r enough =
+    let is = room_among_own image found stretch room a r in
+    let many : need found.length ≡ need (length a.bytes) = ap need a.many in
+    record { before = a.before; front = a.front; bytes = a.bytes; owner = a.owner; back = a.back; after = a.after; whole = a.is.whole; there = a.there; many = a.many; enough = omega arith }
+
+pub fits_not_short : (image : List ℕ) (found : Found) (size : ℕ) → HeapAccepted image → FitsInStretch image found size → ShortFor image found.name.0 size → ⊥
+fits_not_short image found size h k short =
+    let low = ((short_for_parts image k.before k.front k.bytes k.owner found.name.0 k.back k.after size h k.whole).0 short).1 in
+    let enough = k.enough in
+    omega arith
+
+-- where the own stretch has less the image is short for the chunk exactly where it is short
+pub short_own : (image : List ℕ) (found : Found) (stretch : Stretch) (room size : ℕ) → HeapAccepted image → IsAmong image found stretch → HasRoomOf image stretch room → need found.length + room < size → ShortFor image found.name.0 size ↔ Short image size
+short_own image found stretch room size h a r low =
+    let is = room_among_own image found stretch room a r in
+    let many : need found.length ≡ need (length a.bytes) = ap need a.many in
+    let parts = short_for_parts image a.before a.front a.bytes a.owner found.name.0 a.back a.after size h a.is.whole in
+    (λ s. (parts.0 s).0, λ s. parts.1 (s, omega arith))
+
+-- ---- by the name that was asked for
+
+pub resized_here : (old new : List ℕ) (name count : ℕ) (found : Found) → IsFound old name found → Resized old new found.name.0 count → Resized old new name count
+resized_here old new name count found f r = subst (λ (n : ℕ). Resized old new n count) f.name_is r
+
+pub resized_named : (old new : List ℕ) (name count : ℕ) (found : Found) → IsFound old name found → (IsOne old found → FitsInPlace old found.name.0 (need count) → Resized old new found.name.0 count) → FitsInPlace old name (need count) → Resized old new name count
+resized_named old new name count found f done fits = resized_here old new name count found f (done (one_of old name found f) (subst (λ (n : ℕ). FitsInPlace old n (need count)) (sym f.name_is) fits))
+
+-- ---- what is taken and free fits into a region
+
+pub own_fits : (image : List ℕ) (found : Found) → HeapAccepted image → IsOne image found → need found.length ≤ 16777208
+own_fits image found h f = let inside = found_inside image found h f in let most = h.1.tiles.head.most in omega arith
+
+pub room_fits : (image : List ℕ) (found : Found) (stretch : Stretch) (room : ℕ) → HeapAccepted image → (a : IsAmong image found stretch) → HasRoomOf image stretch room → room ≤ 16777208
+room_fits image found stretch room h a r =
+    let mid : List Chunk = a.front ++ movable a.bytes 0 a.owner found.name.0 ∷ a.back in
+    let is = r a.before mid a.after a.is in
+    let within = free_within mid in
+    let m = middle_of image a.before mid a.after stretch.start (heap_in_parts image (a.before ++ (mid ++ a.after)) h a.is.whole.chunks) a.is.from in
+    let inside = m.inside in
+    let most = m.most in
+    omega arith

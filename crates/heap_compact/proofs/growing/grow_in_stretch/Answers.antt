@@ -1,0 +1,16 @@
+use Rattle.heap_model.specs.Chunk.{need}
+use Rattle.heap_compact.proofs.ResizedLaws.{is_loose, loose_slid, slid_then, opens_slides, fits_opened}
+use Rattle.heap_compact.proofs.growing.grow_in_stretch.Goals as goal
+
+pub grow_named-requires-clause-loose : goal.grow_named-requires-clause-loose
+grow_named-requires-clause-loose c =
+    loose_slid c.args.space.now.bytes c.open_behind.new.self.bytes c.args.found.name.0 c.requires.accepted (opens_slides c.args.space.now.bytes c.open_behind.new.self.bytes c.args.found (need c.args.count) c.requires.fits c.open_behind.ensures.opened)
+    (is_loose c.args.space.now.bytes c.args.found c.requires.accepted c.requires.found c.requires.unlocked)
+
+pub grow_named-requires-clause-fits : goal.grow_named-requires-clause-fits
+grow_named-requires-clause-fits c = fits_opened c.args.space.now.bytes c.open_behind.new.self.bytes c.args.found (need c.args.count) c.requires.accepted c.requires.found c.requires.fits c.open_behind.ensures.opened
+
+pub returns-clause-resized : goal.returns-clause-resized
+returns-clause-resized c =
+    slid_then c.args.space.now.bytes c.open_behind.new.self.bytes c.grow_named.new.space.bytes c.args.found.name.0 c.args.count c.requires.accepted
+    (opens_slides c.args.space.now.bytes c.open_behind.new.self.bytes c.args.found (need c.args.count) c.requires.fits c.open_behind.ensures.opened) c.grow_named.ensures.resized

@@ -1,0 +1,37 @@
+-- What another length for a chunk comes to, wherever its bytes are found: by names, since the chunk and
+-- others of one stretch may have moved.
+use Rattle.std.specs.Prelude.{◌≡◌, ◌≤◌, ◌+◌, ◌-◌, ◌++◌, ℕ, List, ◌∷◌, length, Some}
+use Rattle.heap_model.specs.Chunk.{Chunk, movable, need, total}
+use Rattle.heap_model.specs.Slots.{area_start}
+use Rattle.heap_model.specs.Meaning.{LiveChunk}
+use Rattle.heap_model.specs.Reading.{held}
+use Rattle.heap_model.specs.Maps.{sized}
+use Rattle.heap_model.specs.Space.{Still, room_of}
+use Rattle.heap_model.specs.Placing.{SameFrame}
+use Rattle.heap_model.specs.Packing.{WholeStretch}
+use Rattle.heap_place.specs.declared.found.Found.{Found}
+
+-- a movable chunk without locks has this name
+pub record IsLoose (image : List ℕ) (name : ℕ) : Type 0 where
+  pub live : LiveChunk
+  pub is_held : held image name ≡ Some live
+  pub unlocked : live.lock ≡ 0
+
+-- a name's chunk has so many bytes: its first ones, or all of them and zeros behind
+pub record Resized (old new : List ℕ) (name count : ℕ) : Type 0 where
+  pub frame : SameFrame old new
+  pub map : (other : ℕ) → held new other ≡ sized (held old) name count other
+  pub still : Still old new
+
+-- a movable chunk without locks was found, and the room of its stretch and its own bytes are so many
+pub record FitsInStretch (image : List ℕ) (found : Found) (size : ℕ) : Type 0 where
+  pub before : List Chunk
+  pub front : List Chunk
+  pub bytes : List ℕ
+  pub owner : ℕ
+  pub back : List Chunk
+  pub after : List Chunk
+  pub whole : WholeStretch image before (front ++ movable bytes 0 owner found.name.0 ∷ back) after
+  pub there : found.place.0 - 8 ≡ area_start image + total before + total front
+  pub many : found.length ≡ length bytes
+  pub enough : size ≤ need (length bytes) + room_of (front ++ back)

@@ -1,0 +1,93 @@
+//! A chunk gets another length where its place doesn't have it.
+
+ghost use Rattle.std.specs.Prelude.{◌≡◌, ◌≢◌, ◌≤◌};
+ghost use Rattle.std.specs.Bool.{OnTrue, OnFalse};
+ghost use Rattle.heap_model.specs.Chunk.{need};
+ghost use Rattle.heap_model.specs.Heap.{HeapAccepted, directory_of};
+ghost use Rattle.heap_model.specs.Space.{ShortFor, FitsInPlace};
+ghost use Rattle.heap_model.specs.Layout.{IsRoom};
+ghost use Rattle.heap_place.specs.Found.{IsOne};
+ghost use Rattle.heap_compact.specs.Resized.{IsLoose, Resized, FitsInStretch};
+
+use crate::making::room_by_packing;
+use chunk_format::{chunk_size, size_of_body};
+use heap_model::Name;
+use heap_place::{Found, Room, Space};
+
+/// Gives a movable chunk without locks `count` bytes, where it or others of one stretch may move: its first
+/// ones, or all of them and zeros behind. Answers whether there is room for them: in a free run
+/// elsewhere, else in its own stretch, else in another, tried in this order. Where there is none, nothing
+/// has changed. The directory is not moved.
+pub fn resize_by_moving(space: &mut Space, found: Found, count: u32) -> bool
+    requires accepted { HeapAccepted space.old.bytes }
+    requires found { IsOne space.old.bytes found }
+    requires unlocked { found.lock ≡ 0 }
+    requires no_directory { found.name.0 ≢ directory_of space.old.bytes }
+    ensures resized { OnTrue result (Resized space.old.bytes space.new.bytes found.name.0 count) }
+    ensures not_short { OnTrue result (ShortFor space.old.bytes found.name.0 (need count) → ⊥) }
+    ensures short { OnFalse result (ShortFor space.old.bytes found.name.0 (need count)) }
+    ensures refused { OnFalse result (space.new ≡ space.old) }
+    ensures rest { space.new ≡ record space.old { bytes = space.new.bytes; slid = space.new.slid } }
+{
+    let size = match chunk_size(count) {
+        Some(size) => size,
+        None => return false,
+    };
+    if let Some(room) = space.place(size) {
+        relocate_named(space, found.name, room, count);
+        return true;
+    }
+    let stretch = space.stretch_around(found);
+    if size_of_body(found.length) + space.room_of(stretch) >= size {
+        grow_in_stretch(space, found, count);
+        return true;
+    }
+    match room_by_packing(space, size) {
+        Some(room) => {
+            relocate_named(space, found.name, room, count);
+            true
+        }
+        None => false,
+    }
+}
+
+/// Moves a name's chunk to the front of room.
+fn relocate_named(space: &mut Space, name: Name, room: Room, count: u32)
+    requires accepted { HeapAccepted space.old.bytes }
+    requires loose { IsLoose space.old.bytes name.0 }
+    requires no_directory { name.0 ≢ directory_of space.old.bytes }
+    requires room { IsRoom space.old.bytes room.at room.size }
+    requires enough { need count ≤ room.size }
+    ensures resized { Resized space.old.bytes space.new.bytes name.0 count }
+    ensures rest { space.new ≡ record space.old { bytes = space.new.bytes; slid = space.new.slid } }
+{
+    if let Some(found) = space.find(name) {
+        space.relocate(found, room, count);
+    }
+}
+
+/// Opens room behind a chunk, whose stretch has it, and grows the chunk over it.
+fn grow_in_stretch(space: &mut Space, found: Found, count: u32)
+    requires accepted { HeapAccepted space.old.bytes }
+    requires found { IsOne space.old.bytes found }
+    requires unlocked { found.lock ≡ 0 }
+    requires fits { FitsInStretch space.old.bytes found (need count) }
+    ensures resized { Resized space.old.bytes space.new.bytes found.name.0 count }
+    ensures rest { space.new ≡ record space.old { bytes = space.new.bytes; slid = space.new.slid } }
+{
+    space.open_behind(found);
+    grow_named(space, found.name, count);
+}
+
+/// Gives a name's chunk `count` bytes where it stands, which it has with what is free behind it.
+fn grow_named(space: &mut Space, name: Name, count: u32)
+    requires accepted { HeapAccepted space.old.bytes }
+    requires loose { IsLoose space.old.bytes name.0 }
+    requires fits { FitsInPlace space.old.bytes name.0 (need count) }
+    ensures resized { Resized space.old.bytes space.new.bytes name.0 count }
+    ensures rest { space.new ≡ record space.old { bytes = space.new.bytes } }
+{
+    if let Some(found) = space.find(name) {
+        space.grow_in_place(found, count);
+    }
+}

@@ -1,0 +1,49 @@
+//! Room for a chunk, for which one stretch is packed where no run of free chunks has it.
+
+ghost use Rattle.std.specs.Prelude.{◌≡◌, ◌≤◌, ◌<◌, IfSome, IfNone};
+ghost use Rattle.heap_model.specs.Heap.{HeapAccepted};
+ghost use Rattle.heap_model.specs.Reading.{chunks_of};
+ghost use Rattle.heap_model.specs.Space.{NoRun, Short};
+ghost use Rattle.heap_model.specs.Packing.{SlidesOneStretch};
+ghost use Rattle.heap_model.specs.Layout.{IsRoom};
+
+use heap_place::{Room, Space};
+
+/// Room for a chunk of `size` bytes, header included: the front of a run of neighbouring free chunks.
+/// Where no run has so many bytes, the chunks of one stretch whose room has them are packed. None where
+/// every stretch is short of them, and then nothing has changed.
+pub fn make_room(space: &mut Space, size: u32) -> Option<Room>
+    requires accepted { HeapAccepted space.old.bytes }
+    requires some_size { 0 < size }
+    ensures room { IfSome result (λ room. IsRoom space.new.bytes room.at room.size) }
+    ensures enough { IfSome result (λ room. size ≤ room.size) }
+    ensures not_short { IfSome result (λ room. Short space.old.bytes size → ⊥) }
+    ensures short { IfNone result (Short space.old.bytes size) }
+    ensures refused { IfNone result (space.new ≡ space.old) }
+    ensures unmoved { (NoRun (chunks_of space.old.bytes) size → ⊥) → space.new ≡ space.old }
+    ensures slides { SlidesOneStretch space.old.bytes space.new.bytes }
+    ensures rest { space.new ≡ record space.old { bytes = space.new.bytes; slid = space.new.slid } }
+{
+    match space.place(size) {
+        Some(room) => Some(room),
+        None => room_by_packing(space, size),
+    }
+}
+
+/// Packs the first stretch whose room has `size` bytes, and answers where it is then. None where every
+/// stretch is short of them.
+pub(crate) fn room_by_packing(space: &mut Space, size: u32) -> Option<Room>
+    requires accepted { HeapAccepted space.old.bytes }
+    requires some_size { 0 < size }
+    ensures room { IfSome result (λ room. IsRoom space.new.bytes room.at room.size) }
+    ensures enough { IfSome result (λ room. size ≤ room.size) }
+    ensures not_short { IfSome result (λ room. Short space.old.bytes size → ⊥) }
+    ensures short { IfNone result (Short space.old.bytes size) }
+    ensures refused { IfNone result (space.new ≡ space.old) }
+    ensures slides { SlidesOneStretch space.old.bytes space.new.bytes }
+    ensures rest { space.new ≡ record space.old { bytes = space.new.bytes; slid = space.new.slid } }
+{
+    let stretch = space.stretch_with_room(size)?;
+    space.pack_stretch(stretch);
+    space.place(size)
+}

@@ -1,0 +1,309 @@
+-- A chunk that goes to room elsewhere, step by step.
+use Rattle.std.proofs.Common.{◌≡◌, ◌≢◌, ℕ, ◌+◌, ◌-◌, ◌%◌, ◌^◌, ◌<◌, ◌≤◌, List, [], ◌∷◌, ◌++◌, length, take, drop, replicate, Option, Some, None, refl, sym, ap, subst, ◌∙◌, arith, inl, inr}
+use Rattle.std.proofs.lemmas.List.{length-replicate, length-take, take_all, take-take, drop-replicate}
+use Rattle.std.proofs.lemmas.Bool.{cases_lt}
+use Rattle.std.specs.Prelude.{slice_range, min}
+use Rattle.heap_model.specs.Bytes.{u32_at, u32_bytes, overwritten, sized_to}
+use Rattle.heap_model.specs.Chunk.{Chunk, free, movable, fixed, fixed_lock, need, size_of, Spelled}
+use Rattle.heap_model.specs.Slots.{IsSlot, table_end}
+use Rattle.heap_model.specs.Heap.{HeapAccepted}
+use Rattle.heap_model.specs.Meaning.{LiveChunk, NamedHere}
+use Rattle.heap_model.specs.Reading.{held}
+use Rattle.heap_model.specs.Space.{place_of}
+use Rattle.heap_model.specs.Placing.{Finds}
+use Rattle.heap_model.specs.Layout.{Becomes, Exchanges, Alters, in_front, freed, with_bytes, IsRoom, WritesPlain}
+use Rattle.heap_model.specs.Resizing.{with_length, Relocates}
+use Rattle.heap_laws.proofs.Finding.{held_finds, finds_held, finds_spelled}
+use Rattle.heap_laws.proofs.Altering.{finds_place, body_stays}
+use Rattle.heap_laws.proofs.Exchanging.{ChangesName}
+use Rattle.heap_laws.proofs.Changing.{claim_changes, room_unheld, bytes_changes, freed_changes}
+use Rattle.heap_laws.proofs.Resizings.{length-sized_to}
+use Rattle.heap_laws.proofs.Relocating.{relocates}
+use Rattle.heap_laws.proofs.Compacting.{slot_unheld}
+use Rattle.heap_laws.proofs.Chunks.{Spelled-same}
+use Rattle.heap_laws.proofs.Frames.{u32_at-written, length-overwritten}
+use Rattle.heap_laws.proofs.Writing.{WroteWithin, wrote_wider, wrote_word, wrote_apart, WroteArea, area_replaces, area_slots}
+use Rattle.heap_laws.proofs.Freeing.{OtherSlots, claimed}
+use Rattle.heap_laws.proofs.Becoming.{becomes_heap, slot_kept}
+use Rattle.heap_laws.proofs.Plain.{live_plain, replaced_plain}
+use Rattle.chunk_format.specs.declared.header.Header.TheVariants as headers
+use Rattle.chunk_format.specs.Header.{HasHeader, live_words, h_offset_to}
+use Rattle.heap_model.specs.declared.names.Name.{Name}
+use Rattle.heap_place.specs.declared.found.Found.{Found}
+use Rattle.heap_place.specs.Found.{IsOne}
+use Rattle.heap_place.specs.Relocation.{stand_in, KeepsFound, Copies, with_name}
+use Rattle.heap_place.proofs.FoundLaws.{heap_in_parts, middle_of, found_inside, own_slot}
+use Rattle.heap_place.proofs.CutLaws.{slot_facts, header_movable, wrote_words, table_kept}
+use Rattle.heap_place.proofs.AlterLaws.{changed_there, written_there}
+
+-- ---- what is held is found
+
+pub found_held : (image : List ℕ) (found : Found) (live : LiveChunk) → HeapAccepted image → held image found.name.0 ≡ Some live → place_of image found.name.0 ≡ Some found.place.0 → found.length ≡ length live.bytes → found.lock ≡ live.lock → found.owner ≡ live.owner → IsOne image found
+found_held image found live h is there count lock owner =
+    let k = held_finds image found.name.0 live h is in
+    let place : found.place.0 ≡ k.at + 8 = same found.place.0 (k.at + 8) (sym there ∙ finds_place image found.name.0 live k.chunk k.at h k.finds) in
+    let at : k.at ≡ found.place.0 - 8 = omega arith in
+    record {
+      live = live;
+      chunk = k.chunk;
+      finds = subst (λ (n : ℕ). Finds image found.name.0 live k.chunk n) at k.finds;
+      behind_header = omega arith;
+      name_is = refl;
+      count = count;
+      lock_is = lock;
+      owner_is = owner;
+    } where
+      same : (m n : ℕ) → Some m ≡ Some n → m ≡ n
+      same m n e = cc
+
+pub one_held : (image : List ℕ) (found : Found) → HeapAccepted image → (f : IsOne image found) → held image found.name.0 ≡ Some f.live
+one_held image found h f = finds_held image found.name.0 f.live f.chunk (found.place.0 - 8) h f.finds
+
+pub one_placed : (image : List ℕ) (found : Found) → HeapAccepted image → IsOne image found → place_of image found.name.0 ≡ Some found.place.0
+one_placed image found h f =
+    let low = f.behind_header in
+    let there : found.place.0 - 8 + 8 ≡ found.place.0 = omega arith in
+    finds_place image found.name.0 f.live f.chunk (found.place.0 - 8) h f.finds ∙ ap some_place there where
+      some_place : ℕ → Option ℕ
+      some_place n = Some n
+
+-- where another name alone changes it is found as before
+pub found_kept : (old new : List ℕ) (name : ℕ) (now : Option LiveChunk) (there : Option ℕ) (found : Found) → HeapAccepted old → ChangesName old new name now there → found.name.0 ≢ name → IsOne old found → IsOne new found
+found_kept old new name now there found h ch apart f =
+    found_held new found f.live ch.frame.accepted (ch.others found.name.0 apart ∙ one_held old found h f) (ch.places found.name.0 apart ∙ one_placed old found h f) f.count f.lock_is f.owner_is
+
+-- ---- the stand-in
+
+abbrev pub zeros_live : ℕ → LiveChunk
+zeros_live count = record { bytes = replicate count 0; lock = fixed_lock; owner = 1 }
+
+pub stand_changes : (old new : List ℕ) (at size count : ℕ) → HeapAccepted old → IsRoom old at size → need count ≤ size → Exchanges old new at (in_front (fixed (replicate count 0) 1)) → ChangesName old new (at + 8) (Some (zeros_live count)) (Some (at + 8))
+stand_changes old new at size count h r fits x =
+    let many : length (replicate {A = ℕ} count 0) ≡ count = length-replicate count 0 in
+    let takes : need (length (replicate {A = ℕ} count 0)) ≡ need count = ap need many in
+    claim_changes old new at size (at + 8) (zeros_live count) (fixed (replicate count 0) 1) h (omega arith) r (room_unheld old at size h (omega arith) r) x (omega arith) (refl, refl)
+
+pub stands_there : (old new : List ℕ) (at size count : ℕ) → HeapAccepted old → IsRoom old at size → need count ≤ size → Exchanges old new at (in_front (fixed (replicate count 0) 1)) → IsOne new (stand_in at count)
+stands_there old new at size count h r fits x =
+    let ch = stand_changes old new at size count h r fits x in
+    found_held new (stand_in at count) (zeros_live count) ch.frame.accepted ch.here ch.place (sym (length-replicate count 0)) refl refl
+
+-- nothing else has its name
+pub stand_apart : (old : List ℕ) (at size count : ℕ) (found : Found) → HeapAccepted old → IsRoom old at size → need count ≤ size → IsOne old found → found.name.0 ≢ at + 8
+stand_apart old at size count found h r fits f e =
+    let none = room_unheld old at size h (omega arith) r in
+    absurd (no f.live (sym (one_held old found h f) ∙ ap (held old) e ∙ none)) where
+      no : (live : LiveChunk) → Some live ≡ None → ⊥
+      no live x = absurd cc
+
+pub stand_keeps : (old new : List ℕ) (at size count : ℕ) → HeapAccepted old → IsRoom old at size → need count ≤ size → Exchanges old new at (in_front (fixed (replicate count 0) 1)) → KeepsFound old new
+stand_keeps old new at size count h r fits x found f = found_kept old new (at + 8) _ _ found h (stand_changes old new at size count h r fits x) (stand_apart old at size count found h r fits f) f
+
+-- ---- a fixed chunk gets the name of a slot
+
+pub named_write : (old mid new : List ℕ) (at name : ℕ) (live : LiveChunk) (bytes : List ℕ) (holder owner slot : ℕ) → HeapAccepted old → (f : Finds old name live (fixed bytes holder) at) → IsSlot old slot → u32_at old slot ≡ 0
+    → mid ≡ overwritten old at (live_words (length bytes) 0 owner (h_offset_to at slot)) → HasHeader mid at (headers.Movable (length bytes) 0 owner slot) → new ≡ overwritten mid slot (u32_bytes (at + 8))
+    → Becomes old new (f.before ++ movable bytes 0 owner slot ∷ f.after) × WritesPlain old new
+named_write old mid new at name live bytes holder owner slot h f s empty mid_is header new_is =
+    let c : Chunk = fixed bytes holder in
+    let d : Chunk = movable bytes 0 owner slot in
+    let heap = heap_in_parts old (f.before ++ c ∷ f.after) h f.chunks in
+    let m = middle_of old f.before (c ∷ []) f.after at heap f.there in
+    let inside = m.inside in
+    let there = f.there in
+    let sf = slot_facts old slot h s in
+    let low = sf.0 in
+    let first : WroteWithin old mid at (at + 8) = wrote_words old mid at (length bytes) 0 owner (h_offset_to at slot) (omega arith) mid_is in
+    let len = first.len in
+    let word : WroteWithin mid new slot (slot + 4) = wrote_word mid new slot (at + 8) new_is (omega arith) in
+    let was : Spelled old at c = finds_spelled old name live c at h f in
+    let k = header_movable (length bytes) 0 owner slot header.chunk header.header_is in
+    let now : Spelled mid at (movable k.0 0 owner slot) = subst (λ (x : Chunk). Spelled mid at x) k.1.0 header.spelled in
+    let same : k.0 ≡ bytes = body_stays old mid at bytes k.0 fixed_lock holder 0 0 owner now.0 was now.1 k.1.1 first in
+    let spelled_mid : Spelled mid at d = subst (λ (x : List ℕ). Spelled mid at (movable x 0 owner slot)) same now in
+    let spelled : Spelled new at d = Spelled-same mid new at d (wrote_apart mid new slot (slot + 4) at (at + need (length bytes)) word (inr (omega arith, omega arith))) word.len spelled_mid in
+    let all : WroteWithin old mid at (at + (need (length bytes) + 0)) = wrote_wider old mid at (at + 8) at (at + (need (length bytes) + 0)) first (omega arith) (omega arith) in
+    let area : WroteArea old new at (at + (need (length bytes) + 0)) = record { mid = mid; slot = slot; area = all; word = word; is_slot = inr s; there = omega arith; fits = omega arith } in
+    let replaces = area_replaces old new f.before (c ∷ []) (d ∷ []) f.after at f.there m.inside area (spelled, omega arith) in
+    let holds : u32_at new slot ≡ at + 8 = ap (λ (x : List ℕ). u32_at x slot) new_is ∙ u32_at-written (at + 8) slot mid (omega arith) (omega arith) in
+    let others : OtherSlots old new slot = record { same = λ t ts ne. area_slots old new at (at + (need (length bytes) + 0)) t area ts (omega arith) (λ e. ne (sym e)) } in
+    let done = claimed old new f.before f.after at c bytes owner slot tt heap replaces s empty holds others in (
+      becomes_heap old new (f.before ++ d ∷ f.after) replaces.head done,
+      replaced_plain old new f.before (c ∷ []) (d ∷ []) f.after at f.chunks done replaces (live_plain new at d refl (omega arith)),
+    )
+
+-- by what was found
+pub named_there : (old mid new : List ℕ) (there : Found) (owner slot : ℕ) → HeapAccepted old → IsOne old there → there.lock ≡ fixed_lock → IsSlot old slot → u32_at old slot ≡ 0
+    → mid ≡ overwritten old (there.place.0 - 8) (live_words there.length 0 owner (h_offset_to (there.place.0 - 8) slot)) → HasHeader mid (there.place.0 - 8) (headers.Movable there.length 0 owner slot) → new ≡ overwritten mid slot (u32_bytes there.place.0)
+    → Alters old new (there.place.0 - 8) (with_name owner slot) × WritesPlain old new
+named_there old mid new there owner slot h one is_fixed s empty mid_is header new_is =
+    let done = by_chunk one.live one.chunk one.finds one.count one.lock_is in
+    (changed_there old new there (with_name owner slot) h one done.0, done.1) where
+      at : ℕ
+      at = there.place.0 - 8
+
+      by_chunk : (live : LiveChunk) (c : Chunk) (f : Finds old there.name.0 live c at) → there.length ≡ length live.bytes → there.lock ≡ live.lock → Becomes old new (f.before ++ with_name owner slot c ∷ f.after) × WritesPlain old new
+      by_chunk live (free size) f count lock_is = absurd f.named
+      by_chunk live (movable bytes lock holder named) f count lock_is =
+          let s : Spelled old at (movable bytes lock holder named) = finds_spelled old there.name.0 live (movable bytes lock holder named) at h f in
+          let fits = s.2 in
+          let e : lock ≡ live.lock = ap (λ (x : LiveChunk). x.lock) f.named.1 in
+          absurd (omega (arith, is_fixed, lock_is))
+      by_chunk live (fixed bytes holder) f count lock_is =
+          let same : there.length ≡ length bytes = count ∙ ap (λ (x : LiveChunk). length x.bytes) (sym f.named.1) in
+          let low = one.behind_header in
+          let body : there.place.0 ≡ at + 8 = omega arith in
+          named_write old mid new at there.name.0 live bytes holder owner slot h f s empty (mid_is ∙ ap (λ (n : ℕ). overwritten old at (live_words n 0 owner (h_offset_to at slot))) same)
+          (subst (λ (n : ℕ). HasHeader mid at (headers.Movable n 0 owner slot)) same header) (new_is ∙ ap (λ (n : ℕ). overwritten mid slot (u32_bytes n)) body)
+
+-- its header and the slot can be written
+pub named_writable : (image : List ℕ) (there : Found) (slot : ℕ) → HeapAccepted image → IsOne image there → IsSlot image slot → (need there.length < 2 ^ 24) × (slot < 2 ^ 24) × (slot % 2 ≡ (there.place.0 - 8) % 2)
+named_writable image there slot h one s =
+    let inside = found_inside image there h one in
+    let m = middle_of image one.finds.before (one.chunk ∷ []) one.finds.after (there.place.0 - 8) (heap_in_parts image (one.finds.before ++ one.chunk ∷ one.finds.after) h one.finds.chunks) one.finds.there in
+    let whole = m.start_whole in
+    let most = m.most in
+    let sf = slot_facts image slot h s in
+    let low = sf.0 in let four = sf.1 in let area = sf.2 in
+    (omega arith, omega arith, omega arith)
+
+-- the header leaves the table where it is
+pub header_table : (old mid : List ℕ) (there : Found) (owner slot : ℕ) → HeapAccepted old → IsOne old there → IsSlot old slot → mid ≡ overwritten old (there.place.0 - 8) (live_words there.length 0 owner (h_offset_to (there.place.0 - 8) slot)) → (table_end mid ≤ length mid) × IsSlot mid slot
+header_table old mid there owner slot h one s mid_is =
+    let inside = found_inside old there h one in
+    let at = one.finds.there in
+    table_kept old mid (there.place.0 - 8) (there.place.0 - 8 + 8) slot h (wrote_words old mid (there.place.0 - 8) there.length 0 owner (h_offset_to (there.place.0 - 8) slot) inside mid_is) (omega arith) (omega arith) s
+
+-- ---- bytes are copied
+
+found_bytes : (image : List ℕ) (found : Found) → HeapAccepted image → (f : IsOne image found) → slice_range image found.place.0 (found.place.0 + found.length) ≡ f.live.bytes
+found_bytes image found h f =
+    let low = f.behind_header in
+    let body : found.place.0 - 8 + 8 ≡ found.place.0 = omega arith in
+    ap (λ (n : ℕ). slice_range image found.place.0 (found.place.0 + n)) f.count ∙ ap (λ (n : ℕ). slice_range image n (n + length f.live.bytes)) (sym body) ∙ by_chunk f.live f.chunk (finds_spelled image found.name.0 f.live f.chunk (found.place.0 - 8) h f.finds) f.finds.named where
+      by_chunk : (live : LiveChunk) (c : Chunk) → Spelled image (found.place.0 - 8) c → NamedHere found.name.0 live (found.place.0 - 8) c → slice_range image (found.place.0 - 8 + 8) (found.place.0 - 8 + 8 + length live.bytes) ≡ live.bytes
+      by_chunk live (free size) s named = absurd named
+      by_chunk live (movable bytes lock owner slot) s named = subst (λ (x : LiveChunk). slice_range image (found.place.0 - 8 + 8) (found.place.0 - 8 + 8 + length x.bytes) ≡ x.bytes) named.1 s.1.body
+      by_chunk live (fixed bytes owner) s named = subst (λ (x : LiveChunk). slice_range image (found.place.0 - 8 + 8) (found.place.0 - 8 + 8 + length x.bytes) ≡ x.bytes) named.1 s.body
+
+-- the first of them
+first_bytes : (image bytes : List ℕ) (at all n most : ℕ) → slice_range image at (at + all) ≡ bytes → length bytes ≡ all → n ≡ min all most → slice_range image at (at + n) ≡ take most bytes
+first_bytes image bytes at all n most e len is =
+    let some : at + n - at ≡ n = omega arith in
+    let whole : at + all - at ≡ all = omega arith in
+    let read : take all (drop at image) ≡ bytes = ap (λ (k : ℕ). take k (drop at image)) (sym whole) ∙ e in
+    let fewer : n ≤ all = omega arith in
+    ap (λ (k : ℕ). take k (drop at image)) some ∙ sym (take-take n all (drop at image) fewer) ∙ ap (take n) read ∙ elim (cases_lt most all) [
+      | inl less ↦ ap (λ (k : ℕ). take k bytes) (omega arith)
+      | inr more ↦ take_all n bytes (omega arith) ∙ sym (take_all most bytes (omega arith))
+    ]
+
+pub taken_fits : (most : ℕ) (bytes : List ℕ) → length (take most bytes) ≤ most
+taken_fits most bytes = let e = length-take most bytes in omega arith
+
+pub copied_there : (old new : List ℕ) (from to : Found) (n : ℕ) → HeapAccepted old → (f : IsOne old from) → IsOne old to → n ≡ min from.length to.length → new ≡ overwritten old to.place.0 (slice_range old from.place.0 (from.place.0 + n)) → Alters old new (to.place.0 - 8) (with_bytes 0 (take to.length f.live.bytes)) × WritesPlain old new
+copied_there old new from to n h f one is new_is =
+    let part = first_bytes old f.live.bytes from.place.0 from.length n to.length (found_bytes old from h f) (sym f.count) is in
+    let fits : length (take to.length f.live.bytes) ≤ to.length = taken_fits to.length f.live.bytes in
+    let front : to.place.0 ≡ to.place.0 + 0 = omega arith in
+    written_there old new to 0 (take to.length f.live.bytes) h one (omega arith) (new_is ∙ ap (overwritten old to.place.0) part ∙ ap (λ (k : ℕ). overwritten old k (take to.length f.live.bytes)) front)
+
+copy_changes : (old new : List ℕ) (to : Found) (part : List ℕ) → HeapAccepted old → (one : IsOne old to) → length part ≤ to.length → Alters old new (to.place.0 - 8) (with_bytes 0 part)
+    → ChangesName old new to.name.0 (Some (record one.live { bytes = overwritten one.live.bytes 0 part })) (Some to.place.0)
+copy_changes old new to part h one fits x = let count = one.count in bytes_changes old new to.name.0 to.place.0 0 part one.live one.chunk h one.behind_header one.finds (omega arith) x
+
+pub copy_keeps : (old new : List ℕ) (to other : Found) (part : List ℕ) → HeapAccepted old → (one : IsOne old to) → length part ≤ to.length → Alters old new (to.place.0 - 8) (with_bytes 0 part) → other.name.0 ≢ to.name.0 → IsOne old other → IsOne new other
+copy_keeps old new to other part h one fits x apart f = found_kept old new to.name.0 _ _ other h (copy_changes old new to part h one fits x) apart f
+
+pub copy_stands : (old new : List ℕ) (to : Found) (part : List ℕ) → HeapAccepted old → IsOne old to → length part ≤ to.length → Alters old new (to.place.0 - 8) (with_bytes 0 part) → IsOne new to
+copy_stands old new to part h one fits x =
+    let ch = copy_changes old new to part h one fits x in
+    let count = one.count in
+    found_held new to (record one.live { bytes = overwritten one.live.bytes 0 part }) ch.frame.accepted ch.here ch.place (one.count ∙ sym (length-overwritten one.live.bytes 0 part (omega arith))) one.lock_is one.owner_is
+
+-- by the name that it was given
+pub as_named : (image : List ℕ) (at count : ℕ) (name : Name) → name.0 ≡ at + 8 → IsOne image (stand_in at count) → IsOne image (record { name = name; place = record { 0 = name.0 }; length = count; lock = fixed_lock; owner = 1 })
+as_named image at count name e one = subst (λ (n : ℕ). IsOne image (record { name = record { 0 = n }; place = record { 0 = n }; length = count; lock = fixed_lock; owner = 1 })) (sym e) one
+
+-- ---- all steps
+
+-- zeros with the first bytes written over them
+padded : (count : ℕ) (bytes : List ℕ) → overwritten (replicate count 0) 0 (take count bytes) ≡ sized_to bytes count
+unfolding overwritten
+padded count bytes =
+    let many = length-take count bytes in
+    let left : count - (0 + length (take count bytes)) ≡ count - length bytes = omega arith in
+    ap (λ (xs : List ℕ). take count bytes ++ xs) (drop-replicate (0 + length (take count bytes)) count 0 ∙ ap (λ (n : ℕ). replicate n 0) left)
+
+-- what is found under a name twice is the same
+same_found : (old new : List ℕ) (found : Found) → HeapAccepted old → HeapAccepted new → held new found.name.0 ≡ held old found.name.0 → (f : IsOne old found) (g : IsOne new found) → g.live ≡ f.live
+same_found old new found h k e f g = same f.live g.live (sym (one_held new found k g) ∙ e ∙ one_held old found h f) where
+  same : (x y : LiveChunk) → Some y ≡ Some x → y ≡ x
+  same x y e = cc
+
+pub relocated_found : (s0 s1 s2 s3 s4 : List ℕ) (found there : Found) (at size count : ℕ) → HeapAccepted s0 → (f : IsOne s0 found) → found.lock ≡ 0 → IsRoom s0 at size → need count ≤ size → there ≡ stand_in at count → Exchanges s0 s1 at (in_front (fixed (replicate count 0) 1)) → KeepsFound s0 s1 → Copies s1 s2 found there
+    → Alters s2 s3 (found.place.0 - 8) freed → Alters s3 s4 (there.place.0 - 8) (with_name found.owner found.name.0) → Relocates s0 s4 (found.place.0 - 8) at (with_length count f.chunk)
+relocated_found s0 s1 s2 s3 s4 found there at size count h f unlocked r fits is made keeps copied gone named = by_chunk f.live f.chunk f.finds f.lock_is f.owner_is part_is where
+  first : ChangesName s0 s1 (at + 8) (Some (zeros_live count)) (Some (at + 8))
+  first = stand_changes s0 s1 at size count h r fits made
+
+  again : IsOne s1 found
+  again = keeps found f
+
+  place : there.place.0 - 8 ≡ at
+  place = let e = ap (λ (x : Found). x.place.0) is in omega arith
+
+  taken : there.length ≡ count
+  taken = ap (λ (x : Found). x.length) is
+
+  part_is : again.live ≡ f.live
+  part_is = same_found s0 s1 found h first.frame.accepted (first.others found.name.0 (stand_apart s0 at size count found h r fits f)) f again
+
+  by_chunk : (live : LiveChunk) (c : Chunk) (g : Finds s0 found.name.0 live c (found.place.0 - 8)) → found.lock ≡ live.lock → found.owner ≡ live.owner → again.live ≡ live → Relocates s0 s4 (found.place.0 - 8) at (with_length count c)
+  by_chunk live (free n) g lock_is owner_is same = absurd g.named
+  by_chunk live (fixed bytes owner) g lock_is owner_is same = let e : fixed_lock ≡ live.lock = ap (λ (x : LiveChunk). x.lock) g.named.1 in absurd (omega (arith, unlocked, lock_is))
+  by_chunk live (movable bytes lock owner slot) g lock_is owner_is same =
+      let zeros : List ℕ = replicate count 0 in
+      let part : List ℕ = take count again.live.bytes in
+      let d : Chunk = movable (sized_to bytes count) lock owner slot in
+      let many : length (replicate {A = ℕ} count 0) ≡ count = length-replicate count 0 in
+      let sized : length (sized_to bytes count) ≡ count = length-sized_to bytes count in
+      let bytes_are : again.live.bytes ≡ bytes = ap (λ (x : LiveChunk). x.bytes) (same ∙ sym g.named.1) in
+      let padded_are : overwritten zeros 0 part ≡ sized_to bytes count = ap (λ (x : List ℕ). overwritten zeros 0 (take count x)) bytes_are ∙ padded count bytes in
+      let lock_zero : 0 ≡ lock = sym unlocked ∙ lock_is ∙ ap (λ (x : LiveChunk). x.lock) (sym g.named.1) in
+      let owner_same : found.owner ≡ owner = owner_is ∙ ap (λ (x : LiveChunk). x.owner) (sym g.named.1) in
+      let d_takes : size_of d ≡ need count = ap need sized in
+      let f_takes : size_of (fixed zeros 1) ≡ need count = ap need many in
+      let e_takes : size_of (fixed (overwritten zeros 0 part) 1) ≡ need count = ap (λ (x : List ℕ). need (length x)) padded_are ∙ d_takes in
+      relocates s0 s1 s2 s3 s4 (found.place.0 - 8) at size g.before bytes lock owner slot g.after (fixed zeros 1) (fixed (overwritten zeros 0 part) 1) d (with_bytes 0 part) (with_name found.owner found.name.0) h g.chunks g.there (omega arith) r (omega arith) tt tt (f_takes ∙ sym d_takes) (e_takes ∙ sym d_takes) refl
+      (ap (λ (x : List ℕ). movable x 0 found.owner found.name.0) padded_are ∙ ap (λ (n : ℕ). movable (sized_to bytes count) n found.owner found.name.0) lock_zero ∙ ap (λ (n : ℕ). movable (sized_to bytes count) lock n found.name.0) owner_same ∙ ap (λ (n : ℕ). movable (sized_to bytes count) lock owner n) (sym g.named.0))
+      made (subst (λ (n : ℕ). Alters s1 s2 n (with_bytes 0 part)) place (subst (λ (n : ℕ). Alters s1 s2 (there.place.0 - 8) (with_bytes 0 (take n again.live.bytes))) taken (copied again))) gone (subst (λ (n : ℕ). Alters s3 s4 n (with_name found.owner found.name.0)) place named)
+
+-- once the chunk is free its slot is empty, and the stand-in is still there
+pub slot_emptied : (old new : List ℕ) (found : Found) → HeapAccepted old → IsOne old found → found.lock ≡ 0 → Alters old new (found.place.0 - 8) freed → IsSlot new found.name.0 × (u32_at new found.name.0 ≡ 0)
+slot_emptied old new found h f unlocked x = by_chunk f.live f.chunk f.finds f.lock_is where
+  by_chunk : (live : LiveChunk) (c : Chunk) (g : Finds old found.name.0 live c (found.place.0 - 8)) → found.lock ≡ live.lock → IsSlot new found.name.0 × (u32_at new found.name.0 ≡ 0)
+  by_chunk live (free n) g lock_is = absurd g.named
+  by_chunk live (fixed bytes owner) g lock_is = let e : fixed_lock ≡ live.lock = ap (λ (y : LiveChunk). y.lock) g.named.1 in absurd (omega (arith, unlocked, lock_is))
+  by_chunk live (movable bytes lock owner slot) g lock_is =
+      let ch = freed_changes old new found.name.0 (found.place.0 - 8) live (movable bytes lock owner slot) h g x in
+      let s : IsSlot new found.name.0 = slot_kept old new _ found.name.0 x (subst (λ (n : ℕ). IsSlot old n) g.named.0 (own_slot old found.name.0 (found.place.0 - 8) live bytes lock owner slot h g)) in
+      (s, (slot_unheld new found.name.0 x.frame.accepted s).1 ch.here)
+
+pub freed_keeps : (old new : List ℕ) (found other : Found) → HeapAccepted old → (f : IsOne old found) → Alters old new (found.place.0 - 8) freed → other.name.0 ≢ found.name.0 → IsOne old other → IsOne new other
+freed_keeps old new found other h f x apart g = found_kept old new found.name.0 _ _ other h (freed_changes old new found.name.0 (found.place.0 - 8) f.live f.chunk h f.finds x) apart g
+
+pub owner_fits : (image : List ℕ) (found : Found) → HeapAccepted image → IsOne image found → found.owner < 16
+owner_fits image found h f = by_chunk f.live f.chunk f.finds f.owner_is where
+  by_chunk : (live : LiveChunk) (c : Chunk) (g : Finds image found.name.0 live c (found.place.0 - 8)) → found.owner ≡ live.owner → found.owner < 16
+  by_chunk live (free n) g is = absurd g.named
+  by_chunk live (movable bytes lock owner slot) g is =
+      let s : Spelled image (found.place.0 - 8) (movable bytes lock owner slot) = finds_spelled image found.name.0 live (movable bytes lock owner slot) (found.place.0 - 8) h g in
+      let fits = s.1.owner_fits in
+      let same : owner ≡ live.owner = ap (λ (x : LiveChunk). x.owner) g.named.1 in
+      omega arith
+  by_chunk live (fixed bytes owner) g is =
+      let s : Spelled image (found.place.0 - 8) (fixed bytes owner) = finds_spelled image found.name.0 live (fixed bytes owner) (found.place.0 - 8) h g in
+      let fits = s.owner_fits in
+      let same : owner ≡ live.owner = ap (λ (x : LiveChunk). x.owner) g.named.1 in
+      omega arith

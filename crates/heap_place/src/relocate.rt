@@ -1,0 +1,101 @@
+//! A movable chunk goes to room elsewhere.
+
+ghost use Rattle.std.specs.Prelude.{◌≡◌, ◌≢◌, ◌≤◌, ◌<◌, ◌+◌, ◌-◌, min, replicate};
+ghost use Rattle.heap_model.specs.Bytes.{u32_at};
+ghost use Rattle.heap_model.specs.Chunk.{fixed, fixed_lock, need};
+ghost use Rattle.heap_model.specs.Slots.{IsSlot};
+ghost use Rattle.heap_model.specs.Heap.{HeapAccepted, directory_of};
+ghost use Rattle.heap_model.specs.Layout.{Alters, Exchanges, in_front, IsRoom, WritesPlain};
+ghost use Rattle.heap_place.specs.Found.{IsOne};
+ghost use Rattle.heap_place.specs.Relocation.{stand_in, KeepsFound, Copies, with_name, RelocatesFound};
+
+use crate::claim::claim_fixed;
+use crate::found::Found;
+use crate::release::release;
+use crate::room::Room;
+use chunk_format::{FIXED_LOCK, Header};
+use heap_model::{Name, Place};
+use raw_region::Region;
+
+/// The owner of a stand-in; any that a fixed chunk may have would do.
+const STAND_IN_OWNER: u8 = 1;
+
+/// Moves a movable chunk without locks to the front of room, and gives it `count` bytes there: its first
+/// ones, or all of them and zeros behind. A fixed chunk stands in for it there until it is free, so
+/// that each step leaves an accepted heap.
+pub(crate) fn relocate(region: &mut Region, found: Found, room: Room, count: u32)
+    requires accepted { HeapAccepted region.old.bytes }
+    requires found { IsOne region.old.bytes found }
+    requires unlocked { found.lock ≡ 0 }
+    requires no_directory { found.name.0 ≢ directory_of region.old.bytes }
+    requires room { IsRoom region.old.bytes room.at room.size }
+    requires enough { need count ≤ room.size }
+    ensures moved { RelocatesFound region.old.bytes region.new.bytes found room.at count }
+    ensures plain { WritesPlain region.old.bytes region.new.bytes }
+    ensures slid { region.new.slid ≡ region.old.slid + min found.length count }
+{
+    let there = stand_in_at(region, room, count);
+    copy_bytes(region, found, there);
+    release(region, found);
+    take_name(region, there, found.name, found.owner);
+}
+
+/// Makes the front of room a fixed chunk of `count` zeros.
+fn stand_in_at(region: &mut Region, room: Room, count: u32) -> Found
+    requires accepted { HeapAccepted region.old.bytes }
+    requires room { IsRoom region.old.bytes room.at room.size }
+    requires enough { need count ≤ room.size }
+    ensures made { Exchanges region.old.bytes region.new.bytes room.at (in_front (fixed (replicate count 0) 1)) }
+    ensures is { result ≡ stand_in room.at count }
+    ensures found { IsOne region.new.bytes result }
+    ensures others { KeepsFound region.old.bytes region.new.bytes }
+    ensures plain { WritesPlain region.old.bytes region.new.bytes }
+    ensures rest { region.new ≡ record region.old { bytes = region.new.bytes } }
+{
+    let name = claim_fixed(region, room, count, STAND_IN_OWNER);
+    Found {
+        name,
+        place: Place(name.0),
+        length: count,
+        lock: FIXED_LOCK,
+        owner: STAND_IN_OWNER,
+    }
+}
+
+/// Copies the first bytes of one chunk over those of another, as many as both have.
+fn copy_bytes(region: &mut Region, from: Found, to: Found)
+    requires accepted { HeapAccepted region.old.bytes }
+    requires from { IsOne region.old.bytes from }
+    requires to { IsOne region.old.bytes to }
+    requires apart { from.name.0 ≢ to.name.0 }
+    ensures copied { Copies region.old.bytes region.new.bytes from to }
+    ensures from { IsOne region.new.bytes from }
+    ensures to { IsOne region.new.bytes to }
+    ensures plain { WritesPlain region.old.bytes region.new.bytes }
+    ensures slid { region.new.slid ≡ region.old.slid + min from.length to.length }
+{
+    let count = from.length.min(to.length);
+    region.slide(from.place.0 as usize, to.place.0 as usize, count as usize);
+}
+
+/// Makes a fixed chunk a movable one without locks, which the empty slot names.
+fn take_name(region: &mut Region, there: Found, slot: Name, owner: u8)
+    requires accepted { HeapAccepted region.old.bytes }
+    requires found { IsOne region.old.bytes there }
+    requires fixed { there.lock ≡ fixed_lock }
+    requires slot { IsSlot region.old.bytes slot.0 }
+    requires empty { u32_at region.old.bytes slot.0 ≡ 0 }
+    requires owner { owner < 16 }
+    ensures made { Alters region.old.bytes region.new.bytes (there.place.0 - 8) (with_name owner slot.0) }
+    ensures plain { WritesPlain region.old.bytes region.new.bytes }
+    ensures rest { region.new ≡ record region.old { bytes = region.new.bytes } }
+{
+    let header = Header::Movable {
+        length: there.length,
+        lock: 0,
+        owner,
+        slot: slot.0,
+    };
+    header.write(region, there.place.0 - 8);
+    master_table::set(region, slot, there.place);
+}

@@ -1,0 +1,230 @@
+-- The step of a chunk that takes another length.
+use Rattle.std.proofs.Common.{◌≡◌, ◌≢◌, ℕ, ◌+◌, ◌-◌, ◌<◌, ◌≤◌, List, length, Bool, true, false, Option, Some, None, refl, sym, ap, subst, ◌∙◌, arith, inl, inr}
+use Rattle.std.proofs.lemmas.Bool.{cases_eq, eq-eqb, OnTrue_at}
+use Rattle.std.proofs.lemmas.Bool.Decides.{nat_tests}
+use Rattle.std.specs.Prelude.{◌==◌, ◌↔◌, if◌then◌else◌, IsTrue}
+use Rattle.std.specs.Bool.{OnTrue}
+use Rattle.heap_model.specs.Memory.{Memory}
+use Rattle.heap_model.specs.Bytes.{sized_to}
+use Rattle.heap_model.specs.Chunk.{Chunk, free, movable, fixed, fixed_lock, need, size_of}
+use Rattle.heap_model.specs.Heap.{HeapAccepted}
+use Rattle.heap_model.specs.Meaning.{LiveChunk}
+use Rattle.heap_model.specs.Reading.{held}
+use Rattle.heap_model.specs.Maps.{changed}
+use Rattle.heap_model.specs.Space.{ShortFor, FitsInPlace, MovesNothing, free_behind, free_front}
+use Rattle.heap_model.specs.Placing.{Finds}
+use Rattle.heap_model.specs.Resizing.{GrowsInPlace}
+use Rattle.heap_model.specs.MemorySteps.{Does, IsLocked}
+use Rattle.heap_model.specs.declared.names.Name.{Name}
+use Rattle.heap_model.specs.declared.call.MemoryCall.TheVariants.{Resize}
+use Rattle.heap_model.specs.declared.call.Reply.TheVariants.{Refused, Done}
+use Rattle.heap_model.specs.declared.refusal.Refusal.TheVariants.{OwnedByDatabase, ChunkFixed, ChunkLocked, NotEnoughSpace}
+use Rattle.heap_laws.proofs.Deciding.{cond-true, cond-false}
+use Rattle.heap_laws.proofs.Slots.{same_slots}
+use Rattle.heap_laws.proofs.Finding.{finds_held}
+use Rattle.heap_laws.proofs.Altering.{finds_place}
+use Rattle.heap_laws.proofs.Exchanging.{ChangesName}
+use Rattle.heap_laws.proofs.Resizings.{live_sized, grow_changes, finds_behind}
+use Rattle.heap_laws.proofs.Compacting.{slot_unheld, changes_move_nothing}
+use Rattle.heap_laws.proofs.Fitting.{fits_not_short_for}
+use Rattle.heap_place.specs.declared.found.Found.{Found}
+use Rattle.heap_place.specs.Found.{IsFound}
+use Rattle.heap_place.specs.Resizes.{TellsWhetherInPlace}
+use Rattle.heap_compact.specs.Resized.{Resized}
+use Rattle.master_table.proofs.TableLaws.{used_still}
+use Rattle.mem_manager.specs.Lookup.{IsManaged}
+use Rattle.mem_manager.proofs.Stepping.{known, of_known, not_of_known, is_known, refused, altered, slot_as, OnlyBytes}
+use Rattle.mem_manager.proofs.Moving.{BytesAndSlid, rest_then}
+
+-- ---- whether it fits where it stands
+
+tells_found : (image : List ℕ) (name : ℕ) (found : Found) (size : ℕ) (told : Bool) → (f : IsFound image name found) → TellsWhetherInPlace image found size told → IsTrue told ↔ (size ≤ size_of f.chunk + free_front f.finds.after)
+tells_found image name found size told f tells = subst (λ (n : ℕ). (g : IsFound image n found) → IsTrue told ↔ (size ≤ size_of g.chunk + free_front g.finds.after)) f.name_is tells f
+
+-- of a movable chunk
+own_and_behind : (image : List ℕ) (name : ℕ) (found : Found) → HeapAccepted image → (f : IsFound image name found) → found.lock ≢ 15 → size_of f.chunk + free_front f.finds.after ≡ need (length f.live.bytes) + free_behind image name
+own_and_behind image name found h f loose = by_chunk f.chunk f.finds where
+  by_chunk : (c : Chunk) (g : Finds image name f.live c (found.place.0 - 8)) → size_of c + free_front g.after ≡ need (length f.live.bytes) + free_behind image name
+  by_chunk (free size) g = absurd g.named
+  by_chunk (fixed bytes owner) g = absurd (loose (f.lock_is ∙ ap (λ (x : LiveChunk). x.lock) (sym g.named.1)))
+  by_chunk (movable bytes lock owner slot) g =
+      let behind = finds_behind image name (found.place.0 - 8) f.live bytes lock owner slot h g in
+      let same : need (length bytes) ≡ need (length f.live.bytes) = ap (λ (x : LiveChunk). need (length x.bytes)) g.named.1 in
+      omega arith
+
+not_told : (told : Bool) (P : Type 0) → told ≡ false → (IsTrue told ↔ P) → P → ⊥
+not_told true P e tells p = absurd cc
+not_told false P e tells p = let never = tells.1 p in absurd cc
+
+pub too_large : (image : List ℕ) (name : ℕ) (found : Found) (size : ℕ) (told : Bool) → HeapAccepted image → (f : IsFound image name found) → found.lock ≢ 15 → TellsWhetherInPlace image found size told → told ≡ false → need (length f.live.bytes) + free_behind image name < size
+too_large image name found size told h f loose tells told_false =
+    let same = own_and_behind image name found h f loose in
+    let never = not_told told _ told_false (tells_found image name found size told f tells) in
+    omega arith
+
+pub fits_there : (image : List ℕ) (name : ℕ) (found : Found) (size : ℕ) (told : Bool) → HeapAccepted image → (f : IsFound image name found) → found.lock ≢ 15 → TellsWhetherInPlace image found size told → told ≡ true → size ≤ need (length f.live.bytes) + free_behind image name
+fits_there image name found size told h f loose tells told_true =
+    let same = own_and_behind image name found h f loose in
+    let fits = (tells_found image name found size told f tells).0 (subst (λ (b : Bool). IsTrue b) (sym told_true) refl) in
+    omega arith
+
+-- so where it doesn't it was not to fit
+pub never_fits : (image : List ℕ) (name : ℕ) (found : Found) (size : ℕ) (told : Bool) → HeapAccepted image → (f : IsFound image name found) → found.lock ≢ 15 → TellsWhetherInPlace image found size told → told ≡ false → FitsInPlace image name size → ⊥
+never_fits image name found size told h f loose tells told_false fits =
+    let large = too_large image name found size told h f loose tells told_false in
+    let enough = fits f.live (finds_held image name f.live f.chunk (found.place.0 - 8) h f.finds) in
+    omega arith
+
+-- ---- refusals
+
+pub resize_database : (region : Memory) (name : Name) (size : ℕ) (found : Found) → HeapAccepted region.bytes → IsFound region.bytes name.0 found → found.owner ≡ 15 → Does region (Resize name size) (Refused OwnedByDatabase) region
+resize_database region name size found h f is = refused region (Resize name size) OwnedByDatabase h (let k = known region.bytes name.0 found h f (omega arith) in inr (is_known k, inl (of_known (λ live. live.owner ≡ 15) k (sym f.owner_is ∙ is), refl)))
+
+pub resize_fixed : (region : Memory) (name : Name) (size : ℕ) (found : Found) → HeapAccepted region.bytes → IsFound region.bytes name.0 found → 1 ≤ found.owner → found.owner ≢ 15 → found.lock ≡ 15 → Does region (Resize name size) (Refused ChunkFixed) region
+resize_fixed region name size found h f positive other is =
+    let k = known region.bytes name.0 found h f positive in
+    refused region (Resize name size) ChunkFixed h (inr (is_known k, inr (not_of_known (λ live. live.owner ≡ 15) k (λ e. other (f.owner_is ∙ e)), inl (of_known (λ live. live.lock ≡ fixed_lock) k (sym f.lock_is ∙ is), refl))))
+
+abbrev TooLargeWhereLocked : Memory → Name → ℕ → LiveChunk → Type 0
+TooLargeWhereLocked old name size live = IsLocked live × (need (length live.bytes) + free_behind old.bytes name.0 < need size)
+
+abbrev TooLarge : Memory → Name → ℕ → LiveChunk → Type 0
+TooLarge old name size live = (live.lock ≡ 0) × (need (length live.bytes) < need size) × ShortFor old.bytes name.0 (need size)
+
+pub resize_locked : (region : Memory) (name : Name) (size : ℕ) (found : Found) (told : Bool) → HeapAccepted region.bytes → IsFound region.bytes name.0 found → 1 ≤ found.owner → found.owner ≢ 15 → found.lock ≢ 15 → found.lock ≤ fixed_lock → 0 < found.lock → TellsWhetherInPlace region.bytes found (need size) told → told ≡ false
+    → Does region (Resize name size) (Refused ChunkLocked) region
+resize_locked region name size found told h f positive other loose most some tells told_false =
+    let k = known region.bytes name.0 found h f positive in
+    let lock = f.lock_is in
+    let locked : IsLocked f.live = (omega arith, omega arith) in
+    let large = too_large region.bytes name.0 found (need size) told h f loose tells told_false in
+    refused region (Resize name size) ChunkLocked h
+    (inr (is_known k, inr (not_of_known (λ live. live.owner ≡ 15) k (λ e. other (f.owner_is ∙ e)), inr (not_of_known (λ live. live.lock ≡ fixed_lock) k (λ e. loose (f.lock_is ∙ e)), inl (of_known (TooLargeWhereLocked region name size) k (locked, large), refl)))))
+
+pub resize_short : (region : Memory) (name : Name) (size : ℕ) (found : Found) (told : Bool) → HeapAccepted region.bytes → IsFound region.bytes name.0 found → 1 ≤ found.owner → found.owner ≢ 15 → found.lock ≡ 0 → TellsWhetherInPlace region.bytes found (need size) told → told ≡ false → ShortFor region.bytes name.0 (need size)
+    → Does region (Resize name size) (Refused NotEnoughSpace) region
+resize_short region name size found told h f positive other unlocked tells told_false short =
+    let k = known region.bytes name.0 found h f positive in
+    let lock = f.lock_is in
+    let loose : found.lock ≢ 15 = λ e. omega arith in
+    let large = too_large region.bytes name.0 found (need size) told h f loose tells told_false in
+    refused region (Resize name size) NotEnoughSpace h
+    (inr (
+      is_known k,
+      inr (
+        not_of_known (λ live. live.owner ≡ 15) k (λ e. other (f.owner_is ∙ e)),
+        inr (
+          not_of_known (λ live. live.lock ≡ fixed_lock) k (λ e. loose (f.lock_is ∙ e)),
+          inr (
+            not_of_known (TooLargeWhereLocked region name size) k (λ t. let some = t.0.0 in omega arith),
+            inl (of_known (TooLarge region name size) k (sym f.lock_is ∙ unlocked, omega arith, short), refl),
+          ),
+        ),
+      ),
+    ))
+
+-- ---- where it stands
+
+pub grown_changes : (old new : List ℕ) (name : ℕ) (found : Found) (size : ℕ) (told : Bool) → HeapAccepted old → (f : IsFound old name found) → TellsWhetherInPlace old found (need size) told → told ≡ true → OnTrue told (GrowsInPlace old new (found.place.0 - 8) size)
+    → ChangesName old new name (Some (live_sized size f.live)) (Some found.place.0)
+grown_changes old new name found size told h f tells told_true grows =
+    let fits = (tells_found old name found (need size) told f tells).0 (subst (λ (b : Bool). IsTrue b) (sym told_true) refl) in
+    grow_changes old new name found.place.0 size f.live f.chunk h f.behind_header f.finds fits (OnTrue_at told_true grows)
+
+not_short : (image : List ℕ) (name : ℕ) (found : Found) (size : ℕ) → HeapAccepted image → (f : IsFound image name found) → found.lock ≢ 15 → 0 < size → size ≤ size_of f.chunk + free_front f.finds.after → ShortFor image name size → ⊥
+not_short image name found size h f loose some fits = by_chunk f.chunk f.finds fits where
+  by_chunk : (c : Chunk) (g : Finds image name f.live c (found.place.0 - 8)) → size ≤ size_of c + free_front g.after → ShortFor image name size → ⊥
+  by_chunk (free n) g enough short = absurd g.named
+  by_chunk (fixed bytes owner) g enough short = loose (f.lock_is ∙ ap (λ (x : LiveChunk). x.lock) (sym g.named.1))
+  by_chunk (movable bytes lock owner slot) g enough short = fits_not_short_for image name (found.place.0 - 8) size f.live bytes lock owner slot h g some enough short
+
+pub resize_grown : (old new : Memory) (name : Name) (size : ℕ) (found : Found) (told : Bool) → HeapAccepted old.bytes → (f : IsFound old.bytes name.0 found) → 1 ≤ found.owner → found.owner ≢ 15 → found.lock ≢ 15 → TellsWhetherInPlace old.bytes found (need size) told → told ≡ true
+    → OnTrue told (GrowsInPlace old.bytes new.bytes (found.place.0 - 8) size) → OnlyBytes old new → Does old (Resize name size) Done new
+resize_grown old new name size found told h f positive other loose tells told_true grows rest =
+    let k = known old.bytes name.0 found h f positive in
+    let ch = grown_changes old.bytes new.bytes name.0 found size told h f tells told_true grows in
+    let a = altered old new name.0 found (live_sized size) h f ch rest in
+    let fits = fits_there old.bytes name.0 found (need size) told h f loose tells told_true in
+    let enough = (tells_found old.bytes name.0 found (need size) told f tells).0 (subst (λ (b : Bool). IsTrue b) (sym told_true) refl) in
+    record {
+      before = h;
+      step = (
+        (
+          is_known k,
+          (
+            not_of_known (λ live. live.owner ≡ 15) k (λ e. other (f.owner_is ∙ e)),
+            (
+              not_of_known (λ live. live.lock ≡ fixed_lock) k (λ e. loose (f.lock_is ∙ e)),
+              (
+                not_of_known (TooLargeWhereLocked old name size) k (λ t. let low = t.1 in omega arith),
+                (not_of_known (TooLarge old name size) k (λ t. not_short old.bytes name.0 found (need size) h f loose (omega arith) enough t.2), tt),
+              ),
+            ),
+          ),
+        ),
+        (tt, a.map),
+      );
+      frame = a.frame;
+      still = a.still;
+      asks = tt;
+      rest = rest_then old old new refl rest;
+    }
+
+pub grown_moves_nothing : (old new : List ℕ) (name : ℕ) (found : Found) (size : ℕ) (told : Bool) → HeapAccepted old → (f : IsFound old name found) → TellsWhetherInPlace old found (need size) told → told ≡ true → OnTrue told (GrowsInPlace old new (found.place.0 - 8) size) → MovesNothing old new
+grown_moves_nothing old new name found size told h f tells told_true grows =
+    let low = f.behind_header in
+    let there : found.place.0 - 8 + 8 ≡ found.place.0 = omega arith in
+    changes_move_nothing old new name _ _ (grown_changes old new name found size told h f tells told_true grows) (λ was is. sym (finds_place old name f.live f.chunk (found.place.0 - 8) h f.finds ∙ ap some_place there)) where
+      some_place : ℕ → Option ℕ
+      some_place n = Some n
+
+-- ---- elsewhere, or once others have made way
+
+pub resize_moved : (old new : Memory) (name : Name) (size : ℕ) (found : Found) → HeapAccepted old.bytes → IsFound old.bytes name.0 found → 1 ≤ found.owner → found.owner ≢ 15 → found.lock ≡ 0 → (ShortFor old.bytes name.0 (need size) → ⊥) → Resized old.bytes new.bytes name.0 size → BytesAndSlid old new → Does old (Resize name size) Done new
+resize_moved old new name size found h f positive other unlocked room r rest =
+    let k = known old.bytes name.0 found h f positive in
+    let lock = f.lock_is in
+    let loose : found.lock ≢ 15 = λ e. omega arith in
+    record {
+      before = h;
+      step = (
+        (
+          is_known k,
+          (
+            not_of_known (λ live. live.owner ≡ 15) k (λ e. other (f.owner_is ∙ e)),
+            (
+              not_of_known (λ live. live.lock ≡ fixed_lock) k (λ e. loose (f.lock_is ∙ e)),
+              (
+                not_of_known (TooLargeWhereLocked old name size) k (λ t. let some = t.0.0 in omega arith),
+                (not_of_known (TooLarge old name size) k (λ t. room t.2), tt),
+              ),
+            ),
+          ),
+        ),
+        (tt, r.map),
+      );
+      frame = r.frame;
+      still = r.still;
+      asks = tt;
+      rest = rest;
+    }
+
+-- the same slots are in use
+pub used_resized : (old new : List ℕ) (used name size : ℕ) → IsManaged old used → Resized old new name size → IsManaged new used
+used_resized old new used name size m r = record {
+  accepted = r.frame.accepted;
+  in_use = used_still old new used (same_slots old new r.frame.count) (λ slot s some empty.
+      some ((slot_unheld old slot m.accepted s).1 (was_none slot (sym (r.map slot) ∙ (slot_unheld new slot r.frame.accepted (slot_as old new slot r.frame.count s)).0 empty)))) m.in_use;
+} where
+  sized_one : LiveChunk → LiveChunk
+  sized_one live = record live { bytes = sized_to live.bytes size }
+
+  none_changed : (x : Option LiveChunk) → changed sized_one x ≡ None → x ≡ None
+  none_changed None e = refl
+  none_changed (Some live) e = absurd cc
+
+  was_none : (slot : ℕ) → (if slot == name then changed sized_one (held old name) else held old slot) ≡ None → held old slot ≡ None
+  was_none slot e = elim (cases_eq slot name) [
+    | inl same ↦ ap (held old) same ∙ none_changed (held old name) (sym (cond-true (slot == name) _ _ (eq-eqb slot name same)) ∙ e)
+    | inr apart ↦ sym (cond-false (slot == name) _ _ (grind (arith, nat_tests))) ∙ e
+  ]
