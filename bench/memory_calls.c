@@ -7,6 +7,7 @@
  * (docs/FORMAT.md) and by the same algorithm, and prints the same lines. A movable chunk is found by
  * its slot. A new one goes to the front of the first run of neighbouring free chunks that has room,
  * which is looked for from the first chunk on. One that is freed is joined with the free chunk behind
+ * it. Compaction is one walk, with one move for each chunk that goes down over the free one in front of
  * it. No chunk here is fixed, so that a name of no slot names nothing.
  */
 #include <endian.h>
@@ -20,7 +21,7 @@
 enum { MAX_SIZE = 16777208, HEADER = 8, MOST_LOCKS = 14, DATABASE = 15 };
 
 /* What the calls here are done with. */
-enum { OWNER = 1, SIZES = 65, WIDTH = 16, MOST_MOVED = 2000 };
+enum { OWNER = 1, MOST_BYTES = 64, WIDTH = 16, MOST_MOVED = 2000 };
 
 static const uint32_t MAGIC = 0x50484931;
 static const uint32_t FREE_BIT = 0x80000000;
@@ -280,6 +281,64 @@ static enum refusal heap_free(struct heap *heap, uint32_t name)
     return DONE;
 }
 
+static bool stays(const struct heap *heap, uint32_t at)
+{
+    return !is_free(heap, at) && u32_at(heap->image, at + 4) >> 28 != 0;
+}
+
+/* The greatest room of a stretch, 0 where there is none. */
+static uint32_t heap_largest_stretch(const struct heap *heap)
+{
+    uint32_t largest = 0, room = 0;
+    for (uint32_t at = area_start(slot_count(heap)); at < heap->len; at += size_of_chunk(heap, at)) {
+        if (is_free(heap, at))
+            room += size_of_chunk(heap, at);
+        else if (stays(heap, at))
+            room = 0;
+        if (room > largest)
+            largest = room;
+    }
+    return largest;
+}
+
+/* Moves the chunk at `at` down over the free chunk in front of it, whose size is `room`. */
+static void drop_one(struct heap *heap, uint32_t at, uint32_t size, uint32_t room)
+{
+    uint32_t word2 = u32_at(heap->image, at + 4);
+    uint32_t to = at - room;
+    uint32_t slot = at + 2 * (uint32_t)((int32_t)(word2 << 8) >> 8);
+    uint32_t h_offset = (uint32_t)(((int32_t)slot - (int32_t)to) / 2) & 0xFFFFFF;
+    memmove(heap->image + to, heap->image + at, size);
+    put_u32(heap->image, to + 4, (word2 & 0xFF000000) | h_offset);
+    put_free(heap, to + size, room);
+    put_u32(heap->image, slot, to + HEADER);
+}
+
+/* Packs the chunks from `start` up to `end`, and answers how many bytes were moved. */
+static uint32_t pack(struct heap *heap, uint32_t start, uint32_t end)
+{
+    uint32_t moved = 0, room = 0;
+    for (uint32_t at = start; at < end;) {
+        uint32_t size = size_of_chunk(heap, at);
+        if (is_free(heap, at)) {
+            put_free(heap, at - room, room + size);
+            room += size;
+        } else if (stays(heap, at)) {
+            room = 0;
+        } else if (room > 0) {
+            drop_one(heap, at, size, room);
+            moved += size;
+        }
+        at += size;
+    }
+    return moved;
+}
+
+static uint32_t heap_compact(struct heap *heap)
+{
+    return pack(heap, area_start(slot_count(heap)), heap->len);
+}
+
 /* Makes an image with nothing in it. */
 static bool make_blank(struct heap *heap, uint32_t size, uint32_t slots)
 {
@@ -297,9 +356,11 @@ static bool make_blank(struct heap *heap, uint32_t size, uint32_t slots)
     return true;
 }
 
-/* A heap, the handles of its chunks and of those that have 16 bytes, and the sum of all replies. */
+/* A heap, the handles of its chunks and of those that have 16 bytes, and the sum of all replies. Chunks
+ * are made with 0 to `most` bytes. */
 struct load {
     struct heap heap;
+    uint32_t most;
     uint32_t *handles, *wide;
     size_t handle_count, wide_count;
     uint32_t random, replies;
@@ -340,7 +401,7 @@ static void make_chunks(struct load *load, size_t count)
     for (size_t i = 0; i < count; i++) {
         uint32_t name;
         enum refusal refusal =
-            heap_handle_new(&load->heap, (uint32_t)below(load, SIZES), OWNER, &name);
+            heap_handle_new(&load->heap, (uint32_t)below(load, load->most + 1), OWNER, &name);
         if (refusal == DONE)
             load->handles[load->handle_count++] = name;
         add(load, refusal == DONE ? name : refusal);
@@ -351,6 +412,13 @@ static void free_chunks(struct load *load, size_t count)
 {
     for (size_t i = 0; i < count && load->handle_count > 0; i++)
         add(load, heap_free(&load->heap, load->handles[--load->handle_count]));
+}
+
+/* Frees the chunks of every second handle, the first among them. */
+static void free_every_second(struct load *load)
+{
+    for (size_t i = 0; i < load->handle_count; i += 2)
+        add(load, heap_free(&load->heap, load->handles[i]));
 }
 
 static void find_wide(struct load *load)
@@ -539,6 +607,78 @@ static void time_calls(struct load *load, const struct work *work, uint64_t *tim
     }
 }
 
+/* The sum of the words of a heap. */
+static uint32_t words_of(const struct heap *heap)
+{
+    uint32_t words = 0;
+    for (uint32_t at = 0; at + 4 <= heap->len; at += 4)
+        words = sum_with(words, u32_at(heap->image, at));
+    return words;
+}
+
+/* A load on a blank heap. */
+static bool make_load(struct load *load, const struct work *work, uint32_t most)
+{
+    *load = (struct load){.random = 1, .most = most};
+    load->handles = calloc(work->slots, sizeof *load->handles);
+    load->wide = calloc(work->slots, sizeof *load->wide);
+    return make_blank(&load->heap, work->size, work->slots) && load->handles != NULL &&
+           load->wide != NULL;
+}
+
+/* The most bytes of a chunk where a heap with one under each slot is nearly full: twice what is left to
+ * each of them on average, behind its header and what rounding adds. */
+static uint32_t most_when_full(const struct work *work)
+{
+    uint32_t each = (work->size - 16 - 4 * work->slots) / work->slots;
+    uint32_t most = each > 12 ? 2 * (each - 12) : 0;
+    return most < UINT16_MAX ? most : UINT16_MAX;
+}
+
+/* The sum of all replies, and that of the words of the heaps in the end. */
+struct sums {
+    uint32_t replies, words;
+};
+
+/* A call that goes through all chunks. */
+typedef uint32_t walk(struct heap *heap);
+
+static uint32_t walk_largest_stretch(struct heap *heap)
+{
+    return heap_largest_stretch(heap);
+}
+
+static const struct {
+    const char *name;
+    walk *walk;
+} WALKS[] = {
+    {"largest_stretch", walk_largest_stretch},
+    {"compact", heap_compact},
+};
+
+/* Does each call that goes through all chunks once in each round, on a new copy of a heap. */
+static bool time_walks(const struct heap *scattered, const struct work *work, struct sums *sums,
+                       uint64_t *times)
+{
+    struct heap heap = {.image = malloc(scattered->len), .len = scattered->len};
+    if (heap.image == NULL)
+        return false;
+    for (size_t call = 0; call < sizeof WALKS / sizeof *WALKS; call++) {
+        for (size_t i = 0; i < work->rounds; i++) {
+            memcpy(heap.image, scattered->image, heap.len);
+            heap.lowest = 0;
+            uint64_t start = nanoseconds();
+            uint32_t reply = WALKS[call].walk(&heap);
+            times[i] = nanoseconds() - start;
+            sums->replies = sum_with(sums->replies, reply);
+            sums->words = sum_with(sums->words, words_of(&heap));
+        }
+        if (work->prints_times)
+            print_times(WALKS[call].name, 1, times, work->rounds);
+    }
+    return true;
+}
+
 static bool read_work(int argc, char **argv, struct work *work)
 {
     if (argc == 1)
@@ -559,15 +699,13 @@ int main(int argc, char **argv)
     static const char *const AT_THE_END[2] = {"free_at_the_end", "handle_new_at_the_end"};
     static const char *const ANYWHERE[2] = {"free_anywhere", "handle_new_anywhere"};
     struct work work;
-    struct load load = {.random = 1};
-    if (!read_work(argc, argv, &work) || !make_blank(&load.heap, work.size, work.slots)) {
+    struct load load, scattered;
+    if (!read_work(argc, argv, &work) || !make_load(&load, &work, MOST_BYTES)) {
         fprintf(stderr, "usage: memory_calls [SIZE SLOTS PASSES ROUNDS]\n");
         return 2;
     }
-    load.handles = calloc(work.slots, sizeof *load.handles);
-    load.wide = calloc(work.slots, sizeof *load.wide);
     uint64_t *times = calloc(2 * work.rounds + 1, sizeof *times);
-    if (load.handles == NULL || load.wide == NULL || times == NULL)
+    if (times == NULL || !make_load(&scattered, &work, most_when_full(&work)))
         return 2;
 
     fill(&load, &work, times);
@@ -576,10 +714,12 @@ int main(int argc, char **argv)
     shuffle(&load, work.slots);
     find_wide(&load);
     time_calls(&load, &work, times);
+    struct sums sums = {.replies = load.replies, .words = words_of(&load.heap)};
 
-    uint32_t words = 0;
-    for (uint32_t at = 0; at + 4 <= load.heap.len; at += 4)
-        words = sum_with(words, u32_at(load.heap.image, at));
-    printf("replies %u words %u\n", load.replies, words);
+    make_chunks(&scattered, work.slots);
+    free_every_second(&scattered);
+    if (!time_walks(&scattered.heap, &work, &sums, times))
+        return 2;
+    printf("replies %u words %u\n", sums.replies, sums.words);
     return 0;
 }

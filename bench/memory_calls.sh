@@ -1,5 +1,5 @@
 #!/bin/sh
-# Times calls of the memory manager beside the same calls in plain C, on a heap of 16,777,208 bytes
+# Times calls of the memory manager beside the same calls in plain C, on heaps of 16,777,208 bytes
 # with a chunk under each of 65,535 slots, and on one of 2,048 bytes with 16. It prints the processor
 # time of a call in nanoseconds, of both programs, and the ratio of the best times, Rattle's over C's.
 #

@@ -1,16 +1,14 @@
 //! A heap that is under load: its chunks are made, freed and asked for in a fixed order.
 
 use crate::numbers::Numbers;
-use crate::sum::Sum;
+use crate::sum::{Sum, Sums};
 use heap_model::Name;
 use mem_manager::Heap;
+use raw_region::Region;
 use std::alloc::{AllocError, Global};
 
 /// The owner of all chunks.
 const OWNER: u8 = 1;
-
-/// One more than the most bytes that a chunk is made with.
-const SIZES: usize = 65;
 
 /// How many bytes are read and written by one call.
 const WIDTH: u32 = 16;
@@ -30,6 +28,8 @@ pub(crate) enum Call {
 #[derive(Drop)]
 pub(crate) struct Load {
     heap: Heap,
+    /// The most bytes that a chunk is made with.
+    most: u16,
     handles: Vec<Name>,
     /// Those of the chunks that have 16 bytes.
     wide: Vec<Name>,
@@ -38,9 +38,11 @@ pub(crate) struct Load {
 }
 
 impl Load {
-    pub(crate) fn new(alloc: Global, heap: Heap) -> Load {
+    /// No chunks yet, which are to be of 0 to so many bytes.
+    pub(crate) fn new(alloc: Global, heap: Heap, most: u16) -> Load {
         Load {
             heap,
+            most,
             handles: Vec::new(alloc),
             wide: Vec::new(alloc),
             numbers: Numbers::new(),
@@ -48,10 +50,10 @@ impl Load {
         }
     }
 
-    /// Makes so many chunks of 0 to 64 bytes.
+    /// Makes so many chunks.
     pub(crate) fn make(&mut self, count: u16) -> Result<(), AllocError> {
         for _ in 0..count {
-            let size = self.numbers.below(SIZES) as u32;
+            let size = self.numbers.below(self.most as usize + 1) as u32;
             match self.heap.handle_new(size, OWNER) {
                 Ok(name) => {
                     self.replies.add(name.0);
@@ -71,6 +73,16 @@ impl Load {
                     Ok(()) => self.replies.add(0),
                     Err(refusal) => self.replies.add(refusal.number() as u32),
                 }
+            }
+        }
+    }
+
+    /// Frees the chunks of every second handle, the first among them.
+    pub(crate) fn free_every_second(&mut self) {
+        for name in self.handles.iter().step_by(2) {
+            match self.heap.free(*name) {
+                Ok(()) => self.replies.add(0),
+                Err(refusal) => self.replies.add(refusal.number() as u32),
             }
         }
     }
@@ -186,7 +198,15 @@ impl Load {
     }
 
     /// The sum of all replies, and that of the words of the heap.
-    pub(crate) fn into_sums(self) -> (Sum, Sum) {
-        (self.replies, Sum::of_words(&self.heap.into_region()))
+    pub(crate) fn into_sums(self) -> Sums {
+        Sums {
+            replies: self.replies,
+            words: Sum::of_words(&self.heap.into_region()),
+        }
+    }
+
+    /// The region of the heap.
+    pub(crate) fn into_region(self) -> Region {
+        self.heap.into_region()
     }
 }

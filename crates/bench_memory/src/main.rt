@@ -1,15 +1,18 @@
 //! Times the calls of the memory manager. `bench_memory SIZE SLOTS PASSES ROUNDS` makes a heap of SIZE
 //! bytes with SLOTS slots, and a chunk under each slot. It frees and makes chunks, and then does the
-//! calls whose time doesn't depend on the heap, PASSES times at each handle. For each kind of call it
-//! prints the calls of a round, and the best and the median processor time of a round in nanoseconds.
+//! calls whose time doesn't depend on the heap, PASSES times at each handle. Calls that go through all
+//! chunks are done on another heap: one that chunks fill, of which every second is freed. For each kind
+//! of call it prints the calls of a round, and the best and the median processor time of a round in
+//! nanoseconds.
 //!
-//! The last line has the sum of all replies, and that of the words of the heap at the end. With no
+//! The last line has the sum of all replies, and that of the words of the heaps at the end. With no
 //! words it alone is printed, of a small heap. bench/memory_calls.c does the same calls in plain C, and
 //! docs/MEASUREMENTS.md has what was measured.
 #![tactic(auto)]
 
 mod load;
 mod numbers;
+mod scattered;
 mod sum;
 mod work;
 
@@ -18,10 +21,13 @@ use bench_times::Times;
 use chunk_format::blank;
 use load::{Call, Load};
 use mem_manager::Heap;
+use raw_region::Region;
+use scattered::{Scattered, Walk};
 use std::env;
 use std::rt::CpuClock;
 use std::time::Duration;
-use work::Work;
+use sum::Sums;
+use work::{MOST_BYTES, Work};
 
 /// The calls whose time doesn't depend on the heap, by what is printed of them.
 const CALLS: [(&str, Call); 5] = [
@@ -30,6 +36,12 @@ const CALLS: [(&str, Call); 5] = [
     ("owner", Call::Owner),
     ("locks", Call::Locks),
     ("read", Call::Read),
+];
+
+/// The calls that go through all chunks, by what is printed of them.
+const WALKS: [(&str, Walk); 2] = [
+    ("largest_stretch", Walk::LargestStretch),
+    ("compact", Walk::Compact),
 ];
 
 /// What is printed of the calls that free and make chunks.
@@ -42,7 +54,7 @@ fn main(rt: HostRuntime) -> Result<()> {
     let Some(work) = Work::of_words(&words) else {
         bail!("usage: bench_memory [SIZE SLOTS PASSES ROUNDS]");
     };
-    let mut load = blank_load(&rt, work)?;
+    let mut load = blank_load(&rt, work, MOST_BYTES)?;
     fill(&rt, &mut load, work)?;
     move_chunks(&rt, &mut load, work, AT_THE_END, work.moved())?;
     move_chunks(&rt, &mut load, work, ANYWHERE, work.slots)?;
@@ -53,15 +65,24 @@ fn main(rt: HostRuntime) -> Result<()> {
     }
     load.lock_wide();
     repeat(&rt, &mut load, work, "write", Call::Write)?;
-    let (replies, words) = load.into_sums();
-    println!(rt; "replies {} words {}", replies.0, words.0)?;
+    let mut sums = load.into_sums();
+    let scattered = Scattered::of(blank_load(&rt, work, work.most_when_full())?, work.slots)?;
+    for (name, walk) in WALKS {
+        walk_through(&rt, work, &scattered, name, walk, &mut sums)?;
+    }
+    println!(rt; "replies {} words {}", sums.replies.0, sums.words.0)?;
     Ok(())
 }
 
-/// A load on a blank heap.
-fn blank_load(rt: &impl AllocGlobal, work: Work) -> Result<Load> {
-    match Heap::adopt(blank(rt.alloc(), work.size, work.slots)?) {
-        Ok(heap) => Ok(Load::new(rt.alloc(), heap)),
+/// A load on a blank heap, whose chunks are to be of 0 to so many bytes.
+fn blank_load(rt: &impl AllocGlobal, work: Work, most: u16) -> Result<Load> {
+    let heap = heap_of(blank(rt.alloc(), work.size, work.slots)?)?;
+    Ok(Load::new(rt.alloc(), heap, most))
+}
+
+fn heap_of(region: Region) -> Result<Heap> {
+    match Heap::adopt(region) {
+        Ok(heap) => Ok(heap),
         Err(error) => bail!("{}", error.fault),
     }
 }
@@ -115,6 +136,26 @@ fn repeat(
     }
     let calls = load.calls(call).saturating_mul(work.passes as u128);
     print_times(rt, work, name, calls, times)
+}
+
+/// Does one call in each round, on a new copy of a heap.
+fn walk_through(
+    rt: &(impl CpuClock + Print + AllocGlobal),
+    work: Work,
+    scattered: &Scattered,
+    name: &str,
+    walk: Walk,
+    sums: &mut Sums,
+) -> Result<()> {
+    let mut times = Times::new(rt.alloc());
+    for _ in 0..work.rounds {
+        let mut heap = heap_of(scattered.copy(rt.alloc())?)?;
+        let start = rt.thread_cpu_time()?;
+        let reply = walk.on(&mut heap);
+        times.add(since(rt, start)?)?;
+        sums.add(reply, &heap.into_region());
+    }
+    print_times(rt, work, name, 1, times)
 }
 
 /// The processor time that was used since it was so much.

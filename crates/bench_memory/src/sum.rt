@@ -31,3 +31,18 @@ impl Sum {
         sum
     }
 }
+
+/// The sum of all replies, and that of the words of the heaps in the end.
+#[derive(Clone, Copy)]
+pub(crate) struct Sums {
+    pub(crate) replies: Sum,
+    pub(crate) words: Sum,
+}
+
+impl Sums {
+    /// Adds a reply, and the sum of the words of the region that it left.
+    pub(crate) fn add(&mut self, reply: u32, region: &Region) {
+        self.replies.add(reply);
+        self.words.add(Sum::of_words(region).0);
+    }
+}

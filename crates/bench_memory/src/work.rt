@@ -3,6 +3,9 @@
 /// How many chunks are freed and made again in a round, at most.
 const MOST_MOVED: u16 = 2000;
 
+/// The most bytes of a chunk, where the heap isn't to be full.
+pub(crate) const MOST_BYTES: u16 = 64;
+
 /// What a run does, by its words.
 #[derive(Clone, Copy)]
 pub(crate) struct Work {
@@ -43,5 +46,14 @@ impl Work {
     /// How many chunks are freed and made again in a round.
     pub(crate) fn moved(self) -> u16 {
         MOST_MOVED.min(self.slots / 4)
+    }
+
+    /// The most bytes of a chunk where a heap with one under each slot is nearly full: twice what is left
+    /// to each of them on average, behind its header and what rounding adds.
+    pub(crate) fn most_when_full(self) -> u16 {
+        let slots = u32::from(self.slots.max(1));
+        let area = self.size.saturating_sub(16 + 4 * slots);
+        let body = (area / slots).saturating_sub(12);
+        u16::try_from(body.saturating_mul(2)).unwrap_or(u16::MAX)
     }
 }

@@ -126,10 +126,11 @@ call answers, or 'refused' with the number and the name of the refusal. A chunk 
 which 'new', 'ptrnew' and 'bind' give it: a letter, then letters, digits or '_'.
 
   bind A NAME         new A SIZE OWNER    ptrnew A SIZE OWNER
-  free A              setowner A OWNER    size A, owner A, locks A
-  lock A, unlock A    read A AT COUNT     write A AT HEX
-  set A AT COUNT BYTE                     strcopy A AT \"TEXT\"
-  freeowner OWNER     freebytes           largest, compact
+  free A              resize A SIZE       setowner A OWNER
+  lock A, unlock A    size A, owner A, locks A
+  read A AT COUNT     write A AT HEX      set A AT COUNT BYTE
+  strcopy A AT \"TEXT\"                   freeowner OWNER
+  freebytes           largest, compact
 
 'write', 'set' and 'strcopy' need a locked or a fixed chunk. OWNER is 1 to 14. Numbers are decimal,
 or hex behind '0x'. HEX is hex digits, or '-' for no byte. A line that is empty or starts with '#' is

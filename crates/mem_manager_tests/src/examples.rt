@@ -7,8 +7,12 @@ use crate::notation::{call_of, text_of};
 use std::process::Abort;
 use std::test::*;
 
-/// Does the calls of some lines, one after the other.
-fn check_lines(rt: &(impl Abort + AllocGlobal), image: Vec<u8>, lines: &str) -> Result<(), Fail> {
+/// Does the calls of some lines, one after the other, and answers the image that they leave.
+pub(crate) fn image_behind(
+    rt: &(impl Abort + AllocGlobal),
+    image: Vec<u8>,
+    lines: &str,
+) -> Result<Vec<u8>, Fail> {
     let alloc = rt.alloc();
     let mut beside = Beside::new(alloc, image)?;
     for line in lines.lines() {
@@ -17,6 +21,16 @@ fn check_lines(rt: &(impl Abort + AllocGlobal), image: Vec<u8>, lines: &str) -> 
         let said = text_of(alloc, &reply)?;
         assert_eq!(rt; said.as_str(), right, "{line}");
     }
+    Ok(beside.image)
+}
+
+/// Does the calls of some lines, one after the other.
+pub(crate) fn check_lines(
+    rt: &(impl Abort + AllocGlobal),
+    image: Vec<u8>,
+    lines: &str,
+) -> Result<(), Fail> {
+    image_behind(rt, image, lines)?;
     Ok(())
 }
 

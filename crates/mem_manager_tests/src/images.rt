@@ -27,6 +27,38 @@ pub(crate) fn small(alloc: Global) -> Result<Vec<u8>, Fail> {
     image(alloc, 128, 4, &[])
 }
 
+/// Three movable chunks of 24 bytes under the slots at 16, 20 and 24, behind each other, that leave nothing
+/// free.
+pub(crate) fn three(alloc: Global) -> Result<Vec<u8>, Fail> {
+    let words = [
+        (16, 40),
+        (20, 72),
+        (24, 104),
+        (32, 0x0000_0020),
+        (36, 0x01FF_FFF8),
+        (64, 0x0000_0020),
+        (68, 0x01FF_FFEA),
+        (96, 0x0000_0020),
+        (100, 0x01FF_FFDC),
+    ];
+    image(alloc, 128, 4, &words)
+}
+
+/// A free chunk of 8 bytes, and a movable one of the bytes 0 to 79 up to the end, under the slot at 16.
+pub(crate) fn overlapping(alloc: Global) -> Result<Vec<u8>, Fail> {
+    let words = [
+        (16, 48),
+        (32, 0x8000_0008),
+        (40, 0x0000_0058),
+        (44, 0x01FF_FFF4),
+    ];
+    let mut bytes = image(alloc, 128, 4, &words)?;
+    for (number, byte) in bytes.iter_mut().skip(48).enumerate() {
+        *byte = (number % 256) as u8;
+    }
+    Ok(bytes)
+}
+
 /// Five chunks behind each other: one of a database's under the slot at 16, one with two locks under
 /// the slot at 20, a fixed one at 72, the directory under the slot at 24, and 32 free bytes.
 pub(crate) fn five(alloc: Global) -> Result<Vec<u8>, Fail> {

@@ -15,4 +15,6 @@ mod images;
 #[cfg(test)]
 mod lists;
 #[cfg(test)]
+mod moving;
+#[cfg(test)]
 mod notation;

@@ -53,11 +53,14 @@ fn any_offset(random: &mut Pcg32) -> u32 {
     }
 }
 
-/// The size of a chunk, seldom one that no heap has.
-fn any_size(random: &mut Pcg32) -> u32 {
+/// The size of a chunk: often one about as large as the greatest room, seldom one that no heap has.
+fn any_size(random: &mut Pcg32, room: u32) -> u32 {
     match random.random_range(0u32..32) {
         0 => u32::MAX,
         1 => 16_777_200,
+        2..=9 => room
+            .saturating_sub(24)
+            .saturating_add(random.random_range(0u32..48)),
         _ => random.random_range(0u32..71),
     }
 }
@@ -72,12 +75,12 @@ fn any_bytes(random: &mut Pcg32, alloc: Global) -> Result<Bytes, Fail> {
 }
 
 /// A call of those that a heap has.
-fn any_call(random: &mut Pcg32, alloc: Global, pieces: &[Piece]) -> Result<MemoryCall, Fail> {
-    let name = any_name(random, pieces);
+fn any_call(random: &mut Pcg32, alloc: Global, image: &Image) -> Result<MemoryCall, Fail> {
+    let name = any_name(random, &image.pieces);
     match random.random_range(0u32..32) {
         0..=6 => call_on_bytes(random, alloc, name),
-        7..=8 => Ok(MemoryCall::Recover(any_place(random, pieces))),
-        _ => Ok(call_on_chunk(random, name)),
+        7..=8 => Ok(MemoryCall::Recover(any_place(random, &image.pieces))),
+        _ => Ok(call_on_chunk(random, name, image.largest_room())),
     }
 }
 
@@ -110,15 +113,15 @@ fn call_on_bytes(random: &mut Pcg32, alloc: Global, name: Name) -> Result<Memory
     Ok(call)
 }
 
-/// A call that makes or frees chunks, or changes or asks for what stands in a header.
-fn call_on_chunk(random: &mut Pcg32, name: Name) -> MemoryCall {
-    match random.random_range(0u32..26) {
+/// A call that makes, resizes or frees chunks, or changes or asks for what stands in a header.
+fn call_on_chunk(random: &mut Pcg32, name: Name, room: u32) -> MemoryCall {
+    match random.random_range(0u32..34) {
         0..=5 => MemoryCall::HandleNew {
-            size: any_size(random),
+            size: any_size(random, room),
             owner: any_owner(random),
         },
         6..=7 => MemoryCall::PtrNew {
-            size: any_size(random),
+            size: any_size(random, room),
             owner: any_owner(random),
         },
         8..=10 => MemoryCall::Free(name),
@@ -133,7 +136,11 @@ fn call_on_chunk(random: &mut Pcg32, name: Name) -> MemoryCall {
         },
         21 => MemoryCall::FreeBytes,
         22 => MemoryCall::LargestStretch,
-        23..=24 => MemoryCall::Compact,
+        23 => MemoryCall::Compact,
+        24..=31 => MemoryCall::Resize {
+            name,
+            size: any_size(random, room),
+        },
         _ => MemoryCall::FreeByOwner(any_owner(random)),
     }
 }
@@ -158,11 +165,7 @@ fn run_list(
     let mut list = Vec::new(alloc);
     let mut beside = Beside::new(alloc, image)?;
     for number in 0..count {
-        let call = any_call(
-            &mut random,
-            alloc,
-            &Image::decode(alloc, &beside.image)?.pieces,
-        )?;
+        let call = any_call(&mut random, alloc, &Image::decode(alloc, &beside.image)?)?;
         let spot = format!(in alloc; "call {number} of list {seed}")?;
         let reply = beside.call(rt, spot.as_str(), &call)?;
         list.push(Done { call, reply })?;
@@ -193,6 +196,7 @@ fn lists_from_blank_images(rt: HostRuntime) -> Result<(), Fail> {
     let alloc = rt.alloc();
     for seed in 1..9u64 {
         run_list(&rt, image(alloc, 128, 4, &[])?, seed, 300)?;
+        run_list(&rt, image(alloc, 512, 9, &[])?, seed, 300)?;
         run_list(&rt, image(alloc, 1024, 20, &[])?, seed, 600)?;
     }
     Ok(())

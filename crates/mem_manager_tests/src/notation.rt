@@ -65,6 +65,10 @@ fn call_with(word: &str, first: u32, second: u32, bytes: Bytes) -> Result<Memory
             size: first,
             owner: as_u8(second),
         },
+        "resize" => MemoryCall::Resize {
+            name: Name(first),
+            size: second,
+        },
         "set_owner" => MemoryCall::SetOwner {
             name: Name(first),
             owner: as_u8(second),
@@ -133,13 +137,13 @@ pub(crate) fn do_call(alloc: Global, heap: &mut Heap, call: &MemoryCall) -> Resu
         MemoryCall::StrCopy { name, at, text } => heap
             .str_copy(*name, *at, text.as_slice())
             .map(|_| Reply::Done),
+        MemoryCall::Resize { name, size } => heap.resize(*name, *size).map(|_| Reply::Done),
         MemoryCall::SetOwner { name, owner } => heap.set_owner(*name, *owner).map(|_| Reply::Done),
         MemoryCall::Recover(place) => heap.recover(*place).map(Reply::Named),
         MemoryCall::FreeByOwner(owner) => heap.free_by_owner(*owner).map(Reply::Number),
         MemoryCall::FreeBytes => Ok(Reply::Number(heap.free_bytes())),
         MemoryCall::LargestStretch => Ok(Reply::Number(heap.largest_stretch())),
         MemoryCall::Compact => Ok(Reply::Number(heap.compact())),
-        MemoryCall::Resize { .. } => return Err("a call that a heap doesn't have yet")?,
     };
     Ok(answer.unwrap_or_else(Reply::Refused))
 }

@@ -18,7 +18,7 @@ use Rattle.script_lines.specs.declared.line.Line.{Line}
 use Rattle.script_lines.specs.declared.line.Line.TheVariants.{Bind, New, On, Whole}
 use Rattle.script_lines.specs.declared.line.NewCall.TheVariants.{Handle, Ptr}
 use Rattle.script_lines.specs.declared.line.ChunkCall.{ChunkCall}
-use Rattle.script_lines.specs.declared.line.ChunkCall.TheVariants.{Free, SetOwner, Lock, Unlock, Size, Owner, Locks, Read, Write, Set, StrCopy}
+use Rattle.script_lines.specs.declared.line.ChunkCall.TheVariants.{Free, Resize, SetOwner, Lock, Unlock, Size, Owner, Locks, Read, Write, Set, StrCopy}
 use Rattle.script_lines.specs.declared.line.HeapCall.TheVariants.{FreeByOwner, FreeBytes, LargestStretch, Compact}
 
 -- ---- what labels stand for
@@ -48,6 +48,7 @@ table names label = get_or names label no_name
 -- a call on the chunk of a name
 abbrev pub call_on : Name → ChunkCall → MemoryCall
 call_on name Free = calls.Free name
+call_on name (Resize size) = calls.Resize name size
 call_on name (SetOwner owner) = calls.SetOwner name owner
 call_on name Lock = calls.Lock name
 call_on name Unlock = calls.Unlock name

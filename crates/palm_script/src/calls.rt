@@ -1,10 +1,8 @@
 //! One call of any manager.
 
-ghost use Rattle.std.specs.Prelude.{◌≡◌, IfOk, IsTrue};
+ghost use Rattle.std.specs.Prelude.{◌≡◌, IfOk};
 ghost use Rattle.heap_model.specs.Calls.{DoesCall};
 ghost use Rattle.heap_model.specs.MemorySteps.{Does};
-ghost use Rattle.heap_model.specs.declared.call.Call.{Call};
-ghost use Rattle.palm_script.specs.Calls.{is_there};
 
 use crate::replies::{done, locked, named, number, small_number};
 use heap_model::{Allowance, Bytes, Call, MemoryCall, Name, Refusal, Reply};
@@ -14,7 +12,6 @@ use std::alloc::{AllocError, Global};
 /// Does one call and answers its reply. Memory is taken for the bytes that `read` answers alone;
 /// where it is refused, so is the call.
 pub fn do_call(alloc: Global, heap: &mut Heap, call: &Call) -> Reply
-    requires { IsTrue (is_there call.now) }
     ensures { DoesCall heap.old call.now result heap.new }
 {
     do_call_from(&alloc, heap, call)
@@ -22,7 +19,6 @@ pub fn do_call(alloc: Global, heap: &mut Heap, call: &Call) -> Reply
 
 /// `do_call`, where the growth asks for a grant.
 pub fn do_call_from<A: Allowance>(memory: &A, heap: &mut Heap, call: &Call) -> Reply
-    requires { IsTrue (is_there call.now) }
     ensures { DoesCall heap.old call.now result heap.new }
 {
     match call {
@@ -31,7 +27,6 @@ pub fn do_call_from<A: Allowance>(memory: &A, heap: &mut Heap, call: &Call) -> R
 }
 
 fn memory_call<A: Allowance>(memory: &A, heap: &mut Heap, call: &MemoryCall) -> Reply
-    requires { IsTrue (is_there (Call.Memory call.now)) }
     ensures { Does heap.old call.now result heap.new }
 {
     match call {
@@ -52,13 +47,13 @@ fn memory_call<A: Allowance>(memory: &A, heap: &mut Heap, call: &MemoryCall) -> 
             byte,
         } => done(heap.set(*name, *at, *count, *byte)),
         MemoryCall::StrCopy { name, at, text } => done(heap.str_copy(*name, *at, text.as_slice())),
+        MemoryCall::Resize { name, size } => done(heap.resize(*name, *size)),
         MemoryCall::SetOwner { name, owner } => done(heap.set_owner(*name, *owner)),
         MemoryCall::Recover(place) => named(heap.recover(*place)),
         MemoryCall::FreeByOwner(owner) => number(heap.free_by_owner(*owner)),
         MemoryCall::FreeBytes => Reply::Number(heap.free_bytes()),
         MemoryCall::LargestStretch => Reply::Number(heap.largest_stretch()),
         MemoryCall::Compact => Reply::Number(heap.compact()),
-        MemoryCall::Resize { .. } => unreachable!(),
     }
 }
 

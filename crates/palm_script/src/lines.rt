@@ -61,6 +61,7 @@ fn reply_on(heap: &mut Heap, names: &[Name], label: ChunkLabel, call: &ChunkCall
     let name = name_of(names, label);
     match call {
         ChunkCall::Free => done(heap.free(name)),
+        ChunkCall::Resize(size) => done(heap.resize(name, *size)),
         ChunkCall::SetOwner(owner) => done(heap.set_owner(name, *owner)),
         ChunkCall::Lock => locked(heap.lock(name)),
         ChunkCall::Unlock => small_number(heap.unlock(name)),

@@ -10,8 +10,7 @@ use std::alloc::Global;
 const MOST_LOCKS: u8 = 14;
 
 impl PlainStore {
-    /// Does a call, and answers what the reply to it must be. None of a call that a heap doesn't have
-    /// yet.
+    /// Does a call, and answers what the reply to it must be.
     ///
     /// Most of that follows from the store. How much room there was and where chunks were stands in the
     /// image before the call, where they are in the one after it, and which of the free names a new
@@ -23,12 +22,13 @@ impl PlainStore {
         before: &Image,
         after: &Image,
         reply: &Reply,
-    ) -> Option<Reply> {
+    ) -> Reply {
         let answer = match call {
             MemoryCall::HandleNew { size, owner } => self.handle_new(
                 alloc, *size, *owner, before, reply,
             ),
             MemoryCall::PtrNew { size, owner } => self.ptr_new(alloc, *size, *owner, before, reply),
+            MemoryCall::Resize { name, size } => self.resize(*name, *size, before),
             MemoryCall::Free(name) => self.free(*name),
             MemoryCall::Lock(name) => self.lock(*name, after),
             MemoryCall::Unlock(name) => self.unlock(*name),
@@ -50,9 +50,8 @@ impl PlainStore {
             MemoryCall::FreeBytes => Ok(Reply::Number(before.free_bytes())),
             MemoryCall::LargestStretch => Ok(Reply::Number(before.largest_room())),
             MemoryCall::Compact => Ok(Reply::Number(before.moved_bytes(after))),
-            MemoryCall::Resize { .. } => return None,
         };
-        Some(answer.unwrap_or_else(Reply::Refused))
+        answer.unwrap_or_else(Reply::Refused)
     }
 
     /// A movable chunk of zeros under a free slot.
@@ -66,9 +65,7 @@ impl PlainStore {
     ) -> Result<Reply, Refusal> {
         check_owner(owner)?;
         let first = before.first_free_slot().ok_or(Refusal::NotEnoughSpace)?;
-        before
-            .first_room(need(size))
-            .ok_or(Refusal::NotEnoughSpace)?;
+        check_room(need(size), before.largest_room())?;
         let name = match reply {
             Reply::Named(name) if before.is_free_slot(*name) => *name,
             _ => first,
@@ -76,7 +73,7 @@ impl PlainStore {
         self.make(alloc, name, Kind::Movable { locks: 0 }, size, owner)
     }
 
-    /// A fixed chunk of zeros in a run of free chunks.
+    /// A fixed chunk of zeros, whose name is where it was made.
     fn ptr_new(
         &mut self,
         alloc: Global,
@@ -86,12 +83,10 @@ impl PlainStore {
         reply: &Reply,
     ) -> Result<Reply, Refusal> {
         check_owner(owner)?;
-        let first = before
-            .first_room(need(size))
-            .ok_or(Refusal::NotEnoughSpace)?;
+        check_room(need(size), before.largest_room())?;
         let name = match reply {
-            Reply::Named(name) if before.has_room_at(Place(name.0), need(size)) => *name,
-            _ => Name(first.0),
+            Reply::Named(name) if !self.chunks.contains_key(&name.0) => *name,
+            _ => Name(0),
         };
         self.make(alloc, name, Kind::Fixed, size, owner)
     }
@@ -108,6 +103,25 @@ impl PlainStore {
         let chunk = Chunk { kind, owner, bytes };
         match self.chunks.insert(name.0, chunk) {
             Ok(_) => Ok(Reply::Named(name)),
+            Err(_) => Err(Refusal::OutOfMemory),
+        }
+    }
+
+    /// Another length: bytes at the end go, or zeros come. A locked chunk grows in its place alone, over
+    /// the free chunks directly behind it. One without a lock grows wherever a stretch has room, its own
+    /// size being room in its own stretch.
+    fn resize(&mut self, name: Name, size: u32, before: &Image) -> Result<Reply, Refusal> {
+        let chunk = self.chunk_mut(name)?;
+        chunk.check_callers()?;
+        let is_locked = *chunk.locks_mut()? > 0;
+        if need(size) > before.size_with_behind(name) && is_locked {
+            return Err(Refusal::ChunkLocked);
+        }
+        if need(size) > before.size_of(name) && !is_locked {
+            check_room(need(size), before.largest_room_without(name))?;
+        }
+        match chunk.bytes.resize(size as usize, 0) {
+            Ok(()) => Ok(Reply::Done),
             Err(_) => Err(Refusal::OutOfMemory),
         }
     }
@@ -262,6 +276,14 @@ impl Chunk {
 fn check_owner(owner: u8) -> Result<(), Refusal> {
     if owner == 0 || owner > 14 {
         return Err(Refusal::InvalidOwner);
+    }
+    Ok(())
+}
+
+/// Refuses a need of more bytes than the greatest room has.
+fn check_room(need: u64, room: u32) -> Result<(), Refusal> {
+    if need > u64::from(room) {
+        return Err(Refusal::NotEnoughSpace);
     }
     Ok(())
 }

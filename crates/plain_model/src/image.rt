@@ -185,17 +185,45 @@ impl<'a> Image<'a> {
 
     /// The greatest room of a stretch, 0 where there is none: the free bytes between two chunks that stay.
     pub fn largest_room(&self) -> u32 {
+        self.largest_room_without(Name(0))
+    }
+
+    /// The same where the size of this name's chunk counts as room, if it is one that doesn't stay.
+    pub(crate) fn largest_room_without(&self, name: Name) -> u32 {
         let mut room = 0u32;
         let mut largest = 0u32;
         for piece in &self.pieces {
             room = match piece.live {
-                None => room.saturating_add(piece.size),
                 Some(_) if piece.stays() => 0,
-                Some(_) => room,
+                Some(live) if live.name != name => room,
+                _ => room.saturating_add(piece.size),
             };
             largest = largest.max(room);
         }
         largest
+    }
+
+    /// What the chunk of a name takes, 0 where there is none.
+    pub(crate) fn size_of(&self, name: Name) -> u64 {
+        match self.piece(name) {
+            Some(piece) => u64::from(piece.size),
+            None => 0,
+        }
+    }
+
+    /// What the chunk of a name takes with the free chunks directly behind it, 0 where there is none.
+    pub(crate) fn size_with_behind(&self, name: Name) -> u64 {
+        let Some(piece) = self.piece(name) else {
+            return 0;
+        };
+        let size = u64::from(piece.size);
+        let behind = u64::from(piece.place.0) + size;
+        for run in &self.runs {
+            if u64::from(run.place.0) == behind {
+                return size + u64::from(run.size);
+            }
+        }
+        size
     }
 
     /// The sizes together of the live chunks whose place is another in an image after this one.
@@ -246,24 +274,9 @@ impl<'a> Image<'a> {
             .any(|slot| slot.at == name.0 && slot.holds == 0)
     }
 
-    /// The place of a body for which a run of neighbouring free chunks has so many bytes, header
-    /// included.
-    pub(crate) fn first_room(&self, need: u64) -> Option<Place> {
-        for run in &self.runs {
-            if need <= u64::from(run.size) {
-                return Some(run.place);
-            }
-        }
-        None
-    }
-
-    /// Whether a chunk of so many bytes whose body is at a place lies within a run of neighbouring free
-    /// chunks.
-    pub(crate) fn has_room_at(&self, place: Place, need: u64) -> bool {
-        let end = u64::from(place.0).saturating_add(need);
-        self.runs.iter().any(|run| {
-            run.place.0 <= place.0 && end <= u64::from(run.place.0) + u64::from(run.size)
-        })
+    /// Whether a run of neighbouring free chunks has so many bytes, headers included.
+    pub(crate) fn has_run(&self, need: u64) -> bool {
+        self.runs.iter().any(|run| need <= u64::from(run.size))
     }
 }
 

@@ -1,7 +1,7 @@
 //! What a call leaves alone, whatever it answers.
 
 use crate::calls::need;
-use crate::image::{Image, u32_at};
+use crate::image::{Image, Piece, u32_at};
 use heap_model::{MemoryCall, Name, Refusal, Reply};
 
 /// What a call did that it may not do.
@@ -13,7 +13,8 @@ pub enum Rule {
     Bytes,
     /// A refused call left other free bytes, or another number of free slots.
     Room,
-    /// The chunk of this name moved, though it was locked or fixed, or nothing had to move.
+    /// The chunk of this name moved, though it was locked or fixed, or none had to move, or another one had
+    /// of another stretch.
     Moved(Name),
     /// Compaction left a free chunk that isn't the last of its stretch.
     Packed,
@@ -42,7 +43,7 @@ pub fn broken_rule(
     if matches!(call, MemoryCall::Compact) && !after.is_packed() {
         return Some(Rule::Packed);
     }
-    match first_moved(finds_room(call, before), before, after) {
+    match first_moved(movable_by(call, before), before, after) {
         Some(name) => Some(Rule::Moved(name)),
         None => odd_free_header(before, after).map(Rule::FreeHeader),
     }
@@ -67,30 +68,60 @@ fn leaves_bytes(call: &MemoryCall, reply: &Reply) -> bool {
     asks || refused
 }
 
-/// Whether a call makes a chunk for which a run of free chunks has room, so that none has to move.
-fn finds_room(call: &MemoryCall, before: &Image) -> bool {
+/// Which chunks a call may move, of those that are neither locked nor fixed.
+#[derive(Clone, Copy, PartialEq, Eq)]
+enum Moves {
+    Nothing,
+    OneStretch,
+    Anything,
+}
+
+/// What a call may move: nothing for a new chunk for which a run of free chunks has the room, or for a
+/// length that a chunk can have in its place, and one stretch for any other new chunk.
+fn movable_by(call: &MemoryCall, before: &Image) -> Moves {
     match call {
         MemoryCall::HandleNew { size, .. } | MemoryCall::PtrNew { size, .. } => {
-            before.first_room(need(*size)).is_some()
+            if before.has_run(need(*size)) {
+                Moves::Nothing
+            } else {
+                Moves::OneStretch
+            }
         }
-        _ => false,
+        MemoryCall::Resize { name, size } if need(*size) <= before.size_with_behind(*name) => {
+            Moves::Nothing
+        }
+        _ => Moves::Anything,
     }
 }
 
-/// The first chunk that is still live and not where it was, of those that are locked or fixed, or of
-/// all.
-fn first_moved(all: bool, before: &Image, after: &Image) -> Option<Name> {
+/// The first chunk that is still live and not where it was, though it had to stay there.
+fn first_moved(moves: Moves, before: &Image, after: &Image) -> Option<Name> {
+    let mut stretch = 0u32;
+    let mut moved_in = None;
     for piece in &before.pieces {
-        let live = match piece.live {
-            Some(live) if all || piece.stays() => live,
-            _ => continue,
+        if piece.stays() {
+            stretch = stretch.saturating_add(1);
+        }
+        let Some(name) = moved_name(piece, after) else {
+            continue;
         };
-        match after.piece(live.name) {
-            Some(now) if now.place != piece.place => return Some(live.name),
-            _ => {}
+        let may_move = match moves {
+            Moves::Nothing => false,
+            Moves::OneStretch => *moved_in.get_or_insert(stretch) == stretch,
+            Moves::Anything => true,
+        };
+        if piece.stays() || !may_move {
+            return Some(name);
         }
     }
     None
+}
+
+/// The name of a chunk that is live in an image after its own, and not where it was.
+fn moved_name(piece: &Piece, after: &Image) -> Option<Name> {
+    let name = piece.live?.name;
+    let now = after.piece(name)?;
+    (now.place != piece.place).then_some(name)
 }
 
 /// The place of the first free chunk whose header's first word was written, and has more than the free

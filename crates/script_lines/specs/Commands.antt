@@ -10,7 +10,7 @@ use Rattle.script_lines.specs.declared.line.NewCall.TheVariants as made
 use Rattle.script_lines.specs.declared.line.ChunkCall.TheVariants as chunk
 use Rattle.script_lines.specs.declared.line.HeapCall.TheVariants as heap
 use Rattle.script_lines.specs.declared.command.Command.{Command}
-use Rattle.script_lines.specs.declared.command.Command.TheVariants.{Bind, New, PtrNew, Free, SetOwner, Lock, Unlock, Size, Owner, Locks, Read, Write, Set, StrCopy, FreeByOwner, FreeBytes, Largest, Compact}
+use Rattle.script_lines.specs.declared.command.Command.TheVariants.{Bind, New, PtrNew, Free, Resize, SetOwner, Lock, Unlock, Size, Owner, Locks, Read, Write, Set, StrCopy, FreeByOwner, FreeBytes, Largest, Compact}
 use Rattle.script_lines.specs.declared.value.Kind.{Kind}
 use Rattle.script_lines.specs.declared.value.Kind.TheVariants as kinds
 use Rattle.script_lines.specs.declared.value.Kind.TheVariants.{Chunk}
@@ -66,6 +66,7 @@ row_of Bind = record { word = codes "bind"; shape = chunk_number (λ label name.
 row_of New = record { word = codes "new"; shape = chunk_number_byte (λ label size owner. lines.New label (made.Handle size owner)) }
 row_of PtrNew = record { word = codes "ptrnew"; shape = chunk_number_byte (λ label size owner. lines.New label (made.Ptr size owner)) }
 row_of Free = record { word = codes "free"; shape = chunk_alone (λ label. lines.On label chunk.Free) }
+row_of Resize = record { word = codes "resize"; shape = chunk_number (λ label size. lines.On label (chunk.Resize size)) }
 row_of SetOwner = record { word = codes "setowner"; shape = chunk_byte (λ label owner. lines.On label (chunk.SetOwner owner)) }
 row_of Lock = record { word = codes "lock"; shape = chunk_alone (λ label. lines.On label chunk.Lock) }
 row_of Unlock = record { word = codes "unlock"; shape = chunk_alone (λ label. lines.On label chunk.Unlock) }
@@ -92,7 +93,7 @@ line_of command values bytes = line_by (row_of command).shape values bytes
 
 -- every command
 abbrev pub commands : List Command
-commands = Bind ∷ New ∷ PtrNew ∷ Free ∷ SetOwner ∷ Lock ∷ Unlock ∷ Size ∷ Owner ∷ Locks ∷ Read ∷ Write ∷ Set ∷ StrCopy ∷ FreeByOwner ∷ FreeBytes ∷ Largest ∷ Compact ∷ []
+commands = Bind ∷ New ∷ PtrNew ∷ Free ∷ Resize ∷ SetOwner ∷ Lock ∷ Unlock ∷ Size ∷ Owner ∷ Locks ∷ Read ∷ Write ∷ Set ∷ StrCopy ∷ FreeByOwner ∷ FreeBytes ∷ Largest ∷ Compact ∷ []
 
 -- the command of a word
 abbrev pub command_of : List ℕ → Option Command

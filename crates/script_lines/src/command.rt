@@ -19,6 +19,7 @@ pub(crate) enum Command {
     New,
     PtrNew,
     Free,
+    Resize,
     SetOwner,
     Lock,
     Unlock,
@@ -36,11 +37,12 @@ pub(crate) enum Command {
 }
 
 /// Every command.
-pub(crate) const COMMANDS: [Command; 18] = [
+pub(crate) const COMMANDS: [Command; 19] = [
     Command::Bind,
     Command::New,
     Command::PtrNew,
     Command::Free,
+    Command::Resize,
     Command::SetOwner,
     Command::Lock,
     Command::Unlock,
@@ -104,6 +106,7 @@ pub(crate) fn row_of(command: Command) -> CommandRow
         Command::New => row(b"new", CHUNK_NUMBER_BYTE),
         Command::PtrNew => row(b"ptrnew", CHUNK_NUMBER_BYTE),
         Command::Free => row(b"free", CHUNK),
+        Command::Resize => row(b"resize", CHUNK_NUMBER),
         Command::SetOwner => row(b"setowner", CHUNK_BYTE),
         Command::Lock => row(b"lock", CHUNK),
         Command::Unlock => row(b"unlock", CHUNK),
@@ -162,6 +165,8 @@ pub(crate) fn make_line(command: Command, values: &[Value], bytes: Bytes) -> Opt
         Command::PtrNew => line_if!(values, &[Label(label), Number(size), Byte(owner)] =>
             Line::New(label, NewCall::Ptr { size, owner })),
         Command::Free => line_if!(values, &[Label(label)] => Line::On(label, ChunkCall::Free)),
+        Command::Resize => line_if!(values,
+            &[Label(label), Number(size)] => Line::On(label, ChunkCall::Resize(size))),
         Command::SetOwner => line_if!(values,
             &[Label(label), Byte(owner)] => Line::On(label, ChunkCall::SetOwner(owner))),
         Command::Lock => line_if!(values, &[Label(label)] => Line::On(label, ChunkCall::Lock)),

@@ -37,6 +37,7 @@ pub enum NewCall {
 #[derive(Drop)]
 pub enum ChunkCall {
     Free,
+    Resize(u32),
     SetOwner(u8),
     Lock,
     Unlock,

@@ -103,7 +103,7 @@ fn reads_of_every_size_are_answered(rt: HostRuntime) -> Result<(), Fail> {
 const CHUNK: Name = Name(16);
 
 /// Calls one behind another, on the chunk that the first one makes.
-fn calls(alloc: Global) -> Result<[MemoryCall; 17], AllocError> {
+fn calls(alloc: Global) -> Result<[MemoryCall; 18], AllocError> {
     let (name, at, owner) = (CHUNK, 0, 1);
     let bytes = Bytes::of(Vec::from_slice(alloc, b"ab")?);
     let text = Bytes::of(Vec::from_slice(alloc, b"x")?);
@@ -125,6 +125,7 @@ fn calls(alloc: Global) -> Result<[MemoryCall; 17], AllocError> {
         MemoryCall::SetOwner { name, owner: 3 },
         MemoryCall::Owner(name),
         MemoryCall::Size(name),
+        MemoryCall::Resize { name, size: 24 },
         MemoryCall::FreeBytes,
         MemoryCall::LargestStretch,
         MemoryCall::Compact,
@@ -149,21 +150,14 @@ fn calls_are_done_one_by_one(rt: HostRuntime) -> Result<(), Fail> {
     assert_eq!(rt;
         answers(rt.alloc(), calls)?.as_str(),
         "name 16; refused 7; at 40, 1; done; done; done; \
-        [97, 98, 120, 0, 7, 7]; 1; 0; done; 3; 10; 72; 72; 0; 1; refused 1; "
+        [97, 98, 120, 0, 7, 7]; 1; 0; done; 3; 10; done; 64; 64; 0; 1; refused 1; "
     );
     Ok(())
 }
 
 /// The reply to a call, as text.
 fn answer(alloc: Global, heap: &mut Heap, call: MemoryCall) -> Result<String, AllocError> {
-    match call {
-        MemoryCall::Resize { .. } => format!(in alloc; "no such call yet; "),
-        call => shown(alloc, do_call(alloc, heap, &Call::Memory(call))),
-    }
-}
-
-fn shown(alloc: Global, reply: Reply) -> Result<String, AllocError> {
-    match reply {
+    match do_call(alloc, heap, &Call::Memory(call)) {
         Reply::Refused(refusal) => format!(in alloc; "refused {}; ", refusal.number()),
         Reply::Done => format!(in alloc; "done; "),
         Reply::Number(number) => format!(in alloc; "{number}; "),

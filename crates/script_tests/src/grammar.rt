@@ -40,6 +40,7 @@ fn put_line(text: &mut String, line: &Line) -> Result<(), AllocError> {
 fn put_call(text: &mut String, label: usize, call: &ChunkCall) -> Result<(), AllocError> {
     match call {
         ChunkCall::Free => write!(text, "free {label}"),
+        ChunkCall::Resize(size) => write!(text, "resize {label} {size}"),
         ChunkCall::SetOwner(owner) => write!(text, "setowner {label} {owner}"),
         ChunkCall::Lock => write!(text, "lock {label}"),
         ChunkCall::Unlock => write!(text, "unlock {label}"),
@@ -82,11 +83,12 @@ fn check(rt: &(impl Abort + AllocGlobal), cases: &[(&[u8], &str)]) -> Result<(),
     Ok(())
 }
 
-const COMMAND_CASES: [(&[u8], &str); 26] = [
+const COMMAND_CASES: [(&[u8], &str); 27] = [
     (b"bind a 16", "bind 0 16;"),
     (b"new a 8 1", "new 0 8 1;"),
     (b"ptrnew a 8 1", "ptrnew 0 8 1;"),
     (b"free a", "free 0;"),
+    (b"resize a 4294967295", "resize 0 4294967295;"),
     (b"setowner a 14", "setowner 0 14;"),
     (b"lock a", "lock 0;"),
     (b"unlock a", "unlock 0;"),
@@ -102,7 +104,7 @@ const COMMAND_CASES: [(&[u8], &str); 26] = [
     (b"largest", "largest;"),
     (b"compact", "compact;"),
     // no commands: others of the managers, other cases, parts, quoted words
-    (b"resize a 8", "line 1 UnknownCommand"),
+    (b"recover 40", "line 1 UnknownCommand"),
     (b"New a 8 1", "line 1 UnknownCommand"),
     (b"ne a 8 1", "line 1 UnknownCommand"),
     (b"newa 8 1", "line 1 UnknownCommand"),

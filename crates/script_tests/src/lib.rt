@@ -15,6 +15,8 @@ mod grammar;
 #[cfg(test)]
 mod large;
 #[cfg(test)]
+mod moving;
+#[cfg(test)]
 mod pieces;
 #[cfg(test)]
 mod reading;

@@ -6,6 +6,7 @@ use palmheap_commands::cmd_run;
 use program_io::Status;
 use std::alloc::Global;
 use std::io::{BufWriter, ErrorKind, Write};
+use std::process::Abort;
 use std::test::Fail;
 use test_images::{BLANK, ONE_CHUNK, bytes_of};
 
@@ -85,14 +86,22 @@ fn parted(alloc: Global, text: &str) -> Result<(String, String), Fail> {
     Ok((script, said))
 }
 
-#[test]
-fn lines_print_their_replies(rt: HostRuntime) -> Result<(), Fail> {
-    for (listing, text) in &RUNS {
+/// Runs lines on images, and checks their replies.
+pub(crate) fn check_runs(
+    rt: &(impl Abort + AllocGlobal),
+    runs: &[(&str, &str)],
+) -> Result<(), Fail> {
+    for (listing, text) in runs {
         let (script, wanted) = parted(rt.alloc(), text)?;
         let (said, _) = ran_on(rt.alloc(), listing, script.as_str())?;
         assert_eq!(rt; said.as_str(), wanted.as_str());
     }
     Ok(())
+}
+
+#[test]
+fn lines_print_their_replies(rt: HostRuntime) -> Result<(), Fail> {
+    check_runs(&rt, &RUNS)
 }
 
 /// Images, and the lines that are run on them, each with its reply.
@@ -162,6 +171,7 @@ const RUNS: [(&str, &str); 7] = [
         new b 0 1 = refused 8 NotEnoughSpace
         ptrnew p 0 1 = ok
         lock p = refused 6 ChunkFixed
+        resize p 1 = refused 6 ChunkFixed
         locks p = ok 15
         freebytes = ok 88",
     ),

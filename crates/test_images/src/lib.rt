@@ -15,6 +15,15 @@ pub const BLANK: &str = "50484931 00000080 0004 0000 00000000 00*16 80000060 00*
 pub const ONE_CHUNK: &str =
     "50484931 00000080 0004 0000 00000000 00000028 00*12 06000018 01FFFFF8 00*16 80000048 00*68";
 
+/// The same with three movable chunks of 24 bytes, which leave nothing free.
+pub const THREE_CHUNKS: &str =
+    "50484931 00000080 0004 0000 00000000 00000028 00000048 00000068 00000000 \
+    00000020 01FFFFF8 00*24 00000020 01FFFFEA 00*24 00000020 01FFFFDC 00*24";
+
+/// The same with the chunk in the middle free, and the one behind it under the second slot.
+pub const TWO_CHUNKS: &str = "50484931 00000080 0004 0000 00000000 00000028 00000068 00*8 \
+    00000020 01FFFFF8 00*24 80000020 00*28 00000020 01FFFFDA 00*24";
+
 /// One database with two records: directory, header, records and a free chunk.
 pub const DATABASE: &str =
     "50484931 000000D0 0008 0000 00000010 00000038 00000048 000000B0 000000C0 00*16 \
