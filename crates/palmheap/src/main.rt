@@ -9,11 +9,12 @@
 use clap::error::ErrorKind;
 use command_line::Request;
 use heap_model::Counted;
-use palmheap_commands::{cmd_check, cmd_new, cmd_run};
+use palmheap_commands::{check_region, cmd_new, run_region};
 use program_io::{
     InputFault, Noted, OutputFile, Status, read_input, report_fault, report_input_fault,
     report_outcome, report_write_fault,
 };
+use raw_region::Region;
 use std::fs::File;
 use std::io::BufWriter;
 use std::process::ExitCode;
@@ -102,7 +103,7 @@ fn check<R: Files + Print + Eprint + AllocGlobal>(rt: &R, path: &str) -> Status 
         Err(status) => return status,
     };
     let mut out = Counted::new(Noted::new(io::writer(rt)));
-    let status = cmd_check(rt.alloc(), image.as_slice(), &mut out);
+    let status = check_region(rt.alloc(), &Region::of_bytes(image), &mut out);
     let (_, fault) = out.into_inner().into_parts();
     report_outcome(rt, status, &[(STANDARD_OUTPUT, fault)]);
     status
@@ -131,9 +132,9 @@ fn run_script<R: Files + Print + Eprint + AllocGlobal>(
     };
     let (mut image_out, mut out) = (Counted::new(Noted::new(image_out)), Counted::new(out));
     let mut files = Vec::new(rt.alloc());
-    let status = cmd_run(
+    let status = run_region(
         rt.alloc(),
-        image.as_slice(),
+        Region::of_bytes(image),
         script.as_slice(),
         &[],
         &mut image_out,

@@ -30,34 +30,37 @@ PrintingFails contents lines region old region_after new =
     BreaksOff contents lines region old region_after new
     ⊎ RunsAndFlushes contents lines region old region_after new false
 
--- The script of a text was run on a region of these bytes, an accepted heap, and its text printed and
--- flushed; and the heap that came of it was written.
-pub record RunsScript {W V : Type 0} (image script : List ℕ) (contents : V → Option (List ℕ)) (old new : Writing V) (image_contents : W → Option (List ℕ)) (image_old image_new : Writing W) (ok : Bool) : Type 0 where
-  pub lines : List Line
-  pub region : Memory
+-- The lines of a script were run on a region, and their text printed and flushed; and the heap that came of
+-- it was written.
+pub record RunsAndWrites {W V : Type 0} (lines : List Line) (region : Memory) (contents : V → Option (List ℕ)) (old new : Writing V) (image_contents : W → Option (List ℕ)) (image_old image_new : Writing W) (ok : Bool) : Type 0 where
   pub region_after : Memory
-  pub image_is : region.bytes ≡ image
-  pub before : HeapAccepted image
-  pub read : read_script script ≡ Ok lines
   pub prints : RunsAndFlushes contents lines region old region_after new true
   pub accepted : HeapAccepted region_after.bytes
   pub written : Puts image_contents image_old image_new region_after.bytes ok
 
--- The script of a text was run on a region of these bytes, an accepted heap, and printing its text failed.
-pub record StopsPrinting {V : Type 0} (image script : List ℕ) (contents : V → Option (List ℕ)) (old new : Writing V) : Type 0 where
-  pub lines : List Line
-  pub region : Memory
-  pub region_after : Memory
+-- The lines of a script were run on a region, and a write or a flush failed, behind which nothing was written:
+-- it was one of their text, and no image was written; or it was one of the image, behind all of the text.
+pub record EndsEarly {W V : Type 0} (lines : List Line) (region : Memory) (contents : V → Option (List ℕ)) (old new : Writing V) (image_contents : W → Option (List ℕ)) (image_old image_new : Writing W) : Type 0 where
+  pub failed : ((region_after : Memory) × PrintingFails contents lines region old region_after new × (image_new ≡ image_old))
+      ⊎ RunsAndWrites lines region contents old new image_contents image_old image_new false
+
+-- These are the lines of the script of a text, and a region of these bytes, an accepted heap.
+pub record ReadsAs (image script : List ℕ) (lines : List Line) (region : Memory) : Type 0 where
   pub image_is : region.bytes ≡ image
   pub before : HeapAccepted image
   pub read : read_script script ≡ Ok lines
-  pub fails : PrintingFails contents lines region old region_after new
+
+-- The script of a text was run on a region of these bytes, an accepted heap, and its text printed and
+-- flushed; and the heap that came of it was written.
+abbrev pub RunsScript : {W V : Type 0} → (image script : List ℕ) → (V → Option (List ℕ)) → Writing V → Writing V → (W → Option (List ℕ)) → Writing W → Writing W → Bool → Type 0
+RunsScript image script contents old new image_contents image_old image_new ok =
+    (lines : List Line) × (region : Memory) × ReadsAs image script lines region
+    × RunsAndWrites lines region contents old new image_contents image_old image_new ok
 
 -- A write or a flush failed in `run`, and nothing was written after it: it was one of the line for a
--- refusal, or of the text of the script's lines, and no image was written; or it was one of the image,
--- behind all of the text.
+-- refusal, and no image was written; or one behind it, in the text of the script's lines or in the image.
 abbrev pub RunBreaksOff : {W V : Type 0} → (image script : List ℕ) → (V → Option (List ℕ)) → Writing V → Writing V → (W → Option (List ℕ)) → Writing W → Writing W → Type 0
 RunBreaksOff image script contents old new image_contents image_old image_new =
     (PutsRefusal image script contents old new false × (image_new ≡ image_old))
-    ⊎ (StopsPrinting image script contents old new × (image_new ≡ image_old))
-    ⊎ RunsScript image script contents old new image_contents image_old image_new false
+    ⊎ ((lines : List Line) × (region : Memory) × ReadsAs image script lines region
+    × EndsEarly lines region contents old new image_contents image_old image_new)

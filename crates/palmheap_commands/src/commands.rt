@@ -7,10 +7,11 @@ ghost use Rattle.palmheap_commands.specs.Commands.{NewBreaksOff, PutsBlank, Puts
 ghost use Rattle.program_io.specs.FaultLines.{PutsBad};
 ghost use Rattle.program_io.specs.Output.{Puts};
 
+use crate::images::put_image;
 use chunk_format::{BlankFault, blank};
 use heap_check::{Summary, check_heap};
 use heap_model::Counted;
-use program_io::{Status, put, say, say_bad, say_text};
+use program_io::{Status, say, say_bad, say_text};
 use raw_region::Region;
 use std::alloc::{AllocError, Global};
 use std::io::Write;
@@ -44,7 +45,7 @@ pub fn cmd_new<W: Write, V: Write>(
         Err(BlankFault::OutOfMemory) => return Status::NoMemory,
         Err(fault) => return say_bad(alloc, fault, Status::BadWords, out),
     };
-    match put(image_out, region.slice(0, region.len())) {
+    match put_image(image_out, &region) {
         Ok(()) => say(b"ok\n", Status::Done, out),
         Err(_) => Status::WriteFault,
     }
@@ -65,10 +66,28 @@ pub fn cmd_check<V: Write>(alloc: Global, image: &[u8], out: &mut Counted<V>) ->
     ensures good_words { result ≢ Status.BadWords }
     ensures reads_nothing { result ≢ Status.ReadFault }
 {
-    let Ok(region) = Region::from_bytes(alloc, image) else {
-        return Status::NoMemory;
-    };
-    match check_heap(&region) {
+    match Region::from_bytes(alloc, image) {
+        Ok(region) => check_region(alloc, &region, out),
+        Err(_) => Status::NoMemory,
+    }
+}
+
+/// `cmd_check`, of an image that lies in a region. It makes no copy of it.
+pub fn check_region<V: Write>(alloc: Global, region: &Region, out: &mut Counted<V>) -> Status
+    ensures done { result ≡ Status.Done
+        → PutsSummary region.now.bytes V.contents out.old out.new true }
+    ensures accepted { result ≡ Status.Done → HeapAccepted region.now.bytes }
+    ensures refused { result ≡ Status.Refused → HeapAccepted region.now.bytes → ⊥ }
+    ensures fault { result ≡ Status.Refused → PutsBad V.contents out.old out.new true }
+    ensures no_memory { result ≡ Status.NoMemory → out.new ≡ out.old }
+    ensures summary_fault { result ≡ Status.WriteFault → HeapAccepted region.now.bytes
+        → PutsSummary region.now.bytes V.contents out.old out.new false }
+    ensures bad_fault { result ≡ Status.WriteFault → (HeapAccepted region.now.bytes → ⊥)
+        → PutsBad V.contents out.old out.new false }
+    ensures good_words { result ≢ Status.BadWords }
+    ensures reads_nothing { result ≢ Status.ReadFault }
+{
+    match check_heap(region) {
         Ok(summary) => say_text(summary_text(alloc, &summary), Status::Done, out),
         Err(fault) => say_bad(alloc, fault, Status::Refused, out),
     }

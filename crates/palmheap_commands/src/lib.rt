@@ -7,10 +7,12 @@
 //! |---|---|
 //! | `commands` | the commands `new` and `check` |
 //! | `run` | the command `run`: a script, run on an image |
+//! | `images` | images that are written |
 #![tactic(auto)]
 
 mod commands;
+mod images;
 mod run;
 
-pub use commands::{cmd_check, cmd_new};
-pub use run::cmd_run;
+pub use commands::{check_region, cmd_check, cmd_new};
+pub use run::{cmd_run, run_region};

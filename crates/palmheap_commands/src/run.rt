@@ -1,13 +1,16 @@
 //! The command `run`: a script, run on an image.
 
-ghost use Rattle.std.specs.Prelude.{◌≡◌, ◌≢◌, ◌⊎◌, Err, IfOk, IfErr, OnOk, [], true};
-ghost use Rattle.palmheap_commands.specs.Runs.{PrintingFails, RunBreaksOff, RunsAndFlushes};
-ghost use Rattle.palmheap_commands.specs.Runs.{PutsRefusal, RunsScript};
+ghost use Rattle.std.specs.Prelude.{◌≡◌, ◌≢◌, ◌⊎◌, Ok, Err, IfOk, IfErr, OnOk, [], true, false};
+ghost use Rattle.heap_model.specs.Heap.{HeapAccepted};
+ghost use Rattle.script_lines.specs.Reading.{read_script};
+ghost use Rattle.palmheap_commands.specs.Runs.{EndsEarly, PrintingFails, PutsRefusal, RunBreaksOff};
+ghost use Rattle.palmheap_commands.specs.Runs.{RunsAndFlushes, RunsAndWrites, RunsScript};
 
+use crate::images::put_image;
 use heap_model::{Bytes, Counted};
 use mem_manager::Heap;
 use palm_script::{RunFault, Script, ScriptFault, parse, run};
-use program_io::{Status, put, say_bad, say_line_fault};
+use program_io::{Status, say_bad, say_line_fault};
 use raw_region::Region;
 use std::alloc::Global;
 use std::io::Write;
@@ -40,24 +43,99 @@ pub fn cmd_run<W: Write, V: Write>(
     ensures good_words { result ≢ Status.BadWords }
     ensures reads_nothing { result ≢ Status.ReadFault }
 {
-    let Ok(region) = Region::from_bytes(alloc, image) else {
-        return Status::NoMemory;
-    };
-    let mut heap = match Heap::adopt(region) {
+    match Region::from_bytes(alloc, image) {
+        Ok(region) => run_region(alloc, region, script, inputs, image_out, files, out),
+        Err(_) => Status::NoMemory,
+    }
+}
+
+/// `cmd_run`, on an image that lies in a region. It makes no copy of it.
+pub fn run_region<W: Write, V: Write>(
+    alloc: Global,
+    region: Region,
+    script: &[u8],
+    inputs: &[Bytes],
+    image_out: &mut Counted<W>,
+    files: &mut Vec<Bytes>,
+    out: &mut Counted<V>,
+) -> Status
+    ensures done { result ≡ Status.Done → RunsScript region.bytes script.now
+        V.contents out.old out.new W.contents image_out.old image_out.new true }
+    ensures no_file { result ≡ Status.Done → files.new.items ≡ [] }
+    ensures files_kept { result ≢ Status.Done → files.new ≡ files.old }
+    ensures refused { result ≡ Status.Refused
+        → PutsRefusal region.bytes script.now V.contents out.old out.new true }
+    ensures no_image { result ≡ Status.Refused → image_out.new ≡ image_out.old }
+    ensures no_memory { result ≡ Status.NoMemory
+        → (image_out.new ≡ image_out.old) × (out.new ≡ out.old) }
+    ensures write_fault { result ≡ Status.WriteFault → RunBreaksOff region.bytes script.now
+        V.contents out.old out.new W.contents image_out.old image_out.new }
+    ensures good_words { result ≢ Status.BadWords }
+    ensures reads_nothing { result ≢ Status.ReadFault }
+{
+    match read(alloc, region, script, out) {
+        Ok((heap, script)) => run_script(alloc, heap, &script, inputs, image_out, files, out),
+        Err(status) => status,
+    }
+}
+
+/// The heap of an image, and the script of a text. What is refused is said, the image before the
+/// script.
+fn read<V: Write>(
+    alloc: Global,
+    region: Region,
+    script: &[u8],
+    out: &mut Counted<V>,
+) -> Result<(Heap, Script), Status>
+    ensures heap { IfOk result (λ read. read.0 ≡ region) }
+    ensures accepted { OnOk result (HeapAccepted region.bytes) }
+    ensures script { IfOk result (λ read. read_script script.now ≡ Ok read.1) }
+    ensures silent { OnOk result (out.new ≡ out.old) }
+    ensures faults { IfErr result (λ status. (status ≡ Status.Refused)
+        ⊎ (status ≡ Status.WriteFault) ⊎ (status ≡ Status.NoMemory)) }
+    ensures refused { result ≡ Err Status.Refused
+        → PutsRefusal region.bytes script.now V.contents out.old out.new true }
+    ensures write { result ≡ Err Status.WriteFault
+        → PutsRefusal region.bytes script.now V.contents out.old out.new false }
+    ensures memory { result ≡ Err Status.NoMemory → out.new ≡ out.old }
+{
+    let heap = match Heap::adopt(region) {
         Ok(heap) => heap,
-        Err(error) => return say_bad(alloc, error.fault, Status::Refused, out),
+        Err(error) => return Err(say_bad(alloc, error.fault, Status::Refused, out)),
     };
-    let script = match parse(alloc, script) {
-        Ok(script) => script,
-        Err(fault) if fault.fault == ScriptFault::OutOfMemory => return Status::NoMemory,
-        Err(fault) => return say_line_fault(alloc, fault, out),
-    };
-    let exported = match print_replies(alloc, &mut heap, &script, inputs, out) {
+    match parse(alloc, script) {
+        Ok(script) => Ok((heap, script)),
+        Err(fault) if fault.fault == ScriptFault::OutOfMemory => Err(Status::NoMemory),
+        Err(fault) => Err(say_line_fault(alloc, fault, out)),
+    }
+}
+
+/// Runs a script on a heap, prints its reply lines, and then writes the image.
+fn run_script<W: Write, V: Write>(
+    alloc: Global,
+    mut heap: Heap,
+    script: &Script,
+    inputs: &[Bytes],
+    image_out: &mut Counted<W>,
+    files: &mut Vec<Bytes>,
+    out: &mut Counted<V>,
+) -> Status
+    ensures statuses { (result ≡ Status.Done) ⊎ (result ≡ Status.WriteFault)
+        ⊎ (result ≡ Status.NoMemory) }
+    ensures done { result ≡ Status.Done → RunsAndWrites script.now heap
+        V.contents out.old out.new W.contents image_out.old image_out.new true }
+    ensures no_file { result ≡ Status.Done → files.new.items ≡ [] }
+    ensures files_kept { result ≢ Status.Done → files.new ≡ files.old }
+    ensures write_fault { result ≡ Status.WriteFault → EndsEarly script.now heap
+        V.contents out.old out.new W.contents image_out.old image_out.new }
+    ensures no_memory { result ≡ Status.NoMemory
+        → (image_out.new ≡ image_out.old) × (out.new ≡ out.old) }
+{
+    let exported = match print_replies(alloc, &mut heap, script, inputs, out) {
         Ok(exported) => exported,
         Err(status) => return status,
     };
-    let region = heap.into_region();
-    match put(image_out, region.slice(0, region.len())) {
+    match put_image(image_out, &heap.into_region()) {
         Ok(()) => {
             *files = exported;
             Status::Done

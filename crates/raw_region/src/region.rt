@@ -41,15 +41,21 @@ impl Region {
         })
     }
 
+    /// A region of these very bytes. It takes no memory.
+    pub fn of_bytes(bytes: Vec<u8>) -> Region
+        ensures { result.bytes ≡ bytes.items }
+    {
+        Region {
+            bytes,
+            slid: Tally::new(),
+        }
+    }
+
     /// A region that is a copy of `bytes`. The only error is that memory was refused.
     pub fn from_bytes(alloc: Global, bytes: &[u8]) -> Result<Region, AllocError>
         ensures { IfOk result (λ region. region.bytes ≡ bytes.now) }
     {
-        let bytes = Vec::from_slice(alloc, bytes)?;
-        Ok(Region {
-            bytes,
-            slid: Tally::new(),
-        })
+        Ok(Region::of_bytes(Vec::from_slice(alloc, bytes)?))
     }
 
     /// How many bytes the region has.

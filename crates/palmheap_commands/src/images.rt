@@ -1,0 +1,20 @@
+//! Images that are written.
+
+ghost use Rattle.std.specs.Prelude.{is_ok};
+ghost use Rattle.program_io.specs.Output.{Puts};
+
+use heap_model::Counted;
+use palm_text::WriteFault;
+use program_io::put;
+use raw_region::Region;
+use std::io::Write;
+
+/// Writes the whole image, and flushes.
+pub(crate) fn put_image<W: Write>(
+    image_out: &mut Counted<W>,
+    region: &Region,
+) -> Result<(), WriteFault>
+    ensures { Puts W.contents image_out.old image_out.new region.now.bytes (is_ok result) }
+{
+    put(image_out, region.slice(0, region.len()))
+}
