@@ -8,7 +8,10 @@
  * its slot. A new one goes to the front of the first run of neighbouring free chunks that has room,
  * which is looked for from the first chunk on. One that is freed is joined with the free chunk behind
  * it. Compaction is one walk, with one move for each chunk that goes down over the free one in front of
- * it. No chunk here is fixed, so that a name of no slot names nothing.
+ * it. Where no free run has the room for a new chunk, the first stretch that has it is packed. A chunk
+ * that is to be larger than it and the free chunks behind it goes to a free run that has the room; else
+ * its stretch is packed, and what is behind it is lifted in one move; else another stretch is packed. No
+ * chunk here is fixed, so that a name of no slot names nothing.
  */
 #include <endian.h>
 #include <stdbool.h>
@@ -21,7 +24,7 @@
 enum { MAX_SIZE = 16777208, HEADER = 8, MOST_LOCKS = 14, DATABASE = 15 };
 
 /* What the calls here are done with. */
-enum { OWNER = 1, MOST_BYTES = 64, WIDTH = 16, MOST_MOVED = 2000 };
+enum { OWNER = 1, MOST_BYTES = 64, WIDTH = 16, MOST_MOVED = 2000, STRETCHES = 64 };
 
 static const uint32_t MAGIC = 0x50484931;
 static const uint32_t FREE_BIT = 0x80000000;
@@ -234,6 +237,92 @@ static bool find_run(const struct heap *heap, uint32_t size, uint32_t *run_at, u
     return false;
 }
 
+static bool stays(const struct heap *heap, uint32_t at)
+{
+    return !is_free(heap, at) && u32_at(heap->image, at + 4) >> 28 != 0;
+}
+
+/* Finds the first stretch whose room has `size` bytes. */
+static bool find_stretch(const struct heap *heap, uint32_t size, uint32_t *start, uint32_t *end)
+{
+    uint32_t at = area_start(slot_count(heap));
+    uint32_t room = 0;
+    for (*start = at; at < heap->len; at += size_of_chunk(heap, at)) {
+        if (stays(heap, at)) {
+            if (room >= size)
+                break;
+            *start = at + size_of_chunk(heap, at);
+            room = 0;
+        } else if (is_free(heap, at)) {
+            room += size_of_chunk(heap, at);
+        }
+    }
+    *end = at;
+    return room >= size;
+}
+
+/* Where the chunk at `at` is to name the slot that the word `word2` of a chunk at `from` names. */
+static uint32_t named_from(uint32_t word2, uint32_t from, uint32_t at, uint32_t *slot)
+{
+    *slot = from + 2 * (uint32_t)((int32_t)(word2 << 8) >> 8);
+    return (word2 & 0xFF000000) | ((uint32_t)(((int32_t)*slot - (int32_t)at) / 2) & 0xFFFFFF);
+}
+
+/* Mends the chunk that was moved from `from` to `at`: it names its slot again, and the slot holds its
+ * place. */
+static void mend(struct heap *heap, uint32_t from, uint32_t at)
+{
+    uint32_t slot;
+    put_u32(heap->image, at + 4, named_from(u32_at(heap->image, at + 4), from, at, &slot));
+    put_u32(heap->image, slot, at + HEADER);
+}
+
+/* Packs the chunks from `start` up to `end`, and answers how many bytes were moved. `room` is how much is
+ * free behind them then. */
+static uint32_t pack(struct heap *heap, uint32_t start, uint32_t end, uint32_t *room)
+{
+    uint32_t moved = 0;
+    *room = 0;
+    for (uint32_t at = start; at < end;) {
+        uint32_t size = size_of_chunk(heap, at);
+        if (is_free(heap, at)) {
+            put_free(heap, at - *room, *room + size);
+            *room += size;
+        } else if (stays(heap, at)) {
+            *room = 0;
+        } else if (*room > 0) {
+            memmove(heap->image + at - *room, heap->image + at, size);
+            mend(heap, at, at - *room);
+            put_free(heap, at - *room + size, *room);
+            moved += size;
+        }
+        at += size;
+    }
+    return moved;
+}
+
+/* Moves the chunks from `start` up to `end` behind the free chunk that follows them, whose size is `gap`. */
+static void lift(struct heap *heap, uint32_t start, uint32_t end, uint32_t gap)
+{
+    memmove(heap->image + start + gap, heap->image + start, end - start);
+    put_free(heap, start, gap);
+    for (uint32_t at = start + gap; at < end + gap; at += size_of_chunk(heap, at))
+        mend(heap, at - gap, at);
+}
+
+/* Finds a run of free chunks that has `size` bytes. Where there is none, the first stretch that has the
+ * room is packed. */
+static bool make_room(struct heap *heap, uint32_t size, uint32_t *run_at, uint32_t *run_size)
+{
+    uint32_t start, end, room;
+    if (find_run(heap, size, run_at, run_size))
+        return true;
+    if (!find_stretch(heap, size, &start, &end))
+        return false;
+    pack(heap, start, end, &room);
+    return find_run(heap, size, run_at, run_size);
+}
+
 static enum refusal heap_handle_new(struct heap *heap, uint32_t length, uint32_t owner,
                                     uint32_t *name)
 {
@@ -245,7 +334,7 @@ static enum refusal heap_handle_new(struct heap *heap, uint32_t length, uint32_t
         number++;
     uint32_t size = chunk_size(length);
     uint32_t at, run;
-    if (number >= slots || size == 0 || !find_run(heap, size, &at, &run))
+    if (number >= slots || size == 0 || !make_room(heap, size, &at, &run))
         return NOT_ENOUGH_SPACE;
     if (run > size)
         put_free(heap, at + size, run - size);
@@ -281,11 +370,6 @@ static enum refusal heap_free(struct heap *heap, uint32_t name)
     return DONE;
 }
 
-static bool stays(const struct heap *heap, uint32_t at)
-{
-    return !is_free(heap, at) && u32_at(heap->image, at + 4) >> 28 != 0;
-}
-
 /* The greatest room of a stretch, 0 where there is none. */
 static uint32_t heap_largest_stretch(const struct heap *heap)
 {
@@ -301,42 +385,122 @@ static uint32_t heap_largest_stretch(const struct heap *heap)
     return largest;
 }
 
-/* Moves the chunk at `at` down over the free chunk in front of it, whose size is `room`. */
-static void drop_one(struct heap *heap, uint32_t at, uint32_t size, uint32_t room)
-{
-    uint32_t word2 = u32_at(heap->image, at + 4);
-    uint32_t to = at - room;
-    uint32_t slot = at + 2 * (uint32_t)((int32_t)(word2 << 8) >> 8);
-    uint32_t h_offset = (uint32_t)(((int32_t)slot - (int32_t)to) / 2) & 0xFFFFFF;
-    memmove(heap->image + to, heap->image + at, size);
-    put_u32(heap->image, to + 4, (word2 & 0xFF000000) | h_offset);
-    put_free(heap, to + size, room);
-    put_u32(heap->image, slot, to + HEADER);
-}
-
-/* Packs the chunks from `start` up to `end`, and answers how many bytes were moved. */
-static uint32_t pack(struct heap *heap, uint32_t start, uint32_t end)
-{
-    uint32_t moved = 0, room = 0;
-    for (uint32_t at = start; at < end;) {
-        uint32_t size = size_of_chunk(heap, at);
-        if (is_free(heap, at)) {
-            put_free(heap, at - room, room + size);
-            room += size;
-        } else if (stays(heap, at)) {
-            room = 0;
-        } else if (room > 0) {
-            drop_one(heap, at, size, room);
-            moved += size;
-        }
-        at += size;
-    }
-    return moved;
-}
-
 static uint32_t heap_compact(struct heap *heap)
 {
-    return pack(heap, area_start(slot_count(heap)), heap->len);
+    uint32_t room;
+    return pack(heap, area_start(slot_count(heap)), heap->len, &room);
+}
+
+/* The sizes together of the free chunks that stand at `at`. */
+static uint32_t free_run(const struct heap *heap, uint32_t at)
+{
+    uint32_t end = at;
+    while (end < heap->len && is_free(heap, end))
+        end += size_of_chunk(heap, end);
+    return end - at;
+}
+
+/* Gives a chunk another length where it stands, out of its own size and of `behind` free bytes. */
+static void resize_at(struct heap *heap, const struct found *found, uint32_t length, uint32_t behind)
+{
+    uint32_t at = found->place - HEADER;
+    uint32_t size = chunk_size(length);
+    uint32_t left = chunk_size(found->length) + behind - size;
+    if (length > found->length)
+        memset(heap->image + found->place + found->length, 0, length - found->length);
+    if (left > 0)
+        put_free(heap, at + size, left);
+    put_u32(heap->image, at, (size - HEADER - length) << 24 | size);
+}
+
+static bool resize_in_place(struct heap *heap, const struct found *found, uint32_t length)
+{
+    uint32_t own = chunk_size(found->length);
+    uint32_t behind = free_run(heap, found->place - HEADER + own);
+    uint32_t size = chunk_size(length);
+    if (size == 0 || size > own + behind)
+        return false;
+    resize_at(heap, found, length, behind);
+    return true;
+}
+
+/* Where the stretch of a chunk begins and ends, and its room. */
+static uint32_t stretch_around(const struct heap *heap, uint32_t place, uint32_t *start, uint32_t *end)
+{
+    uint32_t at = area_start(slot_count(heap));
+    for (*start = at; at < heap->len; at += size_of_chunk(heap, at)) {
+        if (!stays(heap, at))
+            continue;
+        if (at > place - HEADER)
+            break;
+        *start = at + size_of_chunk(heap, at);
+    }
+    *end = at;
+    uint32_t room = 0;
+    for (at = *start; at < *end; at += size_of_chunk(heap, at))
+        room += is_free(heap, at) ? size_of_chunk(heap, at) : 0;
+    return room;
+}
+
+/* Moves the chunk of a name to the front of a free run. */
+static void relocate(struct heap *heap, uint32_t name, uint32_t length, uint32_t at, uint32_t run)
+{
+    struct found found;
+    find(heap, name, &found);
+    uint32_t size = chunk_size(length);
+    uint32_t kept = length < found.length ? length : found.length;
+    if (run > size)
+        put_free(heap, at + size, run - size);
+    put_u32(heap->image, at, (size - HEADER - length) << 24 | size);
+    put_u32(heap->image, at + 4, u32_at(heap->image, found.place - 4));
+    memset(heap->image + at + HEADER, 0, length);
+    memmove(heap->image + at + HEADER, heap->image + found.place, kept);
+    uint32_t from = found.place - HEADER;
+    uint32_t freed = chunk_size(found.length);
+    if (from + freed < heap->len && is_free(heap, from + freed))
+        freed += size_of_chunk(heap, from + freed);
+    put_free(heap, from, freed);
+    mend(heap, from, at);
+}
+
+/* Gives a chunk a length that it can't have in its place. */
+static bool resize_by_moving(struct heap *heap, uint32_t name, const struct found *found,
+                             uint32_t length)
+{
+    uint32_t size = chunk_size(length);
+    uint32_t at, run, start, end;
+    if (size == 0)
+        return false;
+    if (find_run(heap, size, &at, &run)) {
+        relocate(heap, name, length, at, run);
+        return true;
+    }
+    if (chunk_size(found->length) + stretch_around(heap, found->place, &start, &end) >= size) {
+        struct found now;
+        pack(heap, start, end, &run);
+        find(heap, name, &now);
+        if (run > 0)
+            lift(heap, now.place - HEADER + chunk_size(now.length), end - run, run);
+        return resize_in_place(heap, &now, length);
+    }
+    if (!make_room(heap, size, &at, &run))
+        return false;
+    relocate(heap, name, length, at, run);
+    return true;
+}
+
+static enum refusal heap_resize(struct heap *heap, uint32_t name, uint32_t length)
+{
+    struct found found;
+    if (!find(heap, name, &found))
+        return INVALID_HANDLE;
+    if (found.owner == DATABASE)
+        return OWNED_BY_DATABASE;
+    if (resize_in_place(heap, &found, length))
+        return DONE;
+    if (found.lock != 0)
+        return CHUNK_LOCKED;
+    return resize_by_moving(heap, name, &found, length) ? DONE : NOT_ENOUGH_SPACE;
 }
 
 /* Makes an image with nothing in it. */
@@ -640,41 +804,115 @@ struct sums {
     uint32_t replies, words;
 };
 
-/* A call that goes through all chunks. */
-typedef uint32_t walk(struct heap *heap);
-
-static uint32_t walk_largest_stretch(struct heap *heap)
-{
-    return heap_largest_stretch(heap);
-}
-
-static const struct {
-    const char *name;
-    walk *walk;
-} WALKS[] = {
-    {"largest_stretch", walk_largest_stretch},
-    {"compact", heap_compact},
+/* A heap of which every second chunk is free, its other chunks in order, and how many bytes these have. */
+struct scattered {
+    struct heap heap;
+    uint32_t *kept, *lengths;
+    size_t count;
 };
 
-/* Does each call that goes through all chunks once in each round, on a new copy of a heap. */
-static bool time_walks(const struct heap *scattered, const struct work *work, struct sums *sums,
+static bool scatter(struct load *load, size_t count, struct scattered *scattered)
+{
+    make_chunks(load, count);
+    free_every_second(load);
+    *scattered = (struct scattered){
+        .heap = load->heap,
+        .kept = calloc(count, sizeof *scattered->kept),
+        .lengths = calloc(count, sizeof *scattered->lengths),
+    };
+    if (scattered->kept == NULL || scattered->lengths == NULL)
+        return false;
+    for (size_t i = 1; i < load->handle_count; i += 2) {
+        uint32_t name = load->handles[i];
+        if (heap_size(&load->heap, name, &scattered->lengths[scattered->count]) == DONE)
+            scattered->kept[scattered->count++] = name;
+    }
+    return true;
+}
+
+/* Calls that walk through all chunks or move them. */
+enum walk { LARGEST_STRETCH, COMPACT, HANDLE_NEW, RESIZE_IN_PLACE, RESIZE_BY_MOVING, WALKS };
+
+static const char *const WALK_NAMES[WALKS] = {
+    "largest_stretch", "compact", "handle_new_by_packing", "resize_in_place", "resize_by_moving",
+};
+
+static size_t calls_of_walk(const struct scattered *scattered, enum walk walk)
+{
+    if (walk == HANDLE_NEW)
+        return STRETCHES / 2;
+    return walk == RESIZE_IN_PLACE ? 2 * scattered->count : 1;
+}
+
+/* Locks chunks that part a heap into stretches of about as many chunks each. */
+static void part(struct heap *heap, const struct scattered *scattered)
+{
+    size_t step = scattered->count / STRETCHES;
+    for (size_t i = 0; i < scattered->count; i += step > 0 ? step : 1) {
+        uint32_t place, count;
+        heap_lock(heap, scattered->kept[i], &place, &count);
+    }
+}
+
+static uint32_t make_large(struct heap *heap)
+{
+    uint32_t replies = 0;
+    for (size_t i = 0; i < STRETCHES / 2; i++) {
+        uint32_t name;
+        enum refusal refusal =
+            heap_handle_new(heap, heap->len / (2 * STRETCHES) / 4 * 3, OWNER, &name);
+        replies = sum_with(replies, refusal == DONE ? name : refusal);
+    }
+    return replies;
+}
+
+static uint32_t resize_each(struct heap *heap, const struct scattered *scattered)
+{
+    uint32_t replies = 0;
+    for (size_t i = 0; i < scattered->count; i++) {
+        uint32_t name = scattered->kept[i], length = scattered->lengths[i];
+        replies = sum_with(replies, heap_resize(heap, name, length + 8));
+        replies = sum_with(replies, heap_resize(heap, name, length));
+    }
+    return replies;
+}
+
+/* Does the calls, and answers the sum of their replies. */
+static uint32_t do_walk(struct heap *heap, const struct scattered *scattered, enum walk walk)
+{
+    switch (walk) {
+    case LARGEST_STRETCH: return heap_largest_stretch(heap);
+    case COMPACT: return heap_compact(heap);
+    case HANDLE_NEW: return make_large(heap);
+    case RESIZE_IN_PLACE: return resize_each(heap, scattered);
+    default:
+        if (scattered->count == 0)
+            return 0;
+        return heap_resize(heap, scattered->kept[scattered->count / 2], heap->len / 4);
+    }
+}
+
+/* Does calls of each kind in each round, on a new copy of a heap. */
+static bool time_walks(const struct scattered *scattered, const struct work *work, struct sums *sums,
                        uint64_t *times)
 {
-    struct heap heap = {.image = malloc(scattered->len), .len = scattered->len};
+    struct heap heap = {.image = malloc(scattered->heap.len), .len = scattered->heap.len};
     if (heap.image == NULL)
         return false;
-    for (size_t call = 0; call < sizeof WALKS / sizeof *WALKS; call++) {
+    for (enum walk walk = LARGEST_STRETCH; walk < WALKS; walk++) {
         for (size_t i = 0; i < work->rounds; i++) {
-            memcpy(heap.image, scattered->image, heap.len);
+            memcpy(heap.image, scattered->heap.image, heap.len);
             heap.lowest = 0;
+            if (walk == HANDLE_NEW)
+                part(&heap, scattered);
             uint64_t start = nanoseconds();
-            uint32_t reply = WALKS[call].walk(&heap);
+            uint32_t replies = do_walk(&heap, scattered, walk);
             times[i] = nanoseconds() - start;
-            sums->replies = sum_with(sums->replies, reply);
+            sums->replies = sum_with(sums->replies, replies);
             sums->words = sum_with(sums->words, words_of(&heap));
         }
         if (work->prints_times)
-            print_times(WALKS[call].name, 1, times, work->rounds);
+            print_times(WALK_NAMES[walk], calls_of_walk(scattered, walk), times, work->rounds);
     }
     return true;
 }
@@ -699,13 +937,14 @@ int main(int argc, char **argv)
     static const char *const AT_THE_END[2] = {"free_at_the_end", "handle_new_at_the_end"};
     static const char *const ANYWHERE[2] = {"free_anywhere", "handle_new_anywhere"};
     struct work work;
-    struct load load, scattered;
+    struct load load, blank;
+    struct scattered scattered;
     if (!read_work(argc, argv, &work) || !make_load(&load, &work, MOST_BYTES)) {
         fprintf(stderr, "usage: memory_calls [SIZE SLOTS PASSES ROUNDS]\n");
         return 2;
     }
     uint64_t *times = calloc(2 * work.rounds + 1, sizeof *times);
-    if (times == NULL || !make_load(&scattered, &work, most_when_full(&work)))
+    if (times == NULL || !make_load(&blank, &work, most_when_full(&work)))
         return 2;
 
     fill(&load, &work, times);
@@ -716,9 +955,7 @@ int main(int argc, char **argv)
     time_calls(&load, &work, times);
     struct sums sums = {.replies = load.replies, .words = words_of(&load.heap)};
 
-    make_chunks(&scattered, work.slots);
-    free_every_second(&scattered);
-    if (!time_walks(&scattered.heap, &work, &sums, times))
+    if (!scatter(&blank, work.slots, &scattered) || !time_walks(&scattered, &work, &sums, times))
         return 2;
     printf("replies %u words %u\n", sums.replies, sums.words);
     return 0;

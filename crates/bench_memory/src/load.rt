@@ -4,11 +4,10 @@ use crate::numbers::Numbers;
 use crate::sum::{Sum, Sums};
 use heap_model::Name;
 use mem_manager::Heap;
-use raw_region::Region;
 use std::alloc::{AllocError, Global};
 
 /// The owner of all chunks.
-const OWNER: u8 = 1;
+pub(crate) const OWNER: u8 = 1;
 
 /// How many bytes are read and written by one call.
 const WIDTH: u32 = 16;
@@ -205,8 +204,8 @@ impl Load {
         }
     }
 
-    /// The region of the heap.
-    pub(crate) fn into_region(self) -> Region {
-        self.heap.into_region()
+    /// The heap, and the handles of the chunks that were made.
+    pub(crate) fn into_parts(self) -> (Heap, Vec<Name>) {
+        (self.heap, self.handles)
     }
 }

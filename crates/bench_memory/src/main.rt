@@ -1,8 +1,8 @@
 //! Times the calls of the memory manager. `bench_memory SIZE SLOTS PASSES ROUNDS` makes a heap of SIZE
 //! bytes with SLOTS slots, and a chunk under each slot. It frees and makes chunks, and then does the
-//! calls whose time doesn't depend on the heap, PASSES times at each handle. Calls that go through all
-//! chunks are done on another heap: one that chunks fill, of which every second is freed. For each kind
-//! of call it prints the calls of a round, and the best and the median processor time of a round in
+//! calls whose time doesn't depend on the heap, PASSES times at each handle. Calls that walk through all
+//! chunks or move them are done on another heap: one that chunks fill, of which every second is freed.
+//! For each kind of call it prints the calls of a round, and the best and the median processor time of a round in
 //! nanoseconds.
 //!
 //! The last line has the sum of all replies, and that of the words of the heaps at the end. With no
@@ -38,10 +38,13 @@ const CALLS: [(&str, Call); 5] = [
     ("read", Call::Read),
 ];
 
-/// The calls that go through all chunks, by what is printed of them.
-const WALKS: [(&str, Walk); 2] = [
+/// The calls that walk through all chunks or move them, by what is printed of them.
+const WALKS: [(&str, Walk); 5] = [
     ("largest_stretch", Walk::LargestStretch),
     ("compact", Walk::Compact),
+    ("handle_new_by_packing", Walk::HandleNew),
+    ("resize_in_place", Walk::ResizeInPlace),
+    ("resize_by_moving", Walk::ResizeByMoving),
 ];
 
 /// What is printed of the calls that free and make chunks.
@@ -66,7 +69,8 @@ fn main(rt: HostRuntime) -> Result<()> {
     load.lock_wide();
     repeat(&rt, &mut load, work, "write", Call::Write)?;
     let mut sums = load.into_sums();
-    let scattered = Scattered::of(blank_load(&rt, work, work.most_when_full())?, work.slots)?;
+    let blank = blank_load(&rt, work, work.most_when_full())?;
+    let scattered = Scattered::of(rt.alloc(), blank, work.slots)?;
     for (name, walk) in WALKS {
         walk_through(&rt, work, &scattered, name, walk, &mut sums)?;
     }
@@ -138,7 +142,7 @@ fn repeat(
     print_times(rt, work, name, calls, times)
 }
 
-/// Does one call in each round, on a new copy of a heap.
+/// Does calls of one kind in each round, on a new copy of a heap.
 fn walk_through(
     rt: &(impl CpuClock + Print + AllocGlobal),
     work: Work,
@@ -150,12 +154,15 @@ fn walk_through(
     let mut times = Times::new(rt.alloc());
     for _ in 0..work.rounds {
         let mut heap = heap_of(scattered.copy(rt.alloc())?)?;
+        if let Walk::HandleNew = walk {
+            scattered.part(&mut heap);
+        }
         let start = rt.thread_cpu_time()?;
-        let reply = walk.on(&mut heap);
+        let replies = scattered.walk(&mut heap, walk);
         times.add(since(rt, start)?)?;
-        sums.add(reply, &heap.into_region());
+        sums.add(replies, &heap.into_region());
     }
-    print_times(rt, work, name, 1, times)
+    print_times(rt, work, name, scattered.calls(walk), times)
 }
 
 /// The processor time that was used since it was so much.

@@ -40,9 +40,9 @@ pub(crate) struct Sums {
 }
 
 impl Sums {
-    /// Adds a reply, and the sum of the words of the region that it left.
-    pub(crate) fn add(&mut self, reply: u32, region: &Region) {
-        self.replies.add(reply);
+    /// Adds the sum of some replies, and that of the words of the region that they left.
+    pub(crate) fn add(&mut self, replies: Sum, region: &Region) {
+        self.replies.add(replies.0);
         self.words.add(Sum::of_words(region).0);
     }
 }
