@@ -16,7 +16,7 @@ use Rattle.heap_model.specs.Layout.{layout_of, Becomes, gap}
 use Rattle.heap_model.specs.Packing.{Packed, lives, Slid, packed_behind, packed, moved_behind, moved_by_packing, WholeStretch, SlidesOneStretch, OpensBehind, opened}
 use Rattle.heap_laws.specs.Laws.{SlidAlike}
 use Rattle.heap_laws.proofs.Deciding.{none_some}
-use Rattle.heap_laws.proofs.Placed.{TakesBytes, SpelledAll-takes}
+use Rattle.heap_laws.proofs.Placed.{TakesBytes, SpelledAll-takes, AnyPlaced-left, AnyPlaced-right}
 use Rattle.heap_laws.proofs.Slots.{every_slot, same_slots}
 use Rattle.heap_laws.proofs.Bodies.{IsBody-low}
 use Rattle.heap_laws.proofs.Meanings.{slot_place, empty_unheld, held-is}
@@ -144,12 +144,69 @@ moved_rest new low room at (fixed bytes owner ∷ cs) there placed =
     let size : ℕ = need (length bytes) in
     moved_rest new (at + size) 0 (at + size) cs (omega arith) (λ other place b. placed other place (any_gap (BodyHere other place) low room at (fixed bytes owner ∷ packed_behind 0 cs) there (inr b)))
 
+body_behind : (image : List ℕ) (cs : List Chunk) (slot place : ℕ) → IsBody (area_start image) cs slot place → 0 < place
+body_behind image cs slot place body = let low = IsBody-low (area_start image) cs slot place body in omega arith
+
+-- each body of an image's chunks is where its name is placed
+becomes_placed : (old new : List ℕ) (cs : List Chunk) → Becomes old new cs → (slot place : ℕ) → IsBody (area_start old) cs slot place → place_of new slot ≡ Some place
+becomes_placed old new cs b slot place body = body_placed new slot place b.frame.accepted ((becomes_body old new cs slot place b).1 body) (body_behind old cs slot place body)
+
 pub packed_moved : (old new : List ℕ) → Becomes old new (packed (chunks_of old)) → moved_bytes old new ≡ moved_by_packing (chunks_of old)
-packed_moved old new b = moved_rest new (area_start old) 0 (area_start old) (chunks_of old) (omega arith) (λ slot place body.
-    let low : 0 < place = body_behind (area_start old) (packed (chunks_of old)) slot place body in
-    body_placed new slot place b.frame.accepted ((becomes_body old new (packed (chunks_of old)) slot place b).1 body) low) where
-      body_behind : (at : ℕ) (cs : List Chunk) (slot place : ℕ) → IsBody at cs slot place → 0 < place
-      body_behind at cs slot place body = let low = IsBody-low at cs slot place body in omega arith
+packed_moved old new b = moved_rest new (area_start old) 0 (area_start old) (chunks_of old) (omega arith) (becomes_placed old new (packed (chunks_of old)) b)
+
+-- of chunks that are where they were nothing has moved
+none_moved : (new : List ℕ) (at : ℕ) (cs : List Chunk) → ((slot place : ℕ) → IsBody at cs slot place → place_of new slot ≡ Some place) → moved_from at cs new ≡ 0
+none_moved new at [] placed = refl
+none_moved new at (free size ∷ cs) placed = none_moved new (at + size) cs (λ slot place b. placed slot place (inr b))
+none_moved new at (movable bytes lock owner slot ∷ cs) placed =
+    let here : is_there (place_of new slot) (at + 8) ≡ true = ap (λ (o : Option ℕ). is_there o (at + 8)) (placed slot (at + 8) (inl (refl, refl))) ∙ eq-eqb (at + 8) (at + 8) refl in
+    let rest = none_moved new (at + need (length bytes)) cs (λ other place b. placed other place (inr b)) in
+    ap (λ (b : Bool). (if b then 0 else need (length bytes)) + moved_from (at + need (length bytes)) cs new) here ∙ (let e : 0 + moved_from (at + need (length bytes)) cs new ≡ 0 = omega (arith, rest) in e)
+none_moved new at (fixed bytes owner ∷ cs) placed = none_moved new (at + need (length bytes)) cs (λ slot place b. placed slot place (inr b))
+
+moved_at : (new : List ℕ) (at there : ℕ) (cs : List Chunk) → at ≡ there → moved_from at cs new ≡ moved_from there cs new
+moved_at new at there cs e = ap (λ (n : ℕ). moved_from n cs new) e
+
+moved_both : (new : List ℕ) (at : ℕ) (xs ys : List Chunk) → moved_from at (xs ++ ys) new ≡ moved_from at xs new + moved_from (at + total xs) ys new
+moved_both new at [] ys = let here = moved_at new at (at + 0) ys (omega arith) in omega (arith, here)
+moved_both new at (free size ∷ xs) ys = let ih = moved_both new (at + size) xs ys in let here = moved_at new (at + size + total xs) (at + (size + total xs)) ys (omega arith) in omega (arith, ih, here)
+moved_both new at (movable bytes lock owner slot ∷ xs) ys =
+    let size : ℕ = need (length bytes) in
+    let ih = moved_both new (at + size) xs ys in
+    let here = moved_at new (at + size + total xs) (at + (size + total xs)) ys (omega arith) in
+    omega (arith, ih, here)
+moved_both new at (fixed bytes owner ∷ xs) ys =
+    let size : ℕ = need (length bytes) in
+    let ih = moved_both new (at + size) xs ys in
+    let here = moved_at new (at + size + total xs) (at + (size + total xs)) ys (omega arith) in
+    omega (arith, ih, here)
+
+-- where some chunks alone were packed, so much of those has moved and nothing else
+pub one_packed_moved : (old new : List ℕ) (before mid after : List Chunk) → chunks_of old ≡ before ++ (mid ++ after) → Becomes old new (before ++ (packed mid ++ after)) → moved_bytes old new ≡ moved_by_packing mid
+one_packed_moved old new before mid after e b =
+    let start : ℕ = area_start old in
+    let placed = becomes_placed old new (before ++ (packed mid ++ after)) b in
+    let one = none_moved new start before (λ slot place body. placed slot place (AnyPlaced-left (BodyHere slot place) start before (packed mid ++ after) body)) in
+    let two = moved_rest new (start + total before) 0 (start + total before) mid (omega arith) (λ slot place body.
+    placed slot place (AnyPlaced-right (BodyHere slot place) start before (packed mid ++ after) (AnyPlaced-left (BodyHere slot place) (start + total before) (packed mid) after body))) in
+    let sizes : total (packed mid) ≡ total mid = (packed_slid mid).sizes in
+    let three = none_moved new (start + total before + total mid) after (λ slot place body.
+    placed slot place (AnyPlaced-right (BodyHere slot place) start before (packed mid ++ after) (AnyPlaced-right (BodyHere slot place) (start + total before) (packed mid) after (subst (λ (n : ℕ). AnyPlaced (BodyHere slot place) (start + total before + n) after) (sym sizes) body)))) in
+    let parts = moved_both new start before (mid ++ after) in
+    let inner = moved_both new (start + total before) mid after in
+    ap (λ (cs : List Chunk). moved_from start cs new) e ∙ (let sum : moved_from start (before ++ (mid ++ after)) new ≡ moved_by_packing mid = omega (arith, one, two, three, parts, inner) in sum)
+
+-- no more than there is
+one_within : (stays_there : Bool) (size : ℕ) → (if stays_there then 0 else size) ≤ size
+one_within true size = omega arith
+one_within false size = omega arith
+
+pub moved_within : (room : ℕ) (cs : List Chunk) → moved_behind room cs ≤ total cs
+moved_within room [] = omega arith
+moved_within room (free size ∷ cs) = let ih = moved_within (room + size) cs in omega arith
+moved_within room (movable bytes zero owner slot ∷ cs) = let ih = moved_within room cs in let one = one_within (room == 0) (need (length bytes)) in omega (arith, ih, one)
+moved_within room (movable bytes (suc count) owner slot ∷ cs) = let ih = moved_within 0 cs in omega arith
+moved_within room (fixed bytes owner ∷ cs) = let ih = moved_within 0 cs in omega arith
 
 -- ---- which chunks have moved
 
