@@ -1,16 +1,15 @@
 -- A name's chunk with another length: where it stands, elsewhere, and once a stretch has slid.
-use Rattle.std.proofs.Common.{◌≡◌, ◌≢◌, ℕ, ◌+◌, ◌-◌, ◌<◌, ◌≤◌, List, [], ◌∷◌, ◌++◌, length, Bool, Option, Some, None, refl, sym, ap, subst, ◌∙◌, arith, inl, inr}
+use Rattle.std.proofs.Common.{◌≡◌, ℕ, ◌+◌, ◌-◌, ◌<◌, ◌≤◌, List, [], ◌∷◌, ◌++◌, length, Bool, Option, Some, refl, sym, ap, subst, ◌∙◌, arith, inl, inr}
 use Rattle.std.proofs.lemmas.Bool.{cases_eq, OnTrue_at}
 use Rattle.std.specs.Prelude.{◌==◌, if◌then◌else◌, IsSome, IsTrue, ◌↔◌}
 use Rattle.std.specs.Bool.{OnTrue}
 use Rattle.heap_model.specs.Bytes.{sized_to}
-use Rattle.heap_model.specs.Chunk.{Chunk, free, movable, fixed, fixed_lock, need, size_of, total}
-use Rattle.heap_model.specs.Slots.{area_start}
+use Rattle.heap_model.specs.Chunk.{Chunk, free, movable, fixed, fixed_lock, need, size_of}
 use Rattle.heap_model.specs.Heap.{HeapAccepted}
 use Rattle.heap_model.specs.Meaning.{LiveChunk}
 use Rattle.heap_model.specs.Reading.{chunks_of, held}
-use Rattle.heap_model.specs.Maps.{changed, sized}
-use Rattle.heap_model.specs.Space.{ShortFor, Short, FitsInPlace, MovesAlone, MovesOneStretchAnd, free_behind, free_front, place_of, room_of}
+use Rattle.heap_model.specs.Maps.{changed}
+use Rattle.heap_model.specs.Space.{ShortFor, Short, FitsInPlace, MovesAlone, MovesOneStretchAnd, free_behind, free_front, room_of}
 use Rattle.heap_model.specs.Placing.{Finds}
 use Rattle.heap_model.specs.Layout.{IsRoom}
 use Rattle.heap_model.specs.Packing.{SlidesOneStretch, OpensBehind}
