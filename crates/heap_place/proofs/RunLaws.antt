@@ -1,6 +1,6 @@
 -- The free chunks directly behind a live one are found, and it grows over them.
-use Rattle.std.proofs.Common.{◌≡◌, ℕ, ◌+◌, ◌-◌, ◌<◌, ◌≤◌, true, false, List, [], ◌∷◌, ◌++◌, length, refl, sym, ap, subst, ◌∙◌, append_assoc, arith}
-use Rattle.heap_model.specs.Chunk.{Chunk, need, free, movable, fixed, size_of, SpelledAll}
+use Rattle.std.proofs.Common.{◌≡◌, ℕ, ◌+◌, ◌-◌, ◌<◌, ◌≤◌, true, false, List, [], ◌∷◌, ◌++◌, length, Some, refl, sym, ap, subst, ◌∙◌, append_assoc, arith}
+use Rattle.heap_model.specs.Chunk.{Chunk, need, free, movable, fixed, size_of, HasChunk, SpelledAll}
 use Rattle.heap_model.specs.Slots.{area_start}
 use Rattle.heap_model.specs.Heap.{HeapAccepted}
 use Rattle.heap_model.specs.Space.{free_front}
@@ -10,9 +10,11 @@ use Rattle.heap_laws.proofs.Chunks.{total-append, Spelled-size, SpelledAll-split
 use Rattle.heap_laws.proofs.Shapes.{chunk_at-spelled, chunk_at-none}
 use Rattle.heap_laws.proofs.Changing.{named_live_chunk}
 use Rattle.heap_laws.proofs.Resizings.{front_parts, grows_parts}
+use Rattle.chunk_format.specs.Header.{header_of, HasHeader}
+use Rattle.chunk_format.specs.declared.header.Header.{Header}
 use Rattle.heap_place.specs.declared.found.Found.{Found}
 use Rattle.heap_place.specs.Found.{IsOne}
-use Rattle.heap_place.specs.Search.{size_if_free, free_size_at}
+use Rattle.heap_place.specs.Search.{size_if_free, free_size_at, free_by, ChunksFrom}
 use Rattle.heap_place.specs.Resizes.{RunBehind, Resizes, Ends, IsBound, BeginsWithFree, TellsWhetherInPlace, RunsUpTo}
 use Rattle.heap_place.proofs.FoundLaws.{heap_in_parts, found_size}
 use Rattle.heap_place.proofs.ResizeLaws.{run_facts}
@@ -37,6 +39,39 @@ reads image at (movable bytes lock owner slot ∷ cs) s = subst (λ (n : ℕ). R
     record { rest = []; spelled = λ p. absurd (omega arith); sums = λ p. absurd (omega arith); none = λ e. refl; inside = let i = (Spelled-size image at (movable bytes lock owner slot) s.0).1 in omega arith }
 reads image at (fixed bytes owner ∷ cs) s = subst (λ (n : ℕ). Reads image at (fixed bytes owner ∷ cs) n) (sym (ap size_if_free (chunk_at-spelled image at (fixed bytes owner) s.0)))
     record { rest = []; spelled = λ p. absurd (omega arith); sums = λ p. absurd (omega arith); none = λ e. refl; inside = let i = (Spelled-size image at (fixed bytes owner) s.0).1 in omega arith }
+
+-- chunks stand from there on
+pub from_bound : (image : List ℕ) (at : ℕ) → HeapAccepted image → IsBound image at → ChunksFrom image at
+from_bound image at h b = record {
+  rest = b.after;
+  spelled = subst (λ (n : ℕ). SpelledAll image n b.after (length image)) (sym b.ends.there) (SpelledAll-split image (area_start image) b.before b.after (length image) (heap_in_parts image (b.before ++ b.after) h b.ends.chunks).tiles.area).1;
+}
+
+pub from_running : (image : List ℕ) (at end size : ℕ) → IsBound image at → RunsUpTo image at end size → 0 < size → ChunksFrom image (end + size)
+from_running image at end size b r some =
+    let k = r.runs b.before b.after b.ends in
+    let n = reads image end k.rest k.spelled in
+    let is = r.there in
+    let here : 0 < free_size_at image end = omega (arith, is, some) in
+    record { rest = n.rest; spelled = subst (λ (m : ℕ). SpelledAll image (end + m) n.rest (length image)) (sym is) (n.spelled here) }
+
+pub a_chunk_there : (image : List ℕ) (at : ℕ) → ChunksFrom image at → at < length image → HasChunk image at
+a_chunk_there image at f inside = by_rest f.rest f.spelled where
+  by_rest : (cs : List Chunk) → SpelledAll image at cs (length image) → HasChunk image at
+  by_rest [] s = absurd (omega (arith, s, inside))
+  by_rest (c ∷ cs) s = record { chunk = c; spelled = s.0 }
+
+-- what is read there
+free_of : (c : Chunk) → size_if_free (Some c) ≡ free_by (header_of c)
+free_of (free size) = refl
+free_of (movable bytes lock owner slot) = refl
+free_of (fixed bytes owner) = refl
+
+pub free_read : (image : List ℕ) (at : ℕ) (header : Header) → HasHeader image at header → free_by header ≡ free_size_at image at
+free_read image at header f = ap free_by f.header_is ∙ sym (free_of f.chunk) ∙ sym (ap size_if_free (chunk_at-spelled image at f.chunk f.spelled))
+
+pub none_at_the_end : (image : List ℕ) (at : ℕ) → length image ≤ at → 0 ≡ free_size_at image at
+none_at_the_end image at past = sym (ap size_if_free (chunk_at-none image at (λ c spelled. let size = Spelled-size image at c spelled in let least = size.0 in let inside = size.1 in omega arith)))
 
 pub run_start : (image : List ℕ) (at size : ℕ) → HeapAccepted image → size ≡ free_size_at image at → RunsUpTo image at at size
 run_start image at size h e = record {

@@ -83,6 +83,11 @@ size_if_free (Some (fixed bytes owner)) = 0
 abbrev pub free_size_at : List ℕ → ℕ → ℕ
 free_size_at image at = size_if_free (chunk_at image at)
 
+-- chunks stand from an offset up to the image's end, one behind the other; or it is the end
+pub record ChunksFrom (image : List ℕ) (at : ℕ) : Type 0 where
+  pub rest : List Chunk
+  pub spelled : SpelledAll image at rest (length image)
+
 -- nothing was written, or the header of a free chunk of a size that is not 0
 abbrev pub WroteRest : List ℕ → List ℕ → ℕ → ℕ → Type 0
 WroteRest old new at size =

@@ -4,9 +4,10 @@ ghost use Rattle.std.specs.Prelude.{◌≡◌, ◌≢◌, ◌<◌, ◌+◌, ◌-
 ghost use Rattle.heap_model.specs.Heap.{HeapAccepted, directory_of};
 ghost use Rattle.heap_model.specs.Layout.{Alters, FreeUpTo, freed, WritesPlain};
 ghost use Rattle.heap_place.specs.Found.{IsOne};
-ghost use Rattle.heap_place.specs.Search.{free_size_at};
+ghost use Rattle.heap_place.specs.Search.{free_size_at, ChunksFrom};
 
 use crate::found::Found;
+use crate::walks::size_if_free;
 use chunk_format::{FIXED_LOCK, Header, size_of_body};
 use raw_region::Region;
 
@@ -30,13 +31,15 @@ pub(crate) fn release(region: &mut Region, found: Found) -> u32
     joined
 }
 
-/// The size of the free chunk at `at`, or 0 where none stands there.
+/// The size of the chunk at `at`, if a free one stands there, and else 0: a live one does, or the image
+/// ends there.
 pub(crate) fn free_size(region: &Region, at: u32) -> u32
     requires small { length region.now.bytes < 2 ^ 24 }
+    requires chunks { ChunksFrom region.now.bytes at }
     ensures { result ≡ free_size_at region.now.bytes at }
 {
-    match Header::read(region, at) {
-        Some(Header::Free { size }) => size,
-        _ => 0,
+    if at as usize >= region.len() {
+        return 0;
     }
+    size_if_free(Header::at(region, at))
 }

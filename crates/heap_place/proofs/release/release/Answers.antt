@@ -2,6 +2,7 @@ use Rattle.std.proofs.Common.{◌+◌, ◌-◌, ap, sym, ◌∙◌, arith}
 use Rattle.heap_model.specs.Memory.{Memory}
 use Rattle.heap_place.proofs.FoundLaws.{found_inside}
 use Rattle.heap_place.proofs.ReleaseLaws.{given_size, own_slot_stays, emptied_movable, emptied_fixed, gave_back_found}
+use Rattle.heap_place.proofs.RunLaws.{from_bound, bound_behind}
 use Rattle.heap_place.proofs.release.release.Goals as goal
 
 pub size_of_body-size-requires : goal.size_of_body-size-requires
@@ -65,3 +66,6 @@ pub returns-else-found-ne-FIXED_LOCK-clause-plain : goal.returns-else-found-ne-F
 returns-else-found-ne-FIXED_LOCK-clause-plain c =
     (gave_back_found c.args.region.now.bytes c.write.new.region.bytes c.write.new.region.bytes c.args.found c.size_of_body-size.result c.free_size.result c.requires.accepted c.requires.found c.requires.no_directory c.size_of_body-size.ensures c.free_size.ensures
     (ap (λ (m : Memory). m.bytes) c.write.ensures.after) c.write.ensures.spelled (emptied_fixed c.args.region.now.bytes c.write.new.region.bytes (c.args.found.place.0 - 8) c.args.found.name.0 c.requires.found.live c.requires.found.chunk c.requires.accepted c.requires.found.finds (sym c.requires.found.lock_is ∙ c.if-found-ne-FIXED_LOCK.false))).2
+
+pub free_size-requires-clause-chunks : goal.free_size-requires-clause-chunks
+free_size-requires-clause-chunks c = from_bound c.args.region.now.bytes (c.args.found.place.0 - 8 + c.size_of_body-size.result) c.requires.accepted (bound_behind c.args.region.now.bytes c.args.found c.size_of_body-size.result c.size_of_body-size.ensures c.requires.found)

@@ -1,5 +1,5 @@
 use Rattle.std.proofs.Common.{arith}
-use Rattle.heap_place.proofs.RunLaws.{run_start, run_inside, run_more, run_done}
+use Rattle.heap_place.proofs.RunLaws.{from_bound, from_running, run_start, run_inside, run_more, run_done}
 use Rattle.heap_place.proofs.resize.free_run.Goals as goal
 
 pub loop-size-init : goal.loop-size-init
@@ -25,3 +25,9 @@ pub loop-size-smaller : goal.loop-size-smaller
 loop-size-smaller c =
     let r = run_inside c.args.region.now.bytes c.args.at c.loop-size.end c.loop-size.size c.requires.bound c.loop-size.invariant in
     let inside = r.0 in omega arith
+
+pub free_size-size-requires-clause-chunks : goal.free_size-size-requires-clause-chunks
+free_size-size-requires-clause-chunks c = from_bound c.args.region.now.bytes c.args.at c.requires.accepted c.requires.bound
+
+pub free_size-size-requires-in-loop-size-clause-chunks : goal.free_size-size-requires-in-loop-size-clause-chunks
+free_size-size-requires-in-loop-size-clause-chunks c = from_running c.args.region.now.bytes c.args.at c.loop-size.end c.loop-size.size c.requires.bound c.loop-size.invariant (omega arith)
