@@ -6,6 +6,10 @@ use Rattle.byteorder.specs.Endian.{big_from, big_bytes}
 unfoldable pub u16_at : List ℕ → ℕ → ℕ
 u16_at bytes at = big_from at 2 bytes
 
+-- the number in the three bytes at an offset; a byte beyond the end counts as zero
+unfoldable pub u24_at : List ℕ → ℕ → ℕ
+u24_at bytes at = big_from at 3 bytes
+
 -- the number in the four bytes at an offset; a byte beyond the end counts as zero
 unfoldable pub u32_at : List ℕ → ℕ → ℕ
 u32_at bytes at = big_from at 4 bytes
@@ -13,6 +17,10 @@ u32_at bytes at = big_from at 4 bytes
 -- the lowest two bytes of a number
 unfoldable pub u16_bytes : ℕ → List ℕ
 u16_bytes number = big_bytes 2 number
+
+-- the lowest three bytes of a number
+unfoldable pub u24_bytes : ℕ → List ℕ
+u24_bytes number = big_bytes 3 number
 
 -- the lowest four bytes of a number
 unfoldable pub u32_bytes : ℕ → List ℕ
