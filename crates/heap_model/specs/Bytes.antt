@@ -1,5 +1,5 @@
 -- Big-endian numbers in a list of bytes, and what a write leaves.
-use Rattle.std.specs.Prelude.{◌+◌, ◌-◌, ◌++◌, ℕ, List, length, take, drop, replicate}
+use Rattle.std.specs.Prelude.{◌<◌, ◌+◌, ◌-◌, ◌++◌, ℕ, List, length, take, drop, replicate, slice_index}
 use Rattle.byteorder.specs.Endian.{big_from, big_bytes}
 
 -- the number in the two bytes at an offset; a byte beyond the end counts as zero
@@ -25,6 +25,10 @@ u24_bytes number = big_bytes 3 number
 -- the lowest four bytes of a number
 unfoldable pub u32_bytes : ℕ → List ℕ
 u32_bytes number = big_bytes 4 number
+
+-- each number of the list is a byte
+abbrev pub AreBytes : List ℕ → Type 0
+AreBytes bytes = (k : ℕ) → slice_index bytes k < 256
 
 -- a list of bytes after others are written over it, from an offset on where they fit
 unfoldable pub overwritten : List ℕ → ℕ → List ℕ → List ℕ

@@ -4,12 +4,12 @@
 -- have the slot of a chunk wherever a file has an offset, which is this project's own. So one spelling
 -- serves both: a database here has numbers for its data, and what these stand for is said where they
 -- are used.
-use Rattle.std.specs.Prelude.{◌≡◌, ◌<◌, ◌+◌, ◌-◌, ◌*◌, ◌^◌, ◌==◌, ◌++◌, not, ℕ, Bool, true, false, List, [], ◌∷◌, length, take, replicate, slice_index, map, All}
+use Rattle.std.specs.Prelude.{◌≡◌, ◌≤◌, ◌<◌, ◌+◌, ◌-◌, ◌*◌, ◌^◌, ◌==◌, ◌++◌, not, ℕ, Bool, true, false, List, [], ◌∷◌, length, take, replicate, slice_index, map, All}
 use Rattle.std.specs.Int.{bit_at}
 use Rattle.std.specs.List.{concat, flat_map, take_while}
 use Rattle.heap_model.specs.Bytes.{u16_at, u24_at, u32_at, u16_bytes, u24_bytes, u32_bytes}
 use Rattle.heap_model.specs.Lists.{numbered}
-use Rattle.heap_model.specs.DatabaseFields.{name_size, attributes_at, version_at, creation_date_at, modification_date_at, backup_date_at, modification_number_at, app_info_at, sort_info_at, kind_at, creator_at, seed_at, entry_count_at, header_size, entry_size}
+use Rattle.heap_model.specs.DatabaseFields.{name_size, attributes_at, version_at, creation_date_at, modification_date_at, backup_date_at, modification_number_at, app_info_at, sort_info_at, kind_at, creator_at, seed_at, next_list_at, entry_count_at, header_size, entry_size}
 
 -- ---- values
 
@@ -187,3 +187,18 @@ database_in bytes = record {
   sort_info = u32_at bytes sort_info_at;
   entries = numbered (entry_in bytes) (entry_count_in bytes);
 }
+
+-- ---- which bytes spell a database
+
+-- the field of a name has one: its bytes, and zeros up to the end of the field
+pub record HasName (bytes : List ℕ) : Type 0 where
+  pub name : IsDatabaseName (name_in bytes)
+  pub field : take name_size bytes ≡ name_field (name_in bytes)
+
+-- There is a header, with a name; the list of entries goes on nowhere, and the bytes end behind as many
+-- entries as the header says.
+pub record HasShape (bytes : List ℕ) : Type 0 where
+  pub header : header_size ≤ length bytes
+  pub name : HasName bytes
+  pub next_list : u32_at bytes next_list_at ≡ 0
+  pub ends : length bytes ≡ entry_offset (resources_in bytes) (entry_count_in bytes)

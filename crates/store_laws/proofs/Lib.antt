@@ -1,0 +1,4 @@
+pub mod Numbers
+pub mod Names
+pub mod Spellings
+pub mod Shapes

@@ -1,0 +1,16 @@
+//! Laws of the definitions of databases and stores in `heap_model`.
+//!
+//! The functions here have empty bodies: what each promises is a law, proved once. The lemmas behind
+//! them, which the crates above cite in their proofs, stand in `proofs/`:
+//!
+//! | file | laws of |
+//! |---|---|
+//! | `Numbers` | numbers and the bytes that they stand in, both ways; lists by index |
+//! | `Names` | names in their fields |
+//! | `Spellings` | what spells a database is read as that one |
+//! | `Shapes` | bytes in shape spell what is read off them |
+#![tactic(auto)]
+
+mod laws;
+
+pub use laws::{shapes_are_spellings, spellings_are_read};
