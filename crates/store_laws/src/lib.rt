@@ -6,11 +6,14 @@
 //! | file | laws of |
 //! |---|---|
 //! | `Numbers` | numbers and the bytes that they stand in, both ways; lists by index |
+//! | `Listing` | how often a number stands in a list, and what this says of its elements; least numbers |
 //! | `Names` | names in their fields |
 //! | `Spellings` | what spells a database is read as that one |
 //! | `Shapes` | bytes in shape spell what is read off them |
+//! | `Counting` | the accepted image, and the same by counts |
+//! | `Meaning` | what an accepted image means: one store |
 #![tactic(auto)]
 
 mod laws;
 
-pub use laws::{shapes_are_spellings, spellings_are_read};
+pub use laws::{acceptance_is_counted, means_one_store, shapes_are_spellings, spellings_are_read};
