@@ -17,6 +17,7 @@ pub mod Resizing
 pub mod Lists
 pub mod DatabaseFields
 pub mod Database
+pub mod UniqueIds
 pub mod Store
 pub mod Counts
 pub mod Rooms

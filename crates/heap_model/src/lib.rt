@@ -24,6 +24,7 @@
 //! | `Lists` | lists by index, how often a number stands in one, and least numbers |
 //! | `DatabaseFields` | where the fields of a database's header and entries stand |
 //! | `Database` | a database, the bytes that spell it, and the one that is read off bytes |
+//! | `UniqueIds` | the unique ID that a new record gets |
 //! | `Store` | the databases of an image, the accepted image, and the store that it means |
 //! | `Counts` | the accepted image by how often each name is listed and named |
 //! | `Rooms` | the rooms that are left for a call of several parts |

@@ -1,18 +1,16 @@
 -- The accepted image and the same by counts.
-use Rattle.std.proofs.Common.{◌≡◌, ◌≢◌, ℕ, zero, suc, ◌+◌, ◌<◌, ◌≤◌, Bool, true, false, List, [], ◌∷◌, ◌++◌, length, map, get_or, Option, Some, None, refl, sym, ap, subst, ◌∙◌, arith, inl, inr}
+use Rattle.std.proofs.Common.{◌≡◌, ◌≢◌, ℕ, zero, suc, ◌+◌, ◌<◌, ◌≤◌, List, ◌∷◌, map, get_or, refl, ap, ◌∙◌, arith, inl, inr}
 use Rattle.std.proofs.lemmas.Bool.{cases_eq, cases_lt}
 use Rattle.std.proofs.lemmas.List.Elements.{All-cons, All-head, All-tail, All-map, All-weaker}
 use Rattle.std.specs.Prelude.{◌⊎◌, All}
-use Rattle.std.specs.List.{Contains}
 use Rattle.heap_model.specs.Chunk.{Chunk, free, movable, fixed, total}
-use Rattle.heap_model.specs.Placed.{AnyPlaced}
 use Rattle.heap_model.specs.Slots.{area_start}
 use Rattle.heap_model.specs.Heap.{ManagersHere, HeapAccepted, directory_of}
 use Rattle.heap_model.specs.Meaning.{LiveChunk, NamedHere}
-use Rattle.heap_model.specs.Reading.{chunks_of, held}
-use Rattle.heap_model.specs.Lists.{same, times, Distinct}
-use Rattle.heap_model.specs.Database.{Database, Entry, a_record, a_resource, entry_data, data_in, is_deleted}
-use Rattle.heap_model.specs.Store.{StoredDatabase, managers_owner, data_owner, owner_of, owner_under, listed, database_under, databases, named, IsHeaderSlot, IsInfoBlock, HasData, IsDatabase, Accepted}
+use Rattle.heap_model.specs.Reading.{chunks_of}
+use Rattle.heap_model.specs.Lists.{same, times}
+use Rattle.heap_model.specs.Database.{Entry, a_record, a_resource, entry_data, data_in}
+use Rattle.heap_model.specs.Store.{StoredDatabase, managers_owner, data_owner, owner_of, owner_under, listed, databases, named, IsHeaderSlot, HasData, IsDatabase, Accepted}
 use Rattle.heap_model.specs.Counts.{NamesData, IsWhole, AcceptedByCounts}
 use Rattle.heap_laws.proofs.Placed.{AnyPlaced-parts}
 use Rattle.heap_laws.proofs.Finding.{read_heap, finds_held}

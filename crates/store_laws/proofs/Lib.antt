@@ -1,7 +1,10 @@
 pub mod Numbers
 pub mod Listing
+pub mod Moving
+pub mod Fresh
 pub mod Names
 pub mod Spellings
 pub mod Shapes
+pub mod Edits
 pub mod Counting
 pub mod Meaning

@@ -1,11 +1,11 @@
 -- How often a number stands in a list, and what this says of its elements.
-use Rattle.std.proofs.Common.{◌≡◌, ◌≢◌, ℕ, zero, suc, ◌+◌, ◌<◌, ◌≤◌, Bool, true, false, cond, List, [], ◌∷◌, ◌++◌, length, map, get_or, set, refl, sym, ap, subst, ◌∙◌, arith, inl, inr}
+use Rattle.std.proofs.Common.{◌≡◌, ◌≢◌, ℕ, zero, suc, ◌+◌, ◌<◌, ◌≤◌, cond, List, [], ◌∷◌, ◌++◌, length, map, get_or, set, refl, sym, arith, inl, inr}
 use Rattle.std.proofs.lemmas.Bool.{cases_eq, cases_order, eq-eqb, ne_eqb}
 use Rattle.std.proofs.lemmas.List.Elements.{All-nil, All-cons, All-head, All-tail, All-append, All-contains}
 use Rattle.std.proofs.lemmas.List.Kept.{AllPairs-cons}
 use Rattle.std.proofs.lemmas.List.Sums.{sum_by-cons, sum_by-append, sum_by-set, sum_by-insert, sum_by-remove, get_or-le-sum_by}
 use Rattle.std.specs.Prelude.{◌==◌, All, insert}
-use Rattle.std.specs.List.{AllPairs, Contains, flat_map, remove}
+use Rattle.std.specs.List.{Contains, flat_map, remove}
 use Rattle.heap_model.specs.Lists.{same, times, Distinct, Least, LeastPair}
 use Rattle.heap_laws.proofs.Deciding.{cond-true, cond-false}
 
@@ -61,10 +61,10 @@ times-all P xs each k d below = each (get_or xs k d) (times-some (get_or xs k d)
 
 -- ---- lists without a number twice
 
-Distinct-head : {X : Type 0} (x : X) (xs : List X) → Distinct (x ∷ xs) → All (λ y. x ≢ y) xs
+pub Distinct-head : {X : Type 0} (x : X) (xs : List X) → Distinct (x ∷ xs) → All (λ y. x ≢ y) xs
 Distinct-head x xs distinct k d below = distinct 0 (suc k) d (omega arith) (omega arith)
 
-Distinct-tail : {X : Type 0} (x : X) (xs : List X) → Distinct (x ∷ xs) → Distinct xs
+pub Distinct-tail : {X : Type 0} (x : X) (xs : List X) → Distinct (x ∷ xs) → Distinct xs
 Distinct-tail x xs distinct i j d less below = distinct (suc i) (suc j) d (omega arith) (omega arith)
 
 pub distinct-times : (xs : List ℕ) → Distinct xs → (q : ℕ) → times q xs ≤ 1

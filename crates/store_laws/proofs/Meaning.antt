@@ -1,12 +1,12 @@
 -- What an accepted image means: one store.
-use Rattle.std.proofs.Common.{◌≡◌, ℕ, List, [], ◌∷◌, map, Option, Some, None, refl, sym, ap, subst, ◌∙◌}
+use Rattle.std.proofs.Common.{◌≡◌, ℕ, List, [], ◌∷◌, map, refl, sym, ap, subst, ◌∙◌}
 use Rattle.std.proofs.lemmas.List.Elements.{All-head, All-tail}
 use Rattle.std.specs.Prelude.{All}
 use Rattle.std.specs.List.{AllZip}
-use Rattle.heap_model.specs.Meaning.{ChunkMap, Holds}
+use Rattle.heap_model.specs.Meaning.{ChunkMap}
 use Rattle.heap_model.specs.Reading.{held}
 use Rattle.heap_model.specs.Maps.{without_owner}
-use Rattle.heap_model.specs.Database.{Database, database_in, IsSpelled}
+use Rattle.heap_model.specs.Database.{Database}
 use Rattle.heap_model.specs.Store.{StoredDatabase, Store, managers_owner, bytes_of, bytes_under, listed, database_under, databases, IsDatabase, Accepted, SpelledUnder, Means, store_of}
 use Rattle.heap_laws.proofs.Meanings.{heap_holds, holds_one}
 use Rattle.store_laws.proofs.Listing.{map-All}
