@@ -1,49 +1,15 @@
 -- The accepted image and the same by counts.
-use Rattle.std.proofs.Common.{◌≡◌, ◌≢◌, ℕ, zero, suc, ◌+◌, ◌<◌, ◌≤◌, List, ◌∷◌, map, get_or, refl, ap, ◌∙◌, arith, inl, inr}
+use Rattle.std.proofs.Common.{◌≡◌, ◌≢◌, ℕ, ◌+◌, ◌<◌, ◌≤◌, List, ◌∷◌, map, get_or, ap, ◌∙◌, arith, inl, inr}
 use Rattle.std.proofs.lemmas.Bool.{cases_eq, cases_lt}
 use Rattle.std.proofs.lemmas.List.Elements.{All-cons, All-head, All-tail, All-map, All-weaker}
 use Rattle.std.specs.Prelude.{◌⊎◌, All}
-use Rattle.heap_model.specs.Chunk.{Chunk, free, movable, fixed, total}
-use Rattle.heap_model.specs.Slots.{area_start}
-use Rattle.heap_model.specs.Heap.{ManagersHere, HeapAccepted, directory_of}
-use Rattle.heap_model.specs.Meaning.{LiveChunk, NamedHere}
-use Rattle.heap_model.specs.Reading.{chunks_of}
+use Rattle.heap_model.specs.Heap.{HeapAccepted, directory_of}
 use Rattle.heap_model.specs.Lists.{same, times}
 use Rattle.heap_model.specs.Database.{Entry, a_record, a_resource, entry_data, data_in}
-use Rattle.heap_model.specs.Store.{StoredDatabase, managers_owner, data_owner, owner_of, owner_under, listed, databases, named, IsHeaderSlot, HasData, IsDatabase, Accepted}
+use Rattle.heap_model.specs.Store.{StoredDatabase, managers_owner, data_owner, owner_under, listed, databases, named, IsHeaderSlot, HasData, IsDatabase, Accepted}
 use Rattle.heap_model.specs.Counts.{NamesData, IsWhole, AcceptedByCounts}
-use Rattle.heap_laws.proofs.Placed.{AnyPlaced-parts}
-use Rattle.heap_laws.proofs.Finding.{read_heap, finds_held}
-use Rattle.heap_laws.proofs.Meanings.{held-zero}
+use Rattle.store_laws.proofs.Owners.{owner-zero, owned_some, directory_owner}
 use Rattle.store_laws.proofs.Listing.{same-yes, same-no, times-contained, contained-times, all-times, times-all, distinct-times, times-distinct, All-flat_map, flat_map-All, map-All}
-
--- ---- owners
-
--- the name 0 has no owner
-pub owner-zero : (image : List ℕ) → HeapAccepted image → owner_under image 0 ≡ 16
-unfolding owner_under
-owner-zero image heap = ap owner_of (held-zero image heap)
-
--- what has an owner is not 0
-pub owned_some : (image : List ℕ) (name owner : ℕ) → HeapAccepted image → owner_under image name ≡ owner → owner < 16 → 0 < name
-owned_some image zero owner heap e below = let none = owner-zero image heap in absurd (omega arith)
-owned_some image (suc name) owner heap e below = omega arith
-
-managers_live : (slot at : ℕ) (chunk : Chunk) → ManagersHere slot at chunk → (live : LiveChunk) × NamedHere slot live at chunk × (live.owner ≡ 0)
-managers_live slot at (free size) m = absurd m
-managers_live slot at (movable bytes lock owner named) m = (record { bytes = bytes; lock = lock; owner = owner }, (m.0, refl), m.1)
-managers_live slot at (fixed bytes owner) m = absurd m
-
--- the directory is the manager's, if there is one
-pub directory_owner : (image : List ℕ) → HeapAccepted image → 0 < directory_of image → owner_under image (directory_of image) ≡ managers_owner
-unfolding owner_under
-directory_owner image h some = elim (read_heap image h).directory [
-  | inl none ↦ absurd (omega arith)
-  | inr any ↦
-      let p = AnyPlaced-parts (ManagersHere (directory_of image)) (area_start image) (chunks_of image) any in
-      let m = managers_live (directory_of image) (area_start image + total p.before) p.chunk p.holds in
-      ap owner_of (finds_held image (directory_of image) m.0 p.chunk (area_start image + total p.before) h (record { before = p.before; after = p.after; chunks = p.parts; there = refl; named = m.1 })) ∙ m.2
-]
 
 -- ---- what is named, in one database and in all
 

@@ -6,5 +6,7 @@ pub mod Names
 pub mod Spellings
 pub mod Shapes
 pub mod Edits
+pub mod Owners
 pub mod Counting
+pub mod Deciding
 pub mod Meaning

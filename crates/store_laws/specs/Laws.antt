@@ -1,11 +1,12 @@
 -- What the definitions of databases and stores promise together: the statements of the laws.
-use Rattle.std.specs.Prelude.{◌≡◌, ◌<◌, ◌≤◌, ◌↔◌, ℕ, List, length, slice_set}
+use Rattle.std.specs.Prelude.{◌≡◌, ◌<◌, ◌≤◌, ◌↔◌, ℕ, true, List, length, slice_set}
 use Rattle.heap_model.specs.Bytes.{AreBytes, overwritten}
 use Rattle.heap_model.specs.Database.{Database, Entry, has_resources, header_bytes, entry_bytes, spelled, EntryFits, DatabaseFits, IsSpelled, entry_offset, database_in, HasShape}
 use Rattle.heap_model.specs.Lists.{times}
 use Rattle.heap_model.specs.UniqueIds.{greatest_id, IsFresh}
 use Rattle.heap_model.specs.Store.{Store, Accepted, Means, store_of}
 use Rattle.heap_model.specs.Counts.{AcceptedByCounts}
+use Rattle.store_laws.specs.StoreTests.{is_store}
 
 -- the database that is read off bytes is the one that they spell, so they spell no other
 abbrev pub SpellingsAreRead : Type 0
@@ -18,6 +19,10 @@ ShapesAreSpellings = (bytes : List ℕ) → AreBytes bytes → (IsSpelled (datab
 -- the accepted image is the one of which the counts are right
 abbrev pub AcceptanceIsCounted : Type 0
 AcceptanceIsCounted = (image : List ℕ) → (Accepted image ↔ AcceptedByCounts image)
+
+-- the tests of an accepted image all say yes exactly where one is accepted
+abbrev pub StoresAreDecided : Type 0
+StoresAreDecided = (image : List ℕ) → ((is_store image ≡ true) ↔ Accepted image)
 
 -- an accepted image means the store that is read off it, and no other
 abbrev pub MeansOneStore : Type 0

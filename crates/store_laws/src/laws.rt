@@ -1,6 +1,6 @@
 //! The laws, each as the promise of a function.
 
-ghost use Rattle.store_laws.specs.Laws.{SpellingsAreRead, ShapesAreSpellings, AcceptanceIsCounted, MeansOneStore, EntriesAreWritten, HeadersAreWritten, FreshIdsExist};
+ghost use Rattle.store_laws.specs.Laws.{SpellingsAreRead, ShapesAreSpellings, AcceptanceIsCounted, StoresAreDecided, MeansOneStore, EntriesAreWritten, HeadersAreWritten, FreshIdsExist};
 
 /// The database that is read off bytes is the one that they spell.
 pub fn spellings_are_read()
@@ -30,6 +30,11 @@ pub fn fresh_ids_exist()
 /// An image is accepted exactly where each name is listed and named as often as its owner says.
 pub fn acceptance_is_counted()
     ensures { AcceptanceIsCounted }
+{}
+
+/// Whether an image is accepted with its databases can be read off it.
+pub fn stores_are_decided()
+    ensures { StoresAreDecided }
 {}
 
 /// An accepted image means the store that is read off it, and no other.

@@ -13,7 +13,9 @@
 //! | `Spellings` | what spells a database is read as that one |
 //! | `Shapes` | bytes in shape spell what is read off them |
 //! | `Edits` | entries replaced, put in and taken out, and headers replaced, by their bytes |
+//! | `Owners` | the owners of names: which names are slots, and which chunks are the manager's |
 //! | `Counting` | the accepted image, and the same by counts |
+//! | `Deciding` | the tests of `specs/StoreTests` decide which image is accepted |
 //! | `Meaning` | what an accepted image means: one store |
 #![tactic(auto)]
 
@@ -21,5 +23,5 @@ mod laws;
 
 pub use laws::{
     acceptance_is_counted, entries_are_written, fresh_ids_exist, headers_are_written,
-    means_one_store, shapes_are_spellings, spellings_are_read,
+    means_one_store, shapes_are_spellings, spellings_are_read, stores_are_decided,
 };
