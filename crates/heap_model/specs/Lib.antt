@@ -14,6 +14,13 @@ pub mod Placing
 pub mod Layout
 pub mod Packing
 pub mod Resizing
+pub mod Lists
+pub mod DatabaseFields
+pub mod Database
+pub mod UniqueIds
+pub mod Store
+pub mod Counts
+pub mod Rooms
 pub mod Numbers
 pub mod Refusals
 pub mod Steps

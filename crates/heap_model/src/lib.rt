@@ -21,6 +21,13 @@
 //! | `Layout` | the chunks with each run of free ones as one, and changes of these |
 //! | `Packing` | compaction: what it leaves of the chunks, how much it moves, and one stretch whose chunks slide |
 //! | `Resizing` | the chunks around one that takes another length |
+//! | `Lists` | lists by index, how often a number stands in one, and least numbers |
+//! | `DatabaseFields` | where the fields of a database's header and entries stand |
+//! | `Database` | a database, the bytes that spell it, and the one that is read off bytes |
+//! | `UniqueIds` | the unique ID that a new record gets |
+//! | `Store` | the databases of an image, the accepted image, and the store that it means |
+//! | `Counts` | the accepted image by how often each name is listed and named |
+//! | `Rooms` | the rooms that are left for a call of several parts |
 //! | `Refusals` | checks in order, and the refusal that the first one brings |
 //! | `Steps` | what a row says of a call, and the step that it makes, whatever the call acts on |
 //! | `MemorySteps` | the row of each call of the memory manager: what it refuses, answers and does |
@@ -28,8 +35,9 @@
 //! | `Counted` | what contracts see of a writer whose faults are counted |
 //!
 //! Offsets count bytes from the image's start, and numbers are big-endian. The fields of a chunk's
-//! header are those of the Palm OS Programmer's Companion ("Memory Architecture"); the image
-//! around the chunks, profile PHI1, is this project's own (docs/FORMAT.md).
+//! header are those of the Palm OS Programmer's Companion ("Memory Architecture"), and those of a
+//! database of the File Format Specification; the image around the chunks, profile PHI1, is this
+//! project's own (docs/FORMAT.md).
 #![tactic(auto)]
 
 mod allowance;

@@ -1,0 +1,73 @@
+-- Where the fields of a database's header and of its entries stand, as the File Format Specification
+-- has them. Nothing else gives these numbers.
+use Rattle.std.specs.Prelude.{ℕ, Bool, true, false}
+
+-- ---- the header
+
+-- what the name takes, at the front: its bytes, and zeros up to the end of the field
+abbrev pub name_size : ℕ
+name_size = 32
+
+-- the attributes and the version, of two bytes each
+abbrev pub attributes_at : ℕ
+attributes_at = 32
+
+abbrev pub version_at : ℕ
+version_at = 34
+
+-- numbers of four bytes: when the database was made, modified and backed up last, and how often it
+-- was modified
+abbrev pub creation_date_at : ℕ
+creation_date_at = 36
+
+abbrev pub modification_date_at : ℕ
+modification_date_at = 40
+
+abbrev pub backup_date_at : ℕ
+backup_date_at = 44
+
+abbrev pub modification_number_at : ℕ
+modification_number_at = 48
+
+-- where its info blocks are: AppInfo and SortInfo
+abbrev pub app_info_at : ℕ
+app_info_at = 52
+
+abbrev pub sort_info_at : ℕ
+sort_info_at = 56
+
+-- its type, its creator, and the seed of the unique IDs of its records
+abbrev pub kind_at : ℕ
+kind_at = 60
+
+abbrev pub creator_at : ℕ
+creator_at = 64
+
+abbrev pub seed_at : ℕ
+seed_at = 68
+
+-- where the list of entries goes on, which is nowhere: four bytes of zeros
+abbrev pub next_list_at : ℕ
+next_list_at = 72
+
+-- the number of entries, of two bytes
+abbrev pub entry_count_at : ℕ
+entry_count_at = 76
+
+-- what the header takes: the entries begin behind it
+abbrev pub header_size : ℕ
+header_size = 78
+
+-- ---- the entries
+
+-- what the entry of a record takes, and that of a resource
+abbrev pub record_size : ℕ
+record_size = 8
+
+abbrev pub resource_size : ℕ
+resource_size = 10
+
+-- what an entry takes, in a database that holds resources or in one that holds records
+abbrev pub entry_size : Bool → ℕ
+entry_size true = resource_size
+entry_size false = record_size

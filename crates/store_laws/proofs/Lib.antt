@@ -1,0 +1,12 @@
+pub mod Numbers
+pub mod Listing
+pub mod Moving
+pub mod Fresh
+pub mod Names
+pub mod Spellings
+pub mod Shapes
+pub mod Edits
+pub mod Owners
+pub mod Counting
+pub mod Deciding
+pub mod Meaning

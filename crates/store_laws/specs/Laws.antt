@@ -1,0 +1,52 @@
+-- What the definitions of databases and stores promise together: the statements of the laws.
+use Rattle.std.specs.Prelude.{◌≡◌, ◌<◌, ◌≤◌, ◌↔◌, ℕ, true, List, length, slice_set}
+use Rattle.heap_model.specs.Bytes.{AreBytes, overwritten}
+use Rattle.heap_model.specs.Database.{Database, Entry, has_resources, header_bytes, entry_bytes, spelled, EntryFits, DatabaseFits, IsSpelled, entry_offset, database_in, HasShape}
+use Rattle.heap_model.specs.Lists.{times}
+use Rattle.heap_model.specs.UniqueIds.{greatest_id, IsFresh}
+use Rattle.heap_model.specs.Store.{Store, Accepted, Means, store_of}
+use Rattle.heap_model.specs.Counts.{AcceptedByCounts}
+use Rattle.store_laws.specs.StoreTests.{is_store}
+
+-- the database that is read off bytes is the one that they spell, so they spell no other
+abbrev pub SpellingsAreRead : Type 0
+SpellingsAreRead = (database : Database ℕ) (bytes : List ℕ) → IsSpelled database bytes → database_in bytes ≡ database
+
+-- bytes spell the database that is read off them exactly where they are in shape
+abbrev pub ShapesAreSpellings : Type 0
+ShapesAreSpellings = (bytes : List ℕ) → AreBytes bytes → (IsSpelled (database_in bytes) bytes ↔ HasShape bytes)
+
+-- the accepted image is the one of which the counts are right
+abbrev pub AcceptanceIsCounted : Type 0
+AcceptanceIsCounted = (image : List ℕ) → (Accepted image ↔ AcceptedByCounts image)
+
+-- the tests of an accepted image all say yes exactly where one is accepted
+abbrev pub StoresAreDecided : Type 0
+StoresAreDecided = (image : List ℕ) → ((is_store image ≡ true) ↔ Accepted image)
+
+-- an accepted image means the store that is read off it, and no other
+abbrev pub MeansOneStore : Type 0
+MeansOneStore = (image : List ℕ) → Accepted image → Means image (store_of image) × ((one other : Store) → Means image one → Means image other → one ≡ other)
+
+-- an entry is replaced where its bytes are written over those of the one that stood there
+abbrev pub EntriesAreWritten : Type 0
+EntriesAreWritten =
+    (database : Database ℕ) (index : ℕ) (entry : Entry ℕ) → DatabaseFits database → EntryFits (has_resources database.header.attributes) entry → index < length database.entries
+    → spelled (record database { entries = slice_set database.entries index entry }) ≡ overwritten (spelled database) (entry_offset (has_resources database.header.attributes) index) (entry_bytes entry)
+
+-- a header is replaced where its bytes are written over the old ones, and the entries stay
+abbrev pub HeadersAreWritten : Type 0
+HeadersAreWritten = (database other : Database ℕ) → DatabaseFits database → DatabaseFits other → other.entries ≡ database.entries → spelled other ≡ overwritten (spelled database) 0 (header_bytes other)
+
+-- Behind a seed there is one fresh ID, where fewer IDs are taken than there are. It is one of those that
+-- a record may have, and is not taken.
+pub record HasFresh (ids : List ℕ) (seed : ℕ) : Type 0 where
+  pub id : ℕ
+  pub fresh : IsFresh ids seed id
+  pub some : 0 < id
+  pub fits : id ≤ greatest_id
+  pub free : times id ids ≡ 0
+  pub once : (other : ℕ) → IsFresh ids seed other → other ≡ id
+
+abbrev pub FreshIdsExist : Type 0
+FreshIdsExist = (ids : List ℕ) (seed : ℕ) → seed ≤ greatest_id → length ids < greatest_id → HasFresh ids seed

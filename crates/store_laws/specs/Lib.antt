@@ -1,0 +1,2 @@
+pub mod StoreTests
+pub mod Laws

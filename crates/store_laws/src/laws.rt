@@ -1,0 +1,43 @@
+//! The laws, each as the promise of a function.
+
+ghost use Rattle.store_laws.specs.Laws.{SpellingsAreRead, ShapesAreSpellings, AcceptanceIsCounted, StoresAreDecided, MeansOneStore, EntriesAreWritten, HeadersAreWritten, FreshIdsExist};
+
+/// The database that is read off bytes is the one that they spell.
+pub fn spellings_are_read()
+    ensures { SpellingsAreRead }
+{}
+
+/// Bytes spell a database exactly where they are in shape.
+pub fn shapes_are_spellings()
+    ensures { ShapesAreSpellings }
+{}
+
+/// An entry is replaced where its bytes are written over the old ones.
+pub fn entries_are_written()
+    ensures { EntriesAreWritten }
+{}
+
+/// A header is replaced where its bytes are written over the old ones.
+pub fn headers_are_written()
+    ensures { HeadersAreWritten }
+{}
+
+/// Behind a seed there is one fresh ID, where fewer IDs are taken than there are.
+pub fn fresh_ids_exist()
+    ensures { FreshIdsExist }
+{}
+
+/// An image is accepted exactly where each name is listed and named as often as its owner says.
+pub fn acceptance_is_counted()
+    ensures { AcceptanceIsCounted }
+{}
+
+/// Whether an image is accepted with its databases can be read off it.
+pub fn stores_are_decided()
+    ensures { StoresAreDecided }
+{}
+
+/// An accepted image means the store that is read off it, and no other.
+pub fn means_one_store()
+    ensures { MeansOneStore }
+{}

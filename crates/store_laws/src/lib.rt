@@ -1,0 +1,27 @@
+//! Laws of the definitions of databases and stores in `heap_model`.
+//!
+//! The functions here have empty bodies: what each promises is a law, proved once. The lemmas behind
+//! them, which the crates above cite in their proofs, stand in `proofs/`:
+//!
+//! | file | laws of |
+//! |---|---|
+//! | `Numbers` | numbers and the bytes that they stand in, both ways; lists by index |
+//! | `Listing` | how often a number stands in a list, and what this says of its elements; least numbers |
+//! | `Moving` | an element of a list moved: what stands where |
+//! | `Fresh` | fresh unique IDs: there is one, and one alone |
+//! | `Names` | names in their fields |
+//! | `Spellings` | what spells a database is read as that one |
+//! | `Shapes` | bytes in shape spell what is read off them |
+//! | `Edits` | entries replaced, put in and taken out, and headers replaced, by their bytes |
+//! | `Owners` | the owners of names: which names are slots, and which chunks are the manager's |
+//! | `Counting` | the accepted image, and the same by counts |
+//! | `Deciding` | the tests of `specs/StoreTests` decide which image is accepted |
+//! | `Meaning` | what an accepted image means: one store |
+#![tactic(auto)]
+
+mod laws;
+
+pub use laws::{
+    acceptance_is_counted, entries_are_written, fresh_ids_exist, headers_are_written,
+    means_one_store, shapes_are_spellings, spellings_are_read, stores_are_decided,
+};
