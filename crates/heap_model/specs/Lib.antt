@@ -21,6 +21,7 @@ pub mod UniqueIds
 pub mod Store
 pub mod Counts
 pub mod Rooms
+pub mod Leaving
 pub mod Numbers
 pub mod Refusals
 pub mod Steps

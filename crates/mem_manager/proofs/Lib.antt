@@ -4,4 +4,5 @@ pub mod Making
 pub mod Texts
 pub mod Recovering
 pub mod Moving
+pub mod Managing
 pub mod Growing

@@ -1,7 +1,9 @@
 -- What a heap keeps beside its region, and which name has its chunk at a place.
-use Rattle.std.specs.Prelude.{◌≡◌, ℕ, List, Some}
+use Rattle.std.specs.Prelude.{◌≡◌, ◌≢◌, ℕ, List, Some}
 use Rattle.heap_model.specs.Heap.{HeapAccepted}
 use Rattle.heap_model.specs.Meaning.{LiveChunk}
+use Rattle.heap_model.specs.Chunk.{fixed_lock}
+use Rattle.heap_model.specs.Reading.{held}
 use Rattle.heap_model.specs.Maps.{callers_map}
 use Rattle.heap_model.specs.Space.{place_of}
 use Rattle.master_table.specs.Table.{UsedBefore}
@@ -16,3 +18,9 @@ pub record IsThere (image : List ℕ) (place name : ℕ) : Type 0 where
   pub live : LiveChunk
   pub known : callers_map image name ≡ Some live
   pub there : place_of image name ≡ Some place
+
+-- a name stands for a movable chunk, which may be locked
+pub record IsMovable (image : List ℕ) (name : ℕ) : Type 0 where
+  pub live : LiveChunk
+  pub is_held : held image name ≡ Some live
+  pub movable : live.lock ≢ fixed_lock

@@ -8,6 +8,7 @@ ghost use Rattle.heap_check.specs.Faults.{IsFirstFault};
 mod asking;
 mod changing;
 mod making;
+mod managing;
 mod moving;
 
 use heap_check::{HeapFault, check_heap};

@@ -1,0 +1,22 @@
+use Rattle.std.proofs.Common.{◌≡◌, ◌+◌, ◌≤◌, length, sym, ap, subst, ◌∙◌, arith}
+use Rattle.std.specs.Prelude.{slice_range}
+use Rattle.heap_model.specs.Memory.{Memory}
+use Rattle.heap_model.specs.Store.{bytes_under}
+use Rattle.mem_manager.proofs.Managing.{slice_found, inside_found}
+use Rattle.mem_manager.proofs.heap.Heap.sys_read.Goals as goal
+
+pub slice-requires : goal.slice-requires
+slice-requires c =
+    let within = subst (λ (m : Memory). c.args.at + c.args.count ≤ length (bytes_under m.bytes c.args.name.0)) (sym c.self.view_is) c.requires.within in
+    let inside = inside_found c.self.inside.space.bytes c.args.name.0 c.in-Some.found c.args.at c.args.count c.self.invariant.accepted c.in-Some.ensures.found within in
+    let reaches = inside.0 in
+    let len : length c.region.result.now.bytes ≡ length c.self.inside.space.bytes = ap (λ (m : Memory). length m.bytes) c.region.ensures in
+    omega (arith, reaches, len)
+
+pub returns-in-Some : goal.returns-in-Some
+returns-in-Some c =
+    let within = subst (λ (m : Memory). c.args.at + c.args.count ≤ length (bytes_under m.bytes c.args.name.0)) (sym c.self.view_is) c.requires.within in
+    c.slice.ensures
+    ∙ ap (λ (m : Memory). slice_range m.bytes (c.in-Some.found.place.0 + c.args.at) (c.in-Some.found.place.0 + c.args.at + c.args.count)) c.region.ensures
+    ∙ slice_found c.self.inside.space.bytes c.args.name.0 c.in-Some.found c.args.at c.args.count c.self.invariant.accepted c.in-Some.ensures.found within
+    ∙ ap (λ (m : Memory). slice_range (bytes_under m.bytes c.args.name.0) c.args.at (c.args.at + c.args.count)) c.self.view_is

@@ -1,0 +1,71 @@
+//! Calls for the store above, on its own chunks and on those of databases, whose owners are 0 and 15.
+//! Their callers show what they ask: nothing is refused but want of room, and what a lock forbids.
+
+ghost use Rattle.std.specs.Prelude.{◌≡◌, ◌≢◌, ◌≤◌, ◌<◌, ◌+◌, length, slice_range, IsSome};
+ghost use Rattle.heap_model.specs.Chunk.{fixed_lock};
+ghost use Rattle.heap_model.specs.Heap.{directory_of};
+ghost use Rattle.heap_model.specs.Reading.{held};
+ghost use Rattle.heap_model.specs.Maps.{gone, put, reowned};
+ghost use Rattle.heap_model.specs.Store.{bytes_under};
+ghost use Rattle.heap_model.specs.Leaving.{Leaves};
+ghost use Rattle.mem_manager.specs.Lookup.{IsMovable};
+
+use crate::heap::Heap;
+use crate::heap::making::used_without;
+use heap_model::Name;
+
+impl Heap {
+    /// `count` bytes of any chunk, from `at` within it on, as they lie in the image.
+    pub fn sys_read(&self, name: Name, at: u32, count: u32) -> &[u8]
+        requires there { IsSome (held self.now.bytes name.0) }
+        requires within { at + count ≤ length (bytes_under self.now.bytes name.0) }
+        ensures { result.now ≡ slice_range (bytes_under self.now.bytes name.0) at (at + count) }
+    {
+        match self.space.find(name) {
+            Some(found) => {
+                let start = found.place.0 as usize + at as usize;
+                self.space.region().slice(start, count as usize)
+            }
+            None => &[],
+        }
+    }
+
+    /// Writes bytes over those of any chunk, from `at` within it on.
+    pub fn sys_write(&mut self, name: Name, at: u32, bytes: &[u8])
+        requires there { IsSome (held self.old.bytes name.0) }
+        requires within { at + length bytes.now ≤ length (bytes_under self.old.bytes name.0) }
+        ensures leaves { Leaves self.old.bytes self.new.bytes (put (held self.old.bytes) name.0 at bytes.now) }
+        ensures rest { self.new ≡ record self.old { bytes = self.new.bytes } }
+    {
+        if let Some(found) = self.space.find(name) {
+            self.space.write(found, at, bytes);
+        }
+    }
+
+    /// Gives a movable chunk to another owner, 1 to 15. The directory has none but the manager.
+    pub fn sys_set_owner(&mut self, name: Name, owner: u8)
+        requires movable { IsMovable self.old.bytes name.0 }
+        requires no_directory { name.0 ≢ directory_of self.old.bytes }
+        requires some_owner { 0 < owner }
+        requires most_owner { owner < 16 }
+        ensures leaves { Leaves self.old.bytes self.new.bytes (reowned (held self.old.bytes) name.0 owner) }
+        ensures rest { self.new ≡ record self.old { bytes = self.new.bytes } }
+    {
+        if let Some(found) = self.space.find(name) {
+            self.space.reown(found, owner);
+        }
+    }
+
+    /// Frees any chunk but the directory.
+    pub fn sys_free(&mut self, name: Name)
+        requires there { IsSome (held self.old.bytes name.0) }
+        requires no_directory { name.0 ≢ directory_of self.old.bytes }
+        ensures leaves { Leaves self.old.bytes self.new.bytes (gone (held self.old.bytes) name.0) }
+        ensures rest { self.new ≡ record self.old { bytes = self.new.bytes } }
+    {
+        if let Some(found) = self.space.find(name) {
+            self.used = used_without(self.space.region(), self.used, name);
+            self.space.give_back(found);
+        }
+    }
+}
