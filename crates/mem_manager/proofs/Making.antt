@@ -1,7 +1,7 @@
 -- The steps of calls that make chunks and free them.
 use Rattle.std.proofs.Common.{◌≡◌, ◌≢◌, ℕ, ◌+◌, ◌<◌, ◌≤◌, List, length, replicate, Option, Some, None, refl, sym, ap, subst, ◌∙◌, arith, inl, inr}
 use Rattle.std.proofs.lemmas.List.{length-replicate}
-use Rattle.std.specs.Prelude.{count_by, IfSome}
+use Rattle.std.specs.Prelude.{count_by, IfSome, Result, Ok, Err, IfOk, IfErr, OnOk, OnErr}
 use Rattle.master_table.specs.declared.table.FreeSlot.{FreeSlot}
 use Rattle.heap_model.specs.Memory.{Memory}
 use Rattle.heap_model.specs.Chunk.{movable, fixed, fixed_lock, need, is_owned_by}
@@ -9,13 +9,14 @@ use Rattle.heap_model.specs.Heap.{HeapAccepted}
 use Rattle.heap_model.specs.Meaning.{LiveChunk}
 use Rattle.heap_model.specs.Reading.{chunks_of, held}
 use Rattle.heap_model.specs.Maps.{callers_map}
-use Rattle.heap_model.specs.Space.{Short, free_slots}
+use Rattle.heap_model.specs.Space.{Short}
 use Rattle.heap_model.specs.Packing.{SlidesOneStretch}
 use Rattle.heap_model.specs.Layout.{layout_of, Becomes, Exchanges, in_front, owned_freed, IsRoom}
-use Rattle.heap_model.specs.MemorySteps.{Does, IsNoCaller, IsLocked}
+use Rattle.heap_model.specs.MemorySteps.{Does, IsNoCaller, IsLocked, reply_of}
 use Rattle.heap_model.specs.declared.names.Name.{Name}
 use Rattle.heap_model.specs.declared.call.MemoryCall.TheVariants.{HandleNew, PtrNew, Free, FreeByOwner}
 use Rattle.heap_model.specs.declared.call.Reply.TheVariants.{Refused, Done, Named, Number}
+use Rattle.heap_model.specs.declared.refusal.Refusal.{Refusal}
 use Rattle.heap_model.specs.declared.refusal.Refusal.TheVariants.{OwnedByDatabase, ChunkLocked, NotEnoughSpace}
 use Rattle.master_table.specs.Table.{IsFirstEmpty, NotAmong}
 use Rattle.master_table.proofs.TableLaws.{used_fewer, used_apart, used_set}
@@ -29,7 +30,7 @@ use Rattle.heap_place.specs.declared.found.Found.{Found}
 use Rattle.heap_place.specs.Found.{IsFound}
 use Rattle.heap_laws.proofs.Becoming.{frame_then}
 use Rattle.heap_laws.proofs.Compacting.{slides_alike}
-use Rattle.mem_manager.specs.Lookup.{IsManaged}
+use Rattle.mem_manager.specs.Lookup.{IsManaged, MakesNew, HasNoRoomFor}
 use Rattle.mem_manager.proofs.Moving.{BytesAndSlid, rest_then, held_then, still_then, first_slid, used_slid}
 use Rattle.mem_manager.proofs.Stepping.{known, of_known, not_of_known, is_known, refused, OnlyBytes, still_others, used_altered}
 use Rattle.heap_laws.proofs.Updating.{held_updated}
@@ -72,25 +73,35 @@ used_freed old new used fewer name m most apart ch = record {
 
 -- ---- a new handle
 
-pub new_short : (region : Memory) (size owner : ℕ) → HeapAccepted region.bytes → (IsNoCaller owner → ⊥) → Short region.bytes (need size) → Does region (HandleNew size owner) (Refused NotEnoughSpace) region
-new_short region size owner h caller none = refused region (HandleNew size owner) NotEnoughSpace h (inr (caller, inl (inr none, refl)))
-
 -- a chunk of zeros
 abbrev pub zeros : ℕ → ℕ → ℕ → LiveChunk
 zeros size lock owner = record { bytes = replicate size 0; lock = lock; owner = owner }
 
-pub new_made : (old mid new : Memory) (size owner : ℕ) (name : Name) (there : Option ℕ) → HeapAccepted old.bytes → (IsNoCaller owner → ⊥) → (free_slots old.bytes ≡ 0 → ⊥) → (Short old.bytes (need size) → ⊥) → held mid.bytes name.0 ≡ None → SlidesOneStretch old.bytes mid.bytes → BytesAndSlid old mid
-    → ChangesName mid.bytes new.bytes name.0 (Some (zeros size 0 owner)) there → OnlyBytes mid new → Does old (HandleNew size owner) (Named name) new
-new_made old mid new size owner name there h caller slots room empty slides first ch rest =
-    let alike = slides_alike old.bytes mid.bytes h slides in
+pub new_left : (old mid new : List ℕ) (size owner : ℕ) (name : ℕ) (there : Option ℕ) → HeapAccepted old → held mid name ≡ None → SlidesOneStretch old mid → ChangesName mid new name (Some (zeros size 0 owner)) there → MakesNew old new name size owner
+new_left old mid new size owner name there h empty slides ch =
+    let alike = slides_alike old mid h slides in
     record {
-      before = h;
-      step = ((caller, (λ short. elim short [ inl none ↦ slots none | inr none ↦ room none ], tt)), (sym (alike.holds name.0) ∙ empty, held_then old.bytes mid.bytes new.bytes name.0 (Some (zeros size 0 owner)) there alike ch));
-      frame = frame_then old.bytes mid.bytes new.bytes slides.becomes.frame ch.frame;
-      still = still_then old.bytes mid.bytes new.bytes alike (still_others mid.bytes new.bytes name.0 (Some (zeros size 0 owner)) there ch (inl empty));
-      asks = tt;
-      rest = rest_then old mid new first rest;
+      fresh = sym (alike.holds name) ∙ empty;
+      leaves = record {
+        map = held_then old mid new name (Some (zeros size 0 owner)) there alike ch;
+        frame = frame_then old mid new slides.becomes.frame ch.frame;
+        still = still_then old mid new alike (still_others mid new name (Some (zeros size 0 owner)) there ch (inl empty));
+      };
     }
+
+-- the step, where the owner is one for callers
+pub new_step : (old new : Memory) (size owner : ℕ) (result : Result Name Refusal) → HeapAccepted old.bytes → (IsNoCaller owner → ⊥) → IfOk result (λ name. MakesNew old.bytes new.bytes name.0 size owner) → OnOk result (HasNoRoomFor old.bytes size → ⊥) → OnErr result (HasNoRoomFor old.bytes size)
+    → IfErr result (λ refusal. refusal ≡ NotEnoughSpace) → OnErr result (new ≡ old) → BytesAndSlid old new → Does old (HandleNew size owner) (reply_of (λ name. Named name) result) new
+new_step old new size owner (Ok name) h caller made had no_room refusal refused_is rest = record {
+  before = h;
+  step = ((caller, (had, tt)), (made.fresh, made.leaves.map));
+  frame = made.leaves.frame;
+  still = made.leaves.still;
+  asks = tt;
+  rest = rest;
+}
+new_step old new size owner (Err brought) h caller made had no_room refusal refused_is rest =
+    subst (λ (r : Refusal). Does old (HandleNew size owner) (Refused r) new) (sym refusal) (subst (λ (m : Memory). Does old (HandleNew size owner) (Refused NotEnoughSpace) m) (sym refused_is) (refused old (HandleNew size owner) NotEnoughSpace h (inr (caller, inl (no_room, refl)))))
 
 -- what changes is its name, which stood for nothing
 pub new_changes : (old new : List ℕ) (at room size owner slot : ℕ) → HeapAccepted old → IsRoom old at room → need size ≤ room → held old slot ≡ None → Exchanges old new at (in_front (movable (replicate size 0) 0 owner slot)) → ChangesName old new slot (Some (zeros size 0 owner)) (Some (at + 8))

@@ -1,11 +1,12 @@
 -- What a heap keeps beside its region, and which name has its chunk at a place.
-use Rattle.std.specs.Prelude.{◌≡◌, ◌≢◌, ℕ, List, Some}
+use Rattle.std.specs.Prelude.{◌≡◌, ◌≢◌, ◌⊎◌, ℕ, List, Some, None}
 use Rattle.heap_model.specs.Heap.{HeapAccepted}
 use Rattle.heap_model.specs.Meaning.{LiveChunk}
-use Rattle.heap_model.specs.Chunk.{fixed_lock}
+use Rattle.heap_model.specs.Chunk.{fixed_lock, need}
 use Rattle.heap_model.specs.Reading.{held}
-use Rattle.heap_model.specs.Maps.{callers_map}
-use Rattle.heap_model.specs.Space.{place_of}
+use Rattle.heap_model.specs.Maps.{callers_map, made}
+use Rattle.heap_model.specs.Space.{place_of, free_slots, Short}
+use Rattle.heap_model.specs.Leaving.{Leaves}
 use Rattle.master_table.specs.Table.{UsedBefore}
 
 -- the heap is accepted, and the first so many slots are in use
@@ -24,3 +25,14 @@ pub record IsMovable (image : List ℕ) (name : ℕ) : Type 0 where
   pub live : LiveChunk
   pub is_held : held image name ≡ Some live
   pub movable : live.lock ≢ fixed_lock
+
+-- ---- what the calls for the store leave
+
+-- a movable chunk of so many zeros was made under a name that stood for nothing
+pub record MakesNew (old new : List ℕ) (name size owner : ℕ) : Type 0 where
+  pub fresh : held old name ≡ None
+  pub leaves : Leaves old new (made (held old) name size owner 0)
+
+-- no slot is free, or no stretch has the room for so many bytes
+abbrev pub HasNoRoomFor : List ℕ → ℕ → Type 0
+HasNoRoomFor image size = (free_slots image ≡ 0) ⊎ Short image (need size)

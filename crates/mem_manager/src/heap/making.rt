@@ -12,6 +12,7 @@ ghost use Rattle.heap_model.specs.declared.call.MemoryCall.{MemoryCall};
 ghost use Rattle.heap_model.specs.declared.call.Reply.{Reply};
 ghost use Rattle.heap_model.specs.Frame.{HasFrame};
 ghost use Rattle.master_table.specs.Table.{NotAmong};
+ghost use Rattle.mem_manager.specs.Lookup.{IsManaged, MakesNew, HasNoRoomFor};
 
 use crate::bounds::check_owner;
 use crate::heap::Heap;
@@ -20,7 +21,7 @@ use chunk_format::{FIXED_LOCK, chunk_size};
 use heap_compact::make_room;
 use heap_model::{Name, Refusal};
 use heap_place::{Room, Space};
-use master_table::{free_slot, slots_before};
+use master_table::{FreeSlot, free_slot, slots_before};
 use raw_region::Region;
 
 impl Heap {
@@ -39,11 +40,9 @@ impl Heap {
         ensures once { self.new.slid ≡ self.old.slid + moved_bytes self.old.bytes self.new.bytes }
         ensures refused { OnErr result (self.new ≡ self.old) }
     {
-        let region = self.space.region();
+        let space = &mut self.space;
         check_owner(owner)?;
-        let slot = free_slot(region, self.used).ok_or(Refusal::NotEnoughSpace)?;
-        let room = room_for(&mut self.space, size)?;
-        self.space.claim(room, slot.name, size, owner);
+        let slot = make_movable(space, self.used, size, owner)?;
         self.used = slot.before;
         Ok(slot.name)
     }
@@ -92,6 +91,33 @@ impl Heap {
         self.used = 0;
         Ok(count)
     }
+}
+
+/// Makes a movable chunk of `size` zeros, without a lock, under the first empty slot, which is answered. It is
+/// looked for behind the first `used` ones.
+pub(crate) fn make_movable(
+    space: &mut Space,
+    used: u32,
+    size: u32,
+    owner: u8,
+) -> Result<FreeSlot, Refusal>
+    requires managed { IsManaged space.old.bytes used }
+    requires owner { owner < 16 }
+    ensures made { IfOk result (λ slot. MakesNew space.old.bytes space.new.bytes slot.name.0 size owner) }
+    ensures in_use { IfOk result (λ slot. IsManaged space.new.bytes slot.before) }
+    ensures had_room { OnOk result (HasNoRoomFor space.old.bytes size → ⊥) }
+    ensures no_room { OnErr result (HasNoRoomFor space.old.bytes size) }
+    ensures refusal { IfErr result (λ refusal. refusal ≡ Refusal.NotEnoughSpace) }
+    ensures refused { OnErr result (space.new ≡ space.old) }
+    ensures unmoved { (NoRun (chunks_of space.old.bytes) (need size) → ⊥) → MovesNothing space.old.bytes space.new.bytes }
+    ensures one_stretch { MovesOneStretch space.old.bytes space.new.bytes }
+    ensures once { space.new.slid ≡ space.old.slid + moved_bytes space.old.bytes space.new.bytes }
+    ensures rest { space.new ≡ record space.old { bytes = space.new.bytes; slid = space.new.slid } }
+{
+    let slot = free_slot(space.region(), used).ok_or(Refusal::NotEnoughSpace)?;
+    let room = room_for(space, size)?;
+    space.claim(room, slot.name, size, owner);
+    Ok(slot)
 }
 
 /// Room for a chunk of `size` bytes, for which one stretch is packed where it has to be.

@@ -1,20 +1,40 @@
 //! Calls for the store above, on its own chunks and on those of databases, whose owners are 0 and 15.
 //! Their callers show what they ask: nothing is refused but want of room, and what a lock forbids.
 
-ghost use Rattle.std.specs.Prelude.{◌≡◌, ◌≢◌, ◌≤◌, ◌<◌, ◌+◌, length, slice_range, IsSome};
-ghost use Rattle.heap_model.specs.Chunk.{fixed_lock};
+ghost use Rattle.std.specs.Prelude.{◌≡◌, ◌≢◌, ◌≤◌, ◌<◌, ◌+◌, length, slice_range, IsSome, IfOk, IfErr, OnOk, OnErr};
+ghost use Rattle.heap_model.specs.Chunk.{need};
 ghost use Rattle.heap_model.specs.Heap.{directory_of};
-ghost use Rattle.heap_model.specs.Reading.{held};
+ghost use Rattle.heap_model.specs.Reading.{held, chunks_of};
+ghost use Rattle.heap_model.specs.Space.{NoRun, MovesNothing, MovesOneStretch, moved_bytes};
 ghost use Rattle.heap_model.specs.Maps.{gone, put, reowned};
 ghost use Rattle.heap_model.specs.Store.{bytes_under};
 ghost use Rattle.heap_model.specs.Leaving.{Leaves};
-ghost use Rattle.mem_manager.specs.Lookup.{IsMovable};
+ghost use Rattle.mem_manager.specs.Lookup.{IsMovable, MakesNew, HasNoRoomFor};
 
 use crate::heap::Heap;
-use crate::heap::making::used_without;
-use heap_model::Name;
+use crate::heap::making::{make_movable, used_without};
+use heap_model::{Name, Refusal};
 
 impl Heap {
+    /// Makes a movable chunk of `size` zeros, without a lock, for any owner. Its name is the offset of a slot
+    /// that was empty. Refused `NotEnoughSpace` alone, and then nothing has changed.
+    pub fn sys_new(&mut self, size: u32, owner: u8) -> Result<Name, Refusal>
+        requires owner { owner < 16 }
+        ensures made { IfOk result (λ name. MakesNew self.old.bytes self.new.bytes name.0 size owner) }
+        ensures had_room { OnOk result (HasNoRoomFor self.old.bytes size → ⊥) }
+        ensures no_room { OnErr result (HasNoRoomFor self.old.bytes size) }
+        ensures refusal { IfErr result (λ refusal. refusal ≡ Refusal.NotEnoughSpace) }
+        ensures refused { OnErr result (self.new ≡ self.old) }
+        ensures unmoved { (NoRun (chunks_of self.old.bytes) (need size) → ⊥) → MovesNothing self.old.bytes self.new.bytes }
+        ensures one_stretch { MovesOneStretch self.old.bytes self.new.bytes }
+        ensures once { self.new.slid ≡ self.old.slid + moved_bytes self.old.bytes self.new.bytes }
+        ensures rest { self.new ≡ record self.old { bytes = self.new.bytes; slid = self.new.slid } }
+    {
+        let slot = make_movable(&mut self.space, self.used, size, owner)?;
+        self.used = slot.before;
+        Ok(slot.name)
+    }
+
     /// `count` bytes of any chunk, from `at` within it on, as they lie in the image.
     pub fn sys_read(&self, name: Name, at: u32, count: u32) -> &[u8]
         requires there { IsSome (held self.now.bytes name.0) }
