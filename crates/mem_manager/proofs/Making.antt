@@ -72,9 +72,6 @@ used_freed old new used fewer name m most apart ch = record {
 
 -- ---- a new handle
 
-pub new_short : (region : Memory) (size owner : ℕ) → HeapAccepted region.bytes → (IsNoCaller owner → ⊥) → Short region.bytes (need size) → Does region (HandleNew size owner) (Refused NotEnoughSpace) region
-new_short region size owner h caller none = refused region (HandleNew size owner) NotEnoughSpace h (inr (caller, inl (inr none, refl)))
-
 -- a chunk of zeros
 abbrev pub zeros : ℕ → ℕ → ℕ → LiveChunk
 zeros size lock owner = record { bytes = replicate size 0; lock = lock; owner = owner }
