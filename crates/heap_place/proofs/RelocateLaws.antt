@@ -25,7 +25,7 @@ use Rattle.heap_laws.proofs.Frames.{u32_at-written, length-overwritten}
 use Rattle.heap_laws.proofs.Writing.{WroteWithin, wrote_wider, wrote_word, wrote_apart, WroteArea, area_replaces, area_slots}
 use Rattle.heap_laws.proofs.Freeing.{OtherSlots, claimed}
 use Rattle.heap_laws.proofs.Becoming.{becomes_heap, slot_kept}
-use Rattle.heap_laws.proofs.Plain.{live_plain, replaced_plain}
+use Rattle.heap_laws.proofs.Plain.{lives_plain, replaced_plain}
 use Rattle.chunk_format.specs.declared.header.Header.TheVariants as headers
 use Rattle.chunk_format.specs.Header.{HasHeader, live_words, h_offset_to}
 use Rattle.heap_model.specs.declared.names.Name.{Name}
@@ -129,7 +129,7 @@ named_write old mid new at name live bytes holder owner slot h f s empty mid_is 
     let others : OtherSlots old new slot = record { same = λ t ts ne. area_slots old new at (at + (need (length bytes) + 0)) t area ts (omega arith) (λ e. ne (sym e)) } in
     let done = claimed old new f.before f.after at c bytes owner slot tt heap replaces s empty holds others in (
       becomes_heap old new (f.before ++ d ∷ f.after) replaces.head done,
-      replaced_plain old new f.before (c ∷ []) (d ∷ []) f.after at f.chunks done replaces (live_plain new at d refl (omega arith)),
+      replaced_plain old new f.before (c ∷ []) (d ∷ []) f.after at f.chunks done replaces (lives_plain new at (d ∷ []) refl),
     )
 
 -- by what was found
