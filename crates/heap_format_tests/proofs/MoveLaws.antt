@@ -10,6 +10,7 @@ use Rattle.heap_model.specs.Reading.{chunks_of, live_under, held}
 use Rattle.heap_model.specs.Space.{stays, NoneStays, place_of, Still, MovesNothing, MovesOneStretch, MovesAlone, MovesOneStretchAnd, FitsInPlace, free_behind}
 use Rattle.heap_model.specs.Layout.{layout_of}
 use Rattle.heap_model.specs.Packing.{Slid, SlidesOneStretch}
+use Rattle.heap_laws.proofs.Deciding.{same_some, none_some}
 use Rattle.heap_laws.proofs.Lives.{live_under-append, live_placed, move_live}
 use Rattle.heap_laws.proofs.Freeing.{or_front, or_back}
 use Rattle.heap_laws.proofs.Sliding.{slid_middle, slid_merged}
@@ -40,9 +41,6 @@ of_each P at (free size ∷ cs) each name is = of_each P (at + size) cs each nam
 of_each P at (movable bytes lock owner slot ∷ cs) each name is = one_or_other P slot name _ _ each.0 (of_each P (at + need (length bytes)) cs each.1 name) is
 of_each P at (fixed bytes owner ∷ cs) each name is = one_or_other P (at + 8) name _ _ each.0 (of_each P (at + need (length bytes)) cs each.1 name) is
 
-same_live : {x y : LiveChunk} → Some x ≡ Some y → x ≡ y
-same_live e = cc
-
 -- ---- what has not moved
 
 -- a name, if it still stands for something, is where it was
@@ -60,7 +58,7 @@ stays_still old new each name live e locked = of_each (λ (n : ℕ). (one : Live
 
 -- one without a lock may be elsewhere
 pub unlocked : (was live : LiveChunk) → was.lock ≡ 0 → Some was ≡ Some live → 0 < live.lock → ⊥
-unlocked was live none e locked = let same = ap (λ (x : LiveChunk). x.lock) (same_live e) in omega arith
+unlocked was live none e locked = let same = ap (λ (x : LiveChunk). x.lock) (same_some was live e) in omega arith
 
 -- the others stay there
 pub moves_alone : (old new : List ℕ) (moved : ℕ) → EveryOne (λ name. name ≢ moved → StaysThere old new name) (names (area_start old) (chunks_of old)) → MovesAlone old new moved
@@ -108,18 +106,14 @@ placed_held : (image : List ℕ) (name place : ℕ) → place_of image name ≡ 
 unfolding held
 placed_held image name place e = by_case (held image name) refl where
   by_case : (o : Option LiveChunk) → held image name ≡ o → IsSome o
-  by_case None is = let gone : place_of image name ≡ None = live_placed (area_start image) (chunks_of image) name is in absurd (some_is_none (sym e ∙ gone)) where
-    some_is_none : Some place ≡ None → ⊥
-    some_is_none f = cc
+  by_case None is = absurd (none_some (place_of image name) place (live_placed (area_start image) (chunks_of image) name is) e)
   by_case (Some live) is = refl
 
 -- it is not where it was
 moved_there : (old new : List ℕ) (name : ℕ) → HasMoved old new name → (IsSome (held old name) → IsSome (held new name) → place_of new name ≡ place_of old name) → ⊥
 moved_there old new name m same =
     let e : place_of new name ≡ place_of old name = same (placed_held old name m.from m.was) (placed_held new name m.to m.is) in
-    m.apart (one_place (sym m.was ∙ sym e ∙ m.is)) where
-      one_place : {a b : ℕ} → Some a ≡ Some b → a ≡ b
-      one_place f = cc
+    m.apart (same_some m.from m.to (sym m.was ∙ sym e ∙ m.is))
 
 pub moves_locked : (old new : List ℕ) (name : ℕ) (live : LiveChunk) → held old name ≡ Some live → 0 < live.lock → HasMoved old new name → Still old new → ⊥
 moves_locked old new name live e locked m still = moved_there old new name m (λ was is. still name live e locked is)
@@ -161,14 +155,14 @@ sides (f ∷ front) c back (d ∷ before) mid after e s n =
       | inr k ↦ let more = k.1 in inr (k.0, cc, k.2)
     ]
 
--- what no one of some chunks is named none of their parts is named
+-- a name that no one of some chunks has no one of a part of them has
 none_front : (at : ℕ) (xs ys : List Chunk) (name : ℕ) → live_under at (xs ++ ys) name ≡ None → live_under at xs name ≡ None
 none_front at xs ys name e = or_front _ _ (sym (live_under-append at xs ys name) ∙ e)
 
 none_back : (at : ℕ) (xs ys : List Chunk) (name : ℕ) → live_under at (xs ++ ys) name ≡ None → live_under (at + total xs) ys name ≡ None
 none_back at xs ys name e = or_back _ _ (sym (live_under-append at xs ys name) ∙ e)
 
--- Two chunks have moved, one on each side of a chunk that stays.
+-- Two chunks have moved: one that isn't behind a chunk that stays, and one that isn't in front of it.
 pub record MovedApart (old new : List ℕ) (first second : ℕ) : Type 0 where
   pub front : List Chunk
   pub c : Chunk
@@ -194,7 +188,7 @@ moves_two_and old new first second moved a p q m = elim (sides a.front a.c a.bac
   start : ℕ
   start = area_start old
 
--- with no name beside the stretch
+-- the same with no name beside the stretch
 pub moves_two : (old new : List ℕ) (first second : ℕ) → MovedApart old new first second → MovesOneStretch old new → ⊥
 moves_two old new first second a m = moves_two_and old new first second (first + second + 1) a (λ e. omega arith) (λ e. omega arith) (record {
   before = m.before;
@@ -207,7 +201,7 @@ moves_two old new first second a m = moves_two_and old new first second (first +
 
 -- ---- one stretch that slides
 
--- seen from the whole image the chunks have slid, too
+-- all chunks of the image have slid, too
 pub slides_slid : (old new : List ℕ) → SlidesOneStretch old new → Slid (chunks_of old) (layout_of new)
 slides_slid old new s =
     subst (λ (cs : List Chunk). Slid cs (layout_of new)) (sym s.chunks)
@@ -219,7 +213,7 @@ other_first apart e = apart cc
 -- ---- what a name's chunk has where it is
 
 pub fits : (image : List ℕ) (name size : ℕ) (live : LiveChunk) → held image name ≡ Some live → size ≤ need (length live.bytes) + free_behind image name → FitsInPlace image name size
-fits image name size live e enough other f = subst (λ (x : LiveChunk). size ≤ need (length x.bytes) + free_behind image name) (same_live (sym e ∙ f)) enough
+fits image name size live e enough other f = subst (λ (x : LiveChunk). size ≤ need (length x.bytes) + free_behind image name) (same_some live other (sym e ∙ f)) enough
 
 pub fits_not : (image : List ℕ) (name size : ℕ) (live : LiveChunk) → held image name ≡ Some live → need (length live.bytes) + free_behind image name < size → FitsInPlace image name size → ⊥
 fits_not image name size live e less f = let enough = f live e in omega arith
