@@ -7,12 +7,13 @@ ghost use Rattle.heap_model.specs.Heap.{HeapAccepted, directory_of};
 ghost use Rattle.heap_model.specs.Space.{ShortFor, FitsInPlace, MovesAlone, MovesOneStretchAnd};
 ghost use Rattle.heap_model.specs.Layout.{IsRoom};
 ghost use Rattle.heap_place.specs.Found.{IsOne};
+ghost use Rattle.heap_place.specs.Stretches.{IsAmong};
 ghost use Rattle.heap_compact.specs.Resized.{IsLoose, Resized, FitsInStretch};
 
 use crate::making::room_by_packing;
 use chunk_format::{chunk_size, size_of_body};
 use heap_model::Name;
-use heap_place::{Found, Room, Space};
+use heap_place::{Found, Room, Space, Stretch};
 
 /// Gives a movable chunk without locks `count` bytes, where it or others of one stretch may move: its first
 /// ones, or all of them and zeros behind. Answers whether there is room for them: in a free run
@@ -40,7 +41,7 @@ pub fn resize_by_moving(space: &mut Space, found: Found, count: u32) -> bool
     }
     let stretch = space.stretch_around(found);
     if size_of_body(found.length) + space.room_of(stretch) >= size {
-        grow_in_stretch(space, found, count);
+        grow_in_stretch(space, found, stretch, count);
         return true;
     }
     match room_by_packing(space, size) {
@@ -68,17 +69,18 @@ fn relocate_named(space: &mut Space, name: Name, room: Room, count: u32)
     }
 }
 
-/// Opens room behind a chunk, whose stretch has it, and grows the chunk over it.
-fn grow_in_stretch(space: &mut Space, found: Found, count: u32)
+/// Opens room behind a chunk, whose stretch this is and has the room, and grows the chunk over it.
+fn grow_in_stretch(space: &mut Space, found: Found, stretch: Stretch, count: u32)
     requires accepted { HeapAccepted space.old.bytes }
     requires found { IsOne space.old.bytes found }
     requires unlocked { found.lock ≡ 0 }
+    requires among { IsAmong space.old.bytes found stretch }
     requires fits { FitsInStretch space.old.bytes found (need count) }
     ensures resized { Resized space.old.bytes space.new.bytes found.name.0 count }
     ensures one_stretch { MovesOneStretchAnd space.old.bytes space.new.bytes found.name.0 }
     ensures rest { space.new ≡ record space.old { bytes = space.new.bytes; slid = space.new.slid } }
 {
-    space.open_behind(found);
+    space.open_behind(found, stretch);
     grow_named(space, found.name, count);
 }
 

@@ -1,9 +1,9 @@
 //! Room for a chunk, for which one stretch is packed where no run of free chunks has it.
 
-ghost use Rattle.std.specs.Prelude.{◌≡◌, ◌≤◌, ◌<◌, IfSome, IfNone};
+ghost use Rattle.std.specs.Prelude.{◌≡◌, ◌≤◌, ◌<◌, ◌+◌, IfSome, IfNone};
 ghost use Rattle.heap_model.specs.Heap.{HeapAccepted};
 ghost use Rattle.heap_model.specs.Reading.{chunks_of};
-ghost use Rattle.heap_model.specs.Space.{NoRun, Short};
+ghost use Rattle.heap_model.specs.Space.{NoRun, Short, moved_bytes};
 ghost use Rattle.heap_model.specs.Packing.{SlidesOneStretch};
 ghost use Rattle.heap_model.specs.Layout.{IsRoom};
 
@@ -22,6 +22,7 @@ pub fn make_room(space: &mut Space, size: u32) -> Option<Room>
     ensures refused { IfNone result (space.new ≡ space.old) }
     ensures unmoved { (NoRun (chunks_of space.old.bytes) size → ⊥) → space.new ≡ space.old }
     ensures slides { SlidesOneStretch space.old.bytes space.new.bytes }
+    ensures once { space.new.slid ≡ space.old.slid + moved_bytes space.old.bytes space.new.bytes }
     ensures rest { space.new ≡ record space.old { bytes = space.new.bytes; slid = space.new.slid } }
 {
     match space.place(size) {
@@ -41,9 +42,13 @@ pub(crate) fn room_by_packing(space: &mut Space, size: u32) -> Option<Room>
     ensures short { IfNone result (Short space.old.bytes size) }
     ensures refused { IfNone result (space.new ≡ space.old) }
     ensures slides { SlidesOneStretch space.old.bytes space.new.bytes }
+    ensures once { space.new.slid ≡ space.old.slid + moved_bytes space.old.bytes space.new.bytes }
     ensures rest { space.new ≡ record space.old { bytes = space.new.bytes; slid = space.new.slid } }
 {
     let stretch = space.stretch_with_room(size)?;
-    space.pack_stretch(stretch);
-    space.place(size)
+    let room = space.pack_stretch(stretch);
+    Some(Room {
+        at: stretch.end - room,
+        size: room,
+    })
 }

@@ -1,6 +1,6 @@
 -- An image whose chunks have slid: what it holds, which chunks stay, and how much room it has are as
 -- they were; which chunks have moved; and what packing has moved.
-use Rattle.std.proofs.Common.{◌≡◌, ℕ, zero, suc, ◌+◌, ◌-◌, ◌<◌, ◌≤◌, Bool, true, List, [], ◌∷◌, ◌++◌, length, Option, Some, None, refl, sym, ap, subst, ◌∙◌, append_assoc, arith, inl, inr}
+use Rattle.std.proofs.Common.{◌≡◌, ℕ, zero, suc, ◌+◌, ◌-◌, ◌<◌, ◌≤◌, Bool, true, false, List, [], ◌∷◌, ◌++◌, length, Option, Some, None, refl, sym, ap, subst, ◌∙◌, arith, inl, inr}
 use Rattle.std.specs.Prelude.{◌↔◌, ◌==◌, count_by, if◌then◌else◌, IsSome}
 use Rattle.std.proofs.lemmas.Bool.{eq-eqb, cases_eq}
 use Rattle.std.proofs.lemmas.Bool.Decides.{nat_tests}
@@ -11,23 +11,22 @@ use Rattle.heap_model.specs.Heap.{BodyHere, IsBody, HeapAccepted}
 use Rattle.heap_model.specs.Placed.{EveryPlaced, AnyPlaced}
 use Rattle.heap_model.specs.Meaning.{LiveChunk}
 use Rattle.heap_model.specs.Reading.{chunks_of, held}
-use Rattle.heap_model.specs.Space.{free_slots, room_of, NoRun, Short, NoneStays, place_under, place_of, MovesNothing, MovesOneStretch, is_there, moved_from, moved_bytes}
+use Rattle.heap_model.specs.Space.{free_slots, NoRun, Short, NoneStays, place_under, place_of, MovesNothing, MovesOneStretch, is_there, moved_from, moved_bytes}
 use Rattle.heap_model.specs.Layout.{layout_of, Becomes, gap}
-use Rattle.heap_model.specs.Packing.{Packed, lives, Slid, packed_behind, packed, moved_behind, moved_by_packing, WholeStretch, SlidesOneStretch, OpensBehind, opened}
+use Rattle.heap_model.specs.Packing.{Packed, Slid, packed_behind, packed, moved_behind, moved_by_packing, WholeStretch, SlidesOneStretch, OpensBehind, opened}
 use Rattle.heap_laws.specs.Laws.{SlidAlike}
 use Rattle.heap_laws.proofs.Deciding.{none_some}
-use Rattle.heap_laws.proofs.Placed.{TakesBytes, SpelledAll-takes}
+use Rattle.heap_laws.proofs.Placed.{TakesBytes, SpelledAll-takes, AnyPlaced-left, AnyPlaced-right}
 use Rattle.heap_laws.proofs.Slots.{every_slot, same_slots}
 use Rattle.heap_laws.proofs.Bodies.{IsBody-low}
 use Rattle.heap_laws.proofs.Meanings.{slot_place, empty_unheld, held-is}
 use Rattle.heap_laws.proofs.Finding.{read_heap, finds_held, in_slot}
-use Rattle.heap_laws.proofs.Freeing.{free_sum}
 use Rattle.heap_laws.proofs.Lives.{live_placed, place_replaced}
 use Rattle.heap_laws.proofs.Altering.{finds_place}
 use Rattle.heap_laws.proofs.Becoming.{rooms-layout, becomes_held, becomes_place, becomes_free, becomes_no_run, becomes_body, slot_kept, count_alike}
-use Rattle.heap_laws.proofs.Exchanging.{layout_takes, gap_free, gap_total, ChangesName}
+use Rattle.heap_laws.proofs.Exchanging.{layout_takes, ChangesName}
 use Rattle.heap_laws.proofs.Packings.{packed_slid, packed_once}
-use Rattle.heap_laws.proofs.Sliding.{slid_live, slid_place, slid_free, slid_rooms, slid_merged, slid_middle, no_run-packed, stretch_packed, opened_slid}
+use Rattle.heap_laws.proofs.Sliding.{slid_live, slid_place, slid_free, slid_rooms, slid_merged, slid_middle, no_run-packed, opened_slid}
 
 -- ---- the slots
 
@@ -133,12 +132,73 @@ moved_rest new low room at (fixed bytes owner ∷ cs) there placed =
     let size : ℕ = need (length bytes) in
     moved_rest new (at + size) 0 (at + size) cs (omega arith) (λ other place b. placed other place (any_gap (BodyHere other place) low room at (fixed bytes owner ∷ packed_behind 0 cs) there (inr b)))
 
+body_behind : (image : List ℕ) (cs : List Chunk) (slot place : ℕ) → IsBody (area_start image) cs slot place → 0 < place
+body_behind image cs slot place body = let low = IsBody-low (area_start image) cs slot place body in omega arith
+
+-- each body of an image's chunks is where its name is placed
+becomes_placed : (old new : List ℕ) (cs : List Chunk) → Becomes old new cs → (slot place : ℕ) → IsBody (area_start old) cs slot place → place_of new slot ≡ Some place
+becomes_placed old new cs b slot place body = body_placed new slot place b.frame.accepted ((becomes_body old new cs slot place b).1 body) (body_behind old cs slot place body)
+
 pub packed_moved : (old new : List ℕ) → Becomes old new (packed (chunks_of old)) → moved_bytes old new ≡ moved_by_packing (chunks_of old)
-packed_moved old new b = moved_rest new (area_start old) 0 (area_start old) (chunks_of old) (omega arith) (λ slot place body.
-    let low : 0 < place = body_behind (area_start old) (packed (chunks_of old)) slot place body in
-    body_placed new slot place b.frame.accepted ((becomes_body old new (packed (chunks_of old)) slot place b).1 body) low) where
-      body_behind : (at : ℕ) (cs : List Chunk) (slot place : ℕ) → IsBody at cs slot place → 0 < place
-      body_behind at cs slot place body = let low = IsBody-low at cs slot place body in omega arith
+packed_moved old new b = moved_rest new (area_start old) 0 (area_start old) (chunks_of old) (omega arith) (becomes_placed old new (packed (chunks_of old)) b)
+
+-- of chunks that are where they were nothing has moved
+none_moved : (new : List ℕ) (at : ℕ) (cs : List Chunk) → ((slot place : ℕ) → IsBody at cs slot place → place_of new slot ≡ Some place) → moved_from at cs new ≡ 0
+none_moved new at [] placed = refl
+none_moved new at (free size ∷ cs) placed = none_moved new (at + size) cs (λ slot place b. placed slot place (inr b))
+none_moved new at (movable bytes lock owner slot ∷ cs) placed =
+    let here : is_there (place_of new slot) (at + 8) ≡ true = ap (λ (o : Option ℕ). is_there o (at + 8)) (placed slot (at + 8) (inl (refl, refl))) ∙ eq-eqb (at + 8) (at + 8) refl in
+    let rest = none_moved new (at + need (length bytes)) cs (λ other place b. placed other place (inr b)) in
+    ap (λ (b : Bool). (if b then 0 else need (length bytes)) + moved_from (at + need (length bytes)) cs new) here ∙ (let e : 0 + moved_from (at + need (length bytes)) cs new ≡ 0 = omega (arith, rest) in e)
+none_moved new at (fixed bytes owner ∷ cs) placed = none_moved new (at + need (length bytes)) cs (λ slot place b. placed slot place (inr b))
+
+-- an image has moved nothing of itself
+pub unmoved_bytes : (image : List ℕ) → HeapAccepted image → moved_bytes image image ≡ 0
+unmoved_bytes image h = none_moved image (area_start image) (chunks_of image) (λ slot place body. body_placed image slot place h body (body_behind image (chunks_of image) slot place body))
+
+moved_at : (new : List ℕ) (at there : ℕ) (cs : List Chunk) → at ≡ there → moved_from at cs new ≡ moved_from there cs new
+moved_at new at there cs e = ap (λ (n : ℕ). moved_from n cs new) e
+
+moved_both : (new : List ℕ) (at : ℕ) (xs ys : List Chunk) → moved_from at (xs ++ ys) new ≡ moved_from at xs new + moved_from (at + total xs) ys new
+moved_both new at [] ys = let here = moved_at new at (at + 0) ys (omega arith) in omega (arith, here)
+moved_both new at (free size ∷ xs) ys = let ih = moved_both new (at + size) xs ys in let here = moved_at new (at + size + total xs) (at + (size + total xs)) ys (omega arith) in omega (arith, ih, here)
+moved_both new at (movable bytes lock owner slot ∷ xs) ys =
+    let size : ℕ = need (length bytes) in
+    let ih = moved_both new (at + size) xs ys in
+    let here = moved_at new (at + size + total xs) (at + (size + total xs)) ys (omega arith) in
+    omega (arith, ih, here)
+moved_both new at (fixed bytes owner ∷ xs) ys =
+    let size : ℕ = need (length bytes) in
+    let ih = moved_both new (at + size) xs ys in
+    let here = moved_at new (at + size + total xs) (at + (size + total xs)) ys (omega arith) in
+    omega (arith, ih, here)
+
+-- where some chunks alone were packed, so much of those has moved and nothing else
+pub one_packed_moved : (old new : List ℕ) (before mid after : List Chunk) → chunks_of old ≡ before ++ (mid ++ after) → Becomes old new (before ++ (packed mid ++ after)) → moved_bytes old new ≡ moved_by_packing mid
+one_packed_moved old new before mid after e b =
+    let start : ℕ = area_start old in
+    let placed = becomes_placed old new (before ++ (packed mid ++ after)) b in
+    let one = none_moved new start before (λ slot place body. placed slot place (AnyPlaced-left (BodyHere slot place) start before (packed mid ++ after) body)) in
+    let two = moved_rest new (start + total before) 0 (start + total before) mid (omega arith) (λ slot place body.
+    placed slot place (AnyPlaced-right (BodyHere slot place) start before (packed mid ++ after) (AnyPlaced-left (BodyHere slot place) (start + total before) (packed mid) after body))) in
+    let sizes : total (packed mid) ≡ total mid = (packed_slid mid).sizes in
+    let three = none_moved new (start + total before + total mid) after (λ slot place body.
+    placed slot place (AnyPlaced-right (BodyHere slot place) start before (packed mid ++ after) (AnyPlaced-right (BodyHere slot place) (start + total before) (packed mid) after (subst (λ (n : ℕ). AnyPlaced (BodyHere slot place) (start + total before + n) after) (sym sizes) body)))) in
+    let parts = moved_both new start before (mid ++ after) in
+    let inner = moved_both new (start + total before) mid after in
+    ap (λ (cs : List Chunk). moved_from start cs new) e ∙ (let sum : moved_from start (before ++ (mid ++ after)) new ≡ moved_by_packing mid = omega (arith, one, two, three, parts, inner) in sum)
+
+-- no more than there is
+one_within : (stays_there : Bool) (size : ℕ) → (if stays_there then 0 else size) ≤ size
+one_within true size = omega arith
+one_within false size = omega arith
+
+pub moved_within : (room : ℕ) (cs : List Chunk) → moved_behind room cs ≤ total cs
+moved_within room [] = omega arith
+moved_within room (free size ∷ cs) = let ih = moved_within (room + size) cs in omega arith
+moved_within room (movable bytes zero owner slot ∷ cs) = let ih = moved_within room cs in let one = one_within (room == 0) (need (length bytes)) in omega (arith, ih, one)
+moved_within room (movable bytes (suc count) owner slot ∷ cs) = let ih = moved_within 0 cs in omega arith
+moved_within room (fixed bytes owner ∷ cs) = let ih = moved_within 0 cs in omega arith
 
 -- ---- which chunks have moved
 
@@ -188,17 +248,6 @@ slides_move_one old new s = record {
 pub packs_one : (old new : List ℕ) (before mid after : List Chunk) → chunks_of old ≡ before ++ (mid ++ after) → NoneStays mid → Becomes old new (before ++ (packed mid ++ after)) → SlidesOneStretch old new
 packs_one old new before mid after e n b = record { before = before; mid = mid; others = packed mid; after = after; chunks = e; none_stays = n; slid = packed_slid mid; becomes = b }
 
--- and then it has a run of all its room
-pub packed_has_run : (old new : List ℕ) (before mid after : List Chunk) (size : ℕ) → NoneStays mid → Becomes old new (before ++ (packed mid ++ after)) → size ≤ room_of mid → NoRun (chunks_of new) size → ⊥
-packed_has_run old new before mid after size n b enough none =
-    let room : ℕ = room_of mid in
-    let parts : before ++ (packed mid ++ after) ≡ (before ++ lives mid) ++ (gap room ++ after) =
-    ap (λ (cs : List Chunk). before ++ (cs ++ after)) (stretch_packed mid n) ∙ ap (λ (cs : List Chunk). before ++ cs) (append_assoc (lives mid) (gap room) after) ∙ sym (append_assoc before (lives mid) (gap room ++ after)) in
-    let low = (becomes_no_run old new (before ++ (packed mid ++ after)) size b).0 none (before ++ lives mid) (gap room) after parts (gap_free room) in
-    let sum = free_sum (gap room) (gap_free room) in
-    let all = gap_total room in
-    omega arith
-
 -- room is opened behind one of its chunks
 pub opens_one : (old new : List ℕ) (at : ℕ) (before front : List Chunk) (bytes : List ℕ) (owner slot : ℕ) (back after : List Chunk) → WholeStretch old before (front ++ movable bytes 0 owner slot ∷ back) after
     → at ≡ area_start old + total before + total front → OpensBehind old new at → SlidesOneStretch old new
@@ -212,3 +261,26 @@ opens_one old new at before front bytes owner slot back after w there o = record
   slid = opened_slid front bytes owner slot back w.none_stays;
   becomes = o before front bytes owner slot back after w there;
 }
+
+-- ---- a stretch has slid, and then one name changes that stood for nothing
+
+same_moved : (one other : List ℕ) (at : ℕ) (cs : List Chunk) → ((slot place : ℕ) → IsBody at cs slot place → place_of one slot ≡ place_of other slot) → moved_from at cs one ≡ moved_from at cs other
+same_moved one other at [] same = refl
+same_moved one other at (free size ∷ cs) same = same_moved one other (at + size) cs (λ slot place b. same slot place (inr b))
+same_moved one other at (movable bytes lock owner slot ∷ cs) same =
+    let size : ℕ = need (length bytes) in
+    let rest = same_moved one other (at + size) cs (λ other_slot place b. same other_slot place (inr b)) in
+    ap (λ (o : Option ℕ). (if is_there o (at + 8) then 0 else size) + moved_from (at + size) cs one) (same slot (at + 8) (inl (refl, refl))) ∙ ap (λ (n : ℕ). (if is_there (place_of other slot) (at + 8) then 0 else size) + n) rest
+same_moved one other at (fixed bytes owner ∷ cs) same = same_moved one other (at + need (length bytes)) cs (λ slot place b. same slot place (inr b))
+
+-- a body's name is held
+body_held : (image : List ℕ) (slot place : ℕ) → HeapAccepted image → IsBody (area_start image) (chunks_of image) slot place → held image slot ≡ None → ⊥
+body_held image slot place h b none =
+    let s = slot_place image (chunks_of image) slot place (read_heap image h) b in
+    let f = in_slot image slot place h s.0 s.1 (body_behind image (chunks_of image) slot place b) in
+    none_some (held image slot) f.live none (finds_held image slot f.live _ _ h f.finds)
+
+-- as many bytes have moved as in the sliding
+pub moved_with : (old mid new : List ℕ) (name : ℕ) (now : Option LiveChunk) (there : Option ℕ) → HeapAccepted old → SlidesOneStretch old mid → held mid name ≡ None → ChangesName mid new name now there → moved_bytes old new ≡ moved_bytes old mid
+moved_with old mid new name now there h s none ch = same_moved new mid (area_start old) (chunks_of old) (λ slot place body.
+    ch.places slot (λ same. body_held old slot place h body (sym ((slides_alike old mid h s).holds slot) ∙ ap (held mid) same ∙ none)))

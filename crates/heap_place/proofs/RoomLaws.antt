@@ -71,7 +71,7 @@ pub record EndsInRun (image : List ℕ) (at run_size : ℕ) (cs : List Chunk) : 
   pub apart : KeepsApart front
 
 -- behind a live chunk
-live_keeps : (cs : List Chunk) (c : Chunk) → IsNotFree c → KeepsApart (cs ++ c ∷ [])
+pub live_keeps : (cs : List Chunk) (c : Chunk) → IsNotFree c → KeepsApart (cs ++ c ∷ [])
 live_keeps cs c live others =
     ap merged (append_assoc cs (c ∷ []) others) ∙ merged-live cs c others live ∙ sym (append_assoc (merged cs) (c ∷ []) (merged others)) ∙ ap (λ (xs : List Chunk). xs ++ merged others) (sym (merged-live cs c [] live))
 

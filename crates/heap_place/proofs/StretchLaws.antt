@@ -7,21 +7,27 @@ use Rattle.heap_model.specs.Chunk.{Chunk, free, movable, fixed, need, total, fre
 use Rattle.heap_model.specs.Slots.{IsSlot, table_end, area_start}
 use Rattle.heap_model.specs.Heap.{BodyHere, IsHeap, HeapAccepted}
 use Rattle.heap_model.specs.Reading.{chunks_of}
-use Rattle.heap_model.specs.Space.{NoneStays, room_of}
+use Rattle.std.specs.Prelude.{IsTrue}
+use Rattle.heap_model.specs.Space.{NoneStays, stays, room_of}
 use Rattle.heap_model.specs.Placing.{SameFrame}
-use Rattle.heap_model.specs.Layout.{Becomes, gap, WritesPlain}
-use Rattle.heap_model.specs.Packing.{packed, lives, opened, OpensBehind}
+use Rattle.heap_model.specs.Layout.{Becomes, gap, merged, IsRoom, WritesPlain}
+use Rattle.heap_model.specs.Packing.{packed, lives, EndsStaying, opened, OpensBehind}
 use Rattle.heap_laws.proofs.Chunks.{total-append, SpelledAll-split, SpelledAll-end}
 use Rattle.heap_laws.proofs.Placed.{AnyPlaced-mid}
 use Rattle.heap_laws.proofs.Becoming.{frame_then}
+use Rattle.heap_laws.proofs.Compacting.{moved_within}
+use Rattle.heap_laws.proofs.Exchanging.{gap_free, gap_total}
+use Rattle.heap_laws.proofs.Layouts.{IsNotFree}
 use Rattle.heap_laws.proofs.Sliding.{lives-append, lives_total, lives_twice, stretch_packed}
 use Rattle.heap_laws.proofs.Stretches.{room_of-middle, one_stretch}
 use Rattle.heap_place.specs.declared.stretch.Stretch.{Stretch}
 use Rattle.heap_place.specs.Lifting.{FreeBehind}
-use Rattle.heap_place.specs.Packs.{BecomesExactly, RunOf, IsRun, Packs, LeavesRoom, last_room}
-use Rattle.heap_place.specs.Stretches.{StretchIs, IsStretch, IsAmongAt}
+use Rattle.heap_place.specs.Packs.{BecomesExactly, RunOf, IsRun, Packs, MovesInRun, LeavesRoom, last_room}
+use Rattle.heap_place.specs.Search.{KeepsApart}
+use Rattle.heap_place.specs.Stretches.{StretchIs, IsStretch, IsAmongAt, HasRoomOf}
 use Rattle.heap_place.proofs.FoundLaws.{heap_in_parts}
 use Rattle.heap_place.proofs.ExactLaws.{exactly_start, exactly_becomes}
+use Rattle.heap_place.proofs.RoomLaws.{live_keeps}
 use Rattle.heap_place.proofs.DropLaws.{gap_some, gap_none}
 
 -- ---- a stretch is packed
@@ -43,6 +49,66 @@ last_loose room (free size ∷ cs) n = let e = sum_by-cons free_size (free size)
 last_loose room (movable bytes zero owner slot ∷ cs) n = let e = sum_by-cons free_size (movable bytes 0 owner slot) cs in let ih = last_loose room cs n in omega (arith, e, ih)
 last_loose room (movable bytes (suc count) owner slot ∷ cs) n = absurd n
 last_loose room (fixed bytes owner ∷ cs) n = absurd n
+
+-- no more of a stretch moves than its bytes
+pub moves_few : (image : List ℕ) (stretch : Stretch) (moved : ℕ) → IsStretch image stretch → MovesInRun image stretch.start stretch.end moved → moved ≤ stretch.end - stretch.start
+moves_few image stretch moved s moves =
+    let is = moves s.before s.mid s.after (stretch_run image s.before s.mid s.after stretch s.is) in
+    let most = moved_within 0 s.mid in
+    let to = s.is.to in
+    omega (arith, is, most, to)
+
+-- the room that is left of a stretch
+pub room_left : (image : List ℕ) (stretch : Stretch) (room : ℕ) → LeavesRoom image stretch.start stretch.end room → HasRoomOf image stretch room
+room_left image stretch room leaves before mid after s =
+    let last = leaves before mid after (stretch_run image before mid after stretch s) in
+    let loose = last_loose 0 mid s.whole.none_stays in
+    omega (arith, last, loose)
+
+-- chunks with one that stays at their end end with it, and it keeps others apart
+stay_live : (c : Chunk) → IsTrue (stays c) → IsNotFree c
+stay_live (free size) stay = cc
+stay_live (movable bytes lock owner slot) stay = tt
+stay_live (fixed bytes owner) stay = tt
+
+end_split : (c : Chunk) (cs : List Chunk) → EndsStaying (c ∷ cs) → (front : List Chunk) × (last : Chunk) × (c ∷ cs ≡ front ++ last ∷ []) × IsNotFree last
+end_split c [] stay = ([], c, refl, stay_live c stay)
+end_split c (d ∷ cs) stay = let e = end_split d cs stay in (c ∷ e.0, e.1, ap (λ (xs : List Chunk). c ∷ xs) e.2, e.3)
+
+staying_keeps : (cs : List Chunk) → EndsStaying cs → KeepsApart cs
+staying_keeps [] stay = λ others. refl
+staying_keeps (c ∷ cs) stay = let e = end_split c cs stay in subst KeepsApart (sym e.2) (live_keeps e.0 e.1 e.3)
+
+-- so do live ones behind them
+lives_keep : (before mid : List Chunk) → KeepsApart before → KeepsApart (before ++ lives mid)
+lives_keep before [] k = subst KeepsApart (sym (append-nil before)) k
+lives_keep before (free size ∷ mid) k = lives_keep before mid k
+lives_keep before (movable bytes lock owner slot ∷ mid) k =
+    subst KeepsApart (append_assoc before (movable bytes lock owner slot ∷ []) (lives mid)) (lives_keep (before ++ movable bytes lock owner slot ∷ []) mid (live_keeps before (movable bytes lock owner slot) tt))
+lives_keep before (fixed bytes owner ∷ mid) k = subst KeepsApart (append_assoc before (fixed bytes owner ∷ []) (lives mid)) (lives_keep (before ++ fixed bytes owner ∷ []) mid (live_keeps before (fixed bytes owner) tt))
+
+-- the room of a packed stretch is a run of its own at its end
+pub packed_end : (old new : List ℕ) (before mid after : List Chunk) (stretch : Stretch) (room : ℕ) → StretchIs old before mid after stretch → BecomesExactly old new (before ++ (packed mid ++ after)) → room ≡ room_of mid → IsRoom new (stretch.end - room) room
+packed_end old new before mid after stretch room s b is =
+    let front : List Chunk = before ++ lives mid in
+    let parts : chunks_of new ≡ front ++ (gap room ++ after) =
+    b.exact ∙ ap (λ (cs : List Chunk). before ++ (cs ++ after)) (stretch_packed mid s.whole.none_stays ∙ ap (λ (n : ℕ). lives mid ++ gap n) (sym is)) ∙ ap (λ (cs : List Chunk). before ++ cs) (append_assoc (lives mid) (gap room) after)
+    ∙ sym (append_assoc before (lives mid) (gap room ++ after)) in
+    let starts = exactly_start old new (before ++ (packed mid ++ after)) b in
+    let sizes = lives_total mid in
+    let both = total-append before (lives mid) in
+    let from = s.from in
+    let to = s.to in
+    record {
+      before = front;
+      run = gap room;
+      after = after;
+      chunks = parts;
+      all_free = gap_free room;
+      there = omega (arith, starts, sizes, both, from, to, is);
+      sums = sym (gap_total room);
+      front = ap merged parts ∙ lives_keep before mid (staying_keeps before s.whole.in_front) (gap room ++ after);
+    }
 
 -- ---- the same chunks in other parts
 
@@ -153,12 +219,13 @@ module _ (old mid : List ℕ) (at name count : ℕ) (stretch : Stretch) (room : 
     pub inside : u32_at mid name - 8 + need count ≤ stretch.end
     pub within : room ≤ stretch.end
     pub most : stretch.end ≤ 16777208
+    pub from : stretch.start ≤ u32_at mid name - 8
 
   pub numbers : OpenNumbers
   numbers =
       let many = ap need a.many in
       let most = h.1.tiles.head.most in
-      record { behind_header = omega (arith, place_is); inside = omega (arith, place_is, ends, many); within = omega (arith, ends); most = omega (arith, inside, most) }
+      record { behind_header = omega (arith, place_is); inside = omega (arith, place_is, ends, many); within = omega (arith, ends); most = omega (arith, inside, most); from = omega (arith, place_is) }
 
   pub room_behind : (start : ℕ) → 0 < room → start ≡ u32_at mid name - 8 + need count → FreeBehind mid (a.before ++ (fore ++ v ∷ [])) rear a.after start (stretch.end - room) room
   room_behind start some start_is =

@@ -4,7 +4,7 @@ use Rattle.heap_model.specs.Chunk.{Chunk, free, movable, fixed, total, SpelledAl
 use Rattle.heap_model.specs.Slots.{area_start}
 use Rattle.heap_model.specs.Reading.{chunks_of}
 use Rattle.heap_model.specs.Space.{NoneStays, room_of, rooms_of, stretches}
-use Rattle.heap_model.specs.Layout.{Becomes}
+use Rattle.heap_model.specs.Layout.{Becomes, IsRoom}
 use Rattle.heap_model.specs.Packing.{packed, moved_by_packing, EndsStaying, WholeStretch}
 use Rattle.heap_place.specs.declared.found.Found.{Found}
 use Rattle.heap_place.specs.declared.stretch.Stretch.{Stretch}
@@ -26,9 +26,18 @@ pub record IsStretch (image : List ℕ) (stretch : Stretch) : Type 0 where
 abbrev pub PacksStretch : List ℕ → List ℕ → Stretch → Type 0
 PacksStretch old new stretch = (before mid after : List Chunk) → StretchIs old before mid after stretch → Becomes old new (before ++ (packed mid ++ after))
 
--- so many bytes of it move then
-abbrev pub MovesInStretch : List ℕ → Stretch → ℕ → Type 0
-MovesInStretch image stretch moved = (before mid after : List Chunk) → StretchIs image before mid after stretch → moved ≡ moved_by_packing mid
+-- a count of slid bytes has risen by just what moves of it then
+abbrev pub SlidesStretch : List ℕ → Stretch → ℕ → ℕ → Type 0
+SlidesStretch image stretch old new = (before mid after : List Chunk) → StretchIs image before mid after stretch → new ≡ old + moved_by_packing mid
+
+-- so much room a stretch has
+abbrev pub HasRoomOf : List ℕ → Stretch → ℕ → Type 0
+HasRoomOf image stretch room = (before mid after : List Chunk) → StretchIs image before mid after stretch → room ≡ room_of mid
+
+-- so much room it has, and all of it stands at its end then
+pub record RoomAtEnd (old new : List ℕ) (stretch : Stretch) (room : ℕ) : Type 0 where
+  pub all_room : HasRoomOf old stretch room
+  pub at_end : 0 < room → IsRoom new (stretch.end - room) room
 
 -- a movable chunk without locks and with so many bytes, which names this slot, stands at an offset
 pub record IsUnlocked (image : List ℕ) (at name count : ℕ) : Type 0 where
@@ -98,10 +107,6 @@ pub record HaveRooms (largest room : ℕ) (chunks : List Chunk) : Type 0 where
   pub fits : room ≤ total chunks
 
 -- ---- the room of one stretch
-
--- so much room a stretch has
-abbrev pub HasRoomOf : List ℕ → Stretch → ℕ → Type 0
-HasRoomOf image stretch room = (before mid after : List Chunk) → StretchIs image before mid after stretch → room ≡ room_of mid
 
 -- a walk over some chunks, which begin at an offset, has come to another, and passed so much room
 pub record Summed (mid : List Chunk) (start at room : ℕ) : Type 0 where

@@ -1,6 +1,6 @@
 //! Room is opened behind a chunk.
 
-ghost use Rattle.std.specs.Prelude.{◌≡◌, ◌-◌};
+ghost use Rattle.std.specs.Prelude.{◌≡◌, ◌≤◌, ◌+◌, ◌-◌, ◌*◌};
 ghost use Rattle.heap_model.specs.Heap.{HeapAccepted};
 ghost use Rattle.heap_model.specs.Placing.{SameFrame};
 ghost use Rattle.heap_model.specs.Layout.{WritesPlain};
@@ -24,6 +24,7 @@ pub(crate) fn open_in(region: &mut Region, stretch: Stretch, found: Found)
     ensures opened { OpensBehind region.old.bytes region.new.bytes (found.place.0 - 8) }
     ensures frame { SameFrame region.old.bytes region.new.bytes }
     ensures plain { WritesPlain region.old.bytes region.new.bytes }
+    ensures few { region.new.slid ≤ region.old.slid + 2 * (stretch.end - stretch.start) }
 {
     let room = pack(region, stretch.start, stretch.end).room;
     if room > 0 {

@@ -7,7 +7,7 @@ ghost use Rattle.heap_model.specs.Space.{moved_bytes};
 ghost use Rattle.heap_model.specs.Placing.{SameFrame};
 ghost use Rattle.heap_model.specs.Layout.{Becomes, WritesPlain};
 ghost use Rattle.heap_model.specs.Packing.{packed};
-ghost use Rattle.heap_place.specs.Stretches.{IsStretch, PacksStretch, MovesInStretch};
+ghost use Rattle.heap_place.specs.Stretches.{IsStretch, PacksStretch, RoomAtEnd, SlidesStretch};
 ghost use Rattle.heap_place.specs.Packs.{IsRun, Packs, MovesInRun, LeavesRoom, IsBehindRoom, PacksOne, IsDroppable, Drops, HeaderStays};
 ghost use Rattle.chunk_format.specs.Header.{HasHeader, size_by};
 
@@ -39,17 +39,17 @@ pub(crate) fn compact(region: &mut Region) -> u32
     pack(region, start, end).slid
 }
 
-/// Packs the chunks of one stretch, and answers how many bytes it slid.
+/// Packs the chunks of one stretch, and answers how much room is behind them then.
 pub(crate) fn pack_stretch(region: &mut Region, stretch: Stretch) -> u32
     requires accepted { HeapAccepted region.old.bytes }
     requires stretch { IsStretch region.old.bytes stretch }
     ensures packed { PacksStretch region.old.bytes region.new.bytes stretch }
+    ensures room { RoomAtEnd region.old.bytes region.new.bytes stretch result }
     ensures frame { SameFrame region.old.bytes region.new.bytes }
-    ensures moved { MovesInStretch region.old.bytes stretch result }
     ensures plain { WritesPlain region.old.bytes region.new.bytes }
-    ensures slid { region.new.slid ≡ region.old.slid + result }
+    ensures slid { SlidesStretch region.old.bytes stretch region.old.slid region.new.slid }
 {
-    pack(region, stretch.start, stretch.end).slid
+    pack(region, stretch.start, stretch.end).room
 }
 
 /// Packs the chunks from `start` up to `end`, in one walk and by one slide for each chunk that moves.

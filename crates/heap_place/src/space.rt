@@ -1,6 +1,6 @@
 //! The type that owns a heap's region.
 
-ghost use Rattle.std.specs.Prelude.{◌≡◌, ◌≢◌, ◌≤◌, ◌<◌, ◌+◌, ◌-◌, ◌++◌, ◌∷◌, ◌⊎◌, [], length, replicate, min, count_by, IfSome, IfNone, None};
+ghost use Rattle.std.specs.Prelude.{◌≡◌, ◌≢◌, ◌≤◌, ◌<◌, ◌+◌, ◌-◌, ◌*◌, ◌++◌, ◌∷◌, ◌⊎◌, [], length, replicate, min, count_by, IfSome, IfNone, None};
 ghost use Rattle.std.specs.Bool.{OnTrue, OnFalse};
 ghost use Rattle.heap_model.specs.Bytes.{u32_at};
 ghost use Rattle.heap_model.specs.Chunk.{movable, fixed, need, fixed_lock, is_owned_by};
@@ -15,7 +15,7 @@ ghost use Rattle.heap_model.specs.Layout.{Becomes, layout_of, owned_freed, Excha
 ghost use Rattle.heap_place.specs.Found.{IsFound, IsOne, NothingAt, CanGoTo};
 ghost use Rattle.heap_place.specs.Resizes.{TellsWhetherInPlace};
 ghost use Rattle.heap_place.specs.Relocation.{RelocatesFound};
-ghost use Rattle.heap_place.specs.Stretches.{IsStretch, IsAmong, HasRoom, HasRoomOf, PacksStretch, MovesInStretch};
+ghost use Rattle.heap_place.specs.Stretches.{IsStretch, IsAmong, HasRoom, HasRoomOf, PacksStretch, RoomAtEnd, SlidesStretch};
 
 use crate::alter::{relock_at, reown_at};
 use crate::claim::{claim_fixed, claim_movable, cut};
@@ -316,32 +316,31 @@ impl Space {
         room_of_stretch(&self.region, stretch)
     }
 
-    /// Packs the chunks of one stretch, and answers how many bytes were slid.
+    /// Packs the chunks of one stretch, and answers how much room, in bytes, is behind them then.
     pub fn pack_stretch(&mut self, stretch: Stretch) -> u32
         requires accepted { HeapAccepted self.old.bytes }
         requires stretch { IsStretch self.old.bytes stretch }
         ensures packed { PacksStretch self.old.bytes self.new.bytes stretch }
+        ensures room { RoomAtEnd self.old.bytes self.new.bytes stretch result }
         ensures frame { SameFrame self.old.bytes self.new.bytes }
-        ensures moved { MovesInStretch self.old.bytes stretch result }
         ensures plain { WritesPlain self.old.bytes self.new.bytes }
-        ensures slid { self.new.slid ≡ self.old.slid + result }
+        ensures slid { SlidesStretch self.old.bytes stretch self.old.slid self.new.slid }
         ensures rest { self.new ≡ record self.old { bytes = self.new.bytes; slid = self.new.slid } }
     {
         pack_stretch(&mut self.region, stretch)
     }
 
-    /// Opens room behind a movable chunk without locks: the free chunks of its stretch become one, directly
-    /// behind it. What was found of chunks of the stretch may stand elsewhere then.
-    pub fn open_behind(&mut self, found: Found)
+    /// Opens room behind a movable chunk without locks, which was found in this stretch: the free chunks of
+    /// the stretch become one, directly behind it. What was found of its chunks may stand elsewhere then.
+    pub fn open_behind(&mut self, found: Found, stretch: Stretch)
         requires accepted { HeapAccepted self.old.bytes }
-        requires found { IsOne self.old.bytes found }
-        requires unlocked { found.lock ≡ 0 }
+        requires among { IsAmong self.old.bytes found stretch }
         ensures opened { OpensBehind self.old.bytes self.new.bytes (found.place.0 - 8) }
         ensures frame { SameFrame self.old.bytes self.new.bytes }
         ensures plain { WritesPlain self.old.bytes self.new.bytes }
+        ensures few { self.new.slid ≤ self.old.slid + 2 * (stretch.end - stretch.start) }
         ensures rest { self.new ≡ record self.old { bytes = self.new.bytes; slid = self.new.slid } }
     {
-        let stretch = stretch_around(&self.region, found);
         open_in(&mut self.region, stretch, found);
     }
 
@@ -358,6 +357,7 @@ impl Space {
         ensures frame { SameFrame self.old.bytes self.new.bytes }
         ensures plain { WritesPlain self.old.bytes self.new.bytes }
         ensures slid { self.new.slid ≡ self.old.slid + min found.length count }
+        ensures rest { self.new ≡ record self.old { bytes = self.new.bytes; slid = self.new.slid } }
     {
         relocate(&mut self.region, found, room, count);
     }

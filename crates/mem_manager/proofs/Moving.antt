@@ -1,5 +1,5 @@
 -- The step of compaction, and what there is where chunks of one stretch have slid.
-use Rattle.std.proofs.Common.{◌≡◌, ℕ, List, Option, Some, None, refl, sym, ap, subst, ◌∙◌}
+use Rattle.std.proofs.Common.{◌≡◌, ℕ, ◌+◌, List, Option, Some, None, refl, sym, ap, subst, ◌∙◌, arith}
 use Rattle.std.specs.Prelude.{◌==◌, ◌↔◌, if◌then◌else◌, IsSome}
 use Rattle.heap_model.specs.Bytes.{u32_at}
 use Rattle.heap_model.specs.Slots.{IsSlot}
@@ -19,7 +19,7 @@ use Rattle.heap_laws.proofs.Slots.{same_slots}
 use Rattle.heap_laws.specs.Laws.{SlidAlike}
 use Rattle.heap_laws.proofs.Exchanging.{ChangesName}
 use Rattle.heap_laws.proofs.Updating.{held_updated}
-use Rattle.heap_laws.proofs.Compacting.{packed_alike, slot_unheld, slides_alike, slides_move_one, changes_move_nothing, moves_then_nothing, nothing_moves_one}
+use Rattle.heap_laws.proofs.Compacting.{packed_alike, slot_unheld, slides_alike, slides_move_one, changes_move_nothing, moves_then_nothing, nothing_moves_one, unmoved_bytes, moved_with}
 use Rattle.master_table.specs.Table.{IsFirstEmpty}
 use Rattle.master_table.proofs.TableLaws.{used_still}
 use Rattle.mem_manager.specs.Lookup.{IsManaged}
@@ -105,3 +105,16 @@ nothing_then old mid new same moved = subst (λ (m : Memory). MovesNothing m.byt
 -- a call that leaves the region as it is
 pub itself_one : (image : List ℕ) → MovesOneStretch image image
 itself_one image = nothing_moves_one image image (λ name was is. refl)
+
+-- ---- what was slid is what has moved
+
+pub nothing_slides : (region : Memory) → HeapAccepted region.bytes → region.slid ≡ region.slid + moved_bytes region.bytes region.bytes
+nothing_slides region h = let moved = unmoved_bytes region.bytes h in omega (arith, moved)
+
+-- one stretch has slid, and then a name changes that stood for nothing
+pub once_then : (old mid new : Memory) (name : ℕ) (now : Option LiveChunk) (there : Option ℕ) → HeapAccepted old.bytes → SlidesOneStretch old.bytes mid.bytes → held mid.bytes name ≡ None → ChangesName mid.bytes new.bytes name now there → OnlyBytes mid new
+    → mid.slid ≡ old.slid + moved_bytes old.bytes mid.bytes → new.slid ≡ old.slid + moved_bytes old.bytes new.bytes
+once_then old mid new name now there h slides none ch rest once =
+    let same = moved_with old.bytes mid.bytes new.bytes name now there h slides none ch in
+    let kept : new.slid ≡ mid.slid = ap (λ (m : Memory). m.slid) rest in
+    omega (arith, same, kept, once)

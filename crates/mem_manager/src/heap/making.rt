@@ -1,10 +1,10 @@
 //! Calls that make chunks and free them.
 
-ghost use Rattle.std.specs.Prelude.{◌≡◌, ◌≤◌, ◌<◌, ℕ, length, IfOk, OnOk, IfErr, OnErr};
+ghost use Rattle.std.specs.Prelude.{◌≡◌, ◌≤◌, ◌<◌, ◌+◌, ℕ, length, IfOk, OnOk, IfErr, OnErr};
 ghost use Rattle.heap_model.specs.Chunk.{need};
 ghost use Rattle.heap_model.specs.Heap.{HeapAccepted};
 ghost use Rattle.heap_model.specs.Reading.{chunks_of};
-ghost use Rattle.heap_model.specs.Space.{NoRun, Short, MovesNothing, MovesOneStretch};
+ghost use Rattle.heap_model.specs.Space.{NoRun, Short, MovesNothing, MovesOneStretch, moved_bytes};
 ghost use Rattle.heap_model.specs.Packing.{SlidesOneStretch};
 ghost use Rattle.heap_model.specs.Layout.{IsRoom};
 ghost use Rattle.heap_model.specs.MemorySteps.{Does, reply_of};
@@ -36,6 +36,7 @@ impl Heap {
         ensures does { Does self.old (MemoryCall.HandleNew size owner) (reply_of (λ name. Reply.Named name) result) self.new }
         ensures unmoved { (NoRun (chunks_of self.old.bytes) (need size) → ⊥) → MovesNothing self.old.bytes self.new.bytes }
         ensures one_stretch { MovesOneStretch self.old.bytes self.new.bytes }
+        ensures once { self.new.slid ≡ self.old.slid + moved_bytes self.old.bytes self.new.bytes }
         ensures refused { OnErr result (self.new ≡ self.old) }
     {
         let region = self.space.region();
@@ -54,6 +55,7 @@ impl Heap {
         ensures does { Does self.old (MemoryCall.PtrNew size owner) (reply_of (λ name. Reply.Named name) result) self.new }
         ensures unmoved { (NoRun (chunks_of self.old.bytes) (need size) → ⊥) → MovesNothing self.old.bytes self.new.bytes }
         ensures one_stretch { MovesOneStretch self.old.bytes self.new.bytes }
+        ensures once { self.new.slid ≡ self.old.slid + moved_bytes self.old.bytes self.new.bytes }
         ensures refused { OnErr result (self.new ≡ self.old) }
     {
         let space = &mut self.space;
@@ -103,16 +105,13 @@ fn room_for(space: &mut Space, size: u32) -> Result<Room, Refusal>
     ensures refused { OnErr result (space.new ≡ space.old) }
     ensures unmoved { (NoRun (chunks_of space.old.bytes) (need size) → ⊥) → space.new ≡ space.old }
     ensures slides { SlidesOneStretch space.old.bytes space.new.bytes }
+    ensures once { space.new.slid ≡ space.old.slid + moved_bytes space.old.bytes space.new.bytes }
     ensures rest { space.new ≡ record space.old { bytes = space.new.bytes; slid = space.new.slid } }
 {
-    let needed = match chunk_size(size) {
-        Some(needed) => needed,
-        None => return Err(Refusal::NotEnoughSpace),
+    let Some(needed) = chunk_size(size) else {
+        return Err(Refusal::NotEnoughSpace);
     };
-    match make_room(space, needed) {
-        Some(room) => Ok(room),
-        None => Err(Refusal::NotEnoughSpace),
-    }
+    make_room(space, needed).ok_or(Refusal::NotEnoughSpace)
 }
 
 /// How many slots, of the first `used`, stand before the one of a name: these stay in use when it is

@@ -1,6 +1,4 @@
-use Rattle.std.proofs.Common.{ℕ, subst}
-use Rattle.heap_model.specs.Chunk.{need}
-use Rattle.heap_compact.proofs.ResizedLaws.{one_of, loose_lock, grown_resized, resized_named}
+use Rattle.heap_compact.proofs.ResizedLaws.{loose_lock, grown_resized, resized_named}
 use Rattle.heap_compact.proofs.growing.grow_named.Goals as goal
 
 pub returns-in-Some-clause-resized : goal.returns-in-Some-clause-resized

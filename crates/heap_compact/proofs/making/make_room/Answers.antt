@@ -1,5 +1,5 @@
 use Rattle.heap_laws.proofs.Fitting.{room_not_short}
-use Rattle.heap_compact.proofs.MakingLaws.{slides_nothing}
+use Rattle.heap_compact.proofs.MakingLaws.{slides_nothing, moves_none}
 use Rattle.heap_compact.proofs.making.make_room.Goals as goal
 
 pub returns-in-Some-clause-not_short : goal.returns-in-Some-clause-not_short
@@ -7,3 +7,6 @@ returns-in-Some-clause-not_short c = room_not_short c.args.space.now.bytes c.in-
 
 pub returns-in-Some-clause-slides : goal.returns-in-Some-clause-slides
 returns-in-Some-clause-slides c = slides_nothing c.args.space.now.bytes c.requires.accepted
+
+pub returns-in-Some-clause-once : goal.returns-in-Some-clause-once
+returns-in-Some-clause-once c = moves_none c.args.space.now.bytes c.args.space.now.slid c.requires.accepted

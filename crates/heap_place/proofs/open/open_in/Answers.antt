@@ -1,6 +1,6 @@
 use Rattle.std.proofs.Common.{◌-◌, ◌+◌, arith}
 use Rattle.heap_model.specs.Packing.{lives}
-use Rattle.heap_place.proofs.StretchLaws.{stretch_run, packed_frame, packed_plain, slot_then, table_then, numbers, room_behind, opened_some, opened_none}
+use Rattle.heap_place.proofs.StretchLaws.{stretch_run, among_stretch, moves_few, packed_frame, packed_plain, slot_then, table_then, numbers, room_behind, opened_some, opened_none}
 use Rattle.heap_laws.proofs.Becoming.{frame_then}
 use Rattle.heap_laws.proofs.Plain.{plain_then}
 use Rattle.heap_place.proofs.open.open_in.Goals as goal
@@ -65,3 +65,19 @@ returns-then-room-gt0-clause-plain c = plain_then c.args.region.now.bytes c.pack
 
 pub returns-else-room-gt0-clause-plain : goal.returns-else-room-gt0-clause-plain
 returns-else-room-gt0-clause-plain c = packed_plain c.args.region.now.bytes c.pack-room.new.region.bytes (c.args.found.place.0 - 8) c.args.found.name.0 c.args.found.length c.args.stretch c.pack-room.result.room c.requires.accepted c.requires.among c.pack-room.ensures.packed c.pack-room.ensures.room
+
+pub returns-then-room-gt0-clause-few : goal.returns-then-room-gt0-clause-few
+returns-then-room-gt0-clause-few c =
+    let n = numbers c.args.region.now.bytes c.pack-room.new.region.bytes (c.args.found.place.0 - 8) c.args.found.name.0 c.args.found.length c.args.stretch c.pack-room.result.room c.requires.accepted c.requires.among c.pack-room.ensures.packed c.pack-room.ensures.room in
+    let moved = moves_few c.args.region.now.bytes c.args.stretch c.pack-room.result.slid (among_stretch _ _ _ _ _ c.requires.among) c.pack-room.ensures.moved in
+    let first = c.pack-room.ensures.slid in
+    let second = c.lift.ensures.slid in
+    let place = c.word_of-place.ensures in
+    let from = n.from in
+    omega (arith, moved, first, second, place, from)
+
+pub returns-else-room-gt0-clause-few : goal.returns-else-room-gt0-clause-few
+returns-else-room-gt0-clause-few c =
+    let moved = moves_few c.args.region.now.bytes c.args.stretch c.pack-room.result.slid (among_stretch _ _ _ _ _ c.requires.among) c.pack-room.ensures.moved in
+    let first = c.pack-room.ensures.slid in
+    omega (arith, moved, first)

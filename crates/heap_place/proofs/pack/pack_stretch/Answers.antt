@@ -1,7 +1,7 @@
-use Rattle.std.proofs.Common.{◌++◌}
+use Rattle.std.proofs.Common.{◌++◌, arith}
 use Rattle.heap_model.specs.Packing.{packed}
 use Rattle.heap_place.proofs.ExactLaws.{exactly_becomes}
-use Rattle.heap_place.proofs.StretchLaws.{stretch_run, is_run}
+use Rattle.heap_place.proofs.StretchLaws.{stretch_run, is_run, room_left, packed_end}
 use Rattle.heap_place.proofs.pack.pack_stretch.Goals as goal
 
 pub pack-requires-clause-run : goal.pack-requires-clause-run
@@ -11,8 +11,18 @@ pub returns-clause-packed : goal.returns-clause-packed
 returns-clause-packed c = λ before mid after s.
     exactly_becomes c.args.region.now.bytes c.pack.new.region.bytes (before ++ (packed mid ++ after)) (c.pack.ensures.packed before mid after (stretch_run c.args.region.now.bytes before mid after c.args.stretch s))
 
-pub returns-clause-moved : goal.returns-clause-moved
-returns-clause-moved c = λ before mid after s. c.pack.ensures.moved before mid after (stretch_run c.args.region.now.bytes before mid after c.args.stretch s)
+pub returns-clause-room : goal.returns-clause-room
+returns-clause-room c =
+    let s = c.requires.stretch in
+    let room = room_left c.args.region.now.bytes c.args.stretch c.pack.result.room c.pack.ensures.room in
+    let run = stretch_run c.args.region.now.bytes s.before s.mid s.after c.args.stretch s.is in
+    record { all_room = room; at_end = λ some. packed_end c.args.region.now.bytes c.pack.new.region.bytes s.before s.mid s.after c.args.stretch c.pack.result.room s.is (c.pack.ensures.packed s.before s.mid s.after run) (room s.before s.mid s.after s.is) }
+
+pub returns-clause-slid : goal.returns-clause-slid
+returns-clause-slid c = λ before mid after s.
+    let slid = c.pack.ensures.slid in
+    let moved = c.pack.ensures.moved before mid after (stretch_run c.args.region.now.bytes before mid after c.args.stretch s) in
+    omega (arith, slid, moved)
 
 pub returns-clause-frame : goal.returns-clause-frame
 returns-clause-frame c =

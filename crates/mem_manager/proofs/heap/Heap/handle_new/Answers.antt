@@ -2,7 +2,7 @@ use Rattle.std.proofs.Common.{◌≡◌, ◌+◌, Some, None, refl, sym, ap, sub
 use Rattle.heap_model.specs.Memory.{Memory}
 use Rattle.heap_model.specs.Chunk.{need}
 use Rattle.heap_model.specs.Reading.{chunks_of}
-use Rattle.heap_model.specs.Space.{NoRun, MovesNothing, MovesOneStretch, free_slots}
+use Rattle.heap_model.specs.Space.{NoRun, MovesNothing, MovesOneStretch, moved_bytes, free_slots}
 use Rattle.heap_model.specs.MemorySteps.{Does}
 use Rattle.heap_model.specs.declared.call.MemoryCall.TheVariants.{HandleNew}
 use Rattle.heap_model.specs.declared.call.Reply.{Reply}
@@ -10,7 +10,7 @@ use Rattle.heap_model.specs.declared.refusal.Refusal.{Refusal}
 use Rattle.master_table.specs.declared.table.FreeSlot.{FreeSlot}
 use Rattle.mem_manager.proofs.Stepping.{handed_on, refused}
 use Rattle.mem_manager.proofs.Making.{new_made, new_claimed, new_unheld, used_made, as_first}
-use Rattle.mem_manager.proofs.Moving.{first_slid, made_moves_nothing, nothing_then, one_stretch_then, itself_one}
+use Rattle.mem_manager.proofs.Moving.{nothing_slides, once_then, first_slid, made_moves_nothing, nothing_then, one_stretch_then, itself_one}
 use Rattle.mem_manager.proofs.heap.Heap.handle_new.Goals as goal
 
 pub returns-in_err-check_owner-clause-does : goal.returns-in_err-check_owner-clause-does
@@ -66,3 +66,18 @@ returns-clause-one_stretch c =
     (made_moves_nothing c.room_for.new.space.bytes c.claim.new.self.bytes c.in_ok-slot.slot.name.0 _ _ (new_unheld c.self.inside.space.bytes c.room_for.new.space.bytes c.in_ok-slot.slot.name.0 c.in_ok-slot.slot.before c.self.invariant.accepted c.room_for.ensures.slides first)
     (new_claimed c.self.inside.space.bytes c.room_for.new.space.bytes c.claim.new.self.bytes c.in_ok-room.room.at c.in_ok-room.room.size c.args.size c.args.owner c.in_ok-slot.slot.name.0 c.in_ok-slot.slot.before c.self.invariant.accepted c.room_for.ensures.slides first c.in_ok-room.ensures.room c.in_ok-room.ensures.enough
     c.claim.ensures.made)))
+
+pub returns-in_err-check_owner-clause-once : goal.returns-in_err-check_owner-clause-once
+returns-in_err-check_owner-clause-once c = subst (λ (m : Memory). m.slid ≡ m.slid + moved_bytes m.bytes m.bytes) c.self.view_is (nothing_slides c.self.inside.space c.self.invariant.accepted)
+
+pub returns-in_err-slot-clause-once : goal.returns-in_err-slot-clause-once
+returns-in_err-slot-clause-once c = subst (λ (m : Memory). m.slid ≡ m.slid + moved_bytes m.bytes m.bytes) c.self.view_is (nothing_slides c.self.inside.space c.self.invariant.accepted)
+
+pub returns-clause-once : goal.returns-clause-once
+returns-clause-once c =
+    let first = as_first c.self.inside.space c.region-region.result.now c.free_slot.result c.in_ok-slot.slot c.region-region.ensures c.in_ok-slot.ensures.ok_part c.free_slot.ensures.some in
+    subst (λ (m : Memory). c.claim.new.self.slid ≡ m.slid + moved_bytes m.bytes c.claim.new.self.bytes) c.self.view_is
+    (once_then c.self.inside.space c.room_for.new.space c.claim.new.self c.in_ok-slot.slot.name.0 _ _ c.self.invariant.accepted c.room_for.ensures.slides
+    (new_unheld c.self.inside.space.bytes c.room_for.new.space.bytes c.in_ok-slot.slot.name.0 c.in_ok-slot.slot.before c.self.invariant.accepted c.room_for.ensures.slides first)
+    (new_claimed c.self.inside.space.bytes c.room_for.new.space.bytes c.claim.new.self.bytes c.in_ok-room.room.at c.in_ok-room.room.size c.args.size c.args.owner c.in_ok-slot.slot.name.0 c.in_ok-slot.slot.before c.self.invariant.accepted c.room_for.ensures.slides first c.in_ok-room.ensures.room c.in_ok-room.ensures.enough
+    c.claim.ensures.made) c.claim.ensures.rest c.room_for.ensures.once)

@@ -1,15 +1,15 @@
-use Rattle.std.proofs.Common.{◌+◌, Some, refl, sym, ap, subst, ◌∙◌, inl}
+use Rattle.std.proofs.Common.{◌≡◌, ◌+◌, Some, refl, sym, ap, subst, ◌∙◌, inl}
 use Rattle.heap_model.specs.Memory.{Memory}
 use Rattle.heap_model.specs.Chunk.{need}
 use Rattle.heap_model.specs.Reading.{chunks_of, held}
-use Rattle.heap_model.specs.Space.{NoRun, MovesNothing, MovesOneStretch}
+use Rattle.heap_model.specs.Space.{NoRun, MovesNothing, MovesOneStretch, moved_bytes}
 use Rattle.heap_model.specs.MemorySteps.{Does, reply_of}
 use Rattle.heap_model.specs.declared.call.MemoryCall.TheVariants.{PtrNew}
 use Rattle.heap_model.specs.declared.call.Reply.{Reply}
 use Rattle.heap_model.specs.declared.refusal.Refusal.{Refusal}
 use Rattle.mem_manager.proofs.Stepping.{answered, handed_on, refused}
 use Rattle.mem_manager.proofs.Making.{ptr_short, ptr_made, ptr_claimed, ptr_unheld, used_ptr}
-use Rattle.mem_manager.proofs.Moving.{made_moves_nothing, nothing_then, one_stretch_then, itself_one}
+use Rattle.mem_manager.proofs.Moving.{nothing_slides, once_then, made_moves_nothing, nothing_then, one_stretch_then, itself_one}
 use Rattle.mem_manager.proofs.heap.Heap.ptr_new.Goals as goal
 
 pub returns-in_err-check_owner-clause-does : goal.returns-in_err-check_owner-clause-does
@@ -53,3 +53,14 @@ returns-clause-one_stretch c =
     (one_stretch_then c.self.inside.space.bytes c.room_for.new.space.bytes c.claim_fixed.new.self.bytes c.self.invariant.accepted c.room_for.ensures.slides
     (made_moves_nothing c.room_for.new.space.bytes c.claim_fixed.new.self.bytes (c.in_ok-room.room.at + 8) _ _ (ptr_unheld c.self.inside.space.bytes c.room_for.new.space.bytes c.in_ok-room.room.at c.in_ok-room.room.size c.args.size c.room_for.ensures.slides c.in_ok-room.ensures.room c.in_ok-room.ensures.enough)
     (ptr_claimed c.self.inside.space.bytes c.room_for.new.space.bytes c.claim_fixed.new.self.bytes c.in_ok-room.room.at c.in_ok-room.room.size c.args.size c.args.owner (c.in_ok-room.room.at + 8) refl c.room_for.ensures.slides c.in_ok-room.ensures.room c.in_ok-room.ensures.enough c.claim_fixed.ensures.made)))
+
+pub returns-in_err-check_owner-clause-once : goal.returns-in_err-check_owner-clause-once
+returns-in_err-check_owner-clause-once c = subst (λ (m : Memory). c.self.inside.space.slid ≡ m.slid + moved_bytes m.bytes c.self.inside.space.bytes) c.self.view_is (nothing_slides c.self.inside.space c.self.invariant.accepted)
+
+pub returns-clause-once : goal.returns-clause-once
+returns-clause-once c =
+    subst (λ (m : Memory). c.claim_fixed.new.self.slid ≡ m.slid + moved_bytes m.bytes c.claim_fixed.new.self.bytes) c.self.view_is
+    (once_then c.self.inside.space c.room_for.new.space c.claim_fixed.new.self (c.in_ok-room.room.at + 8) _ _ c.self.invariant.accepted c.room_for.ensures.slides
+    (ptr_unheld c.self.inside.space.bytes c.room_for.new.space.bytes c.in_ok-room.room.at c.in_ok-room.room.size c.args.size c.room_for.ensures.slides c.in_ok-room.ensures.room c.in_ok-room.ensures.enough)
+    (ptr_claimed c.self.inside.space.bytes c.room_for.new.space.bytes c.claim_fixed.new.self.bytes c.in_ok-room.room.at c.in_ok-room.room.size c.args.size c.args.owner (c.in_ok-room.room.at + 8) refl c.room_for.ensures.slides c.in_ok-room.ensures.room c.in_ok-room.ensures.enough c.claim_fixed.ensures.made)
+    c.claim_fixed.ensures.rest c.room_for.ensures.once)
