@@ -4,13 +4,12 @@ use Rattle.std.proofs.lemmas.Bool.{cases_eq, OnTrue_at}
 use Rattle.std.specs.Prelude.{◌==◌, if◌then◌else◌, IsSome, IsTrue, ◌↔◌}
 use Rattle.std.specs.Bool.{OnTrue}
 use Rattle.heap_model.specs.Bytes.{sized_to}
-use Rattle.heap_model.specs.Chunk.{Chunk, free, movable, fixed, fixed_lock, need, size_of}
+use Rattle.heap_model.specs.Chunk.{Chunk, movable, need, size_of}
 use Rattle.heap_model.specs.Heap.{HeapAccepted}
 use Rattle.heap_model.specs.Meaning.{LiveChunk}
 use Rattle.heap_model.specs.Reading.{chunks_of, held}
 use Rattle.heap_model.specs.Maps.{changed}
-use Rattle.heap_model.specs.Space.{ShortFor, Short, FitsInPlace, MovesAlone, MovesOneStretchAnd, free_behind, free_front, room_of}
-use Rattle.heap_model.specs.Placing.{Finds}
+use Rattle.heap_model.specs.Space.{ShortFor, Short, FitsInPlace, MovesAlone, MovesOneStretchAnd, free_front, room_of}
 use Rattle.heap_model.specs.Layout.{IsRoom}
 use Rattle.heap_model.specs.Packing.{SlidesOneStretch, OpensBehind}
 use Rattle.heap_model.specs.Resizing.{with_length, GrowsInPlace, Relocates}
@@ -22,7 +21,7 @@ use Rattle.heap_laws.proofs.Relocating.{relocate_changes}
 use Rattle.heap_laws.proofs.Compacting.{slides_alike, slides_move_one, opens_one}
 use Rattle.heap_laws.proofs.Stretches.{short_for_parts, room_of-middle}
 use Rattle.heap_laws.proofs.Updating.{held_updated}
-use Rattle.heap_place.proofs.FoundLaws.{found_inside, middle_of, heap_in_parts}
+use Rattle.heap_place.proofs.FoundLaws.{found_inside, middle_of, heap_in_parts, one_held, when_movable}
 use Rattle.heap_place.proofs.WalkLaws.{free_within}
 use Rattle.heap_place.specs.declared.found.Found.{Found}
 use Rattle.heap_place.specs.declared.stretch.Stretch.{Stretch}
@@ -35,9 +34,6 @@ use Rattle.heap_compact.specs.Resized.{IsLoose, Resized, FitsInStretch}
 -- what was found is the chunk of its own name
 pub one_of : (image : List ℕ) (name : ℕ) (found : Found) → IsFound image name found → IsOne image found
 one_of image name found f = subst (λ (n : ℕ). IsFound image n found) (sym f.name_is) f
-
-pub one_held : (image : List ℕ) (found : Found) → HeapAccepted image → (f : IsOne image found) → held image found.name.0 ≡ Some f.live
-one_held image found h f = finds_held image found.name.0 f.live f.chunk (found.place.0 - 8) h f.finds
 
 same_live : {x y : LiveChunk} → Some x ≡ Some y → x ≡ y
 same_live e = cc
@@ -71,25 +67,23 @@ changed_alone old new name count live there e unlocked ch = (changed_resized old
 
 pub grown_resized : (old new : List ℕ) (found : Found) (count : ℕ) (told : Bool) → HeapAccepted old → IsOne old found → found.lock ≡ 0 → FitsInPlace old found.name.0 (need count) → TellsWhetherInPlace old found (need count) told → OnTrue told (GrowsInPlace old new (found.place.0 - 8) count)
     → ChangedAlone old new found.name.0 count
-grown_resized old new found count told h f unlocked fits tells grows = by_chunk f.chunk f.finds (fits f.live (one_held old found h f)) (tells f) where
-  by_chunk : (c : Chunk) (g : Finds old found.name.0 f.live c (found.place.0 - 8)) → need count ≤ need (length f.live.bytes) + free_behind old found.name.0 → (IsTrue told ↔ (need count ≤ size_of c + free_front g.after)) → ChangedAlone old new found.name.0 count
-  by_chunk (free size) g enough tell = absurd g.named
-  by_chunk (fixed bytes owner) g enough tell = let lock : f.live.lock ≡ fixed_lock = ap (λ (x : LiveChunk). x.lock) (sym g.named.1) in let is = f.lock_is in absurd (omega (arith, unlocked, lock, is))
-  by_chunk (movable bytes lock owner slot) g enough tell =
-      let behind = finds_behind old found.name.0 (found.place.0 - 8) f.live bytes lock owner slot h g in
-      let same : need (length f.live.bytes) ≡ need (length bytes) = ap (λ (x : LiveChunk). need (length x.bytes)) (sym g.named.1) in
-      let reaches : need count ≤ need (length bytes) + free_front g.after = omega arith in
-      changed_alone old new found.name.0 count f.live (Some found.place.0) (one_held old found h f) (sym f.lock_is ∙ unlocked)
-      (grow_changes old new found.name.0 found.place.0 count f.live (movable bytes lock owner slot) h f.behind_header g reaches (OnTrue_at (tell.1 reaches) grows))
+grown_resized old new found count told h f unlocked fits tells grows =
+    let enough = fits f.live (one_held old found h f) in
+    when_movable old found.name.0 found f (λ c g. (IsTrue told ↔ (need count ≤ size_of c + free_front g.after)) → ChangedAlone old new found.name.0 count) (λ e. omega arith)
+    (λ bytes lock owner slot g tell.
+    let behind = finds_behind old found.name.0 (found.place.0 - 8) f.live bytes lock owner slot h g in
+    let same : need (length f.live.bytes) ≡ need (length bytes) = ap (λ (x : LiveChunk). need (length x.bytes)) (sym g.named.1) in
+    let reaches : need count ≤ need (length bytes) + free_front g.after = omega arith in
+    changed_alone old new found.name.0 count f.live (Some found.place.0) (one_held old found h f) (sym f.lock_is ∙ unlocked)
+    (grow_changes old new found.name.0 found.place.0 count f.live (movable bytes lock owner slot) h f.behind_header g reaches (OnTrue_at (tell.1 reaches) grows)))
+    (tells f)
 
 pub relocated_resized : (old new : List ℕ) (found : Found) (at size count : ℕ) → HeapAccepted old → IsOne old found → found.lock ≡ 0 → IsRoom old at size → need count ≤ size → RelocatesFound old new found at count → ChangedAlone old new found.name.0 count
-relocated_resized old new found at size count h f unlocked r fits moved = by_chunk f.chunk f.finds (moved f) where
-  by_chunk : (c : Chunk) (g : Finds old found.name.0 f.live c (found.place.0 - 8)) → Relocates old new (found.place.0 - 8) at (with_length count c) → ChangedAlone old new found.name.0 count
-  by_chunk (free n) g x = absurd g.named
-  by_chunk (fixed bytes owner) g x = let lock : f.live.lock ≡ fixed_lock = ap (λ (y : LiveChunk). y.lock) (sym g.named.1) in let is = f.lock_is in absurd (omega (arith, unlocked, lock, is))
-  by_chunk (movable bytes lock owner slot) g x =
-      changed_alone old new found.name.0 count f.live (Some (at + 8)) (one_held old found h f) (sym f.lock_is ∙ unlocked)
-      (relocate_changes old new found.name.0 (found.place.0 - 8) at size count f.live bytes lock owner slot h g (omega arith) r fits x)
+relocated_resized old new found at size count h f unlocked r fits moved =
+    when_movable old found.name.0 found f (λ c g. Relocates old new (found.place.0 - 8) at (with_length count c) → ChangedAlone old new found.name.0 count) (λ e. omega arith)
+    (λ bytes lock owner slot g x. changed_alone old new found.name.0 count f.live (Some (at + 8)) (one_held old found h f) (sym f.lock_is ∙ unlocked)
+    (relocate_changes old new found.name.0 (found.place.0 - 8) at size count f.live bytes lock owner slot h g (omega arith) r fits x))
+    (moved f)
 
 -- ---- a stretch has slid before
 

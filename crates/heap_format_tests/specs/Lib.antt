@@ -1,2 +1,3 @@
 pub mod Images
+pub mod Moves
 pub mod Stretches

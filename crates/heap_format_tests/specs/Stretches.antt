@@ -1,6 +1,6 @@
 -- Images and chunks to try the definitions of compaction and resizing on.
 use Rattle.std.specs.Prelude.{◌+◌, ◌++◌, ℕ, zero, suc, List, [], ◌∷◌, replicate}
-use Rattle.heap_model.specs.Chunk.{Chunk, free, movable}
+use Rattle.heap_model.specs.Chunk.{Chunk, movable}
 use Rattle.heap_format_tests.specs.Images.{words}
 
 -- 128 bytes with 4 slots, of which the last is empty, and three chunks of 32 bytes whose bodies are

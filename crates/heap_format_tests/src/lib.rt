@@ -16,6 +16,8 @@ mod frames;
 #[cfg(test)]
 mod headers;
 #[cfg(test)]
+mod moves;
+#[cfg(test)]
 mod regions;
 #[cfg(test)]
 mod slots;

@@ -3,7 +3,7 @@ use Rattle.std.proofs.Common.{◌≡◌, ℕ, ◌+◌, ◌-◌, ◌*◌, ◌%◌
 use Rattle.std.specs.Prelude.{◌↔◌, ◌==◌, slice_range}
 use Rattle.std.proofs.lemmas.Bool.{eq-eqb}
 use Rattle.heap_model.specs.Bytes.{overwritten}
-use Rattle.heap_model.specs.Chunk.{Chunk, free, movable, fixed, fixed_lock, need, size_of, total, free_size, IsLive, Spelled, SpelledAll}
+use Rattle.heap_model.specs.Chunk.{Chunk, free, movable, fixed, fixed_lock, need, size_of, total, IsLive, Spelled, SpelledAll}
 use Rattle.heap_model.specs.Slots.{table_end, area_start}
 use Rattle.heap_model.specs.Heap.{BodyHere, IsCallersIfFixed, ManagersHere, directory_of, IsHeap, HeapAccepted}
 use Rattle.heap_model.specs.Placed.{AnyPlaced}
@@ -11,10 +11,11 @@ use Rattle.heap_model.specs.Meaning.{LiveChunk, NamedHere}
 use Rattle.heap_model.specs.Reading.{live_under}
 use Rattle.heap_model.specs.Space.{AllFree, place_under, place_of}
 use Rattle.heap_model.specs.Placing.{Finds}
+use Rattle.heap_model.specs.Packing.{lives}
 use Rattle.heap_model.specs.Layout.{Becomes, with_bytes, WritesPlain}
 use Rattle.heap_laws.proofs.Becoming.{becomes_heap}
 use Rattle.heap_laws.proofs.Deciding.{cond-true}
-use Rattle.heap_laws.proofs.Plain.{live_plain, replaced_plain}
+use Rattle.heap_laws.proofs.Plain.{lives_plain, replaced_plain}
 use Rattle.heap_laws.proofs.Replacing.{Replaces, replaced_heap, SameSlots, kept_ties, kept_directory}
 use Rattle.heap_laws.proofs.Lives.{or_else}
 use Rattle.heap_laws.proofs.Meanings.{named_once}
@@ -126,11 +127,11 @@ rewritten old new name at live c run d left rest h f parts free_run free_left w 
 
 -- bytes of the chunk alone were written, and now another chunk of its size and its name stands there
 pub altered_write : (old new : List ℕ) (name at : ℕ) (live : LiveChunk) (c d : Chunk) → HeapAccepted old → (f : Finds old name live c at) → WroteWithin old new at (at + size_of c) → Spelled new at d → size_of d ≡ size_of c → TiedAlike c d
-    → (ManagersHere (directory_of old) at c → ManagersHere (directory_of old) at d) → IsCallersIfFixed at d → free_size d ≡ 0 → Becomes old new (f.before ++ d ∷ f.after) × WritesPlain old new
-altered_write old new name at live c d h f w spelled sizes alike kept callers taken =
+    → (ManagersHere (directory_of old) at c → ManagersHere (directory_of old) at d) → IsCallersIfFixed at d → lives (d ∷ []) ≡ d ∷ [] → Becomes old new (f.before ++ d ∷ f.after) × WritesPlain old new
+altered_write old new name at live c d h f w spelled sizes alike kept callers alive =
     let whole : at + size_of c ≡ at + total (c ∷ []) = omega arith in
     let r = rewritten old new name at live c [] d [] f.after h f refl tt tt (subst (λ (n : ℕ). WroteWithin old new at n) whole w) (spelled, omega arith) alike kept callers in
-    (becomes_heap old new (f.before ++ d ∷ f.after) r.replaces.head r.heap, replaced_plain old new f.before (c ∷ []) (d ∷ []) f.after at f.chunks r.heap r.replaces (live_plain new at d taken (Spelled-size new at d spelled).0))
+    (becomes_heap old new (f.before ++ d ∷ f.after) r.replaces.head r.heap, replaced_plain old new f.before (c ∷ []) (d ∷ []) f.after at f.chunks r.heap r.replaces (lives_plain new at (d ∷ []) alive))
 
 -- a fixed chunk that is found is a caller's
 pub finds_callers : (image : List ℕ) (name : ℕ) (live : LiveChunk) (c : Chunk) (at : ℕ) → HeapAccepted image → Finds image name live c at → IsCallersIfFixed at c

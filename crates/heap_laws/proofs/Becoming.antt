@@ -9,13 +9,13 @@ use Rattle.heap_model.specs.Slots.{IsSlot, table_end, area_start}
 use Rattle.heap_model.specs.Heap.{BodyHere, IsBody, IsHeap, HeapAccepted}
 use Rattle.heap_model.specs.Placed.{EveryOne}
 use Rattle.heap_model.specs.Reading.{chunks_of, held, live_under}
-use Rattle.heap_model.specs.Space.{NoRun, free_total, rooms, rooms_of, stretches, with_freed, free_behind, free_behind_in, place_under, place_of}
+use Rattle.heap_model.specs.Space.{NoRun, free_total, rooms, rooms_of, stretches, free_behind, free_behind_in, place_under, place_of}
 use Rattle.heap_model.specs.Placing.{SameFrame}
 use Rattle.heap_model.specs.Layout.{merged, layout_of, Becomes}
 use Rattle.heap_laws.proofs.Finding.{read_heap}
 use Rattle.heap_laws.proofs.Runs.{chunks_of-tiled}
 use Rattle.heap_laws.proofs.Replacing.{SameHead, same_count, same_directory}
-use Rattle.heap_laws.proofs.Layouts.{live_under-merged, place_under-merged, free_total-merged, rooms-merged, with_freed-merged, free_behind-merged, any-merged, no_run-layout}
+use Rattle.heap_laws.proofs.Layouts.{live_under-merged, place_under-merged, free_total-merged, rooms-merged, free_behind-merged, any-merged, no_run-layout}
 
 -- ---- of an image
 
@@ -64,14 +64,6 @@ becomes_place old new cs name b =
 
 pub becomes_free : (old new : List ℕ) (cs : List Chunk) → Becomes old new cs → free_total new ≡ sum_by free_size cs
 becomes_free old new cs b = free-layout new ∙ ap (sum_by free_size) b.layout ∙ free_total-merged cs
-
-pub becomes_rooms : (old new : List ℕ) (cs : List Chunk) → Becomes old new cs → rooms new ≡ rooms_of (stretches cs)
-becomes_rooms old new cs b = rooms-layout new ∙ ap (λ (ds : List Chunk). rooms_of (stretches ds)) b.layout ∙ rooms-merged cs
-
-pub becomes_rooms_freed : (old new : List ℕ) (cs : List Chunk) (name : ℕ) → Becomes old new cs → rooms_of (stretches (with_freed (chunks_of new) name)) ≡ rooms_of (stretches (with_freed cs name))
-becomes_rooms_freed old new cs name b =
-    sym (rooms-merged (with_freed (chunks_of new) name)) ∙ ap (λ (ds : List Chunk). rooms_of (stretches ds)) (sym (with_freed-merged (chunks_of new) name) ∙ ap (λ (ds : List Chunk). merged (with_freed ds name)) b.layout ∙ with_freed-merged cs name)
-    ∙ rooms-merged (with_freed cs name)
 
 pub becomes_behind : (old new : List ℕ) (cs : List Chunk) (name : ℕ) → Becomes old new cs → free_behind new name ≡ free_behind_in cs name
 becomes_behind old new cs name b = sym (free_behind-merged (chunks_of new) name) ∙ ap (λ (ds : List Chunk). free_behind_in ds name) b.layout ∙ free_behind-merged cs name
@@ -130,7 +122,3 @@ count_alike f g (x ∷ xs) e =
     let here : cond {A = ℕ} (f x) 1 0 ≡ cond {A = ℕ} (g x) 1 0 = ap (λ (y : Bool). cond {A = ℕ} y 1 0) e.0 in
     let ih = count_alike f g xs e.1 in
     omega arith
-
--- an image that has become another, and that a third
-pub becomes_then : (old mid new : List ℕ) (cs : List Chunk) → Becomes old mid (chunks_of old) → Becomes mid new cs → Becomes old new cs
-becomes_then old mid new cs a b = record { frame = frame_then old mid new a.frame b.frame; layout = b.layout }

@@ -11,7 +11,7 @@ use Rattle.heap_model.specs.Heap.{BodyHere, IsBody, HeapAccepted}
 use Rattle.heap_model.specs.Placed.{EveryPlaced, AnyPlaced}
 use Rattle.heap_model.specs.Meaning.{LiveChunk}
 use Rattle.heap_model.specs.Reading.{chunks_of, held}
-use Rattle.heap_model.specs.Space.{free_slots, NoRun, Short, NoneStays, place_under, place_of, Still, MovesNothing, MovesOneStretch, is_there, moved_from, moved_bytes}
+use Rattle.heap_model.specs.Space.{free_slots, NoRun, Short, NoneStays, place_under, place_of, MovesNothing, MovesOneStretch, is_there, moved_from, moved_bytes}
 use Rattle.heap_model.specs.Layout.{layout_of, Becomes, gap}
 use Rattle.heap_model.specs.Packing.{Packed, Slid, packed_behind, packed, moved_behind, moved_by_packing, WholeStretch, SlidesOneStretch, OpensBehind, opened}
 use Rattle.heap_laws.specs.Laws.{SlidAlike}
@@ -25,7 +25,7 @@ use Rattle.heap_laws.proofs.Lives.{live_placed, place_replaced}
 use Rattle.heap_laws.proofs.Altering.{finds_place}
 use Rattle.heap_laws.proofs.Becoming.{rooms-layout, becomes_held, becomes_place, becomes_free, becomes_no_run, becomes_body, slot_kept, count_alike}
 use Rattle.heap_laws.proofs.Exchanging.{layout_takes, ChangesName}
-use Rattle.heap_laws.proofs.Packings.{packed_is_packed, merged-packed, packed-merged, packed_kept, slid_packed, packed_slid, packed_once}
+use Rattle.heap_laws.proofs.Packings.{packed_slid, packed_once}
 use Rattle.heap_laws.proofs.Sliding.{slid_live, slid_place, slid_free, slid_rooms, slid_merged, slid_middle, no_run-packed, opened_slid}
 
 -- ---- the slots
@@ -75,10 +75,6 @@ slid_alike old new cs h b s = record {
 
 -- ---- a heap that is packed
 
--- its layout
-pub becomes_packed : (old new : List ℕ) → Becomes old new (packed (chunks_of old)) → layout_of new ≡ packed (chunks_of old)
-becomes_packed old new b = b.layout ∙ merged-packed (chunks_of old)
-
 pub packed_alike : (old new : List ℕ) → HeapAccepted old → Becomes old new (packed (chunks_of old)) → SlidAlike old new
 packed_alike old new h b = slid_alike old new (packed (chunks_of old)) h b (packed_slid (chunks_of old))
 
@@ -88,13 +84,6 @@ packed_chunks cs image h p s = packed_once (area_start image) cs (chunks_of imag
 
 pub packed_layout : (cs : List Chunk) (image : List ℕ) → HeapAccepted image → Packed (layout_of image) → Slid cs (layout_of image) → layout_of image ≡ packed cs
 packed_layout cs image h p s = packed_once (area_start image) cs (layout_of image) (layout_takes image h) p s
-
--- its chunks are the packed ones themselves exactly where its room is in one chunk each
-pub packed_exact : (old new : List ℕ) → Becomes old new (packed (chunks_of old)) → Packed (chunks_of new) ↔ (chunks_of new ≡ packed (chunks_of old))
-packed_exact old new b = (
-  λ p. sym (packed_kept (area_start new) (chunks_of new) (takes_bytes new b.frame.accepted) p) ∙ sym (packed-merged (chunks_of new)) ∙ ap packed (becomes_packed old new b) ∙ slid_packed (chunks_of old) (packed (chunks_of old)) (packed_slid (chunks_of old)),
-  λ e. subst Packed (sym e) (packed_is_packed (chunks_of old)),
-)
 
 -- it has a run of so many bytes exactly where the old one was not short of them
 pub packed_runs : (old new : List ℕ) (size : ℕ) → HeapAccepted old → Becomes old new (packed (chunks_of old)) → 0 < size → NoRun (chunks_of new) size ↔ Short old size
@@ -213,10 +202,6 @@ moved_within room (fixed bytes owner ∷ cs) = let ih = moved_within 0 cs in ome
 
 -- ---- which chunks have moved
 
--- the layout is as it was
-pub becomes_moves_nothing : (old new : List ℕ) → Becomes old new (chunks_of old) → MovesNothing old new
-becomes_moves_nothing old new b = λ name was is. becomes_place old new (chunks_of old) name b
-
 -- one name alone has changed, and is where it was, or is new
 pub changes_move_nothing : (old new : List ℕ) (name : ℕ) (now : Option LiveChunk) (there : Option ℕ) → ChangesName old new name now there → (IsSome (held old name) → IsSome (held new name) → there ≡ place_of old name) → MovesNothing old new
 changes_move_nothing old new name now there c same = λ other was is. elim (cases_eq other name) [
@@ -228,12 +213,6 @@ changes_move_nothing old new name now there c same = λ other was is. elim (case
 
 pub nothing_moves_one : (old new : List ℕ) → MovesNothing old new → MovesOneStretch old new
 nothing_moves_one old new m = record { before = []; mid = []; after = chunks_of old; chunks = refl; none_stays = tt; others = λ name none was is. m name was is }
-
-pub nothing_still : (old new : List ℕ) → MovesNothing old new → Still old new
-nothing_still old new m = λ name live e locked is. m name (ap is_held e) is where
-  is_held : Option LiveChunk → Bool
-  is_held None = false
-  is_held (Some live) = true
 
 -- chunks of one stretch move, and then none
 pub moves_then_nothing : (old mid new : List ℕ) → MovesOneStretch old mid → ((name : ℕ) → IsSome (held old name) → IsSome (held new name) → IsSome (held mid name)) → MovesNothing mid new → MovesOneStretch old new

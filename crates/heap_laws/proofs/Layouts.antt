@@ -7,7 +7,7 @@ use Rattle.heap_model.specs.Placed.{EveryPlaced, AnyPlaced}
 use Rattle.heap_model.specs.Meaning.{LiveChunk}
 use Rattle.heap_model.specs.Reading.{live_under}
 use Rattle.std.proofs.lemmas.List.Elements.{All-nil, All-cons, All-head, All-tail}
-use Rattle.heap_model.specs.Space.{AllFree, NoRun, onto_first, runs_between, has_chunk, stretches, rooms_of, with_freed, free_front, free_behind_in, place_under}
+use Rattle.heap_model.specs.Space.{AllFree, NoRun, onto_first, runs_between, has_chunk, stretches, rooms_of, free_front, free_behind_in, place_under}
 use Rattle.heap_model.specs.Layout.{free_onto, merged, AllBelow}
 use Rattle.heap_laws.proofs.Deciding.{cond-false}
 use Rattle.heap_laws.proofs.Placed.{TakesBytes}
@@ -252,20 +252,7 @@ marks-merged (fixed bytes owner ∷ cs) = ap (λ (ms : List (Option ℕ)). None 
 pub rooms-merged : (cs : List Chunk) → rooms_of (stretches (merged cs)) ≡ rooms_of (stretches cs)
 rooms-merged cs = marked_rooms (runs_between (merged cs)) ∙ ap marked (marks-merged cs) ∙ sym (marked_rooms (runs_between cs))
 
--- ---- a chunk freed, and what is free behind one
-
-onto_freed : (n : ℕ) (cs : List Chunk) (name : ℕ) → merged (with_freed (free_onto n cs) name) ≡ free_onto n (merged (with_freed cs name))
-onto_freed n [] name = refl
-onto_freed n (free m ∷ cs) name = onto_twice n m (merged (with_freed cs name))
-onto_freed n (movable bytes lock owner slot ∷ cs) name = refl
-onto_freed n (fixed bytes owner ∷ cs) name = refl
-
-pub with_freed-merged : (cs : List Chunk) (name : ℕ) → merged (with_freed (merged cs) name) ≡ merged (with_freed cs name)
-with_freed-merged [] name = refl
-with_freed-merged (free n ∷ cs) name = onto_freed n (merged cs) name ∙ ap (free_onto n) (with_freed-merged cs name)
-with_freed-merged (movable bytes lock owner slot ∷ cs) name =
-    merged-right ((if slot == name then free (need (length bytes)) else movable bytes lock owner slot) ∷ []) (with_freed (merged cs) name) (with_freed cs name) (with_freed-merged cs name)
-with_freed-merged (fixed bytes owner ∷ cs) name = ap (λ (ds : List Chunk). fixed bytes owner ∷ ds) (with_freed-merged cs name)
+-- ---- what is free behind a chunk
 
 pub free_front-merged : (cs : List Chunk) → free_front (merged cs) ≡ free_front cs
 free_front-merged [] = refl

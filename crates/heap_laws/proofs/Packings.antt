@@ -9,22 +9,10 @@ use Rattle.heap_model.specs.Layout.{merged, gap}
 use Rattle.heap_model.specs.Packing.{FreeIsLast, Packed, lives, staying, Slid, packed_behind, packed, BeginsStaying}
 use Rattle.heap_laws.proofs.Chunks.{total-append}
 use Rattle.heap_laws.proofs.Placed.{TakesBytes}
-use Rattle.heap_laws.proofs.Layouts.{onto_shifted}
 use Rattle.heap_laws.proofs.Exchanging.{gap_total}
 
--- ---- packing is of the layout
+-- ---- what packing leaves is its own layout
 
-packed_behind-merged : (room : ℕ) (cs : List Chunk) → packed_behind room (merged cs) ≡ packed_behind room cs
-packed_behind-merged room [] = refl
-packed_behind-merged room (free n ∷ cs) = onto_shifted packed_behind (λ at n cs. refl) room n (merged cs) ∙ packed_behind-merged (room + n) cs
-packed_behind-merged room (movable bytes zero owner slot ∷ cs) = ap (λ (ds : List Chunk). movable bytes 0 owner slot ∷ ds) (packed_behind-merged room cs)
-packed_behind-merged room (movable bytes (suc count) owner slot ∷ cs) = ap (λ (ds : List Chunk). gap room ++ movable bytes (suc count) owner slot ∷ ds) (packed_behind-merged 0 cs)
-packed_behind-merged room (fixed bytes owner ∷ cs) = ap (λ (ds : List Chunk). gap room ++ fixed bytes owner ∷ ds) (packed_behind-merged 0 cs)
-
-pub packed-merged : (cs : List Chunk) → packed (merged cs) ≡ packed cs
-packed-merged cs = packed_behind-merged 0 cs
-
--- what packing leaves is its own layout
 merged-packed_behind : (room : ℕ) (cs : List Chunk) → merged (packed_behind room cs) ≡ packed_behind room cs
 merged-packed_behind zero [] = refl
 merged-packed_behind (suc n) [] = refl

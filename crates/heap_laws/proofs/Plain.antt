@@ -2,7 +2,7 @@
 use Rattle.std.proofs.Common.{◌≡◌, ℕ, ◌+◌, ◌^◌, ◌<◌, ◌≤◌, List, [], ◌∷◌, ◌++◌, length, refl, sym, subst, ◌∙◌, arith, inl, inr}
 use Rattle.std.specs.Prelude.{◌⊎◌}
 use Rattle.heap_model.specs.Bytes.{u32_at}
-use Rattle.heap_model.specs.Chunk.{Chunk, free, movable, fixed, need, size_of, total, free_size}
+use Rattle.heap_model.specs.Chunk.{Chunk, free, movable, fixed, need, size_of, total}
 use Rattle.heap_model.specs.Slots.{area_start}
 use Rattle.heap_model.specs.Heap.{Tiles, IsHeap}
 use Rattle.heap_model.specs.Reading.{chunks_of}
@@ -40,12 +40,6 @@ pub free_plain : (image : List ℕ) (at size : ℕ) (cs : List Chunk) → u32_at
 free_plain image at size cs is small behind there h = elim h [ inl here ↦ subst (λ (k : ℕ). IsPlain (u32_at image k)) here (plain_word (u32_at image at) size is small) | inr later ↦ behind there later ]
 
 -- no live chunk is one
-pub live_plain : (image : List ℕ) (at : ℕ) (chunk : Chunk) → free_size chunk ≡ 0 → 8 ≤ size_of chunk → (there : ℕ) → AnyPlaced (IsFreeAt there) at (chunk ∷ []) → IsPlain (u32_at image there)
-live_plain image at (free size) none least there h = absurd (omega arith)
-live_plain image at (movable bytes lock owner slot) none least there h = elim h [ inl here ↦ absurd here | inr later ↦ absurd later ]
-live_plain image at (fixed bytes owner) none least there h = elim h [ inl here ↦ absurd here | inr later ↦ absurd later ]
-
--- and none of those that are live
 pub lives_plain : (image : List ℕ) (at : ℕ) (cs : List Chunk) → lives cs ≡ cs → (there : ℕ) → AnyPlaced (IsFreeAt there) at cs → IsPlain (u32_at image there)
 lives_plain image at cs live there h = absurd (none at cs (subst (λ (ds : List Chunk). AnyPlaced (IsFreeAt there) at ds) (sym live) h)) where
   none : (at : ℕ) (cs : List Chunk) → AnyPlaced (IsFreeAt there) at (lives cs) → ⊥

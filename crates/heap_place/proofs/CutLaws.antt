@@ -18,7 +18,7 @@ use Rattle.heap_laws.proofs.Freeing.{free_replaced, OtherSlots, claimed}
 use Rattle.heap_laws.proofs.Layouts.{merged-left, merged-right, runs-merged}
 use Rattle.heap_laws.proofs.Becoming.{becomes_heap, becomes_alike}
 use Rattle.heap_laws.proofs.Exchanging.{gap_free, claims_parts}
-use Rattle.heap_laws.proofs.Plain.{free_plain, live_plain, replaced_plain}
+use Rattle.heap_laws.proofs.Plain.{free_plain, lives_plain, replaced_plain}
 use Rattle.heap_laws.proofs.Altering.{overwritten_body, claimed_fixed}
 use Rattle.chunk_format.specs.declared.header.Header.TheVariants as headers
 use Rattle.chunk_format.specs.Header.{header_of, HasHeader, header_bytes, live_words, h_offset_to}
@@ -259,7 +259,7 @@ claimed_write old h z new at count owner slot accepted r s empty h_is header z_i
     let others : OtherSlots old new slot = record { same = λ t ts ne. area_slots old new at (at + (size + 0)) t wrote ts (omega arith) (λ e. ne (sym (slot_of e))) } in
     let c = claimed old new r.before r.after at (free size) (replicate count 0) owner slot tt heap replaces s empty now others in (
       claimed_front old new at size (movable (replicate count 0) 0 owner slot) accepted r takes (becomes_heap old new (r.before ++ movable (replicate count 0) 0 owner slot ∷ r.after) replaces.head c),
-      replaced_plain old new r.before (free size ∷ []) (movable (replicate count 0) 0 owner slot ∷ []) r.after at r.chunks c replaces (live_plain new at (movable (replicate count 0) 0 owner slot) refl (omega arith)),
+      replaced_plain old new r.before (free size ∷ []) (movable (replicate count 0) 0 owner slot ∷ []) r.after at r.chunks c replaces (lives_plain new at (movable (replicate count 0) 0 owner slot ∷ []) refl),
     ) where
       slot_of : {t : ℕ} → slot ≡ t → slot ≡ t
       slot_of e = e
@@ -308,5 +308,5 @@ fixed_claimed old mid new at count owner h r some most mid_is header new_is =
     claimed_fixed old new r.before r.after at (need count) (replicate count 0) owner heap replaces
     (record { same = λ slot s. let high : slot < table_end old = s.in_table in let whole : slot % 4 ≡ 0 = s.whole in wrote_word_apart old new at (at + need count) slot both (inl (omega arith)) }) some most in (
       claimed_front old new at (need count) (fixed (replicate count 0) owner) h r takes (becomes_heap old new (r.before ++ fixed (replicate count 0) owner ∷ r.after) replaces.head c),
-      replaced_plain old new r.before (free (need count) ∷ []) (fixed (replicate count 0) owner ∷ []) r.after at r.chunks c replaces (live_plain new at (fixed (replicate count 0) owner) refl (omega arith)),
+      replaced_plain old new r.before (free (need count) ∷ []) (fixed (replicate count 0) owner ∷ []) r.after at r.chunks c replaces (lives_plain new at (fixed (replicate count 0) owner ∷ []) refl),
     )

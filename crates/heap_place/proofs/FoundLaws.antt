@@ -1,15 +1,15 @@
 -- A live chunk that was found: its chunk, its header, and where its bytes lie.
-use Rattle.std.proofs.Common.{◌≡◌, ℕ, ◌+◌, ◌-◌, ◌%◌, ◌≤◌, List, [], ◌∷◌, ◌++◌, length, refl, sym, ap, subst, ◌∙◌, arith}
-use Rattle.heap_model.specs.Chunk.{Chunk, need, free, movable, fixed, size_of, total, Spelled, SpelledAll}
+use Rattle.std.proofs.Common.{◌≡◌, ◌≢◌, ℕ, ◌+◌, ◌-◌, ◌%◌, ◌≤◌, List, [], ◌∷◌, ◌++◌, length, Some, refl, sym, ap, subst, ◌∙◌, arith}
+use Rattle.heap_model.specs.Chunk.{Chunk, need, free, movable, fixed, fixed_lock, size_of, total, Spelled, SpelledAll}
 use Rattle.heap_model.specs.Slots.{IsSlot, area_start}
 use Rattle.heap_model.specs.Heap.{BodyHere, IsHeap, HeapAccepted}
 use Rattle.heap_model.specs.Meaning.{LiveChunk, NamedHere}
-use Rattle.heap_model.specs.Reading.{chunks_of}
+use Rattle.heap_model.specs.Reading.{chunks_of, held}
 use Rattle.heap_model.specs.Placing.{Finds}
 use Rattle.heap_laws.proofs.Chunks.{Spelled-size, SpelledAll-split, SpelledAll-end}
 use Rattle.heap_laws.proofs.Placed.{AnyPlaced-mid}
 use Rattle.heap_laws.proofs.Accepted.{heap_of_read}
-use Rattle.heap_laws.proofs.Finding.{finds_spelled}
+use Rattle.heap_laws.proofs.Finding.{finds_held, finds_spelled}
 use Rattle.heap_place.specs.declared.found.Found.{Found}
 use Rattle.heap_place.specs.Found.{IsFound, IsOne}
 
@@ -87,6 +87,19 @@ found_inside image found h f =
     let size = found_size image found f in
     let inside = (Spelled-size image (found.place.0 - 8) f.chunk (finds_spelled image found.name.0 f.live f.chunk (found.place.0 - 8) h f.finds)).1 in
     omega arith
+
+-- what its name stands for
+pub one_held : (image : List ℕ) (found : Found) → HeapAccepted image → (f : IsOne image found) → held image found.name.0 ≡ Some f.live
+one_held image found h f = finds_held image found.name.0 f.live f.chunk (found.place.0 - 8) h f.finds
+
+-- where it isn't fixed it is movable
+pub when_movable : (image : List ℕ) (name : ℕ) (found : Found) (f : IsFound image name found) (P : (c : Chunk) → Finds image name f.live c (found.place.0 - 8) → Type 0) → found.lock ≢ fixed_lock
+    → ((bytes : List ℕ) (lock owner slot : ℕ) (g : Finds image name f.live (movable bytes lock owner slot) (found.place.0 - 8)) → P (movable bytes lock owner slot) g) → P f.chunk f.finds
+when_movable image name found f P loose of_movable = by_chunk f.chunk f.finds where
+  by_chunk : (c : Chunk) (g : Finds image name f.live c (found.place.0 - 8)) → P c g
+  by_chunk (free size) g = absurd g.named
+  by_chunk (movable bytes lock owner slot) g = of_movable bytes lock owner slot g
+  by_chunk (fixed bytes owner) g = absurd (loose (f.lock_is ∙ ap (λ (x : LiveChunk). x.lock) (sym g.named.1)))
 
 -- ---- its bytes
 

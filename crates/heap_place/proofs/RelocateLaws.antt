@@ -13,7 +13,7 @@ use Rattle.heap_model.specs.Space.{place_of}
 use Rattle.heap_model.specs.Placing.{Finds}
 use Rattle.heap_model.specs.Layout.{Becomes, Exchanges, Alters, in_front, freed, with_bytes, IsRoom, WritesPlain}
 use Rattle.heap_model.specs.Resizing.{with_length, Relocates}
-use Rattle.heap_laws.proofs.Finding.{held_finds, finds_held, finds_spelled}
+use Rattle.heap_laws.proofs.Finding.{held_finds, finds_spelled}
 use Rattle.heap_laws.proofs.Altering.{finds_place, body_stays}
 use Rattle.heap_laws.proofs.Exchanging.{ChangesName}
 use Rattle.heap_laws.proofs.Changing.{claim_changes, room_unheld, bytes_changes, freed_changes}
@@ -25,14 +25,14 @@ use Rattle.heap_laws.proofs.Frames.{u32_at-written, length-overwritten}
 use Rattle.heap_laws.proofs.Writing.{WroteWithin, wrote_wider, wrote_word, wrote_apart, WroteArea, area_replaces, area_slots}
 use Rattle.heap_laws.proofs.Freeing.{OtherSlots, claimed}
 use Rattle.heap_laws.proofs.Becoming.{becomes_heap, slot_kept}
-use Rattle.heap_laws.proofs.Plain.{live_plain, replaced_plain}
+use Rattle.heap_laws.proofs.Plain.{lives_plain, replaced_plain}
 use Rattle.chunk_format.specs.declared.header.Header.TheVariants as headers
 use Rattle.chunk_format.specs.Header.{HasHeader, live_words, h_offset_to}
 use Rattle.heap_model.specs.declared.names.Name.{Name}
 use Rattle.heap_place.specs.declared.found.Found.{Found}
 use Rattle.heap_place.specs.Found.{IsOne}
 use Rattle.heap_place.specs.Relocation.{stand_in, KeepsFound, Copies, with_name}
-use Rattle.heap_place.proofs.FoundLaws.{heap_in_parts, middle_of, found_inside, own_slot}
+use Rattle.heap_place.proofs.FoundLaws.{heap_in_parts, middle_of, found_inside, own_slot, one_held, when_movable}
 use Rattle.heap_place.proofs.CutLaws.{slot_facts, header_movable, wrote_words, table_kept}
 use Rattle.heap_place.proofs.AlterLaws.{changed_there, written_there}
 
@@ -55,9 +55,6 @@ found_held image found live h is there count lock owner =
     } where
       same : (m n : ℕ) → Some m ≡ Some n → m ≡ n
       same m n e = cc
-
-pub one_held : (image : List ℕ) (found : Found) → HeapAccepted image → (f : IsOne image found) → held image found.name.0 ≡ Some f.live
-one_held image found h f = finds_held image found.name.0 f.live f.chunk (found.place.0 - 8) h f.finds
 
 pub one_placed : (image : List ℕ) (found : Found) → HeapAccepted image → IsOne image found → place_of image found.name.0 ≡ Some found.place.0
 one_placed image found h f =
@@ -129,7 +126,7 @@ named_write old mid new at name live bytes holder owner slot h f s empty mid_is 
     let others : OtherSlots old new slot = record { same = λ t ts ne. area_slots old new at (at + (need (length bytes) + 0)) t area ts (omega arith) (λ e. ne (sym e)) } in
     let done = claimed old new f.before f.after at c bytes owner slot tt heap replaces s empty holds others in (
       becomes_heap old new (f.before ++ d ∷ f.after) replaces.head done,
-      replaced_plain old new f.before (c ∷ []) (d ∷ []) f.after at f.chunks done replaces (live_plain new at d refl (omega arith)),
+      replaced_plain old new f.before (c ∷ []) (d ∷ []) f.after at f.chunks done replaces (lives_plain new at (d ∷ []) refl),
     )
 
 -- by what was found
@@ -243,7 +240,7 @@ same_found old new found h k e f g = same f.live g.live (sym (one_held new found
 
 pub relocated_found : (s0 s1 s2 s3 s4 : List ℕ) (found there : Found) (at size count : ℕ) → HeapAccepted s0 → (f : IsOne s0 found) → found.lock ≡ 0 → IsRoom s0 at size → need count ≤ size → there ≡ stand_in at count → Exchanges s0 s1 at (in_front (fixed (replicate count 0) 1)) → KeepsFound s0 s1 → Copies s1 s2 found there
     → Alters s2 s3 (found.place.0 - 8) freed → Alters s3 s4 (there.place.0 - 8) (with_name found.owner found.name.0) → Relocates s0 s4 (found.place.0 - 8) at (with_length count f.chunk)
-relocated_found s0 s1 s2 s3 s4 found there at size count h f unlocked r fits is made keeps copied gone named = by_chunk f.live f.chunk f.finds f.lock_is f.owner_is part_is where
+relocated_found s0 s1 s2 s3 s4 found there at size count h f unlocked r fits is made keeps copied gone named = when_movable s0 found.name.0 found f (λ c g. Relocates s0 s4 (found.place.0 - 8) at (with_length count c)) (λ e. omega arith) of_movable where
   first : ChangesName s0 s1 (at + 8) (Some (zeros_live count)) (Some (at + 8))
   first = stand_changes s0 s1 at size count h r fits made
 
@@ -259,19 +256,17 @@ relocated_found s0 s1 s2 s3 s4 found there at size count h f unlocked r fits is 
   part_is : again.live ≡ f.live
   part_is = same_found s0 s1 found h first.frame.accepted (first.others found.name.0 (stand_apart s0 at size count found h r fits f)) f again
 
-  by_chunk : (live : LiveChunk) (c : Chunk) (g : Finds s0 found.name.0 live c (found.place.0 - 8)) → found.lock ≡ live.lock → found.owner ≡ live.owner → again.live ≡ live → Relocates s0 s4 (found.place.0 - 8) at (with_length count c)
-  by_chunk live (free n) g lock_is owner_is same = absurd g.named
-  by_chunk live (fixed bytes owner) g lock_is owner_is same = let e : fixed_lock ≡ live.lock = ap (λ (x : LiveChunk). x.lock) g.named.1 in absurd (omega (arith, unlocked, lock_is))
-  by_chunk live (movable bytes lock owner slot) g lock_is owner_is same =
+  of_movable : (bytes : List ℕ) (lock owner slot : ℕ) (g : Finds s0 found.name.0 f.live (movable bytes lock owner slot) (found.place.0 - 8)) → Relocates s0 s4 (found.place.0 - 8) at (movable (sized_to bytes count) lock owner slot)
+  of_movable bytes lock owner slot g =
       let zeros : List ℕ = replicate count 0 in
       let part : List ℕ = take count again.live.bytes in
       let d : Chunk = movable (sized_to bytes count) lock owner slot in
       let many : length (replicate {A = ℕ} count 0) ≡ count = length-replicate count 0 in
       let sized : length (sized_to bytes count) ≡ count = length-sized_to bytes count in
-      let bytes_are : again.live.bytes ≡ bytes = ap (λ (x : LiveChunk). x.bytes) (same ∙ sym g.named.1) in
+      let bytes_are : again.live.bytes ≡ bytes = ap (λ (x : LiveChunk). x.bytes) (part_is ∙ sym g.named.1) in
       let padded_are : overwritten zeros 0 part ≡ sized_to bytes count = ap (λ (x : List ℕ). overwritten zeros 0 (take count x)) bytes_are ∙ padded count bytes in
-      let lock_zero : 0 ≡ lock = sym unlocked ∙ lock_is ∙ ap (λ (x : LiveChunk). x.lock) (sym g.named.1) in
-      let owner_same : found.owner ≡ owner = owner_is ∙ ap (λ (x : LiveChunk). x.owner) (sym g.named.1) in
+      let lock_zero : 0 ≡ lock = sym unlocked ∙ f.lock_is ∙ ap (λ (x : LiveChunk). x.lock) (sym g.named.1) in
+      let owner_same : found.owner ≡ owner = f.owner_is ∙ ap (λ (x : LiveChunk). x.owner) (sym g.named.1) in
       let d_takes : size_of d ≡ need count = ap need sized in
       let f_takes : size_of (fixed zeros 1) ≡ need count = ap need many in
       let e_takes : size_of (fixed (overwritten zeros 0 part) 1) ≡ need count = ap (λ (x : List ℕ). need (length x)) padded_are ∙ d_takes in
@@ -281,14 +276,12 @@ relocated_found s0 s1 s2 s3 s4 found there at size count h f unlocked r fits is 
 
 -- once the chunk is free its slot is empty, and the stand-in is still there
 pub slot_emptied : (old new : List ℕ) (found : Found) → HeapAccepted old → IsOne old found → found.lock ≡ 0 → Alters old new (found.place.0 - 8) freed → IsSlot new found.name.0 × (u32_at new found.name.0 ≡ 0)
-slot_emptied old new found h f unlocked x = by_chunk f.live f.chunk f.finds f.lock_is where
-  by_chunk : (live : LiveChunk) (c : Chunk) (g : Finds old found.name.0 live c (found.place.0 - 8)) → found.lock ≡ live.lock → IsSlot new found.name.0 × (u32_at new found.name.0 ≡ 0)
-  by_chunk live (free n) g lock_is = absurd g.named
-  by_chunk live (fixed bytes owner) g lock_is = let e : fixed_lock ≡ live.lock = ap (λ (y : LiveChunk). y.lock) g.named.1 in absurd (omega (arith, unlocked, lock_is))
-  by_chunk live (movable bytes lock owner slot) g lock_is =
-      let ch = freed_changes old new found.name.0 (found.place.0 - 8) live (movable bytes lock owner slot) h g x in
-      let s : IsSlot new found.name.0 = slot_kept old new _ found.name.0 x (subst (λ (n : ℕ). IsSlot old n) g.named.0 (own_slot old found.name.0 (found.place.0 - 8) live bytes lock owner slot h g)) in
-      (s, (slot_unheld new found.name.0 x.frame.accepted s).1 ch.here)
+slot_emptied old new found h f unlocked x =
+    let ch = freed_changes old new found.name.0 (found.place.0 - 8) f.live f.chunk h f.finds x in
+    let was : IsSlot old found.name.0 =
+    when_movable old found.name.0 found f (λ c g. IsSlot old found.name.0) (λ e. omega arith) (λ bytes lock owner slot g. subst (λ (n : ℕ). IsSlot old n) g.named.0 (own_slot old found.name.0 (found.place.0 - 8) f.live bytes lock owner slot h g)) in
+    let s : IsSlot new found.name.0 = slot_kept old new _ found.name.0 x was in
+    (s, (slot_unheld new found.name.0 x.frame.accepted s).1 ch.here)
 
 pub freed_keeps : (old new : List ℕ) (found other : Found) → HeapAccepted old → (f : IsOne old found) → Alters old new (found.place.0 - 8) freed → other.name.0 ≢ found.name.0 → IsOne old other → IsOne new other
 freed_keeps old new found other h f x apart g = found_kept old new found.name.0 _ _ other h (freed_changes old new found.name.0 (found.place.0 - 8) f.live f.chunk h f.finds x) apart g

@@ -5,11 +5,12 @@ use Rattle.std.proofs.lemmas.Bool.{cases_lt, eq-eqb}
 use Rattle.std.proofs.lemmas.Bool.Decides.{nat_tests}
 use Rattle.std.proofs.lemmas.List.{length-replicate, length-take-le, length-drop, take_all, take-take, drop_all, append-nil}
 use Rattle.heap_model.specs.Bytes.{overwritten, sized_to}
-use Rattle.heap_model.specs.Chunk.{Chunk, free, movable, fixed, fixed_lock, need, size_of, total, free_size, Spelled, SpelledAll}
+use Rattle.heap_model.specs.Chunk.{Chunk, free, movable, fixed, fixed_lock, need, size_of, total, Spelled, SpelledAll}
 use Rattle.heap_model.specs.Heap.{IsCallersIfFixed, ManagersHere, directory_of, HeapAccepted}
 use Rattle.heap_model.specs.Meaning.{LiveChunk, NamedHere}
 use Rattle.heap_model.specs.Placed.{AnyPlaced}
 use Rattle.heap_model.specs.Placing.{Finds}
+use Rattle.heap_model.specs.Packing.{lives}
 use Rattle.heap_model.specs.Layout.{Becomes, gap, IsFreeAt, WritesPlain}
 use Rattle.heap_model.specs.Resizing.{with_length, shrunk, Shrinks}
 use Rattle.heap_laws.proofs.Deciding.{cond-true, cond-false}
@@ -21,7 +22,7 @@ use Rattle.heap_laws.proofs.Writing.{WroteWithin, wrote_part, wrote_wider, wrote
 use Rattle.heap_laws.proofs.Becoming.{becomes_heap}
 use Rattle.heap_laws.proofs.Exchanging.{exchanges_parts, gap_free}
 use Rattle.heap_laws.proofs.Altering.{TiedAlike, rewritten, finds_callers}
-use Rattle.heap_laws.proofs.Plain.{live_plain, replaced_plain}
+use Rattle.heap_laws.proofs.Plain.{lives_plain, replaced_plain}
 use Rattle.heap_laws.proofs.Resizings.{length-sized_to, size_of-with_length}
 use Rattle.chunk_format.specs.declared.header.Header.{Header}
 use Rattle.chunk_format.specs.Header.{header_of, size_by, HasHeader, IsWritable, header_bytes, h_offset_to}
@@ -208,10 +209,10 @@ sized_callers at count (free size) m = m
 sized_callers at count (movable bytes lock owner named) m = m
 sized_callers at count (fixed bytes owner) m = m
 
-sized_taken : (c : Chunk) (count : ℕ) → IsNotFree c → free_size (with_length count c) ≡ 0
-sized_taken (free size) count n = absurd n
-sized_taken (movable bytes lock owner slot) count n = refl
-sized_taken (fixed bytes owner) count n = refl
+one_live : (c : Chunk) → IsNotFree c → lives (c ∷ []) ≡ c ∷ []
+one_live (free size) n = absurd n
+one_live (movable bytes lock owner slot) n = refl
+one_live (fixed bytes owner) n = refl
 
 wrote_header : (old new : List ℕ) (at : ℕ) (c : Chunk) → IsNotFree c → at + size_of c ≤ length old → new ≡ overwritten old at (header_bytes at (header_of c)) → WroteWithin old new at (at + 8)
 wrote_header old new at (free size) n inside is = absurd n
@@ -269,7 +270,7 @@ resized old filled mid new found count behind h r fits filled_is wrote is has =
     (sized_callers at count c (finds_callers old found.name.0 one.live c at h f)) in (
       becomes_heap old new (f.before ++ ((d ∷ gap left) ++ r.rest)) done.replaces.head done.heap,
       replaced_plain old new f.before (c ∷ r.run) (d ∷ gap left) r.rest at (f.chunks ∙ ap (λ (cs : List Chunk). f.before ++ c ∷ cs) r.parts) done.heap done.replaces (λ there p. elim p [
-        | inl here ↦ live_plain new at d (sized_taken c count live) (omega arith) there (inl here)
+        | inl here ↦ lives_plain new at (d ∷ []) (one_live d live_now) there (inl here)
         | inr later ↦ gap_plain filled mid new at (need count) (at + need count) left refl (omega arith) (omega arith) (omega arith) (omega arith) w3 wrote_left len2 there
             (subst (λ (n : ℕ). AnyPlaced (IsFreeAt there) n (gap left)) (ap (λ (n : ℕ). at + n) taken) later)
       ]),

@@ -11,7 +11,12 @@ use master_table::free_slot;
 use raw_region::Region;
 use std::alloc::Global;
 use std::test::Fail;
-pub(crate) use test_images::changed_words as image;
+use test_images::changed_words;
+
+/// A blank image of 128 bytes with 4 slots in which words are changed.
+pub(crate) fn image(alloc: Global, words: &[(usize, u32)]) -> Result<Region, Fail> {
+    changed_words(alloc, 128, 4, words)
+}
 
 /// A blank heap of 128 bytes with 4 slots in which words are changed, which the checker accepts.
 pub(crate) fn heap(alloc: Global, words: &[(usize, u32)]) -> Result<Space, Fail>

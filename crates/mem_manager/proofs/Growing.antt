@@ -6,13 +6,12 @@ use Rattle.std.specs.Prelude.{◌==◌, ◌↔◌, if◌then◌else◌, IsTrue}
 use Rattle.std.specs.Bool.{OnTrue}
 use Rattle.heap_model.specs.Memory.{Memory}
 use Rattle.heap_model.specs.Bytes.{sized_to}
-use Rattle.heap_model.specs.Chunk.{Chunk, free, movable, fixed, fixed_lock, need, size_of}
+use Rattle.heap_model.specs.Chunk.{fixed_lock, need, size_of}
 use Rattle.heap_model.specs.Heap.{HeapAccepted}
 use Rattle.heap_model.specs.Meaning.{LiveChunk}
 use Rattle.heap_model.specs.Reading.{held}
 use Rattle.heap_model.specs.Maps.{changed}
 use Rattle.heap_model.specs.Space.{ShortFor, FitsInPlace, MovesNothing, free_behind, free_front, MovesOneStretchAnd}
-use Rattle.heap_model.specs.Placing.{Finds}
 use Rattle.heap_model.specs.Resizing.{GrowsInPlace}
 use Rattle.heap_model.specs.MemorySteps.{Does, IsLocked}
 use Rattle.heap_model.specs.declared.names.Name.{Name}
@@ -27,6 +26,7 @@ use Rattle.heap_laws.proofs.Exchanging.{ChangesName}
 use Rattle.heap_laws.proofs.Resizings.{live_sized, grow_changes, finds_behind}
 use Rattle.heap_laws.proofs.Compacting.{slot_unheld, changes_move_nothing}
 use Rattle.heap_laws.proofs.Fitting.{fits_not_short_for}
+use Rattle.heap_place.proofs.FoundLaws.{when_movable}
 use Rattle.heap_place.specs.declared.found.Found.{Found}
 use Rattle.heap_place.specs.Found.{IsFound}
 use Rattle.heap_place.specs.Resizes.{TellsWhetherInPlace}
@@ -44,14 +44,12 @@ tells_found image name found size told f tells = subst (λ (n : ℕ). (g : IsFou
 
 -- of a movable chunk
 own_and_behind : (image : List ℕ) (name : ℕ) (found : Found) → HeapAccepted image → (f : IsFound image name found) → found.lock ≢ 15 → size_of f.chunk + free_front f.finds.after ≡ need (length f.live.bytes) + free_behind image name
-own_and_behind image name found h f loose = by_chunk f.chunk f.finds where
-  by_chunk : (c : Chunk) (g : Finds image name f.live c (found.place.0 - 8)) → size_of c + free_front g.after ≡ need (length f.live.bytes) + free_behind image name
-  by_chunk (free size) g = absurd g.named
-  by_chunk (fixed bytes owner) g = absurd (loose (f.lock_is ∙ ap (λ (x : LiveChunk). x.lock) (sym g.named.1)))
-  by_chunk (movable bytes lock owner slot) g =
-      let behind = finds_behind image name (found.place.0 - 8) f.live bytes lock owner slot h g in
-      let same : need (length bytes) ≡ need (length f.live.bytes) = ap (λ (x : LiveChunk). need (length x.bytes)) g.named.1 in
-      omega arith
+own_and_behind image name found h f loose =
+    when_movable image name found f (λ c g. size_of c + free_front g.after ≡ need (length f.live.bytes) + free_behind image name) loose
+    (λ bytes lock owner slot g.
+    let behind = finds_behind image name (found.place.0 - 8) f.live bytes lock owner slot h g in
+    let same : need (length bytes) ≡ need (length f.live.bytes) = ap (λ (x : LiveChunk). need (length x.bytes)) g.named.1 in
+    omega arith)
 
 not_told : (told : Bool) (P : Type 0) → told ≡ false → (IsTrue told ↔ P) → P → ⊥
 not_told true P e tells p = absurd cc
@@ -124,29 +122,12 @@ resize_short region name size found told h f positive other unlocked tells told_
       ),
     ))
 
--- ---- where it stands
+-- ---- a resize that is done
 
-pub grown_changes : (old new : List ℕ) (name : ℕ) (found : Found) (size : ℕ) (told : Bool) → HeapAccepted old → (f : IsFound old name found) → TellsWhetherInPlace old found (need size) told → told ≡ true → OnTrue told (GrowsInPlace old new (found.place.0 - 8) size)
-    → ChangesName old new name (Some (live_sized size f.live)) (Some found.place.0)
-grown_changes old new name found size told h f tells told_true grows =
-    let fits = (tells_found old name found (need size) told f tells).0 (subst (λ (b : Bool). IsTrue b) (sym told_true) refl) in
-    grow_changes old new name found.place.0 size f.live f.chunk h f.behind_header f.finds fits (OnTrue_at told_true grows)
-
-not_short : (image : List ℕ) (name : ℕ) (found : Found) (size : ℕ) → HeapAccepted image → (f : IsFound image name found) → found.lock ≢ 15 → 0 < size → size ≤ size_of f.chunk + free_front f.finds.after → ShortFor image name size → ⊥
-not_short image name found size h f loose some fits = by_chunk f.chunk f.finds fits where
-  by_chunk : (c : Chunk) (g : Finds image name f.live c (found.place.0 - 8)) → size ≤ size_of c + free_front g.after → ShortFor image name size → ⊥
-  by_chunk (free n) g enough short = absurd g.named
-  by_chunk (fixed bytes owner) g enough short = loose (f.lock_is ∙ ap (λ (x : LiveChunk). x.lock) (sym g.named.1))
-  by_chunk (movable bytes lock owner slot) g enough short = fits_not_short_for image name (found.place.0 - 8) size f.live bytes lock owner slot h g some enough short
-
-pub resize_grown : (old new : Memory) (name : Name) (size : ℕ) (found : Found) (told : Bool) → HeapAccepted old.bytes → (f : IsFound old.bytes name.0 found) → 1 ≤ found.owner → found.owner ≢ 15 → found.lock ≢ 15 → TellsWhetherInPlace old.bytes found (need size) told → told ≡ true
-    → OnTrue told (GrowsInPlace old.bytes new.bytes (found.place.0 - 8) size) → OnlyBytes old new → Does old (Resize name size) Done new
-resize_grown old new name size found told h f positive other loose tells told_true grows rest =
+resized_done : (old new : Memory) (name : Name) (size : ℕ) (found : Found) → HeapAccepted old.bytes → (f : IsFound old.bytes name.0 found) → 1 ≤ found.owner → found.owner ≢ 15 → found.lock ≢ 15 → (TooLargeWhereLocked old name size f.live → ⊥) → (ShortFor old.bytes name.0 (need size) → ⊥)
+    → Resized old.bytes new.bytes name.0 size → BytesAndSlid old new → Does old (Resize name size) Done new
+resized_done old new name size found h f positive other loose reaches room r rest =
     let k = known old.bytes name.0 found h f positive in
-    let ch = grown_changes old.bytes new.bytes name.0 found size told h f tells told_true grows in
-    let a = altered old new name.0 found (live_sized size) h f ch rest in
-    let fits = fits_there old.bytes name.0 found (need size) told h f loose tells told_true in
-    let enough = (tells_found old.bytes name.0 found (need size) told f tells).0 (subst (λ (b : Bool). IsTrue b) (sym told_true) refl) in
     record {
       before = h;
       step = (
@@ -156,20 +137,39 @@ resize_grown old new name size found told h f positive other loose tells told_tr
             not_of_known (λ live. live.owner ≡ 15) k (λ e. other (f.owner_is ∙ e)),
             (
               not_of_known (λ live. live.lock ≡ fixed_lock) k (λ e. loose (f.lock_is ∙ e)),
-              (
-                not_of_known (TooLargeWhereLocked old name size) k (λ t. let low = t.1 in omega arith),
-                (not_of_known (TooLarge old name size) k (λ t. not_short old.bytes name.0 found (need size) h f loose (omega arith) enough t.2), tt),
-              ),
+              (not_of_known (TooLargeWhereLocked old name size) k reaches, (not_of_known (TooLarge old name size) k (λ t. room t.2), tt)),
             ),
           ),
         ),
-        (tt, a.map),
+        (tt, r.map),
       );
-      frame = a.frame;
-      still = a.still;
+      frame = r.frame;
+      still = r.still;
       asks = tt;
-      rest = rest_then old old new refl rest;
+      rest = rest;
     }
+
+-- ---- where it stands
+
+pub grown_changes : (old new : List ℕ) (name : ℕ) (found : Found) (size : ℕ) (told : Bool) → HeapAccepted old → (f : IsFound old name found) → TellsWhetherInPlace old found (need size) told → told ≡ true → OnTrue told (GrowsInPlace old new (found.place.0 - 8) size)
+    → ChangesName old new name (Some (live_sized size f.live)) (Some found.place.0)
+grown_changes old new name found size told h f tells told_true grows =
+    let fits = (tells_found old name found (need size) told f tells).0 (subst (λ (b : Bool). IsTrue b) (sym told_true) refl) in
+    grow_changes old new name found.place.0 size f.live f.chunk h f.behind_header f.finds fits (OnTrue_at told_true grows)
+
+not_short : (image : List ℕ) (name : ℕ) (found : Found) (size : ℕ) → HeapAccepted image → (f : IsFound image name found) → found.lock ≢ 15 → 0 < size → size ≤ size_of f.chunk + free_front f.finds.after → ShortFor image name size → ⊥
+not_short image name found size h f loose some =
+    when_movable image name found f (λ c g. size ≤ size_of c + free_front g.after → ShortFor image name size → ⊥) loose
+    (λ bytes lock owner slot g. fits_not_short_for image name (found.place.0 - 8) size f.live bytes lock owner slot h g some)
+
+pub resize_grown : (old new : Memory) (name : Name) (size : ℕ) (found : Found) (told : Bool) → HeapAccepted old.bytes → (f : IsFound old.bytes name.0 found) → 1 ≤ found.owner → found.owner ≢ 15 → found.lock ≢ 15 → TellsWhetherInPlace old.bytes found (need size) told → told ≡ true
+    → OnTrue told (GrowsInPlace old.bytes new.bytes (found.place.0 - 8) size) → OnlyBytes old new → Does old (Resize name size) Done new
+resize_grown old new name size found told h f positive other loose tells told_true grows rest =
+    let a = altered old new name.0 found (live_sized size) h f (grown_changes old.bytes new.bytes name.0 found size told h f tells told_true grows) rest in
+    let fits = fits_there old.bytes name.0 found (need size) told h f loose tells told_true in
+    let enough = (tells_found old.bytes name.0 found (need size) told f tells).0 (subst (λ (b : Bool). IsTrue b) (sym told_true) refl) in
+    resized_done old new name size found h f positive other loose (λ t. let low = t.1 in omega arith) (not_short old.bytes name.0 found (need size) h f loose (omega arith) enough) (record { frame = a.frame; map = a.map; still = a.still })
+    (rest_then old old new refl rest)
 
 pub grown_moves_nothing : (old new : List ℕ) (name : ℕ) (found : Found) (size : ℕ) (told : Bool) → HeapAccepted old → (f : IsFound old name found) → TellsWhetherInPlace old found (need size) told → told ≡ true → OnTrue told (GrowsInPlace old new (found.place.0 - 8) size) → MovesNothing old new
 grown_moves_nothing old new name found size told h f tells told_true grows =
@@ -186,32 +186,8 @@ nothing_alone old new name nothing = alone_one old new name (λ other apart was 
 
 pub resize_moved : (old new : Memory) (name : Name) (size : ℕ) (found : Found) → HeapAccepted old.bytes → IsFound old.bytes name.0 found → 1 ≤ found.owner → found.owner ≢ 15 → found.lock ≡ 0 → (ShortFor old.bytes name.0 (need size) → ⊥) → Resized old.bytes new.bytes name.0 size → BytesAndSlid old new → Does old (Resize name size) Done new
 resize_moved old new name size found h f positive other unlocked room r rest =
-    let k = known old.bytes name.0 found h f positive in
     let lock = f.lock_is in
-    let loose : found.lock ≢ 15 = λ e. omega arith in
-    record {
-      before = h;
-      step = (
-        (
-          is_known k,
-          (
-            not_of_known (λ live. live.owner ≡ 15) k (λ e. other (f.owner_is ∙ e)),
-            (
-              not_of_known (λ live. live.lock ≡ fixed_lock) k (λ e. loose (f.lock_is ∙ e)),
-              (
-                not_of_known (TooLargeWhereLocked old name size) k (λ t. let some = t.0.0 in omega arith),
-                (not_of_known (TooLarge old name size) k (λ t. room t.2), tt),
-              ),
-            ),
-          ),
-        ),
-        (tt, r.map),
-      );
-      frame = r.frame;
-      still = r.still;
-      asks = tt;
-      rest = rest;
-    }
+    resized_done old new name size found h f positive other (λ e. omega arith) (λ t. let some = t.0.0 in omega arith) room r rest
 
 -- the same slots are in use
 pub used_resized : (old new : List ℕ) (used name size : ℕ) → IsManaged old used → Resized old new name size → IsManaged new used

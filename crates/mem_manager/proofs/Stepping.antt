@@ -3,7 +3,6 @@
 use Rattle.std.proofs.Common.{◌≡◌, ℕ, ◌+◌, ◌-◌, ◌<◌, ◌≤◌, List, Bool, true, false, Option, Some, None, refl, sym, ap, subst, ◌∙◌, arith, inl, inr}
 use Rattle.std.proofs.lemmas.Bool.{cases_eq}
 use Rattle.std.specs.Prelude.{◌⊎◌, if◌then◌else◌, IsSome, Result, Ok, Err}
-use Rattle.std.specs.Option.{ok_or}
 use Rattle.std.specs.Result.{IsErr, IsErrAnd}
 use Rattle.std.specs.Bool.{OnTrue}
 use Rattle.heap_model.specs.Memory.{Memory}
@@ -89,11 +88,6 @@ answered {A} {old} {new} {call} f (Err answer) is same does = subst (λ (r : Ref
 pub handed_on : {A : Type 0} {inside value : Memory} {call : MemoryCall} {brought refusal : Refusal} (f : A → Reply) (result : Result A Refusal) → inside ≡ value → IsErr result × IsErrAnd result (λ answer. answer ≡ brought) → brought ≡ refusal → Does inside call (Refused refusal) inside
     → Does value call (reply_of f result) value
 handed_on {A} {inside} {value} {call} f result view is same does = subst (λ (m : Memory). Does m call (reply_of f result) m) view (answered f result is same does)
-
--- where there is none, this is refused
-pub for_none : {A : Type 0} {brought refusal : Refusal} (found : Option A) → Err brought ≡ ok_or found refusal → found ≡ None → brought ≡ refusal
-for_none None is none = cc
-for_none (Some value) is none = absurd cc
 
 -- ---- one name is changed
 

@@ -1,9 +1,9 @@
 //! Images that tests start from.
 
 use crate::beside::bytes_of;
-use chunk_format::blank;
 use std::alloc::Global;
 use std::test::*;
+use test_images::changed_words;
 
 /// A blank image in which words are changed, each by its offset.
 pub(crate) fn image(
@@ -12,36 +12,13 @@ pub(crate) fn image(
     slots: u16,
     words: &[(usize, u32)],
 ) -> Result<Vec<u8>, Fail> {
-    let mut region = blank(alloc, size, slots)?;
-    for (at, word) in words {
-        if *at > region.len() || region.len() - *at < 4 {
-            return Err("a word beyond the end")?;
-        }
-        region.put_u32(*at, *word);
-    }
+    let region = changed_words(alloc, size, slots, words)?;
     Ok(Vec::from_slice(alloc, bytes_of(&region))?)
 }
 
 /// A blank image of 128 bytes with 4 slots.
 pub(crate) fn small(alloc: Global) -> Result<Vec<u8>, Fail> {
     image(alloc, 128, 4, &[])
-}
-
-/// Three movable chunks of 24 bytes under the slots at 16, 20 and 24, behind each other, that leave nothing
-/// free.
-pub(crate) fn three(alloc: Global) -> Result<Vec<u8>, Fail> {
-    let words = [
-        (16, 40),
-        (20, 72),
-        (24, 104),
-        (32, 0x0000_0020),
-        (36, 0x01FF_FFF8),
-        (64, 0x0000_0020),
-        (68, 0x01FF_FFEA),
-        (96, 0x0000_0020),
-        (100, 0x01FF_FFDC),
-    ];
-    image(alloc, 128, 4, &words)
 }
 
 /// A free chunk of 8 bytes, and a movable one of the bytes 0 to 79 up to the end, under the slot at 16.

@@ -2,9 +2,10 @@
 
 use crate::beside::adopt;
 use crate::examples::{check_lines, image_behind};
-use crate::images::{five, overlapping, three};
+use crate::images::{five, overlapping};
 use std::process::Abort;
 use std::test::*;
+use test_images::{THREE_CHUNKS, bytes_of};
 
 /// Checks words of an image, each by its offset.
 fn check_words(
@@ -26,7 +27,7 @@ fn check_words(
 fn compaction_leaves_the_room_behind(rt: HostRuntime) -> Result<(), Fail> {
     let image = image_behind(
         &rt,
-        three(rt.alloc())?,
+        bytes_of(rt.alloc(), THREE_CHUNKS)?,
         "free 16 = done
         free 24 = done
         compact = 32
@@ -62,7 +63,7 @@ fn compaction_keeps_bytes_that_overlap(rt: HostRuntime) -> Result<(), Fail> {
 fn a_stretch_is_compacted_for_a_new_chunk(rt: HostRuntime) -> Result<(), Fail> {
     check_lines(
         &rt,
-        three(rt.alloc())?,
+        bytes_of(rt.alloc(), THREE_CHUNKS)?,
         "free 16 = done
         free 24 = done
         lock 20 = at 72 locks 1

@@ -65,9 +65,14 @@ pub fn image(alloc: Global, listing: &str, changes: &str) -> Result<Region, Fail
     Ok(region)
 }
 
-/// A blank image of 128 bytes with 4 slots in which words are changed: each by its offset.
-pub fn changed_words(alloc: Global, words: &[(usize, u32)]) -> Result<Region, Fail> {
-    let mut region = blank(alloc, 128, 4)?;
+/// A blank image in which words are changed: each by its offset.
+pub fn changed_words(
+    alloc: Global,
+    size: u32,
+    slots: u16,
+    words: &[(usize, u32)],
+) -> Result<Region, Fail> {
+    let mut region = blank(alloc, size, slots)?;
     for (at, word) in words {
         if *at > region.len() || region.len() - *at < 4 {
             return Err("a word beyond the end")?;
