@@ -1,10 +1,13 @@
 -- What the definitions of databases and stores promise together: the statements of the laws.
-use Rattle.std.specs.Prelude.{◌≡◌, ◌<◌, ◌≤◌, ◌↔◌, ℕ, true, List, length, slice_set}
-use Rattle.heap_model.specs.Bytes.{AreBytes, overwritten}
+use Rattle.std.specs.Prelude.{◌≡◌, ◌<◌, ◌≤◌, ◌%◌, ◌^◌, ◌↔◌, ℕ, true, List, length, slice_set, All}
+use Rattle.std.specs.List.{flat_map}
+use Rattle.heap_model.specs.Heap.{HeapAccepted, directory_of}
+use Rattle.heap_model.specs.Reading.{held}
+use Rattle.heap_model.specs.Bytes.{u32_bytes, AreBytes, overwritten}
 use Rattle.heap_model.specs.Database.{Database, Entry, has_resources, header_bytes, entry_bytes, spelled, EntryFits, DatabaseFits, IsSpelled, entry_offset, database_in, HasShape}
-use Rattle.heap_model.specs.Lists.{times}
+use Rattle.heap_model.specs.Lists.{times, u32s_in}
 use Rattle.heap_model.specs.UniqueIds.{greatest_id, IsFresh}
-use Rattle.heap_model.specs.Store.{Store, Accepted, Means, store_of}
+use Rattle.heap_model.specs.Store.{Store, managers_owner, data_owner, owner_under, databases, Accepted, Means, store_of}
 use Rattle.heap_model.specs.Counts.{AcceptedByCounts}
 use Rattle.store_laws.specs.StoreTests.{is_store}
 
@@ -50,3 +53,23 @@ pub record HasFresh (ids : List ℕ) (seed : ℕ) : Type 0 where
 
 abbrev pub FreshIdsExist : Type 0
 FreshIdsExist = (ids : List ℕ) (seed : ℕ) → seed ≤ greatest_id → length ids < greatest_id → HasFresh ids seed
+
+-- The new image is an accepted heap. Its directory is the old one's, the manager's chunks are as they
+-- were, and the same names have chunks of the manager's, and the same ones chunks for data. What these
+-- chunks for data hold may be other.
+pub record KeepsManagers (old new : List ℕ) : Type 0 where
+  pub heap : HeapAccepted new
+  pub directory : directory_of new ≡ directory_of old
+  pub managers : (name : ℕ) → owner_under old name ≡ managers_owner → held new name ≡ held old name
+  pub owners : (name : ℕ) → ((owner_under new name ≡ managers_owner) ↔ (owner_under old name ≡ managers_owner))
+  pub «data» : (name : ℕ) → ((owner_under new name ≡ data_owner) ↔ (owner_under old name ≡ data_owner))
+
+-- such an image is accepted, and has the databases that it had
+abbrev pub StoresAreKept : Type 0
+StoresAreKept = (old new : List ℕ) → Accepted old → KeepsManagers old new → Accepted new × (databases new ≡ databases old)
+
+-- the directory's bytes are read as the slots that they spell, and spell the slots that are read
+abbrev pub DirectoriesAreRead : Type 0
+DirectoriesAreRead =
+    ((slots : List ℕ) → All (λ slot. slot < 2 ^ 32) slots → u32s_in (flat_map u32_bytes slots) ≡ slots)
+    × ((bytes : List ℕ) → AreBytes bytes → length bytes % 4 ≡ 0 → flat_map u32_bytes (u32s_in bytes) ≡ bytes)

@@ -1,6 +1,6 @@
 //! The laws, each as the promise of a function.
 
-ghost use Rattle.store_laws.specs.Laws.{SpellingsAreRead, ShapesAreSpellings, AcceptanceIsCounted, StoresAreDecided, MeansOneStore, EntriesAreWritten, HeadersAreWritten, FreshIdsExist};
+ghost use Rattle.store_laws.specs.Laws.{SpellingsAreRead, ShapesAreSpellings, AcceptanceIsCounted, StoresAreDecided, MeansOneStore, EntriesAreWritten, HeadersAreWritten, FreshIdsExist, DirectoriesAreRead, StoresAreKept};
 
 /// The database that is read off bytes is the one that they spell.
 pub fn spellings_are_read()
@@ -22,6 +22,11 @@ pub fn headers_are_written()
     ensures { HeadersAreWritten }
 {}
 
+/// What spells a directory is read as it, and the other way round.
+pub fn directories_are_read()
+    ensures { DirectoriesAreRead }
+{}
+
 /// Behind a seed there is one fresh ID, where fewer IDs are taken than there are.
 pub fn fresh_ids_exist()
     ensures { FreshIdsExist }
@@ -40,4 +45,9 @@ pub fn stores_are_decided()
 /// An accepted image means the store that is read off it, and no other.
 pub fn means_one_store()
     ensures { MeansOneStore }
+{}
+
+/// An image whose manager's chunks are as they were has the databases that it had.
+pub fn stores_are_kept()
+    ensures { StoresAreKept }
 {}
