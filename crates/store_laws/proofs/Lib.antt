@@ -13,3 +13,4 @@ pub mod Counting
 pub mod Deciding
 pub mod Keeping
 pub mod Meaning
+pub mod Parts

@@ -1,8 +1,12 @@
 -- What the definitions of databases and stores promise together: the statements of the laws.
-use Rattle.std.specs.Prelude.{◌≡◌, ◌<◌, ◌≤◌, ◌%◌, ◌^◌, ◌↔◌, ℕ, true, List, length, slice_set, All}
+use Rattle.std.specs.Prelude.{◌≡◌, ◌<◌, ◌≤◌, ◌%◌, ◌^◌, ◌↔◌, ℕ, true, List, [], ◌∷◌, length, slice_set, All, Some}
 use Rattle.std.specs.List.{flat_map}
 use Rattle.heap_model.specs.Heap.{HeapAccepted, directory_of}
+use Rattle.heap_model.specs.Chunk.{need}
+use Rattle.heap_model.specs.Meaning.{LiveChunk}
 use Rattle.heap_model.specs.Reading.{held}
+use Rattle.heap_model.specs.Space.{rooms, Short, ShortFor}
+use Rattle.heap_model.specs.Rooms.{makes, growth, Stuck}
 use Rattle.heap_model.specs.Bytes.{u32_bytes, AreBytes, overwritten}
 use Rattle.heap_model.specs.Database.{Database, Entry, has_resources, header_bytes, entry_bytes, spelled, EntryFits, DatabaseFits, IsSpelled, entry_offset, database_in, HasShape}
 use Rattle.heap_model.specs.Lists.{times, u32s_in}
@@ -73,3 +77,11 @@ abbrev pub DirectoriesAreRead : Type 0
 DirectoriesAreRead =
     ((slots : List ℕ) → All (λ slot. slot < 2 ^ 32) slots → u32s_in (flat_map u32_bytes slots) ≡ slots)
     × ((bytes : List ℕ) → AreBytes bytes → length bytes % 4 ≡ 0 → flat_map u32_bytes (u32s_in bytes) ≡ bytes)
+
+-- A call of one part runs out of room where the image is short of it: of a chunk that is made, and of an
+-- unlocked one that grows.
+abbrev pub OnePartIsShort : Type 0
+OnePartIsShort =
+    ((image : List ℕ) (size : ℕ) → (Stuck (rooms image) (makes size ∷ []) ↔ Short image size))
+    × ((image : List ℕ) (name count : ℕ) (live : LiveChunk) → HeapAccepted image → held image name ≡ Some live → live.lock ≡ 0
+    → (Stuck (rooms image) (growth image name count ∷ []) ↔ ShortFor image name (need count)))

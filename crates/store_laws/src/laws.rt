@@ -1,6 +1,6 @@
 //! The laws, each as the promise of a function.
 
-ghost use Rattle.store_laws.specs.Laws.{SpellingsAreRead, ShapesAreSpellings, AcceptanceIsCounted, StoresAreDecided, MeansOneStore, EntriesAreWritten, HeadersAreWritten, FreshIdsExist, DirectoriesAreRead, StoresAreKept};
+ghost use Rattle.store_laws.specs.Laws.{SpellingsAreRead, ShapesAreSpellings, AcceptanceIsCounted, StoresAreDecided, MeansOneStore, EntriesAreWritten, HeadersAreWritten, FreshIdsExist, DirectoriesAreRead, StoresAreKept, OnePartIsShort};
 
 /// The database that is read off bytes is the one that they spell.
 pub fn spellings_are_read()
@@ -50,4 +50,9 @@ pub fn means_one_store()
 /// An image whose manager's chunks are as they were has the databases that it had.
 pub fn stores_are_kept()
     ensures { StoresAreKept }
+{}
+
+/// A call of one part runs out of room exactly where the image is short of that part.
+pub fn one_part_is_short()
+    ensures { OnePartIsShort }
 {}

@@ -20,12 +20,13 @@
 //! | `Deciding` | the tests of `specs/StoreTests` decide which image is accepted |
 //! | `Keeping` | an image whose manager's chunks are as they were |
 //! | `Meaning` | what an accepted image means: one store |
+//! | `Parts` | room for one part, and the number of the stretch around a chunk |
 #![tactic(auto)]
 
 mod laws;
 
 pub use laws::{
     acceptance_is_counted, directories_are_read, entries_are_written, fresh_ids_exist,
-    headers_are_written, means_one_store, shapes_are_spellings, spellings_are_read,
-    stores_are_decided, stores_are_kept,
+    headers_are_written, means_one_store, one_part_is_short, shapes_are_spellings,
+    spellings_are_read, stores_are_decided, stores_are_kept,
 };
