@@ -117,7 +117,10 @@ pub record IsDatabase (image : List ℕ) (stored : StoredDatabase) : Type 0 wher
   pub entries : All (HasData image) stored.database.entries
   pub ids : HasUniqueIds stored.database
 
--- the names of some databases
+-- the numbers of some databases, and their names
+abbrev pub numbers_of : List StoredDatabase → List ℕ
+numbers_of stored = map (λ one. one.db) stored
+
 abbrev pub names_of : List StoredDatabase → List (List ℕ)
 names_of stored = map (λ one. one.database.header.name) stored
 

@@ -12,5 +12,7 @@ pub mod Owners
 pub mod Counting
 pub mod Deciding
 pub mod Keeping
+pub mod Rewriting
+pub mod Listed
 pub mod Meaning
 pub mod Parts

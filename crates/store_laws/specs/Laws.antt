@@ -1,7 +1,7 @@
 -- What the definitions of databases and stores promise together: the statements of the laws.
-use Rattle.std.specs.Prelude.{◌≡◌, ◌<◌, ◌≤◌, ◌%◌, ◌^◌, ◌↔◌, ℕ, true, List, [], ◌∷◌, length, slice_set, All, Some}
-use Rattle.std.specs.List.{flat_map}
-use Rattle.heap_model.specs.Heap.{HeapAccepted, directory_of}
+use Rattle.std.specs.Prelude.{◌≡◌, ◌<◌, ◌≤◌, ◌%◌, ◌^◌, ◌++◌, ◌↔◌, ℕ, true, List, [], ◌∷◌, length, slice_set, All, Some}
+use Rattle.std.specs.List.{flat_map, remove}
+use Rattle.heap_model.specs.Heap.{HeapAccepted}
 use Rattle.heap_model.specs.Chunk.{need}
 use Rattle.heap_model.specs.Meaning.{LiveChunk}
 use Rattle.heap_model.specs.Reading.{held}
@@ -11,9 +11,10 @@ use Rattle.heap_model.specs.Bytes.{u32_bytes, AreBytes, overwritten}
 use Rattle.heap_model.specs.Database.{Database, Entry, has_resources, header_bytes, entry_bytes, spelled, EntryFits, DatabaseFits, IsSpelled, entry_offset, database_in, HasShape}
 use Rattle.heap_model.specs.Lists.{times, u32s_in}
 use Rattle.heap_model.specs.UniqueIds.{greatest_id, IsFresh}
-use Rattle.heap_model.specs.Store.{Store, managers_owner, data_owner, owner_under, databases, Accepted, Means, store_of}
-use Rattle.heap_model.specs.Counts.{AcceptedByCounts}
+use Rattle.heap_model.specs.Store.{StoredDatabase, Store, databases, Accepted, Means, store_of}
+use Rattle.heap_model.specs.Counts.{HasDatabases}
 use Rattle.store_laws.specs.StoreTests.{is_store}
+use Rattle.store_laws.specs.Changes.{KeepsManagers, Rewrites, Appends, Drops}
 
 -- the database that is read off bytes is the one that they spell, so they spell no other
 abbrev pub SpellingsAreRead : Type 0
@@ -23,9 +24,9 @@ SpellingsAreRead = (database : Database ℕ) (bytes : List ℕ) → IsSpelled da
 abbrev pub ShapesAreSpellings : Type 0
 ShapesAreSpellings = (bytes : List ℕ) → AreBytes bytes → (IsSpelled (database_in bytes) bytes ↔ HasShape bytes)
 
--- the accepted image is the one of which the counts are right
+-- an image has some databases, by the counts, exactly where it is accepted and they are read off it
 abbrev pub AcceptanceIsCounted : Type 0
-AcceptanceIsCounted = (image : List ℕ) → (Accepted image ↔ AcceptedByCounts image)
+AcceptanceIsCounted = (image : List ℕ) (stored : List StoredDatabase) → (HasDatabases image stored ↔ (Accepted image × (databases image ≡ stored)))
 
 -- the tests of an accepted image all say yes exactly where one is accepted
 abbrev pub StoresAreDecided : Type 0
@@ -58,19 +59,9 @@ pub record HasFresh (ids : List ℕ) (seed : ℕ) : Type 0 where
 abbrev pub FreshIdsExist : Type 0
 FreshIdsExist = (ids : List ℕ) (seed : ℕ) → seed ≤ greatest_id → length ids < greatest_id → HasFresh ids seed
 
--- The new image is an accepted heap. Its directory is the old one's, the manager's chunks are as they
--- were, and the same names have chunks of the manager's, and the same ones chunks for data. What these
--- chunks for data hold may be other.
-pub record KeepsManagers (old new : List ℕ) : Type 0 where
-  pub heap : HeapAccepted new
-  pub directory : directory_of new ≡ directory_of old
-  pub managers : (name : ℕ) → owner_under old name ≡ managers_owner → held new name ≡ held old name
-  pub owners : (name : ℕ) → ((owner_under new name ≡ managers_owner) ↔ (owner_under old name ≡ managers_owner))
-  pub «data» : (name : ℕ) → ((owner_under new name ≡ data_owner) ↔ (owner_under old name ≡ data_owner))
-
--- such an image is accepted, and has the databases that it had
+-- an image whose manager's chunks were kept has the databases that the old one had
 abbrev pub StoresAreKept : Type 0
-StoresAreKept = (old new : List ℕ) → Accepted old → KeepsManagers old new → Accepted new × (databases new ≡ databases old)
+StoresAreKept = (old new : List ℕ) (stored : List StoredDatabase) → HasDatabases old stored → KeepsManagers old new → HasDatabases new stored
 
 -- the directory's bytes are read as the slots that they spell, and spell the slots that are read
 abbrev pub DirectoriesAreRead : Type 0
@@ -85,3 +76,17 @@ OnePartIsShort =
     ((image : List ℕ) (size : ℕ) → (Stuck (rooms image) (makes size ∷ []) ↔ Short image size))
     × ((image : List ℕ) (name count : ℕ) (live : LiveChunk) → HeapAccepted image → held image name ≡ Some live → live.lock ≡ 0
     → (Stuck (rooms image) (growth image name count ∷ []) ↔ ShortFor image name (need count)))
+
+-- an image in which one database was rewritten has the others as they were
+abbrev pub StoresAreRewritten : Type 0
+StoresAreRewritten =
+    (old new : List ℕ) (stored : List StoredDatabase) (index : ℕ) (one : StoredDatabase) → HasDatabases old stored → Rewrites old new stored index one → HasDatabases new (slice_set stored index one)
+
+-- an image to which a database came has it behind the others
+abbrev pub StoresAreAppended : Type 0
+StoresAreAppended = (old new : List ℕ) (stored : List StoredDatabase) (one : StoredDatabase) → HasDatabases old stored → Appends old new stored one → HasDatabases new (stored ++ one ∷ [])
+
+-- an image of which a database went has the others
+abbrev pub StoresAreDropped : Type 0
+StoresAreDropped =
+    (old new : List ℕ) (stored : List StoredDatabase) (index : ℕ) (one : StoredDatabase) → HasDatabases old stored → Drops old new stored index one → HasDatabases new (remove stored index)

@@ -1,6 +1,6 @@
 //! The laws, each as the promise of a function.
 
-ghost use Rattle.store_laws.specs.Laws.{SpellingsAreRead, ShapesAreSpellings, AcceptanceIsCounted, StoresAreDecided, MeansOneStore, EntriesAreWritten, HeadersAreWritten, FreshIdsExist, DirectoriesAreRead, StoresAreKept, OnePartIsShort};
+ghost use Rattle.store_laws.specs.Laws.{SpellingsAreRead, ShapesAreSpellings, AcceptanceIsCounted, StoresAreDecided, MeansOneStore, EntriesAreWritten, HeadersAreWritten, FreshIdsExist, DirectoriesAreRead, StoresAreKept, StoresAreRewritten, StoresAreAppended, StoresAreDropped, OnePartIsShort};
 
 /// The database that is read off bytes is the one that they spell.
 pub fn spellings_are_read()
@@ -50,6 +50,21 @@ pub fn means_one_store()
 /// An image whose manager's chunks are as they were has the databases that it had.
 pub fn stores_are_kept()
     ensures { StoresAreKept }
+{}
+
+/// An image in which one database was rewritten has the others as they were.
+pub fn stores_are_rewritten()
+    ensures { StoresAreRewritten }
+{}
+
+/// An image to which a database came has it behind the others.
+pub fn stores_are_appended()
+    ensures { StoresAreAppended }
+{}
+
+/// An image of which a database went has the others.
+pub fn stores_are_dropped()
+    ensures { StoresAreDropped }
 {}
 
 /// A call of one part runs out of room exactly where the image is short of that part.

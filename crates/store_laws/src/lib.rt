@@ -19,6 +19,8 @@
 //! | `Counting` | the accepted image, and the same by counts |
 //! | `Deciding` | the tests of `specs/StoreTests` decide which image is accepted |
 //! | `Keeping` | an image whose manager's chunks are as they were |
+//! | `Rewriting` | an image in which one database was rewritten |
+//! | `Listed` | an image to which a database came, or of which one went |
 //! | `Meaning` | what an accepted image means: one store |
 //! | `Parts` | room for one part, and the number of the stretch around a chunk |
 #![tactic(auto)]
@@ -28,5 +30,6 @@ mod laws;
 pub use laws::{
     acceptance_is_counted, directories_are_read, entries_are_written, fresh_ids_exist,
     headers_are_written, means_one_store, one_part_is_short, shapes_are_spellings,
-    spellings_are_read, stores_are_decided, stores_are_kept,
+    spellings_are_read, stores_are_appended, stores_are_decided, stores_are_dropped,
+    stores_are_kept, stores_are_rewritten,
 };
