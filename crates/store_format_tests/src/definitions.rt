@@ -21,7 +21,7 @@ ghost use Rattle.heap_model.specs.Maps.{callers_map};
 ghost use Rattle.heap_model.specs.Space.{rooms};
 ghost use Rattle.heap_model.specs.Lists.{moved};
 ghost use Rattle.heap_model.specs.Database.{a_record, a_resource};
-ghost use Rattle.heap_model.specs.UniqueIds.{next_id, id_behind};
+ghost use Rattle.heap_model.specs.UniqueIds.{next_id, id_behind, IsFresh};
 ghost use Rattle.heap_model.specs.Store.{StoredDatabase, content, listed, databases, named, names_of};
 ghost use Rattle.heap_model.specs.Rooms.{stretch_of, makes, Stuck};
 ghost use Rattle.store_format_tests.specs.Images.{database_image, changed, resource_image, two_databases, two_rooms, broken};
@@ -106,6 +106,8 @@ fn ids_go_round()
     ensures last { next_id 0xFFFFFE ≡ 0xFFFFFF }
     ensures round { next_id 0xFFFFFF ≡ 1 }
     ensures third { id_behind 0xFFFFFE 2 ≡ 2 }
+    ensures fresh { IsFresh (0xFFFFFF ∷ 1 ∷ []) 0xFFFFFE 2 }
+    ensures first_of_none { IsFresh [] 0 1 }
 {}
 
 /// A room of 96 bytes has none of 16 left behind a chunk of 88, and one of 88 beside one of 16 has room

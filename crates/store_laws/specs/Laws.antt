@@ -1,5 +1,6 @@
 -- What the definitions of databases and stores promise together: the statements of the laws.
-use Rattle.std.specs.Prelude.{◌≡◌, ◌<◌, ◌≤◌, ◌%◌, ◌^◌, ◌++◌, ◌↔◌, ℕ, true, List, [], ◌∷◌, length, slice_set, All, Some}
+use Rattle.std.specs.Prelude.{◌≡◌, ◌<◌, ◌≤◌, ◌%◌, ◌^◌, ◌++◌, ◌↔◌, ℕ, true, List, [], ◌∷◌, length, slice_set, All, Some, suc, insert, drop, slice_range}
+use Rattle.heap_model.specs.DatabaseFields.{header_size}
 use Rattle.std.specs.List.{flat_map, remove}
 use Rattle.heap_model.specs.Heap.{HeapAccepted}
 use Rattle.heap_model.specs.Chunk.{need}
@@ -45,6 +46,19 @@ EntriesAreWritten =
 -- a header is replaced where its bytes are written over the old ones, and the entries stay
 abbrev pub HeadersAreWritten : Type 0
 HeadersAreWritten = (database other : Database ℕ) → DatabaseFits database → DatabaseFits other → other.entries ≡ database.entries → spelled other ≡ overwritten (spelled database) 0 (header_bytes other)
+
+-- An entry is put in or taken out where the bytes of the entries in front of it stay, those of the entries
+-- behind it are moved, and the header is written, which has another number of entries.
+abbrev pub EntriesAreMoved : Type 0
+EntriesAreMoved =
+    ((database other : Database ℕ) (index : ℕ) (entry : Entry ℕ) → DatabaseFits database → index ≤ length database.entries → other.entries ≡ insert database.entries index entry
+    → spelled other
+    ≡ header_bytes other
+    ++ (slice_range (spelled database) header_size (entry_offset (has_resources database.header.attributes) index) ++ (entry_bytes entry ++ drop (entry_offset (has_resources database.header.attributes) index) (spelled database))))
+    × ((database other : Database ℕ) (index : ℕ) → DatabaseFits database → index < length database.entries → other.entries ≡ remove database.entries index
+    → spelled other
+    ≡ header_bytes other
+    ++ (slice_range (spelled database) header_size (entry_offset (has_resources database.header.attributes) index) ++ drop (entry_offset (has_resources database.header.attributes) (suc index)) (spelled database)))
 
 -- Behind a seed there is one fresh ID, where fewer IDs are taken than there are. It is one of those that
 -- a record may have, and is not taken.

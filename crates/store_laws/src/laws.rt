@@ -1,6 +1,6 @@
 //! The laws, each as the promise of a function.
 
-ghost use Rattle.store_laws.specs.Laws.{SpellingsAreRead, ShapesAreSpellings, AcceptanceIsCounted, StoresAreDecided, MeansOneStore, EntriesAreWritten, HeadersAreWritten, FreshIdsExist, DirectoriesAreRead, StoresAreKept, StoresAreRewritten, StoresAreAppended, StoresAreDropped, OnePartIsShort};
+ghost use Rattle.store_laws.specs.Laws.{SpellingsAreRead, ShapesAreSpellings, EntriesAreMoved, AcceptanceIsCounted, StoresAreDecided, MeansOneStore, EntriesAreWritten, HeadersAreWritten, FreshIdsExist, DirectoriesAreRead, StoresAreKept, StoresAreRewritten, StoresAreAppended, StoresAreDropped, OnePartIsShort};
 
 /// The database that is read off bytes is the one that they spell.
 pub fn spellings_are_read()
@@ -15,6 +15,11 @@ pub fn shapes_are_spellings()
 /// An entry is replaced where its bytes are written over the old ones.
 pub fn entries_are_written()
     ensures { EntriesAreWritten }
+{}
+
+/// An entry is put in or taken out where the bytes of those behind it are moved.
+pub fn entries_are_moved()
+    ensures { EntriesAreMoved }
 {}
 
 /// A header is replaced where its bytes are written over the old ones.
