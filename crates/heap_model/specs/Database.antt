@@ -50,6 +50,19 @@ entry_data (a_resource kind id «data») = «data»
 abbrev pub data_in : {Data : Type 0} → Database Data → List Data
 data_in database = database.app_info ∷ database.sort_info ∷ map entry_data database.entries
 
+-- an entry, and a database, with something else for its data
+abbrev pub entry_with : {Data Other : Type 0} → (Data → Other) → Entry Data → Entry Other
+entry_with change (a_record attributes id «data») = a_record attributes id (change «data»)
+entry_with change (a_resource kind id «data») = a_resource kind id (change «data»)
+
+abbrev pub with_data : {Data Other : Type 0} → (Data → Other) → Database Data → Database Other
+with_data change database = record {
+  header = database.header;
+  app_info = change database.app_info;
+  sort_info = change database.sort_info;
+  entries = map (entry_with change) database.entries;
+}
+
 -- a database with these attributes holds resources: 0x0001 is set. Else it holds records.
 abbrev pub has_resources : ℕ → Bool
 has_resources attributes = bit_at attributes 0 == 1

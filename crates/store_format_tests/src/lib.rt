@@ -1,0 +1,5 @@
+//! Tests of the definitions of databases, on images.
+#![tactic(auto)]
+
+#[cfg(test)]
+mod definitions;
