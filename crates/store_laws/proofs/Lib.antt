@@ -6,6 +6,7 @@ pub mod Names
 pub mod Spellings
 pub mod Shapes
 pub mod Edits
+pub mod Bodies
 pub mod Directories
 pub mod Naming
 pub mod Owners

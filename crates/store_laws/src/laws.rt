@@ -1,6 +1,6 @@
 //! The laws, each as the promise of a function.
 
-ghost use Rattle.store_laws.specs.Laws.{SpellingsAreRead, ShapesAreSpellings, EntriesAreMoved, AcceptanceIsCounted, StoresAreDecided, MeansOneStore, EntriesAreWritten, HeadersAreWritten, FreshIdsExist, DirectoriesAreRead, StoresAreKept, StoresAreRewritten, StoresAreAppended, StoresAreDropped, OnePartIsShort};
+ghost use Rattle.store_laws.specs.Laws.{SpellingsAreRead, ShapesAreSpellings, EntriesAreWritten, EntriesAreMoved, HeadersAreWritten, BodiesAreBytes, DirectoriesAreRead, FreshIdsExist, AcceptanceIsCounted, StoresAreDecided, MeansOneStore, StoresAreKept, StoresAreRewritten, StoresAreAppended, StoresAreDropped, OnePartIsShort};
 
 /// The database that is read off bytes is the one that they spell.
 pub fn spellings_are_read()
@@ -25,6 +25,11 @@ pub fn entries_are_moved()
 /// A header is replaced where its bytes are written over the old ones.
 pub fn headers_are_written()
     ensures { HeadersAreWritten }
+{}
+
+/// What an image of bytes holds under a name are bytes.
+pub fn bodies_are_bytes()
+    ensures { BodiesAreBytes }
 {}
 
 /// What spells a directory is read as it, and the other way round.
