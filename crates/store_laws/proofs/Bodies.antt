@@ -1,5 +1,5 @@
 -- What a heap of bytes holds are bytes.
-use Rattle.std.proofs.Common.{◌≡◌, ℕ, ◌+◌, ◌-◌, ◌<◌, List, [], length, take, drop, Option, Some, None, refl, sym, ap, subst, ◌∙◌, arith}
+use Rattle.std.proofs.Common.{◌≡◌, ℕ, ◌+◌, ◌-◌, List, length, Option, Some, None, refl, ap, subst, ◌∙◌, arith}
 use Rattle.heap_model.specs.Bytes.{AreBytes}
 use Rattle.heap_model.specs.Chunk.{Chunk, free, movable, fixed, Spelled}
 use Rattle.heap_model.specs.Heap.{HeapAccepted}

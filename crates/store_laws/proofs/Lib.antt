@@ -13,6 +13,7 @@ pub mod Owners
 pub mod Counting
 pub mod Deciding
 pub mod Keeping
+pub mod Calling
 pub mod Rewriting
 pub mod Listed
 pub mod Meaning

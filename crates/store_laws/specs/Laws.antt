@@ -14,6 +14,10 @@ use Rattle.heap_model.specs.UniqueIds.{greatest_id, IsFresh}
 use Rattle.heap_model.specs.Store.{StoredDatabase, Store, databases, Accepted, Means, store_of, bytes_under}
 use Rattle.heap_model.specs.Counts.{HasDatabases}
 use Rattle.heap_model.specs.Rooms.{makes, growth, Stuck}
+use Rattle.heap_model.specs.Memory.{Memory}
+use Rattle.heap_model.specs.MemorySteps.{Does}
+use Rattle.heap_model.specs.declared.call.MemoryCall.{MemoryCall}
+use Rattle.heap_model.specs.declared.call.Reply.{Reply}
 use Rattle.store_laws.specs.StoreTests.{is_store}
 use Rattle.store_laws.specs.Changes.{KeepsManagers, Rewrites, Appends, Drops}
 
@@ -94,6 +98,10 @@ MeansOneStore = (image : List ℕ) → Accepted image → Means image (store_of 
 -- an image whose manager's chunks were kept has the databases that the old one had
 abbrev pub StoresAreKept : Type 0
 StoresAreKept = (old new : List ℕ) (stored : List StoredDatabase) → HasDatabases old stored → KeepsManagers old new → HasDatabases new stored
+
+-- a call of the memory manager leaves the databases that the heap had, also where it is refused
+abbrev pub MemoryCallsKeepStores : Type 0
+MemoryCallsKeepStores = (old new : Memory) (call : MemoryCall) (reply : Reply) (stored : List StoredDatabase) → Does old call reply new → HasDatabases old.bytes stored → HasDatabases new.bytes stored
 
 -- an image in which one database was rewritten has the others as they were
 abbrev pub StoresAreRewritten : Type 0

@@ -1,6 +1,6 @@
 //! The laws, each as the promise of a function.
 
-ghost use Rattle.store_laws.specs.Laws.{SpellingsAreRead, ShapesAreSpellings, EntriesAreWritten, EntriesAreMoved, HeadersAreWritten, BodiesAreBytes, DirectoriesAreRead, FreshIdsExist, AcceptanceIsCounted, StoresAreDecided, MeansOneStore, StoresAreKept, StoresAreRewritten, StoresAreAppended, StoresAreDropped, OnePartIsShort};
+ghost use Rattle.store_laws.specs.Laws.{SpellingsAreRead, ShapesAreSpellings, EntriesAreWritten, EntriesAreMoved, HeadersAreWritten, BodiesAreBytes, DirectoriesAreRead, FreshIdsExist, AcceptanceIsCounted, StoresAreDecided, MeansOneStore, StoresAreKept, MemoryCallsKeepStores, StoresAreRewritten, StoresAreAppended, StoresAreDropped, OnePartIsShort};
 
 /// The database that is read off bytes is the one that they spell.
 pub fn spellings_are_read()
@@ -60,6 +60,11 @@ pub fn means_one_store()
 /// An image whose manager's chunks are as they were has the databases that it had.
 pub fn stores_are_kept()
     ensures { StoresAreKept }
+{}
+
+/// A call of the memory manager leaves the databases that the heap had.
+pub fn memory_calls_keep_stores()
+    ensures { MemoryCallsKeepStores }
 {}
 
 /// An image in which one database was rewritten has the others as they were.
