@@ -13,7 +13,7 @@ use Rattle.heap_model.specs.Database.{Database, Entry, has_resources, header_byt
 use Rattle.heap_model.specs.UniqueIds.{greatest_id, IsFresh}
 use Rattle.heap_model.specs.Store.{StoredDatabase, Store, databases, Accepted, Means, store_of, bytes_under}
 use Rattle.heap_model.specs.Counts.{HasDatabases}
-use Rattle.heap_model.specs.Rooms.{makes, growth, Stuck}
+use Rattle.heap_model.specs.Rooms.{Lowers, makes, growth, Stuck}
 use Rattle.heap_model.specs.Memory.{Memory}
 use Rattle.heap_model.specs.MemorySteps.{Does}
 use Rattle.heap_model.specs.declared.call.MemoryCall.{MemoryCall}
@@ -126,3 +126,10 @@ OnePartIsShort =
     ((image : List ℕ) (size : ℕ) → (Stuck (rooms image) (makes size ∷ []) ↔ Short image size))
     × ((image : List ℕ) (name count : ℕ) (live : LiveChunk) → HeapAccepted image → held image name ≡ Some live → live.lock ≡ 0
     → (Stuck (rooms image) (growth image name count ∷ []) ↔ ShortFor image name (need count)))
+
+-- Where a chunk was made, and there is no room afterwards for an unlocked one to grow, a call of these two
+-- parts can run out of room.
+abbrev pub MadeThenShort : Type 0
+MadeThenShort =
+    (old mid : List ℕ) (size name count : ℕ) (live : LiveChunk) → HeapAccepted mid → Lowers old mid size → held old name ≡ Some live → held mid name ≡ Some live → live.lock ≡ 0 → ShortFor mid name (need count)
+    → Stuck (rooms old) (makes size ∷ growth old name count ∷ [])

@@ -1,6 +1,6 @@
 //! The laws, each as the promise of a function.
 
-ghost use Rattle.store_laws.specs.Laws.{SpellingsAreRead, ShapesAreSpellings, EntriesAreWritten, EntriesAreMoved, HeadersAreWritten, BodiesAreBytes, DirectoriesAreRead, FreshIdsExist, AcceptanceIsCounted, StoresAreDecided, MeansOneStore, StoresAreKept, MemoryCallsKeepStores, StoresAreRewritten, StoresAreAppended, StoresAreDropped, OnePartIsShort};
+ghost use Rattle.store_laws.specs.Laws.{SpellingsAreRead, ShapesAreSpellings, EntriesAreWritten, EntriesAreMoved, HeadersAreWritten, BodiesAreBytes, DirectoriesAreRead, FreshIdsExist, AcceptanceIsCounted, StoresAreDecided, MeansOneStore, StoresAreKept, MemoryCallsKeepStores, StoresAreRewritten, StoresAreAppended, StoresAreDropped, OnePartIsShort, MadeThenShort};
 
 /// The database that is read off bytes is the one that they spell.
 pub fn spellings_are_read()
@@ -85,4 +85,9 @@ pub fn stores_are_dropped()
 /// A call of one part runs out of room exactly where the image is short of that part.
 pub fn one_part_is_short()
     ensures { OnePartIsShort }
+{}
+
+/// A call that made a chunk, and then finds no room for another to grow, can run out of room.
+pub fn made_then_short()
+    ensures { MadeThenShort }
 {}

@@ -31,7 +31,7 @@ mod laws;
 
 pub use laws::{
     acceptance_is_counted, bodies_are_bytes, directories_are_read, entries_are_moved,
-    entries_are_written, fresh_ids_exist, headers_are_written, means_one_store,
+    entries_are_written, fresh_ids_exist, headers_are_written, made_then_short, means_one_store,
     memory_calls_keep_stores, one_part_is_short, shapes_are_spellings, spellings_are_read,
     stores_are_appended, stores_are_decided, stores_are_dropped, stores_are_kept,
     stores_are_rewritten,
