@@ -9,7 +9,7 @@ use Rattle.std.specs.Int.{bit_at}
 use Rattle.std.specs.List.{concat, flat_map, take_while}
 use Rattle.heap_model.specs.Bytes.{u16_at, u24_at, u32_at, u16_bytes, u24_bytes, u32_bytes}
 use Rattle.heap_model.specs.Lists.{numbered}
-use Rattle.heap_model.specs.DatabaseFields.{name_size, attributes_at, version_at, creation_date_at, modification_date_at, backup_date_at, modification_number_at, app_info_at, sort_info_at, kind_at, creator_at, seed_at, next_list_at, entry_count_at, header_size, entry_size}
+use Rattle.heap_model.specs.DatabaseFields.{name_size, attributes_at, version_at, creation_date_at, modification_date_at, backup_date_at, modification_number_at, app_info_at, sort_info_at, kind_at, creator_at, seed_at, next_list_at, entry_count_at, header_size, record_attributes_at, record_id_at, resource_id_at, resource_data_at, entry_size}
 
 -- ---- values
 
@@ -185,8 +185,8 @@ entry_offset resources index = header_size + entry_size resources * index
 
 -- the entry at an offset
 abbrev pub entry_at : Bool → List ℕ → ℕ → Entry ℕ
-entry_at false bytes at = a_record (slice_index bytes (at + 4)) (u24_at bytes (at + 5)) (u32_at bytes at)
-entry_at true bytes at = a_resource (u32_at bytes at) (u16_at bytes (at + 4)) (u32_at bytes (at + 6))
+entry_at false bytes at = a_record (slice_index bytes (at + record_attributes_at)) (u24_at bytes (at + record_id_at)) (u32_at bytes at)
+entry_at true bytes at = a_resource (u32_at bytes at) (u16_at bytes (at + resource_id_at)) (u32_at bytes (at + resource_data_at))
 
 -- the entry of an index
 abbrev pub entry_in : List ℕ → ℕ → Entry ℕ

@@ -8,6 +8,7 @@ use Rattle.std.proofs.lemmas.List.Elements.{All-nil, All-cons, All-head, All-tai
 use Rattle.std.proofs.lemmas.List.Sums.{position_or_len_is}
 use Rattle.std.proofs.lemmas.List.Folds.{list_any-append}
 use Rattle.std.specs.Prelude.{◌↔◌, ◌==◌, ◌||◌, All}
+use Rattle.std.specs.Option.{is_some}
 use Rattle.std.specs.List.{list_any, position_or_len}
 use Rattle.heap_model.specs.Chunk.{Chunk, free, movable, fixed, need}
 use Rattle.heap_model.specs.Slots.{area_start}
@@ -17,7 +18,7 @@ use Rattle.heap_model.specs.Reading.{chunks_of, live_under, held}
 use Rattle.heap_model.specs.Space.{stays, NoneStays, onto_first, runs_between, has_chunk, stretches, room_of, rooms_of, rooms, with_freed, Short, ShortFor}
 use Rattle.heap_model.specs.Packing.{EndsStaying, BeginsStaying}
 use Rattle.heap_model.specs.Store.{bytes_of, bytes_under}
-use Rattle.heap_model.specs.Rooms.{is_movable_as, stretch_of, makes, growth, rooms_for, Stuck}
+use Rattle.heap_model.specs.Rooms.{is_movable_as, stretch_of, KeepsStretches, Lowers, Part, makes, grows, growth, rooms_for, Stuck}
 use Rattle.heap_laws.proofs.Deciding.{none_some}
 use Rattle.heap_laws.proofs.Finding.{held_finds}
 use Rattle.heap_laws.proofs.Exchanging.{named_beside}
@@ -221,3 +222,24 @@ one_grown image name count live h e unlocked =
       λ s. elim s [ inl all ↦ subst P same all | inr more ↦ absurd more.2 ],
       λ all. inl (subst P (sym same) all),
     )
+
+-- ---- one part after another
+
+bytes_same : (old new : List ℕ) (name : ℕ) (live : LiveChunk) → held old name ≡ Some live → held new name ≡ Some live → bytes_under new name ≡ bytes_under old name
+unfolding bytes_under
+bytes_same old new name live e f = ap bytes_of (f ∙ sym e)
+
+-- a chunk that grows is in its old stretch, after another was made
+growth_kept : (old mid : List ℕ) (name count : ℕ) (live : LiveChunk) → KeepsStretches old mid → held old name ≡ Some live → held mid name ≡ Some live → growth mid name count ≡ growth old name count
+growth_kept old mid name count live kept e f =
+    let stretch = kept name (ap is_some e) (ap is_some f) in
+    let bytes = bytes_same old mid name live e f in
+    ap (λ (number : ℕ). grows number (need (length (bytes_under mid name))) (need count)) stretch
+    ∙ ap (λ (body : List ℕ). grows (stretch_of old name) (need (length body)) (need count)) bytes
+
+-- where a chunk was made, and then there is no room for another to grow, the two parts run out of room
+pub made_then_short : (old mid : List ℕ) (size name count : ℕ) (live : LiveChunk) → HeapAccepted mid → Lowers old mid size → held old name ≡ Some live → held mid name ≡ Some live → live.lock ≡ 0 → ShortFor mid name (need count)
+    → Stuck (rooms old) (makes size ∷ growth old name count ∷ [])
+made_then_short old mid size name count live heap lowers e f unlocked short =
+    let grown = (one_grown mid name count live heap f unlocked).1 short in
+    inr (rooms mid, lowers.room, subst (λ (part : Part). Stuck (rooms mid) (part ∷ [])) (growth_kept old mid name count live lowers.kept e f) grown)

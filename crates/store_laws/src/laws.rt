@@ -1,6 +1,6 @@
 //! The laws, each as the promise of a function.
 
-ghost use Rattle.store_laws.specs.Laws.{SpellingsAreRead, ShapesAreSpellings, EntriesAreMoved, AcceptanceIsCounted, StoresAreDecided, MeansOneStore, EntriesAreWritten, HeadersAreWritten, FreshIdsExist, DirectoriesAreRead, StoresAreKept, StoresAreRewritten, StoresAreAppended, StoresAreDropped, OnePartIsShort};
+ghost use Rattle.store_laws.specs.Laws.{SpellingsAreRead, ShapesAreSpellings, EntriesAreWritten, EntriesAreMoved, HeadersAreWritten, BodiesAreBytes, DirectoriesAreRead, FreshIdsExist, AcceptanceIsCounted, StoresAreDecided, MeansOneStore, StoresAreKept, MemoryCallsKeepStores, StoresAreRewritten, StoresAreAppended, StoresAreDropped, OnePartIsShort, MadeThenShort};
 
 /// The database that is read off bytes is the one that they spell.
 pub fn spellings_are_read()
@@ -25,6 +25,11 @@ pub fn entries_are_moved()
 /// A header is replaced where its bytes are written over the old ones.
 pub fn headers_are_written()
     ensures { HeadersAreWritten }
+{}
+
+/// What an image of bytes holds under a name are bytes.
+pub fn bodies_are_bytes()
+    ensures { BodiesAreBytes }
 {}
 
 /// What spells a directory is read as it, and the other way round.
@@ -57,6 +62,11 @@ pub fn stores_are_kept()
     ensures { StoresAreKept }
 {}
 
+/// A call of the memory manager leaves the databases that the heap had.
+pub fn memory_calls_keep_stores()
+    ensures { MemoryCallsKeepStores }
+{}
+
 /// An image in which one database was rewritten has the others as they were.
 pub fn stores_are_rewritten()
     ensures { StoresAreRewritten }
@@ -75,4 +85,9 @@ pub fn stores_are_dropped()
 /// A call of one part runs out of room exactly where the image is short of that part.
 pub fn one_part_is_short()
     ensures { OnePartIsShort }
+{}
+
+/// A call that made a chunk, and then finds no room for another to grow, can run out of room.
+pub fn made_then_short()
+    ensures { MadeThenShort }
 {}
