@@ -41,27 +41,28 @@ fn a_heap_has_its_counts(rt: HostRuntime) -> Result<(), Fail> {
     Ok(())
 }
 
+const OF_DATABASE: [(&str, &str); 14] = [
+    ("", "size 208 slots 8 movable 4 fixed 0 free 8"),
+    ("3: 33", "BadMagic"),
+    ("7: D8", "TooShort"),
+    ("7: C8", "BadSize"),
+    ("9: 00", "BadSlotCount"),
+    ("9: 09", "BadPadding"),
+    ("10: 01", "BadReserved"),
+    ("15: 18", "BadDirectory"),
+    ("172: FF", "BadChunk 168"),
+    ("175: BA", "SlotMismatch 24"),
+    ("31: 00", "ChunkWithoutSlot 184"),
+    ("27: 00, 172: FF000000", "BadFixedOwner 168"),
+    // a directory word that is a slot of the manager's: the header's
+    ("15: 14", "size 208 slots 8 movable 4 fixed 0 free 8"),
+    // two chunks that name one slot: the one whose place it doesn't hold is without
+    ("27: 00, 175: BA", "ChunkWithoutSlot 168"),
+];
+
 #[test]
 fn a_database_is_checked(rt: HostRuntime) -> Result<(), Fail> {
-    let cases = [
-        ("", "size 208 slots 8 movable 4 fixed 0 free 8"),
-        ("3: 33", "BadMagic"),
-        ("7: D8", "TooShort"),
-        ("7: C8", "BadSize"),
-        ("9: 00", "BadSlotCount"),
-        ("9: 09", "BadPadding"),
-        ("10: 01", "BadReserved"),
-        ("15: 18", "BadDirectory"),
-        ("172: FF", "BadChunk 168"),
-        ("175: BA", "SlotMismatch 24"),
-        ("31: 00", "ChunkWithoutSlot 184"),
-        ("27: 00, 172: FF000000", "BadFixedOwner 168"),
-        // a directory word that is a slot of the manager's: the header's
-        ("15: 14", "size 208 slots 8 movable 4 fixed 0 free 8"),
-        // two chunks that name one slot: the one whose place it doesn't hold is without
-        ("27: 00, 175: BA", "ChunkWithoutSlot 168"),
-    ];
-    check_changed(&rt, DATABASE, &cases)
+    check_changed(&rt, DATABASE, &OF_DATABASE)
 }
 
 #[test]
@@ -75,144 +76,151 @@ fn every_shorter_prefix_is_too_short(rt: HostRuntime) -> Result<(), Fail> {
     Ok(())
 }
 
+const ACCEPTED: &str = "size 128 slots 4 movable 1 fixed 0 free 72";
+
+const OF_ONE_CHUNK: [(&str, &str); 18] = [
+    ("", ACCEPTED),
+    // slack of any bytes, and a free chunk whose other bits and second word are any
+    ("50: FFFFFFFFFFFF", ACCEPTED),
+    ("56: FF000048, 60: FFFFFFFF", ACCEPTED),
+    // locked, and with the highest owner
+    ("36: EF", ACCEPTED),
+    // two slots on one chunk
+    ("23: 28", "SlotMismatch 20"),
+    // a slot that points inside the chunk, also where a header seems to stand there
+    ("23: 30", "SlotMismatch 20"),
+    ("23: 30, 40: 0000001001FFFFF6", "SlotMismatch 20"),
+    // a slot that points at the free chunk, at no chunk, in front of the area, beyond the end
+    ("23: 40", "SlotMismatch 20"),
+    ("23: 24", "SlotMismatch 20"),
+    ("23: 08", "SlotMismatch 20"),
+    ("20: FFFFFFFF", "SlotMismatch 20"),
+    // a chunk whose slot is empty, and one that names the directory word, which holds its place
+    ("19: 00", "ChunkWithoutSlot 32"),
+    ("15: 28, 19: 00, 39: F6", "ChunkWithoutSlot 32"),
+    // one that names an offset between two slots, and one that names a word of its own body,
+    // which holds its place
+    ("19: 00, 39: F9", "ChunkWithoutSlot 32"),
+    ("19: 00, 36: 01000004, 40: 00000028", "ChunkWithoutSlot 32"),
+    // a directory word that is the slot of a chunk of owner 1, then of owner 0
+    ("15: 10", "BadDirectory"),
+    ("15: 10, 36: 00", ACCEPTED),
+    ("15: 10, 36: 0F", "BadDirectory"),
+];
+
 #[test]
 fn one_chunk_is_checked(rt: HostRuntime) -> Result<(), Fail> {
-    let accepted = "size 128 slots 4 movable 1 fixed 0 free 72";
-    let cases = [
-        ("", accepted),
-        // slack of any bytes, and a free chunk whose other bits and second word are any
-        ("50: FFFFFFFFFFFF", accepted),
-        ("56: FF000048, 60: FFFFFFFF", accepted),
-        // locked, and with the highest owner
-        ("36: EF", accepted),
-        // two slots on one chunk
-        ("23: 28", "SlotMismatch 20"),
-        // a slot that points inside the chunk, also where a header seems to stand there
-        ("23: 30", "SlotMismatch 20"),
-        ("23: 30, 40: 0000001001FFFFF6", "SlotMismatch 20"),
-        // a slot that points at the free chunk, at no chunk, in front of the area, beyond the end
-        ("23: 40", "SlotMismatch 20"),
-        ("23: 24", "SlotMismatch 20"),
-        ("23: 08", "SlotMismatch 20"),
-        ("20: FFFFFFFF", "SlotMismatch 20"),
-        // a chunk whose slot is empty, and one that names the directory word, which holds its place
-        ("19: 00", "ChunkWithoutSlot 32"),
-        ("15: 28, 19: 00, 39: F6", "ChunkWithoutSlot 32"),
-        // one that names an offset between two slots, and one that names a word of its own body,
-        // which holds its place
-        ("19: 00, 39: F9", "ChunkWithoutSlot 32"),
-        ("19: 00, 36: 01000004, 40: 00000028", "ChunkWithoutSlot 32"),
-        // a directory word that is the slot of a chunk of owner 1, then of owner 0
-        ("15: 10", "BadDirectory"),
-        ("15: 10, 36: 00", accepted),
-        ("15: 10, 36: 0F", "BadDirectory"),
-    ];
-    check_changed(&rt, ONE_CHUNK, &cases)
+    check_changed(&rt, ONE_CHUNK, &OF_ONE_CHUNK)
 }
+
+const OF_BLANK: [(&str, &str); 15] = [
+    ("", "size 128 slots 4 movable 0 fixed 0 free 96"),
+    // an odd count of slots, with padding
+    ("9: 03", "size 128 slots 3 movable 0 fixed 0 free 96"),
+    // free neighbours that aren't joined
+    (
+        "32: 80000030, 80: 80000030",
+        "size 128 slots 4 movable 0 fixed 0 free 96",
+    ),
+    ("32: 80000068", "BadChunk 32"),
+    ("32: 80000058", "BadChunk 120"),
+    // a fixed chunk of each owner that isn't a caller's, and of the callers at both ends
+    ("32: 00000010F0000000, 48: 80000050", "BadFixedOwner 32"),
+    ("32: 00000010FF000000, 48: 80000050", "BadFixedOwner 32"),
+    (
+        "32: 00000010F1000000, 48: 80000050",
+        "size 128 slots 4 movable 0 fixed 1 free 80",
+    ),
+    (
+        "32: 00000010FE000000, 48: 80000050",
+        "size 128 slots 4 movable 0 fixed 1 free 80",
+    ),
+    // a slot that holds the place of a fixed chunk
+    (
+        "19: 28, 32: 00000010F1000000, 48: 80000050",
+        "SlotMismatch 16",
+    ),
+    // a directory word that is an empty slot, and no slot
+    ("15: 10", "BadDirectory"),
+    ("15: 12", "BadDirectory"),
+    ("15: 0C", "BadDirectory"),
+    ("15: 20", "BadDirectory"),
+    ("12: FFFFFFFF", "BadDirectory"),
+];
 
 #[test]
 fn a_blank_image_is_checked(rt: HostRuntime) -> Result<(), Fail> {
-    let cases = [
-        ("", "size 128 slots 4 movable 0 fixed 0 free 96"),
-        // an odd count of slots, with padding
-        ("9: 03", "size 128 slots 3 movable 0 fixed 0 free 96"),
-        // free neighbours that aren't joined
-        (
-            "32: 80000030, 80: 80000030",
-            "size 128 slots 4 movable 0 fixed 0 free 96",
-        ),
-        ("32: 80000068", "BadChunk 32"),
-        ("32: 80000058", "BadChunk 120"),
-        // a fixed chunk of each owner that isn't a caller's, and of the callers at both ends
-        ("32: 00000010F0000000, 48: 80000050", "BadFixedOwner 32"),
-        ("32: 00000010FF000000, 48: 80000050", "BadFixedOwner 32"),
-        (
-            "32: 00000010F1000000, 48: 80000050",
-            "size 128 slots 4 movable 0 fixed 1 free 80",
-        ),
-        (
-            "32: 00000010FE000000, 48: 80000050",
-            "size 128 slots 4 movable 0 fixed 1 free 80",
-        ),
-        // a slot that holds the place of a fixed chunk
-        (
-            "19: 28, 32: 00000010F1000000, 48: 80000050",
-            "SlotMismatch 16",
-        ),
-        // a directory word that is an empty slot, and no slot
-        ("15: 10", "BadDirectory"),
-        ("15: 12", "BadDirectory"),
-        ("15: 0C", "BadDirectory"),
-        ("15: 20", "BadDirectory"),
-        ("12: FFFFFFFF", "BadDirectory"),
-    ];
-    check_changed(&rt, BLANK, &cases)
+    check_changed(&rt, BLANK, &OF_BLANK)
 }
+
+const WITH_TWO_FAULTS: [(&str, &str); 14] = [
+    ("0: 00, 7: 88", "BadMagic"),
+    ("0: 00, 7: 78", "BadMagic"),
+    ("7: 78, 9: 00", "BadSize"),
+    ("9: 00, 11: 01", "BadSlotCount"),
+    ("9: 03, 11: 01, 31: 01", "BadReserved"),
+    ("9: 03, 31: 01, 32: 80000068", "BadPadding"),
+    ("19: 28, 32: 80000068", "BadChunk 32"),
+    ("32: 00000000, 40: 00000000", "BadChunk 32"),
+    (
+        "23: 28, 32: 0000001001FFFFF8, 48: 80000050",
+        "SlotMismatch 20",
+    ),
+    ("19: 30, 27: 30", "SlotMismatch 16"),
+    (
+        "32: 00000008F0000000, 40: 0000000801FFFFF4, 48: 80000050",
+        "ChunkWithoutSlot 40",
+    ),
+    (
+        "32: 0000000801FFFFF8, 40: 0000000801FFFFF4, 48: 80000050",
+        "ChunkWithoutSlot 32",
+    ),
+    (
+        "15: 10, 32: 00000010F0000000, 48: 80000050",
+        "BadFixedOwner 32",
+    ),
+    (
+        "32: 00000008F1000000, 40: 00000008F0000000, 48: 00000008FF000000, 56: 80000048",
+        "BadFixedOwner 40",
+    ),
+];
 
 /// Each image has two faults, neighbours in their order, or the same one twice.
 #[test]
 fn the_first_fault_is_answered(rt: HostRuntime) -> Result<(), Fail> {
-    let cases = [
-        ("0: 00, 7: 88", "BadMagic"),
-        ("0: 00, 7: 78", "BadMagic"),
-        ("7: 78, 9: 00", "BadSize"),
-        ("9: 00, 11: 01", "BadSlotCount"),
-        ("9: 03, 11: 01, 31: 01", "BadReserved"),
-        ("9: 03, 31: 01, 32: 80000068", "BadPadding"),
-        ("19: 28, 32: 80000068", "BadChunk 32"),
-        ("32: 00000000, 40: 00000000", "BadChunk 32"),
-        (
-            "23: 28, 32: 0000001001FFFFF8, 48: 80000050",
-            "SlotMismatch 20",
-        ),
-        ("19: 30, 27: 30", "SlotMismatch 16"),
-        (
-            "32: 00000008F0000000, 40: 0000000801FFFFF4, 48: 80000050",
-            "ChunkWithoutSlot 40",
-        ),
-        (
-            "32: 0000000801FFFFF8, 40: 0000000801FFFFF4, 48: 80000050",
-            "ChunkWithoutSlot 32",
-        ),
-        (
-            "15: 10, 32: 00000010F0000000, 48: 80000050",
-            "BadFixedOwner 32",
-        ),
-        (
-            "32: 00000008F1000000, 40: 00000008F0000000, 48: 00000008FF000000, 56: 80000048",
-            "BadFixedOwner 40",
-        ),
-    ];
-    check_changed(&rt, BLANK, &cases)
+    check_changed(&rt, BLANK, &WITH_TWO_FAULTS)
 }
+
+/// Images whose lengths or slot counts stand at a limit, and what the checker finds.
+const LENGTHS: [(&str, &str); 11] = [
+    ("", "TooShort"),
+    ("00*15", "TooShort"),
+    ("00*16", "BadMagic"),
+    ("50484931 00000010 00*7", "TooShort"),
+    ("50484931 00000010 00*8", "BadSize"),
+    (
+        "50484931 00000038 0001 0000 00*12 80000020 00*28",
+        "BadSize",
+    ),
+    (
+        "50484931 00000044 0001 0000 00*12 8000002C 00*40",
+        "BadSize",
+    ),
+    ("50484931 00000040 000B 0000 00*52", "BadSlotCount"),
+    ("50484931 00000040 000D 0000 00*52", "BadSlotCount"),
+    ("50484931 00000040 FFFF 0000 00*52", "BadSlotCount"),
+    (
+        "50484931 00000040 000A 0000 00*44 80000008 00*4",
+        "size 64 slots 10 movable 0 fixed 0 free 8",
+    ),
+];
 
 /// Images whose lengths or slot counts stand at a limit.
 #[test]
 fn lengths_have_their_limits(rt: HostRuntime) -> Result<(), Fail> {
-    for (listing, text) in [
-        ("", "TooShort"),
-        ("00*15", "TooShort"),
-        ("00*16", "BadMagic"),
-        ("50484931 00000010 00*7", "TooShort"),
-        ("50484931 00000010 00*8", "BadSize"),
-        (
-            "50484931 00000038 0001 0000 00*12 80000020 00*28",
-            "BadSize",
-        ),
-        (
-            "50484931 00000044 0001 0000 00*12 8000002C 00*40",
-            "BadSize",
-        ),
-        ("50484931 00000040 000B 0000 00*52", "BadSlotCount"),
-        ("50484931 00000040 000D 0000 00*52", "BadSlotCount"),
-        ("50484931 00000040 FFFF 0000 00*52", "BadSlotCount"),
-        (
-            "50484931 00000040 000A 0000 00*44 80000008 00*4",
-            "size 64 slots 10 movable 0 fixed 0 free 8",
-        ),
-    ] {
+    for (listing, text) in &LENGTHS {
         let region = image(rt.alloc(), listing, "")?;
-        assert_eq!(rt; found(rt.alloc(), &region)?.as_str(), text, "{listing}");
+        assert_eq!(rt; found(rt.alloc(), &region)?.as_str(), *text, "{listing}");
     }
     Ok(())
 }

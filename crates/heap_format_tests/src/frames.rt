@@ -35,19 +35,22 @@ fn the_words_of_a_frame_are_read(rt: HostRuntime) -> Result<(), Fail> {
     Ok(())
 }
 
+/// How many slots there are, where they end, and where the chunks begin.
+const HEADS: [(u16, u32, u32); 5] = [
+    (1, 20, 24),
+    (2, 24, 24),
+    (4, 32, 32),
+    (13, 68, 72),
+    (65_535, 262_156, 262_160),
+];
+
 #[test]
 fn chunks_begin_behind_the_padding(rt: HostRuntime) -> Result<(), Fail> {
-    for (slots, end, start) in [
-        (1, 20, 24),
-        (2, 24, 24),
-        (4, 32, 32),
-        (13, 68, 72),
-        (65_535, 262_156, 262_160),
-    ] {
-        let region = frame_of(rt.alloc(), slots)?;
+    for (slots, end, start) in &HEADS {
+        let region = frame_of(rt.alloc(), *slots)?;
         assert!(rt; !has_magic(&region));
-        assert_eq!(rt; head_end(&region), end, "{slots} slots");
-        assert_eq!(rt; area_start(&region), start, "{slots} slots");
+        assert_eq!(rt; head_end(&region), *end, "{slots} slots");
+        assert_eq!(rt; area_start(&region), *start, "{slots} slots");
     }
     Ok(())
 }
@@ -68,19 +71,22 @@ fn a_blank_image_has_one_free_chunk(rt: HostRuntime) -> Result<(), Fail> {
     Ok(())
 }
 
+/// A size and a slot count that no image has, and the fault.
+const LIMITS: [(u32, u16, BlankFault); 7] = [
+    (66, 4, BlankFault::BadSize),
+    (56, 1, BlankFault::BadSize),
+    (0, 0, BlankFault::BadSize),
+    (16_777_216, 1, BlankFault::BadSize),
+    (64, 0, BlankFault::BadSlotCount),
+    (64, 11, BlankFault::BadSlotCount),
+    (64, 13, BlankFault::BadSlotCount),
+];
+
 #[test]
 fn a_blank_image_has_its_limits(rt: HostRuntime) -> Result<(), Fail> {
-    for (size, slots, fault) in [
-        (66, 4, BlankFault::BadSize),
-        (56, 1, BlankFault::BadSize),
-        (0, 0, BlankFault::BadSize),
-        (16_777_216, 1, BlankFault::BadSize),
-        (64, 0, BlankFault::BadSlotCount),
-        (64, 11, BlankFault::BadSlotCount),
-        (64, 13, BlankFault::BadSlotCount),
-    ] {
-        let found = blank(rt.alloc(), size, slots).err();
-        assert_eq!(rt; found, Some(fault), "{size} bytes and {slots} slots");
+    for (size, slots, fault) in &LIMITS {
+        let found = blank(rt.alloc(), *size, *slots).err();
+        assert_eq!(rt; found, Some(*fault), "{size} bytes and {slots} slots");
     }
     Ok(())
 }
@@ -99,28 +105,33 @@ impl Allowance for NoMemory {
     }
 }
 
+/// A size and a slot count, and the fault where no memory is granted.
+const WITHOUT_MEMORY: [(u32, u16, BlankFault); 3] = [
+    (66, 4, BlankFault::BadSize),
+    (64, 11, BlankFault::BadSlotCount),
+    (128, 4, BlankFault::OutOfMemory),
+];
+
 #[test]
 fn a_blank_image_asks_for_memory_last(rt: HostRuntime) -> Result<(), Fail> {
     let memory = NoMemory(rt.alloc());
-    for (size, slots, fault) in [
-        (66, 4, BlankFault::BadSize),
-        (64, 11, BlankFault::BadSlotCount),
-        (128, 4, BlankFault::OutOfMemory),
-    ] {
-        let found = blank_from(&memory, size, slots).err();
-        assert_eq!(rt; found, Some(fault), "{size} bytes and {slots} slots");
+    for (size, slots, fault) in &WITHOUT_MEMORY {
+        let found = blank_from(&memory, *size, *slots).err();
+        assert_eq!(rt; found, Some(*fault), "{size} bytes and {slots} slots");
     }
     Ok(())
 }
 
+const NAMES: [(BlankFault, &str); 3] = [
+    (BlankFault::BadSize, "BadSize"),
+    (BlankFault::BadSlotCount, "BadSlotCount"),
+    (BlankFault::OutOfMemory, "OutOfMemory"),
+];
+
 #[test]
 fn faults_have_their_names(rt: HostRuntime) -> Result<(), Fail> {
-    for (fault, text) in [
-        (BlankFault::BadSize, "BadSize"),
-        (BlankFault::BadSlotCount, "BadSlotCount"),
-        (BlankFault::OutOfMemory, "OutOfMemory"),
-    ] {
-        assert_eq!(rt; format!(in rt.alloc(); "{fault}")?.as_str(), text);
+    for (fault, text) in &NAMES {
+        assert_eq!(rt; format!(in rt.alloc(); "{fault}")?.as_str(), *text);
     }
     Ok(())
 }

@@ -9,19 +9,22 @@ use raw_region::Region;
 use std::alloc::Global;
 use std::test::*;
 
+/// The length of a body, and the size of its chunk.
+const SIZES: [(u32, Option<u32>); 8] = [
+    (0, Some(8)),
+    (1, Some(16)),
+    (8, Some(16)),
+    (9, Some(24)),
+    (10, Some(24)),
+    (16_777_200, Some(16_777_208)),
+    (16_777_201, None),
+    (u32::MAX, None),
+];
+
 #[test]
 fn sizes_are_rounded_up(rt: HostRuntime) {
-    for (length, size) in [
-        (0, Some(8)),
-        (1, Some(16)),
-        (8, Some(16)),
-        (9, Some(24)),
-        (10, Some(24)),
-        (16_777_200, Some(16_777_208)),
-        (16_777_201, None),
-        (u32::MAX, None),
-    ] {
-        assert_eq!(rt; chunk_size(length), size, "a body of {length} bytes");
+    for (length, size) in &SIZES {
+        assert_eq!(rt; chunk_size(*length), *size, "a body of {length} bytes");
     }
 }
 
@@ -40,35 +43,79 @@ fn header_by(alloc: Global, first: u32, second: u32) -> Result<Option<Header>, F
     }
 }
 
+/// The two words of a header, and the header that is read there.
+const WORDS: [(u32, u32, Option<Header>); 19] = [
+    (0x8000_0028, 0, Some(Header::Free { size: 40 })),
+    (0xFF00_0008, 0xFFFF_FFFF, Some(Header::Free { size: 8 })),
+    (
+        0x0000_0010,
+        0x01FF_FFFC,
+        Some(Header::Movable {
+            length: 8,
+            lock: 0,
+            owner: 1,
+            slot: 16,
+        }),
+    ),
+    (
+        0x0600_0018,
+        0xE100_0004,
+        Some(Header::Movable {
+            length: 10,
+            lock: 14,
+            owner: 1,
+            slot: 32,
+        }),
+    ),
+    (
+        0x0000_0008,
+        0x0000_0000,
+        Some(Header::Movable {
+            length: 0,
+            lock: 0,
+            owner: 0,
+            slot: 24,
+        }),
+    ),
+    (
+        0x0700_0010,
+        0xF100_0000,
+        Some(Header::Fixed {
+            length: 1,
+            owner: 1,
+        }),
+    ),
+    (
+        0x0000_0028,
+        0xFF00_0000,
+        Some(Header::Fixed {
+            length: 32,
+            owner: 15,
+        }),
+    ),
+    // a size below 8, not a multiple of 8, or beyond the end
+    (0x8000_0000, 0, None),
+    (0x8000_000C, 0, None),
+    (0x8000_0030, 0, None),
+    (0x0000_0030, 0xF100_0000, None),
+    // each of the zero bits
+    (0x1000_0010, 0xF100_0000, None),
+    (0x2000_0010, 0xF100_0000, None),
+    (0x4000_0010, 0xF100_0000, None),
+    // a sizeAdj above 7, and one above the body
+    (0x0800_0018, 0xF100_0000, None),
+    (0x0100_0008, 0xF100_0000, None),
+    // fixed with an hOffset, and locked with owner 0
+    (0x0000_0010, 0xF100_0001, None),
+    (0x0000_0010, 0x10FF_FFFC, None),
+    (0x0000_0010, 0xE0FF_FFFC, None),
+];
+
 #[test]
 fn headers_are_read(rt: HostRuntime) -> Result<(), Fail> {
-    for (first, second, header) in [
-        (0x8000_0028, 0, Some(Header::Free { size: 40 })),
-        (0xFF00_0008, 0xFFFF_FFFF, Some(Header::Free { size: 8 })),
-        (0x0000_0010, 0x01FF_FFFC, movable(8, 0, 1, 16)),
-        (0x0600_0018, 0xE100_0004, movable(10, 14, 1, 32)),
-        (0x0000_0008, 0x0000_0000, movable(0, 0, 0, 24)),
-        (0x0700_0010, 0xF100_0000, fixed(1, 1)),
-        (0x0000_0028, 0xFF00_0000, fixed(32, 15)),
-        // a size below 8, not a multiple of 8, or beyond the end
-        (0x8000_0000, 0, None),
-        (0x8000_000C, 0, None),
-        (0x8000_0030, 0, None),
-        (0x0000_0030, 0xF100_0000, None),
-        // each of the zero bits
-        (0x1000_0010, 0xF100_0000, None),
-        (0x2000_0010, 0xF100_0000, None),
-        (0x4000_0010, 0xF100_0000, None),
-        // a sizeAdj above 7, and one above the body
-        (0x0800_0018, 0xF100_0000, None),
-        (0x0100_0008, 0xF100_0000, None),
-        // fixed with an hOffset, and locked with owner 0
-        (0x0000_0010, 0xF100_0001, None),
-        (0x0000_0010, 0x10FF_FFFC, None),
-        (0x0000_0010, 0xE0FF_FFFC, None),
-    ] {
-        let found = header_by(rt.alloc(), first, second)?;
-        assert_eq!(rt; found, header, "{first:08x} {second:08x}");
+    for (first, second, header) in &WORDS {
+        let found = header_by(rt.alloc(), *first, *second)?;
+        assert_eq!(rt; found, *header, "{first:08x} {second:08x}");
     }
     Ok(())
 }
@@ -81,19 +128,6 @@ fn no_header_is_read_at_the_end(rt: HostRuntime) -> Result<(), Fail> {
         assert_eq!(rt; Header::read(&region, at), None, "at {at}");
     }
     Ok(())
-}
-
-fn movable(length: u32, lock: u8, owner: u8, slot: u32) -> Option<Header> {
-    Some(Header::Movable {
-        length,
-        lock,
-        owner,
-        slot,
-    })
-}
-
-fn fixed(length: u32, owner: u8) -> Option<Header> {
-    Some(Header::Fixed { length, owner })
 }
 
 /// The two words at 24 among bytes 0xAA, once the header is written there, and the header that is

@@ -27,77 +27,110 @@ fn table(alloc: Global, words: [u32; 4]) -> Result<Region, Fail>
     Ok(region)
 }
 
+/// An offset, how many slots there are, and the number of the slot that stands there.
+const SLOTS: [(u32, u16, Option<u32>); 10] = [
+    (16, 4, Some(0)),
+    (28, 4, Some(3)),
+    (262_152, 65_535, Some(65_534)),
+    // in front of the table, behind it, between two slots, and where there are none
+    (0, 4, None),
+    (12, 4, None),
+    (32, 4, None),
+    (u32::MAX, 65_535, None),
+    (17, 4, None),
+    (18, 4, None),
+    (16, 0, None),
+];
+
 #[test]
 fn slots_stand_behind_16_bytes(rt: HostRuntime) -> Result<(), Fail> {
-    for (slot, slots, number) in [
-        (16, 4, Some(0)),
-        (28, 4, Some(3)),
-        (262_152, 65_535, Some(65_534)),
-        // in front of the table, behind it, between two slots, and where there are none
-        (0, 4, None),
-        (12, 4, None),
-        (32, 4, None),
-        (u32::MAX, 65_535, None),
-        (17, 4, None),
-        (18, 4, None),
-        (16, 0, None),
-    ] {
-        let region = frame_of(rt.alloc(), slots)?;
+    for (slot, slots, number) in &SLOTS {
+        let region = frame_of(rt.alloc(), *slots)?;
         let table = Table::of(&region);
-        assert_eq!(rt; table.count(), u32::from(slots));
-        assert_eq!(rt; table.number(slot), number, "slot {slot} of {slots}");
+        assert_eq!(rt; table.count(), u32::from(*slots));
+        assert_eq!(rt; table.number(*slot), *number, "slot {slot} of {slots}");
         assert_eq!(rt;
-            slots_before(&region, Name(slot)),
-            number,
+            slots_before(&region, Name(*slot)),
+            *number,
             "slot {slot} of {slots}"
         );
         if let Some(number) = number
-            && number < table.count()
+            && *number < table.count()
         {
-            assert_eq!(rt; table.slot(number), slot, "number {number}");
+            assert_eq!(rt; table.slot(*number), *slot, "number {number}");
         }
     }
     Ok(())
 }
 
+/// A name, and the place that it resolves to.
+const PLACES: [(u32, Option<Place>); 11] = [
+    (16, Some(Place(40))),
+    (24, Some(Place(0xFFFF_FFFF))),
+    (28, Some(Place(64))),
+    // empty, outside the table, between two slots, and a place
+    (20, None),
+    (0, None),
+    (12, None),
+    (32, None),
+    (0xFFFF_FFFF, None),
+    (17, None),
+    (26, None),
+    (40, None),
+];
+
 #[test]
 fn a_slot_resolves_to_its_place(rt: HostRuntime) -> Result<(), Fail> {
     let region = table(rt.alloc(), [40, 0, 0xFFFF_FFFF, 64])?;
-    for (name, place) in [
-        (16, Some(Place(40))),
-        (24, Some(Place(0xFFFF_FFFF))),
-        (28, Some(Place(64))),
-        // empty, outside the table, between two slots, and a place
-        (20, None),
-        (0, None),
-        (12, None),
-        (32, None),
-        (0xFFFF_FFFF, None),
-        (17, None),
-        (26, None),
-        (40, None),
-    ] {
-        assert_eq!(rt; resolve(&region, Name(name)), place, "name {name}");
+    for (name, place) in &PLACES {
+        assert_eq!(rt; resolve(&region, Name(*name)), *place, "name {name}");
     }
     Ok(())
 }
 
+/// The words of the slots, the first empty one, and how many there are.
+const FREE_SLOTS: [([u32; 4], Option<FreeSlot>, u32); 5] = [
+    (
+        [0, 0, 0, 0],
+        Some(FreeSlot {
+            name: Name(16),
+            before: 0,
+        }),
+        4,
+    ),
+    (
+        [40, 0, 0, 56],
+        Some(FreeSlot {
+            name: Name(20),
+            before: 1,
+        }),
+        2,
+    ),
+    (
+        [40, 56, 0, 0],
+        Some(FreeSlot {
+            name: Name(24),
+            before: 2,
+        }),
+        2,
+    ),
+    (
+        [40, 56, 64, 0],
+        Some(FreeSlot {
+            name: Name(28),
+            before: 3,
+        }),
+        1,
+    ),
+    ([40, 56, 64, 72], None, 0),
+];
+
 #[test]
 fn the_first_empty_slot_is_found(rt: HostRuntime) -> Result<(), Fail> {
-    for (words, found, free) in [
-        ([0, 0, 0, 0], Some((16, 0)), 4),
-        ([40, 0, 0, 56], Some((20, 1)), 2),
-        ([40, 56, 0, 0], Some((24, 2)), 2),
-        ([40, 56, 64, 0], Some((28, 3)), 1),
-        ([40, 56, 64, 72], None, 0),
-    ] {
-        let region = table(rt.alloc(), words)?;
-        let found = found.map(|(name, before)| FreeSlot {
-            name: Name(name),
-            before,
-        });
-        assert_eq!(rt; slots_free(&region), free, "{words:?}");
-        assert_eq!(rt; free_slot(&region, 0), found, "{words:?}");
+    for (words, found, free) in &FREE_SLOTS {
+        let region = table(rt.alloc(), *words)?;
+        assert_eq!(rt; slots_free(&region), *free, "{words:?}");
+        assert_eq!(rt; free_slot(&region, 0), *found, "{words:?}");
     }
     Ok(())
 }

@@ -9,4 +9,6 @@ mod heaps;
 #[cfg(test)]
 mod resized;
 #[cfg(test)]
+mod steps;
+#[cfg(test)]
 mod tests;

@@ -1,6 +1,6 @@
 //! The bytes that a chunk leaves which gets another length where it stands.
 
-use crate::heaps::{accepted, bytes, grow_in_place, relocate, shrink};
+use crate::heaps::{CheckedSpace, accepted, bytes};
 use heap_model::Name;
 use raw_region::Region;
 use std::alloc::Global;
@@ -34,144 +34,158 @@ const SHRUNK: &str = "05000010 01FFFFF8 FFFFFFFFFFFFFFFF 80000008 FFFFFFFF \
 const LARGE: &str = "00000030 01FFFFF8 FFFFFFFFFFFFFFFF FFFFFFFFFFFFFFFF FFFFFFFFFFFFFFFF \
     FFFFFFFFFFFFFFFF FFFFFFFFFFFFFFFF";
 
+/// Whether a space has these chunks, with these changes.
+fn has(alloc: Global, space: &CheckedSpace, chunks: &str, changes: &str) -> Result<bool, Fail> {
+    Ok(space.bytes() == bytes(&heap_with(alloc, chunks, changes)?))
+}
+
+/// What growing the chunk of a name to so many bytes answers, and whether it leaves these chunks, where
+/// `kind` is changed in both.
+fn grown(
+    alloc: Global,
+    kind: &str,
+    name: Name,
+    count: u32,
+    after: &str,
+) -> Result<(Option<bool>, bool), Fail> {
+    let mut space = accepted(heap_with(alloc, SMALL, kind)?)?;
+    let answer = space.grow_in_place(name, count);
+    Ok((answer, has(alloc, &space, after, kind)?))
+}
+
+/// How many bytes the chunk gets, and the chunks that it leaves.
+const GROWTHS: [(u32, &str); 7] = [
+    (
+        0,
+        "00000008 01FFFFF8 80000028 FFFFFFFF FFFFFFFFFFFFFFFF \
+            80000008 FFFFFFFF FF000010 FFFFFFFF FFFFFFFFFFFFFFFF",
+    ),
+    (
+        10,
+        "06000018 01FFFFF8 FFFFFFFFFFFFFFFF FFFFFFFFFFFFFFFF \
+            80000018 FFFFFFFF FF000010 FFFFFFFF FFFFFFFFFFFFFFFF",
+    ),
+    (
+        16,
+        "00000018 01FFFFF8 FFFFFFFFFFFFFFFF FFFF 00*6 \
+            80000018 FFFFFFFF FF000010 FFFFFFFF FFFFFFFFFFFFFFFF",
+    ),
+    (
+        17,
+        "07000020 01FFFFF8 FFFFFFFFFFFFFFFF FFFF 00*7 000008 FFFFFFFF \
+            80000010 FFFFFFFF FFFFFFFFFFFFFFFF",
+    ),
+    (24, GROWN),
+    (
+        33,
+        "07000030 01FFFFF8 FFFFFFFFFFFFFFFF FFFF 00*23 FFFFFFFFFFFFFF",
+    ),
+    (40, "00000030 01FFFFF8 FFFFFFFFFFFFFFFF FFFF 00*30"),
+];
+
 /// Bytes that it gains are zero, in its slack too, and what is left of the free chunks is one, with a
 /// plain first word. What no header needs stays.
 #[test]
 fn a_chunk_grows_in_its_place(rt: HostRuntime) -> Result<(), Fail> {
-    for (count, chunks) in [
-        (
-            0,
-            "00000008 01FFFFF8 80000028 FFFFFFFF FFFFFFFFFFFFFFFF \
-                80000008 FFFFFFFF FF000010 FFFFFFFF FFFFFFFFFFFFFFFF",
-        ),
-        (
-            10,
-            "06000018 01FFFFF8 FFFFFFFFFFFFFFFF FFFFFFFFFFFFFFFF \
-                80000018 FFFFFFFF FF000010 FFFFFFFF FFFFFFFFFFFFFFFF",
-        ),
-        (
-            16,
-            "00000018 01FFFFF8 FFFFFFFFFFFFFFFF FFFF 00*6 \
-                80000018 FFFFFFFF FF000010 FFFFFFFF FFFFFFFFFFFFFFFF",
-        ),
-        (
-            17,
-            "07000020 01FFFFF8 FFFFFFFFFFFFFFFF FFFF 00*7 000008 FFFFFFFF \
-                80000010 FFFFFFFF FFFFFFFFFFFFFFFF",
-        ),
-        (24, GROWN),
-        (
-            33,
-            "07000030 01FFFFF8 FFFFFFFFFFFFFFFF FFFF 00*23 FFFFFFFFFFFFFF",
-        ),
-        (40, "00000030 01FFFFF8 FFFFFFFFFFFFFFFF FFFF 00*30"),
-    ] {
-        let mut space = accepted(heap_with(rt.alloc(), SMALL, "")?)?;
-        assert_eq!(rt;
-            grow_in_place(&mut space, Name(16), count),
-            Some(true),
-            "{count} bytes"
-        );
-        let after = heap_with(rt.alloc(), chunks, "")?;
-        assert_eq!(rt; bytes(space.region()), bytes(&after), "{count} bytes");
+    for (count, after) in &GROWTHS {
+        let told = grown(rt.alloc(), "", Name(16), *count, after)?;
+        assert_eq!(rt; told, (Some(true), true), "{count} bytes");
     }
     Ok(())
 }
+
+const TOO_MANY: [u32; 3] = [41, 0x00FF_FFF8, 0xFFFF_FFFF];
 
 /// The live chunk at 80 ends what it may take.
 #[test]
 fn a_refused_growth_changes_nothing(rt: HostRuntime) -> Result<(), Fail> {
-    let before = heap_with(rt.alloc(), SMALL, "")?;
-    for count in [41, 0x00FF_FFF8, 0xFFFF_FFFF] {
-        let mut space = accepted(heap_with(rt.alloc(), SMALL, "")?)?;
-        assert_eq!(rt;
-            grow_in_place(&mut space, Name(16), count),
-            Some(false),
-            "{count} bytes"
-        );
-        assert_eq!(rt; bytes(space.region()), bytes(&before), "{count} bytes");
+    for count in &TOO_MANY {
+        let told = grown(rt.alloc(), "", Name(16), *count, SMALL)?;
+        assert_eq!(rt; told, (Some(false), true), "{count} bytes");
     }
     Ok(())
 }
+
+/// Whether the chunk of a name, among these chunks, could get so many bytes within what it takes, and
+/// whether that leaves the next chunks with the next changes.
+fn shrunk(
+    alloc: Global,
+    (before, kind): (&str, &str),
+    name: Name,
+    count: u32,
+    (after, changes): (&str, &str),
+) -> Result<(bool, bool), Fail> {
+    let mut space = accepted(heap_with(alloc, before, kind)?)?;
+    let is_done = space.shrink(name, count).is_some();
+    Ok((is_done, has(alloc, &space, after, changes)?))
+}
+
+/// How many bytes the chunk of 40 gets, and the chunks that it leaves.
+const SHRINKS: [(u32, &str); 5] = [
+    (
+        0,
+        "00000008 01FFFFF8 80000028 FFFFFFFF FFFFFFFFFFFFFFFF \
+            FFFFFFFFFFFFFFFF FFFFFFFFFFFFFFFF FFFFFFFFFFFFFFFF",
+    ),
+    (
+        10,
+        "06000018 01FFFFF8 FFFFFFFFFFFFFFFF FFFFFFFFFFFFFFFF \
+            80000018 FFFFFFFF FFFFFFFFFFFFFFFF FFFFFFFFFFFFFFFF",
+    ),
+    (
+        32,
+        "00000028 01FFFFF8 FFFFFFFFFFFFFFFF FFFFFFFFFFFFFFFF FFFFFFFFFFFFFFFF \
+            FFFFFFFFFFFFFFFF 80000008 FFFFFFFF",
+    ),
+    (
+        33,
+        "07000030 01FFFFF8 FFFFFFFFFFFFFFFF FFFFFFFFFFFFFFFF FFFFFFFFFFFFFFFF \
+            FFFFFFFFFFFFFFFF FFFFFFFFFFFFFFFF",
+    ),
+    (40, LARGE),
+];
 
 /// What it takes no more is a free chunk with a plain first word; its bytes stay.
 #[test]
 fn a_chunk_shrinks_in_its_place(rt: HostRuntime) -> Result<(), Fail> {
-    for (count, chunks) in [
-        (
-            0,
-            "00000008 01FFFFF8 80000028 FFFFFFFF FFFFFFFFFFFFFFFF \
-                FFFFFFFFFFFFFFFF FFFFFFFFFFFFFFFF FFFFFFFFFFFFFFFF",
-        ),
-        (
-            10,
-            "06000018 01FFFFF8 FFFFFFFFFFFFFFFF FFFFFFFFFFFFFFFF \
-                80000018 FFFFFFFF FFFFFFFFFFFFFFFF FFFFFFFFFFFFFFFF",
-        ),
-        (
-            32,
-            "00000028 01FFFFF8 FFFFFFFFFFFFFFFF FFFFFFFFFFFFFFFF FFFFFFFFFFFFFFFF \
-                FFFFFFFFFFFFFFFF 80000008 FFFFFFFF",
-        ),
-        (
-            33,
-            "07000030 01FFFFF8 FFFFFFFFFFFFFFFF FFFFFFFFFFFFFFFF FFFFFFFFFFFFFFFF \
-                FFFFFFFFFFFFFFFF FFFFFFFFFFFFFFFF",
-        ),
-        (40, LARGE),
-    ] {
-        let mut space = accepted(heap_with(rt.alloc(), LARGE, "")?)?;
-        assert_eq!(rt;
-            shrink(&mut space, Name(16), count),
-            Some(()),
-            "{count} bytes"
-        );
-        let after = heap_with(rt.alloc(), chunks, "")?;
-        assert_eq!(rt; bytes(space.region()), bytes(&after), "{count} bytes");
+    for (count, after) in &SHRINKS {
+        let told = shrunk(rt.alloc(), (LARGE, ""), Name(16), *count, (after, ""))?;
+        assert_eq!(rt; told, (true, true), "{count} bytes");
     }
     Ok(())
 }
+
+/// How many bytes the chunk of 10 gets, whether it can, and what is changed in its heap then.
+const OF_SLACK: [(u32, bool, &str); 3] = [
+    (14, true, "32: 02000018, 50: 00000000"),
+    (16, true, "32: 00000018, 50: 000000000000"),
+    (17, false, ""),
+];
 
 /// Within what it takes a chunk gains bytes too, and they are zero. The free chunks behind it stay apart.
 #[test]
 fn a_chunk_takes_of_its_slack(rt: HostRuntime) -> Result<(), Fail> {
-    for (count, changes) in [
-        (14, "32: 02000018, 50: 00000000"),
-        (16, "32: 00000018, 50: 000000000000"),
-    ] {
-        let mut space = accepted(heap_with(rt.alloc(), SMALL, "")?)?;
-        assert_eq!(rt;
-            shrink(&mut space, Name(16), count),
-            Some(()),
-            "{count} bytes"
-        );
-        let after = heap_with(rt.alloc(), SMALL, changes)?;
-        assert_eq!(rt; bytes(space.region()), bytes(&after), "{count} bytes");
+    for (count, can, changes) in &OF_SLACK {
+        let told = shrunk(rt.alloc(), (SMALL, ""), Name(16), *count, (SMALL, changes))?;
+        assert_eq!(rt; told, (*can, true), "{count} bytes");
     }
-    let mut space = accepted(heap_with(rt.alloc(), SMALL, "")?)?;
-    assert_eq!(rt; shrink(&mut space, Name(16), 17), None);
-    assert_eq!(rt;
-        bytes(space.region()),
-        bytes(&heap_with(rt.alloc(), SMALL, "")?)
-    );
     Ok(())
 }
 
-/// A chunk with 14 locks, and a fixed one, which no slot names: both keep their place, lock and owner.
+/// A chunk with 14 locks, and a fixed one, which no slot names.
+const THAT_STAY: [(Name, &str); 2] = [
+    (Name(16), "36: E1FFFFF8"),
+    (Name(40), "16: 00000000, 36: FE000000"),
+];
+
+/// Both keep their place, lock and owner.
 #[test]
 fn chunks_that_stay_get_other_lengths(rt: HostRuntime) -> Result<(), Fail> {
-    for (name, kind) in [
-        (Name(16), "36: E1FFFFF8"),
-        (Name(40), "16: 00000000, 36: FE000000"),
-    ] {
-        let mut space = accepted(heap_with(rt.alloc(), SMALL, kind)?)?;
-        assert_eq!(rt; grow_in_place(&mut space, name, 24), Some(true), "{name:?}");
-        let grown = heap_with(rt.alloc(), GROWN, kind)?;
-        assert_eq!(rt; bytes(space.region()), bytes(&grown), "{name:?}");
-        let mut space = accepted(heap_with(rt.alloc(), SMALL, kind)?)?;
-        assert_eq!(rt; shrink(&mut space, name, 3), Some(()), "{name:?}");
-        let shrunk = heap_with(rt.alloc(), SHRUNK, kind)?;
-        assert_eq!(rt; bytes(space.region()), bytes(&shrunk), "{name:?}");
+    for (name, kind) in &THAT_STAY {
+        let told = grown(rt.alloc(), kind, *name, 24, GROWN)?;
+        assert_eq!(rt; told, (Some(true), true), "{name:?}");
+        let told = shrunk(rt.alloc(), (SMALL, kind), *name, 3, (SHRUNK, kind))?;
+        assert_eq!(rt; told, (true, true), "{name:?}");
     }
     Ok(())
 }
@@ -187,58 +201,67 @@ const BEHIND: &str = "50484931 00000080 0004 0000 00000000 00000058 00000048 00*
     00000010 02FFFFEA 6162636465666768 06000018 01FFFFE0 4142434445464748494A FFFFFFFFFFFF \
     80000018 00*20";
 
+/// Whether the chunk of the slot 16, in the image of a listing, could be relocated with so many bytes,
+/// and whether that leaves the next image.
+fn relocated(
+    alloc: Global,
+    (before, changes): (&str, &str),
+    count: u32,
+    (after, kept): (&str, &str),
+) -> Result<(bool, bool), Fail> {
+    let mut space = accepted(image(alloc, before, changes)?)?;
+    let is_done = space.relocate(Name(16), count).is_some();
+    let after = image(alloc, after, kept)?;
+    Ok((is_done, space.bytes() == bytes(&after)))
+}
+
+/// Images, how many bytes the chunk gets, and the images that it leaves.
+const RELOCATIONS: [(&str, u32, &str); 3] = [
+    (
+        IN_FRONT,
+        12,
+        "50484931 00000080 0004 0000 00000000 00000050 00000040 00*8 \
+            80000018 01FFFFF8 4142434445464748494A FFFFFFFFFFFF 00000010 02FFFFEE 6162636465666768 \
+            04000018 01FFFFE4 4142434445464748494A 00*6 80000020 00*28",
+    ),
+    (
+        IN_FRONT,
+        3,
+        "50484931 00000080 0004 0000 00000000 00000050 00000040 00*8 \
+            80000018 01FFFFF8 4142434445464748494A FFFFFFFFFFFF 00000010 02FFFFEE 6162636465666768 \
+            05000010 01FFFFE4 414243 00*5 80000028 00*36",
+    ),
+    (
+        BEHIND,
+        24,
+        "50484931 00000080 0004 0000 00000000 00000028 00000048 00*8 \
+            00000020 01FFFFF8 4142434445464748494A 00*14 \
+            00000010 02FFFFEA 6162636465666768 80000030 01FFFFE0 4142434445464748494A FFFFFFFFFFFF \
+            80000018 00*20",
+    ),
+];
+
 /// A chunk that is relocated has its first bytes, and zeros behind them; its slot holds the new place, and
 /// its old header is that of a free chunk, joined with one behind it.
 #[test]
 fn a_chunk_goes_to_room_elsewhere(rt: HostRuntime) -> Result<(), Fail> {
-    for (before, count, after) in [
-        (
-            IN_FRONT,
-            12,
-            "50484931 00000080 0004 0000 00000000 00000050 00000040 00*8 \
-                80000018 01FFFFF8 4142434445464748494A FFFFFFFFFFFF 00000010 02FFFFEE 6162636465666768 \
-                04000018 01FFFFE4 4142434445464748494A 00*6 80000020 00*28",
-        ),
-        (
-            IN_FRONT,
-            3,
-            "50484931 00000080 0004 0000 00000000 00000050 00000040 00*8 \
-                80000018 01FFFFF8 4142434445464748494A FFFFFFFFFFFF 00000010 02FFFFEE 6162636465666768 \
-                05000010 01FFFFE4 414243 00*5 80000028 00*36",
-        ),
-        (
-            BEHIND,
-            24,
-            "50484931 00000080 0004 0000 00000000 00000028 00000048 00*8 \
-                00000020 01FFFFF8 4142434445464748494A 00*14 \
-                00000010 02FFFFEA 6162636465666768 80000030 01FFFFE0 4142434445464748494A FFFFFFFFFFFF \
-                80000018 00*20",
-        ),
-    ] {
-        let mut space = accepted(image(rt.alloc(), before, "")?)?;
-        assert_eq!(rt;
-            relocate(&mut space, Name(16), count),
-            Some(()),
-            "{count} bytes"
-        );
-        let after = image(rt.alloc(), after, "")?;
-        assert_eq!(rt; bytes(space.region()), bytes(&after), "{count} bytes");
+    for (before, count, after) in &RELOCATIONS {
+        let told = relocated(rt.alloc(), (before, ""), *count, (after, ""))?;
+        assert_eq!(rt; told, (true, true), "{count} bytes");
     }
     Ok(())
 }
 
+/// What is changed in the image, and how many bytes the chunk would get.
+const WITHOUT_ROOM: [(&str, u32); 2] = [("", 49), ("36: 11FFFFF8", 12)];
+
 /// One that has no room elsewhere stays, as does a locked one.
 #[test]
 fn a_chunk_without_room_elsewhere_stays(rt: HostRuntime) -> Result<(), Fail> {
-    for (changes, count) in [("", 49), ("36: 11FFFFF8", 12)] {
-        let before = image(rt.alloc(), IN_FRONT, changes)?;
-        let mut space = accepted(image(rt.alloc(), IN_FRONT, changes)?)?;
-        assert_eq!(rt;
-            relocate(&mut space, Name(16), count),
-            None,
-            "{count} bytes"
-        );
-        assert_eq!(rt; bytes(space.region()), bytes(&before), "{count} bytes");
+    for (changes, count) in &WITHOUT_ROOM {
+        let image = (IN_FRONT, *changes);
+        let told = relocated(rt.alloc(), image, *count, image)?;
+        assert_eq!(rt; told, (false, true), "{count} bytes");
     }
     Ok(())
 }

@@ -1,203 +1,232 @@
 //! The bytes that each call leaves.
 
-ghost use Rattle.heap_model.specs.Heap.{HeapAccepted};
-
-use crate::heaps::{bytes, give_back, give_back_owned, heap, image, make, make_fixed, relock};
+use crate::heaps::{CheckedSpace, bytes, heap, image};
+use crate::steps::{Step, Told, check, check_steps, check_words};
 use heap_model::{Name, Place};
-use heap_place::{Found, Room, Space};
+use heap_place::{Found, Space};
 use std::test::*;
+
+type Words = &'static [(usize, u32)];
+
+/// A free chunk whose first word has other bits, and whose second word has some.
+const ONE_FREE: Words = &[(32, 0xFF00_0060), (36, 0x1234_5678)];
+
+const ROOM_OF_ONE: &[Told] = &[
+    (Step::RoomAt(8), Some(32)),
+    (Step::RoomSize(8), Some(96)),
+    (Step::RoomAt(96), Some(32)),
+    (Step::RoomSize(96), Some(96)),
+    (Step::RoomAt(104), None),
+    (Step::RoomAt(0xFFFF_FFF8), None),
+];
 
 /// The other bits of a free chunk's first word may be any, and finding room changes nothing.
 #[test]
 fn room_is_a_free_chunk(rt: HostRuntime) -> Result<(), Fail> {
-    let words = [(32, 0xFF00_0060), (36, 0x1234_5678)];
-    let space = heap(rt.alloc(), &words)?;
-    let whole = Room { at: 32, size: 96 };
-    for (size, room) in [
-        (8, Some(whole)),
-        (96, Some(whole)),
-        (104, None),
-        (0xFFFF_FFF8, None),
-    ] {
-        assert_eq!(rt; space.place(size), room, "{size} bytes");
-    }
-    assert_eq!(rt; bytes(space.region()), bytes(&image(rt.alloc(), &words)?));
-    Ok(())
+    check(&rt, ONE_FREE, ROOM_OF_ONE, ONE_FREE)
 }
 
 /// Free chunks of 24 bytes at 32, 80 and 104, and a live one of the first slot at 56.
+const PARTED: Words = &[
+    (16, 64),
+    (32, 0x8000_0018),
+    (56, 0x0000_0018),
+    (60, 0x01FF_FFEC),
+    (80, 0x8000_0018),
+    (104, 0x8000_0018),
+];
+
+const ROOM_OF_PARTED: &[Told] = &[
+    (Step::RoomAt(24), Some(32)),
+    (Step::RoomSize(24), Some(24)),
+    (Step::RoomAt(32), Some(80)),
+    (Step::RoomSize(32), Some(48)),
+    (Step::RoomAt(48), Some(80)),
+    (Step::RoomSize(48), Some(48)),
+    (Step::RoomAt(56), None),
+    (Step::FreeBytes, Some(72)),
+    (
+        Step::Make {
+            count: 32,
+            owner: 1,
+        },
+        Some(20),
+    ),
+];
+
+const CLAIMED_OF_PARTED: Words = &[
+    (16, 64),
+    (20, 88),
+    (32, 0x8000_0018),
+    (56, 0x0000_0018),
+    (60, 0x01FF_FFEC),
+    (80, 0x0000_0028),
+    (84, 0x01FF_FFE2),
+    (120, 0x8000_0008),
+];
+
 #[test]
 fn a_live_chunk_ends_a_run(rt: HostRuntime) -> Result<(), Fail> {
-    let words = [
-        (16, 64),
-        (32, 0x8000_0018),
-        (56, 0x0000_0018),
-        (60, 0x01FF_FFEC),
-        (80, 0x8000_0018),
-        (104, 0x8000_0018),
-    ];
-    let mut space = heap(rt.alloc(), &words)?;
-    for (size, room) in [
-        (24, Some(Room { at: 32, size: 24 })),
-        (32, Some(Room { at: 80, size: 48 })),
-        (48, Some(Room { at: 80, size: 48 })),
-        (56, None),
-    ] {
-        assert_eq!(rt; space.place(size), room, "{size} bytes");
-    }
-    assert_eq!(rt; space.free_bytes(), 72);
-    assert_eq!(rt; make(&mut space, 32, 1), Some(Name(20)));
-    let after = image(
-        rt.alloc(),
-        &[
-            (16, 64),
-            (20, 88),
-            (32, 0x8000_0018),
-            (56, 0x0000_0018),
-            (60, 0x01FF_FFEC),
-            (80, 0x0000_0028),
-            (84, 0x01FF_FFE2),
-            (120, 0x8000_0008),
-        ],
-    )?;
-    assert_eq!(rt; bytes(space.region()), bytes(&after));
-    Ok(())
+    check(&rt, PARTED, ROOM_OF_PARTED, CLAIMED_OF_PARTED)
 }
+
+const ONES: u32 = 0xFFFF_FFFF;
+
+const FREE_OF_ONES: Words = &[
+    (36, ONES),
+    (40, ONES),
+    (44, ONES),
+    (48, ONES),
+    (52, ONES),
+    (60, ONES),
+];
+
+const MAKES_10: &[Told] = &[(
+    Step::Make {
+        count: 10,
+        owner: 1,
+    },
+    Some(16),
+)];
+
+const CLAIMED_OF_ONES: Words = &[
+    (16, 40),
+    (32, 0x0600_0018),
+    (36, 0x01FF_FFF8),
+    (48, 0x0000_FFFF),
+    (52, ONES),
+    (56, 0x8000_0048),
+    (60, ONES),
+];
 
 /// What lay in the free chunk is gone from the body, and stays in the slack.
 #[test]
 fn a_claimed_chunk_is_zeros(rt: HostRuntime) -> Result<(), Fail> {
-    let ones = 0xFFFF_FFFF;
-    let mut space = heap(
-        rt.alloc(),
-        &[
-            (36, ones),
-            (40, ones),
-            (44, ones),
-            (48, ones),
-            (52, ones),
-            (60, ones),
-        ],
-    )?;
-    assert_eq!(rt; make(&mut space, 10, 1), Some(Name(16)));
-    let after = image(
-        rt.alloc(),
-        &[
-            (16, 40),
-            (32, 0x0600_0018),
-            (36, 0x01FF_FFF8),
-            (48, 0x0000_FFFF),
-            (52, ones),
-            (56, 0x8000_0048),
-            (60, ones),
-        ],
-    )?;
-    assert_eq!(rt; bytes(space.region()), bytes(&after));
-    Ok(())
+    check(&rt, FREE_OF_ONES, MAKES_10, CLAIMED_OF_ONES)
 }
 
 /// Two chunks of 24 and 40 bytes, and 32 bytes behind them.
-fn with_two(space: &mut Space) -> bool
-    requires { HeapAccepted space.old.bytes }
-    ensures { HeapAccepted space.new.bytes }
-{
-    make(space, 16, 1).is_some() && make(space, 32, 2).is_some()
-}
+const MAKES_TWO: &[Told] = &[
+    (
+        Step::Make {
+            count: 16,
+            owner: 1,
+        },
+        Some(16),
+    ),
+    (
+        Step::Make {
+            count: 32,
+            owner: 2,
+        },
+        Some(20),
+    ),
+];
+
+const TWO: Words = &[
+    (16, 40),
+    (20, 64),
+    (32, 0x0000_0018),
+    (36, 0x01FF_FFF8),
+    (56, 0x0000_0028),
+    (60, 0x02FF_FFEE),
+    (96, 0x8000_0020),
+];
 
 #[test]
 fn chunks_are_made_one_behind_the_other(rt: HostRuntime) -> Result<(), Fail> {
-    let mut space = heap(rt.alloc(), &[])?;
-    assert!(rt; with_two(&mut space));
-    let after = image(
-        rt.alloc(),
-        &[
-            (16, 40),
-            (20, 64),
-            (32, 0x0000_0018),
-            (36, 0x01FF_FFF8),
-            (56, 0x0000_0028),
-            (60, 0x02FF_FFEE),
-            (96, 0x8000_0020),
-        ],
-    )?;
-    assert_eq!(rt; bytes(space.region()), bytes(&after));
-    Ok(())
+    check(&rt, &[], MAKES_TWO, TWO)
 }
+
+const FROM_THE_BACK: &[Told] = &[
+    (Step::GiveBack(20), Some(72)),
+    (Step::GiveBack(16), Some(96)),
+    (Step::GiveBack(16), None),
+];
 
 /// The back chunk is joined with the free chunk behind it, and then the front one with both. Only
 /// first words and slots are written: the other words of headers stay.
 #[test]
 fn chunks_given_back_from_the_back_are_joined(rt: HostRuntime) -> Result<(), Fail> {
-    let mut space = heap(rt.alloc(), &[])?;
-    assert!(rt; with_two(&mut space));
-    assert_eq!(rt; give_back(&mut space, Name(20)), Some(72));
-    assert_eq!(rt; give_back(&mut space, Name(16)), Some(96));
-    let after = image(
-        rt.alloc(),
-        &[
-            (32, 0x8000_0060),
-            (36, 0x01FF_FFF8),
-            (56, 0x8000_0048),
-            (60, 0x02FF_FFEE),
-            (96, 0x8000_0020),
-        ],
-    )?;
-    assert_eq!(rt; bytes(space.region()), bytes(&after));
-    assert_eq!(rt; give_back(&mut space, Name(16)), None);
-    Ok(())
+    let after = [
+        (32, 0x8000_0060),
+        (36, 0x01FF_FFF8),
+        (56, 0x8000_0048),
+        (60, 0x02FF_FFEE),
+        (96, 0x8000_0020),
+    ];
+    check(&rt, TWO, FROM_THE_BACK, &after)
 }
+
+const FROM_THE_FRONT: &[Told] = &[
+    (Step::GiveBack(16), Some(24)),
+    (Step::GiveBack(20), Some(72)),
+    (Step::RoomAt(24), Some(32)),
+    (Step::RoomSize(24), Some(24)),
+    (Step::RoomAt(32), Some(32)),
+    (Step::RoomSize(32), Some(96)),
+    (Step::FreeBytes, Some(96)),
+];
 
 /// The front chunk is given back first: behind it stands a live chunk, and then a free one that isn't
 /// joined with it. They are one run all the same.
 #[test]
 fn free_neighbours_are_found_as_one_run(rt: HostRuntime) -> Result<(), Fail> {
-    let mut space = heap(rt.alloc(), &[])?;
-    assert!(rt; with_two(&mut space));
-    assert_eq!(rt; give_back(&mut space, Name(16)), Some(24));
-    assert_eq!(rt; give_back(&mut space, Name(20)), Some(72));
-    assert_eq!(rt; space.place(24), Some(Room { at: 32, size: 24 }));
-    assert_eq!(rt; space.place(32), Some(Room { at: 32, size: 96 }));
-    assert_eq!(rt; space.free_bytes(), 96);
-    Ok(())
+    let mut space = heap(rt.alloc(), TWO)?;
+    check_steps(&rt, &mut space, FROM_THE_FRONT)
 }
+
+const MAKES_FIXED: &[Told] = &[
+    (Step::MakeFixed(10), Some(40)),
+    (
+        Step::Make {
+            count: 16,
+            owner: 1,
+        },
+        Some(16),
+    ),
+];
+
+const FIXED: Words = &[
+    (16, 64),
+    (32, 0x0600_0018),
+    (36, 0xFE00_0000),
+    (56, 0x0000_0018),
+    (60, 0x01FF_FFEC),
+    (80, 0x8000_0030),
+];
+
+const GIVES_FIXED_BACK: &[Told] = &[
+    (Step::GiveBack(40), Some(24)),
+    (Step::MakeFixed(10), Some(40)),
+    (Step::GiveBack(16), Some(72)),
+    (Step::GiveBack(40), Some(96)),
+];
 
 /// A fixed chunk of 10 bytes with a movable one behind it, and then with a free one.
 #[test]
 fn a_fixed_chunk_is_given_back(rt: HostRuntime) -> Result<(), Fail> {
-    let mut space = heap(rt.alloc(), &[])?;
-    assert_eq!(rt; make_fixed(&mut space, 10), Some(Name(40)));
-    assert_eq!(rt; make(&mut space, 16, 1), Some(Name(16)));
-    let after = image(
-        rt.alloc(),
-        &[
-            (16, 64),
-            (32, 0x0600_0018),
-            (36, 0xFE00_0000),
-            (56, 0x0000_0018),
-            (60, 0x01FF_FFEC),
-            (80, 0x8000_0030),
-        ],
-    )?;
-    assert_eq!(rt; bytes(space.region()), bytes(&after));
-    assert_eq!(rt; give_back(&mut space, Name(40)), Some(24));
-    assert_eq!(rt; make_fixed(&mut space, 10), Some(Name(40)));
-    assert_eq!(rt; give_back(&mut space, Name(16)), Some(72));
-    assert_eq!(rt; give_back(&mut space, Name(40)), Some(96));
-    Ok(())
+    check(&rt, &[], MAKES_FIXED, FIXED)?;
+    let mut space = heap(rt.alloc(), FIXED)?;
+    check_steps(&rt, &mut space, GIVES_FIXED_BACK)
 }
+
+const TAKES_SLOTS: &[Told] = &[
+    (Step::Make { count: 8, owner: 1 }, Some(16)),
+    (Step::Make { count: 8, owner: 2 }, Some(20)),
+    (Step::Make { count: 8, owner: 3 }, Some(24)),
+    (Step::Make { count: 8, owner: 4 }, Some(28)),
+    (Step::Make { count: 8, owner: 1 }, None),
+    (Step::GiveBack(24), Some(16)),
+    (Step::Make { count: 0, owner: 1 }, Some(24)),
+];
 
 /// Four chunks take the four slots. A slot that is emptied is the next chunk's.
 #[test]
 fn the_first_empty_slot_is_taken(rt: HostRuntime) -> Result<(), Fail> {
     let mut space = heap(rt.alloc(), &[])?;
-    assert_eq!(rt; make(&mut space, 8, 1), Some(Name(16)));
-    assert_eq!(rt; make(&mut space, 8, 2), Some(Name(20)));
-    assert_eq!(rt; make(&mut space, 8, 3), Some(Name(24)));
-    assert_eq!(rt; make(&mut space, 8, 4), Some(Name(28)));
-    assert_eq!(rt; make(&mut space, 8, 1), None);
-    assert_eq!(rt; give_back(&mut space, Name(24)), Some(16));
-    assert_eq!(rt; make(&mut space, 0, 1), Some(Name(24)));
-    assert_eq!(rt; space.region().len(), 128);
+    check_steps(&rt, &mut space, TAKES_SLOTS)?;
+    assert_eq!(rt; space.bytes().len(), 128);
     Ok(())
 }
 
@@ -212,7 +241,7 @@ fn a_region_comes_back(rt: HostRuntime) -> Result<(), Fail> {
 
 /// A heap of a database's kind: the directory, whose owner is 0, of the slot 16, and a chunk of owner 15
 /// of the slot 20, whose body reads as the header of a movable chunk of that slot.
-const WITH_DIRECTORY: [(usize, u32); 11] = [
+const WITH_DIRECTORY: Words = &[
     (12, 16),
     (16, 40),
     (20, 56),
@@ -242,48 +271,90 @@ const RECORD: Found = Found {
     owner: 15,
 };
 
+const BY_NAME: [(u32, Option<Found>); 5] = [
+    (16, Some(DIRECTORY)),
+    (20, Some(RECORD)),
+    (24, None),
+    (40, None),
+    (0, None),
+];
+
+const BY_PLACE: [(u32, Option<Found>); 6] = [
+    (40, Some(DIRECTORY)),
+    (56, Some(RECORD)),
+    (64, None),
+    (80, None),
+    (4, None),
+    (0xFFFF_FFF8, None),
+];
+
 #[test]
 fn chunks_of_every_owner_are_found(rt: HostRuntime) -> Result<(), Fail> {
-    let space = heap(rt.alloc(), &WITH_DIRECTORY)?;
-    for (name, found) in [
-        (16, Some(DIRECTORY)),
-        (20, Some(RECORD)),
-        (24, None),
-        (40, None),
-        (0, None),
-    ] {
-        assert_eq!(rt; space.find(Name(name)), found, "the name {name}");
+    let space = heap(rt.alloc(), WITH_DIRECTORY)?;
+    for (name, found) in &BY_NAME {
+        assert_eq!(rt; space.find(Name(*name)), *found, "the name {name}");
     }
-    for (place, found) in [
-        (40, Some(DIRECTORY)),
-        (56, Some(RECORD)),
-        (64, None),
-        (80, None),
-        (4, None),
-        (0xFFFF_FFF8, None),
-    ] {
-        assert_eq!(rt; space.find_at(Place(place)), found, "the place {place}");
+    for (place, found) in &BY_PLACE {
+        assert_eq!(rt; space.find_at(Place(*place)), *found, "the place {place}");
     }
     Ok(())
 }
 
+/// The same with 14 locks on the record.
+const WITH_LOCKED: Words = &[
+    (12, 16),
+    (16, 40),
+    (20, 56),
+    (32, 0x0400_0010),
+    (36, 0x00FF_FFF8),
+    (40, 0x4142_4344),
+    (48, 0x0000_0018),
+    (52, 0xEFFF_FFF2),
+    (56, 0x0000_0010),
+    (60, 0x01FF_FFEE),
+    (72, 0x8000_0038),
+];
+
+const LOCKS_RECORD: &[Told] = &[
+    (Step::Relock(16, 1), None),
+    (Step::Relock(20, 14), Some(14)),
+];
+
+const REFUSED_OR_NONE: &[Told] = &[
+    (Step::GiveBack(16), None),
+    (Step::GiveBackOwned(14), Some(0)),
+];
+
+const GIVES_RECORDS_BACK: &[Told] = &[
+    (
+        Step::Make {
+            count: 8,
+            owner: 15,
+        },
+        Some(24),
+    ),
+    (Step::Make { count: 8, owner: 0 }, Some(28)),
+    (Step::GiveBackOwned(15), Some(2)),
+    (Step::FreeBytes, Some(64)),
+];
+
 /// The directory word and the directory's chunk stay, whatever is done with the record.
 #[test]
 fn chunks_of_owner_15_change(rt: HostRuntime) -> Result<(), Fail> {
-    let mut space = heap(rt.alloc(), &WITH_DIRECTORY)?;
-    assert_eq!(rt; relock(&mut space, Name(16), 1), None);
-    assert_eq!(rt; relock(&mut space, Name(20), 14), Some(()));
-    let mut locked = WITH_DIRECTORY;
-    locked[7] = (52, 0xEFFF_FFF2);
-    assert_eq!(rt; bytes(space.region()), bytes(&image(rt.alloc(), &locked)?));
-    assert_eq!(rt; give_back(&mut space, Name(16)), None);
-    assert_eq!(rt; give_back_owned(&mut space, 14), 0);
-    assert_eq!(rt; bytes(space.region()), bytes(&image(rt.alloc(), &locked)?));
-    assert_eq!(rt; make(&mut space, 8, 15), Some(Name(24)));
-    assert_eq!(rt; make(&mut space, 8, 0), Some(Name(28)));
-    assert_eq!(rt; give_back_owned(&mut space, 15), 2);
-    assert_eq!(rt; space.find(Name(16)), Some(DIRECTORY));
-    assert_eq!(rt; space.find(Name(20)), None);
-    assert_eq!(rt; space.free_bytes(), 64);
+    let mut space = heap(rt.alloc(), WITH_DIRECTORY)?;
+    check_steps(&rt, &mut space, LOCKS_RECORD)?;
+    check_words(&rt, &space, WITH_LOCKED)?;
+    check_steps(&rt, &mut space, REFUSED_OR_NONE)?;
+    check_words(&rt, &space, WITH_LOCKED)?;
+    check_steps(&rt, &mut space, GIVES_RECORDS_BACK)?;
+    check_found(&space)?;
+    Ok(())
+}
+
+/// Checks that the directory is there, and no record.
+fn check_found(space: &CheckedSpace) -> Result<(), Fail> {
+    if space.find(Name(16)) != Some(DIRECTORY) || space.find(Name(20)).is_some() {
+        return Err("not the directory alone")?;
+    }
     Ok(())
 }

@@ -1,11 +1,12 @@
 //! The commands of scripts: the word of each with the kinds of the words behind it, and the line that
 //! they make. A command is a variant, a row, and an arm of `make_line`.
 
-ghost use Rattle.std.specs.Prelude.{◌≡◌, ◌<◌, length};
+ghost use Rattle.std.specs.Prelude.{◌≡◌, ◌<◌, ℕ, List, length};
 ghost use Rattle.std.specs.List.{find};
 ghost use Rattle.std.specs.Str.{bytes_eq};
 ghost use Rattle.script_lines.specs.Commands as tables;
-ghost use Rattle.script_lines.specs.Commands.{line_of, command_of};
+ghost use Rattle.script_lines.specs.Commands.{line_of, line_by, command_of, chunk_alone, nothing};
+ghost use Rattle.script_lines.specs.declared.line.Line.TheVariants.{On, Whole};
 
 use crate::line::{ChunkCall, HeapCall, Line, NewCall};
 use crate::value::Value::{Byte, Label, Number};
@@ -13,7 +14,7 @@ use crate::value::{Kind, Value};
 use heap_model::Bytes;
 
 /// A command.
-#[derive(Clone, Copy, Debug, PartialEq, Eq)]
+#[derive(Clone, Copy)]
 pub(crate) enum Command {
     Bind,
     New,
@@ -153,6 +154,21 @@ macro_rules! line_if {
     };
 }
 
+/// The line of a call on a label's chunk, if some values are that label alone.
+fn on_label(values: &[Value], call: ChunkCall) -> Option<Line>
+    ensures { (bytes : List ℕ) →
+        result ≡ line_by (chunk_alone (λ label. On label call)) values.now bytes }
+{
+    line_if!(values, &[Label(label)] => Line::On(label, call))
+}
+
+/// The line of a call on the heap, if there are no values.
+fn on_heap(values: &[Value], call: HeapCall) -> Option<Line>
+    ensures { (bytes : List ℕ) → result ≡ line_by (nothing (Whole call)) values.now bytes }
+{
+    line_if!(values, [] => Line::Whole(call))
+}
+
 /// The line of a command and what its words stand for, if these are of the command's kinds.
 pub(crate) fn make_line(command: Command, values: &[Value], bytes: Bytes) -> Option<Line>
     ensures { result ≡ line_of command values.now bytes }
@@ -164,16 +180,16 @@ pub(crate) fn make_line(command: Command, values: &[Value], bytes: Bytes) -> Opt
             Line::New(label, NewCall::Handle { size, owner })),
         Command::PtrNew => line_if!(values, &[Label(label), Number(size), Byte(owner)] =>
             Line::New(label, NewCall::Ptr { size, owner })),
-        Command::Free => line_if!(values, &[Label(label)] => Line::On(label, ChunkCall::Free)),
+        Command::Free => on_label(values, ChunkCall::Free),
         Command::Resize => line_if!(values,
             &[Label(label), Number(size)] => Line::On(label, ChunkCall::Resize(size))),
         Command::SetOwner => line_if!(values,
             &[Label(label), Byte(owner)] => Line::On(label, ChunkCall::SetOwner(owner))),
-        Command::Lock => line_if!(values, &[Label(label)] => Line::On(label, ChunkCall::Lock)),
-        Command::Unlock => line_if!(values, &[Label(label)] => Line::On(label, ChunkCall::Unlock)),
-        Command::Size => line_if!(values, &[Label(label)] => Line::On(label, ChunkCall::Size)),
-        Command::Owner => line_if!(values, &[Label(label)] => Line::On(label, ChunkCall::Owner)),
-        Command::Locks => line_if!(values, &[Label(label)] => Line::On(label, ChunkCall::Locks)),
+        Command::Lock => on_label(values, ChunkCall::Lock),
+        Command::Unlock => on_label(values, ChunkCall::Unlock),
+        Command::Size => on_label(values, ChunkCall::Size),
+        Command::Owner => on_label(values, ChunkCall::Owner),
+        Command::Locks => on_label(values, ChunkCall::Locks),
         Command::Read => line_if!(values, &[Label(label), Number(at), Number(count)] =>
             Line::On(label, ChunkCall::Read { at, count })),
         Command::Write => line_if!(values, &[Label(label), Number(at)] =>
@@ -184,8 +200,8 @@ pub(crate) fn make_line(command: Command, values: &[Value], bytes: Bytes) -> Opt
             Line::On(label, ChunkCall::StrCopy { at, text: bytes })),
         Command::FreeByOwner =>
             line_if!(values, &[Byte(owner)] => Line::Whole(HeapCall::FreeByOwner(owner))),
-        Command::FreeBytes => line_if!(values, [] => Line::Whole(HeapCall::FreeBytes)),
-        Command::Largest => line_if!(values, [] => Line::Whole(HeapCall::LargestStretch)),
-        Command::Compact => line_if!(values, [] => Line::Whole(HeapCall::Compact)),
+        Command::FreeBytes => on_heap(values, HeapCall::FreeBytes),
+        Command::Largest => on_heap(values, HeapCall::LargestStretch),
+        Command::Compact => on_heap(values, HeapCall::Compact),
     }
 }
