@@ -114,7 +114,7 @@ spelled database = header_bytes database ++ flat_map entry_bytes database.entrie
 pub record IsDatabaseName (name : List ℕ) : Type 0 where
   pub some : 0 < length name
   pub room : length name < name_size
-  pub letters : All (λ byte. 0 < byte) name
+  pub none_zero : All (λ byte. 0 < byte) name
 
 -- the numbers of a header have room in their fields
 pub record HeaderFits (header : DatabaseHeader) : Type 0 where

@@ -43,4 +43,4 @@ name_read name bytes is field =
     let front : take 31 bytes ≡ take 31 (take 32 bytes) = sym (take-take 31 32 bytes (omega arith)) in
     let cut : take 31 (name ++ replicate (32 - length name) 0) ≡ name ++ replicate count 0 =
     ap (λ (k : ℕ). take k (name ++ replicate (32 - length name) 0)) e ∙ take-append-add name (replicate (32 - length name) 0) count ∙ ap (λ (zeros : List ℕ). name ++ zeros) (take-replicate count (32 - length name) 0 most) in
-    ap (take_while no_zero) (front ∙ ap (take 31) field ∙ cut) ∙ front_of_zeros name count is.letters
+    ap (take_while no_zero) (front ∙ ap (take 31) field ∙ cut) ∙ front_of_zeros name count is.none_zero
