@@ -10,6 +10,7 @@ use heap_model::Allowance;
 use raw_region::Region;
 use std::alloc::{AllocError, Global};
 use std::test::*;
+use test_images::{BLANK, bytes_of};
 
 /// 16 bytes of which only the slot count isn't zero.
 pub(crate) fn frame_of(alloc: Global, slots: u16) -> Result<Region, Fail>
@@ -58,16 +59,20 @@ fn chunks_begin_behind_the_padding(rt: HostRuntime) -> Result<(), Fail> {
 #[test]
 fn a_blank_image_has_one_free_chunk(rt: HostRuntime) -> Result<(), Fail> {
     let region = blank(rt.alloc(), 128, 4)?;
-    assert_eq!(rt; region.len(), 128);
-    assert_eq!(rt;
-        region.slice(0, 16),
-        b"PHI1\0\0\0\x80\0\x04\0\0\0\0\0\0".as_slice()
-    );
-    assert_eq!(rt; region.slice(16, 16), [0; 16].as_slice());
-    assert_eq!(rt; region.slice(32, 4), b"\x80\0\0\x60".as_slice());
-    assert_eq!(rt; region.slice(36, 92), [0; 92].as_slice());
-    assert_eq!(rt; blank(rt.alloc(), 64, 10)?.len(), 64);
-    assert_eq!(rt; blank(rt.alloc(), 16_777_208, 65_535)?.len(), 16_777_208);
+    let listed = bytes_of(rt.alloc(), BLANK)?;
+    assert_eq!(rt; region.slice(0, region.len()), listed.as_slice());
+    Ok(())
+}
+
+/// The least size and the greatest, each with as many slots as it may have.
+const SIZES: [(u32, u16); 2] = [(64, 10), (16_777_208, 65_535)];
+
+#[test]
+fn a_blank_image_has_its_size(rt: HostRuntime) -> Result<(), Fail> {
+    for (size, slots) in &SIZES {
+        let region = blank(rt.alloc(), *size, *slots)?;
+        assert_eq!(rt; region.len(), *size as usize);
+    }
     Ok(())
 }
 

@@ -4,6 +4,7 @@ use crate::beside::{Beside, adopt, bytes_of};
 use crate::images::{five, image, large, odd};
 use crate::notation::{do_call, text_of};
 use heap_model::{Bytes, MemoryCall, Name, Place, Reply};
+use mem_manager::Heap;
 use plain_model::{Image, Piece};
 use rand::RngExt;
 use rand::seq::IndexedRandom;
@@ -180,14 +181,20 @@ fn check_again(
     first: &[u8],
     last: &[u8],
 ) -> Result<(), Fail> {
-    let alloc = rt.alloc();
-    let mut heap = adopt(alloc, first)?;
+    let mut heap = adopt(rt.alloc(), first)?;
     for done in list {
-        let said = text_of(alloc, &do_call(alloc, &mut heap, &done.call)?)?;
-        let right = text_of(alloc, &done.reply)?;
-        assert_eq!(rt; said.as_str(), right.as_str(), "on one heap");
+        check_reply(rt, &mut heap, done)?;
     }
     assert_eq!(rt; bytes_of(&heap.into_region()), last, "on one heap");
+    Ok(())
+}
+
+/// Does a call of a list again: it must answer the same.
+fn check_reply(rt: &(impl Abort + AllocGlobal), heap: &mut Heap, done: &Done) -> Result<(), Fail> {
+    let alloc = rt.alloc();
+    let said = text_of(alloc, &do_call(alloc, heap, &done.call)?)?;
+    let right = text_of(alloc, &done.reply)?;
+    assert_eq!(rt; said.as_str(), right.as_str(), "on one heap");
     Ok(())
 }
 
