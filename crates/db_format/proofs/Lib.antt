@@ -1,0 +1,3 @@
+pub mod WordLaws
+pub mod AttributeLaws
+pub mod EntryLaws
