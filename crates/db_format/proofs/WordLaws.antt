@@ -1,6 +1,8 @@
 -- What a part of a list reads as, and what a list begins with once a part of it is written.
 use Rattle.std.proofs.Common.{◌≡◌, ℕ, zero, suc, ◌+◌, ◌-◌, ◌^◌, ◌<◌, ◌≤◌, List, [], ◌∷◌, ◌++◌, slice_set, length, take, drop, refl, sym, ap, ◌∙◌, append_assoc, arith, length-take, length-drop, length-append}
 use Rattle.std.proofs.lemmas.List.{append-nil, drop_all, take_at, take_all}
+use Rattle.std.proofs.lemmas.List.Folds.{concat-append}
+use Rattle.std.specs.List.{concat}
 use Rattle.heap_model.specs.Bytes.{AreBytes, u16_at, u24_at, u32_at, u16_bytes, u24_bytes, u32_bytes}
 use Rattle.byteorder.specs.Endian.{big_number, big_from, big_bytes}
 use Rattle.byteorder.specs.Numbers.{big_from-take, big_from-lt, length-bytes_high_first}
@@ -74,3 +76,22 @@ put_twice b1 b2 i j xs ys one two len = sym (take_all j b2 (omega arith)) ∙ tw
 
 pub put_thrice : (b1 b2 b3 : List ℕ) (i j k : ℕ) (xs ys zs : List ℕ) → take i b1 ≡ xs → take j b2 ≡ take i b1 ++ ys → take k b3 ≡ take j b2 ++ zs → length b3 ≡ k → b3 ≡ xs ++ (ys ++ zs)
 put_thrice b1 b2 b3 i j k xs ys zs one two three len = put_twice b2 b3 j k (xs ++ ys) zs (two ∙ ap (λ (ws : List ℕ). ws ++ ys) one) three len ∙ append_assoc xs ys zs
+
+-- so many bytes are a front and then these parts
+pub record Begins (bytes : List ℕ) (count : ℕ) (front : List ℕ) (parts : List (List ℕ)) : Type 0 where
+  pub is : take count bytes ≡ front ++ concat parts
+
+pub put_none : (bytes : List ℕ) (count : ℕ) (front : List ℕ) → take count bytes ≡ front → Begins bytes count front []
+put_none bytes count front is = record { is = is ∙ sym (append-nil front) }
+
+-- one part more
+pub put_more : (old new : List ℕ) (i j : ℕ) (front : List ℕ) (parts : List (List ℕ)) (part : List ℕ) → Begins old i front parts → take j new ≡ take i old ++ part → Begins new j front (parts ++ part ∷ [])
+put_more old new i j front parts part begins more = record {
+  is =
+      more ∙ ap (λ (xs : List ℕ). xs ++ part) begins.is ∙ append_assoc front (concat parts) part
+      ∙ ap (λ (xs : List ℕ). front ++ (concat parts ++ xs)) (sym (append-nil part))
+      ∙ ap (λ (xs : List ℕ). front ++ xs) (sym (concat-append parts (part ∷ [])));
+}
+
+pub put_all : (bytes : List ℕ) (count : ℕ) (front : List ℕ) (parts : List (List ℕ)) → Begins bytes count front parts → length bytes ≡ count → bytes ≡ front ++ concat parts
+put_all bytes count front parts begins len = sym (take_all count bytes (omega arith)) ∙ begins.is

@@ -6,8 +6,8 @@ ghost use Rattle.heap_model.specs.Database as databases;
 ghost use Rattle.heap_model.specs.UniqueIds.{greatest_id};
 ghost use Rattle.db_format.specs.Entries.{record_of, resource_of, WritesEntry};
 
-use crate::attributes::RecordAttrs;
 use crate::fields::{RECORD_SIZE, RESOURCE_SIZE, entry_offset};
+use crate::record_attributes::RecordAttrs;
 use crate::words::{put_u8, put_u16, put_u24, put_u32, u16_in, u24_in, u32_in};
 use bitflags::Flags;
 
