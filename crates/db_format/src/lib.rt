@@ -19,7 +19,9 @@
 #![tactic(auto)]
 
 mod body;
+mod db_entry;
 mod entries;
+mod entry_bytes;
 mod fields;
 mod header;
 mod name;
@@ -30,7 +32,9 @@ pub use body::{
     READ_ONLY, RESOURCE_DATABASE, app_info, attributes, entry_count, has_resources, is_whole,
     sort_info,
 };
+pub use db_entry::DbEntry;
 pub use entries::{RecordEntry, ResourceEntry, entry_slot};
+pub use entry_bytes::EntryBytes;
 pub use fields::{HEADER_SIZE, NAME_SIZE, RECORD_SIZE, RESOURCE_SIZE, entry_offset, entry_size};
 pub use header::DbHeader;
 pub use name::{NameField, has_name, is_name, name_in};
