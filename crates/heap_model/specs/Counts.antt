@@ -1,30 +1,32 @@
--- The accepted image by counts: how often each name stands among those that the directory lists, and
--- among those that databases name. Calls that change a store are proved to keep these counts.
+-- An image and its databases, by counts: how often each name is the number of a database, and how often
+-- databases name it. Of calls that change the databases of an image this is what is proved to stay so.
 use Rattle.std.specs.Prelude.{◌≡◌, ◌≤◌, ◌<◌, ◌+◌, ◌%◌, ℕ, true, List, length, All}
 use Rattle.heap_model.specs.Heap.{HeapAccepted, directory_of}
 use Rattle.heap_model.specs.Lists.{same, times, Distinct}
 use Rattle.heap_model.specs.Database.{Entry, a_record, a_resource, is_deleted, IsSpelled}
-use Rattle.heap_model.specs.Store.{StoredDatabase, managers_owner, data_owner, bytes_under, owner_under, directory_bytes, listed, databases, named, most_databases, HasUniqueIds, names_of}
+use Rattle.heap_model.specs.Store.{StoredDatabase, managers_owner, data_owner, bytes_under, owner_under, directory_bytes, listed, named_by, most_databases, HasUniqueIds, numbers_of, names_of}
 
 -- an entry names data, if it isn't that of a deleted record
 abbrev pub NamesData : Entry ℕ → Type 0
 NamesData (a_record attributes id slot) = slot ≡ 0 → is_deleted attributes ≡ true
 NamesData (a_resource kind id slot) = 0 < slot
 
--- what a database is by itself, wherever its data is
+-- what a database is by itself, whatever chunks its names stand for
 pub record IsWhole (image : List ℕ) (stored : StoredDatabase) : Type 0 where
   pub spelled : IsSpelled stored.database (bytes_under image stored.db)
   pub entries : All NamesData stored.database.entries
   pub ids : HasUniqueIds stored.database
 
--- A name that isn't 0 is named once where it is that of a chunk for data, and else never. It is listed
--- once or is the directory where its chunk is one of the manager's, and else neither.
-pub record AcceptedByCounts (image : List ℕ) : Type 0 where
+-- The image has these databases, in this order, and is accepted with them. A name that isn't 0 is named
+-- once where it is that of a chunk for data, and else never. It is the number of one database or is the
+-- directory where its chunk is one of the manager's, and else neither.
+pub record HasDatabases (image : List ℕ) (stored : List StoredDatabase) : Type 0 where
   pub heap : HeapAccepted image
   pub whole : length (directory_bytes image) % 4 ≡ 0
-  pub few : length (listed image) ≤ most_databases
-  pub each : All (IsWhole image) (databases image)
-  pub own_names : Distinct (names_of (databases image))
-  pub named_once : (name : ℕ) → 0 < name → times name (named image) ≡ same (owner_under image name) data_owner
-  pub listed_once : (name : ℕ) → 0 < name → times name (listed image) + same name (directory_of image) ≡ same (owner_under image name) managers_owner
-  pub none_listed : times 0 (listed image) ≡ 0
+  pub listed_are : listed image ≡ numbers_of stored
+  pub few : length stored ≤ most_databases
+  pub each : All (IsWhole image) stored
+  pub own_names : Distinct (names_of stored)
+  pub named_once : (name : ℕ) → 0 < name → times name (named_by stored) ≡ same (owner_under image name) data_owner
+  pub listed_once : (name : ℕ) → 0 < name → times name (numbers_of stored) + same name (directory_of image) ≡ same (owner_under image name) managers_owner
+  pub none_listed : times 0 (numbers_of stored) ≡ 0

@@ -9,7 +9,7 @@ use Rattle.std.specs.Int.{bit_at}
 use Rattle.std.specs.List.{concat, flat_map, take_while}
 use Rattle.heap_model.specs.Bytes.{u16_at, u24_at, u32_at, u16_bytes, u24_bytes, u32_bytes}
 use Rattle.heap_model.specs.Lists.{numbered}
-use Rattle.heap_model.specs.DatabaseFields.{name_size, attributes_at, version_at, creation_date_at, modification_date_at, backup_date_at, modification_number_at, app_info_at, sort_info_at, kind_at, creator_at, seed_at, next_list_at, entry_count_at, header_size, entry_size}
+use Rattle.heap_model.specs.DatabaseFields.{name_size, attributes_at, version_at, creation_date_at, modification_date_at, backup_date_at, modification_number_at, app_info_at, sort_info_at, kind_at, creator_at, seed_at, next_list_at, entry_count_at, header_size, record_attributes_at, record_id_at, resource_id_at, resource_data_at, entry_size}
 
 -- ---- values
 
@@ -49,6 +49,19 @@ entry_data (a_resource kind id «data») = «data»
 -- all that a database has data for: its info blocks, and then its entries
 abbrev pub data_in : {Data : Type 0} → Database Data → List Data
 data_in database = database.app_info ∷ database.sort_info ∷ map entry_data database.entries
+
+-- an entry, and a database, with something else for its data
+abbrev pub entry_with : {Data Other : Type 0} → (Data → Other) → Entry Data → Entry Other
+entry_with change (a_record attributes id «data») = a_record attributes id (change «data»)
+entry_with change (a_resource kind id «data») = a_resource kind id (change «data»)
+
+abbrev pub with_data : {Data Other : Type 0} → (Data → Other) → Database Data → Database Other
+with_data change database = record {
+  header = database.header;
+  app_info = change database.app_info;
+  sort_info = change database.sort_info;
+  entries = map (entry_with change) database.entries;
+}
 
 -- a database with these attributes holds resources: 0x0001 is set. Else it holds records.
 abbrev pub has_resources : ℕ → Bool
@@ -172,8 +185,8 @@ entry_offset resources index = header_size + entry_size resources * index
 
 -- the entry at an offset
 abbrev pub entry_at : Bool → List ℕ → ℕ → Entry ℕ
-entry_at false bytes at = a_record (slice_index bytes (at + 4)) (u24_at bytes (at + 5)) (u32_at bytes at)
-entry_at true bytes at = a_resource (u32_at bytes at) (u16_at bytes (at + 4)) (u32_at bytes (at + 6))
+entry_at false bytes at = a_record (slice_index bytes (at + record_attributes_at)) (u24_at bytes (at + record_id_at)) (u32_at bytes at)
+entry_at true bytes at = a_resource (u32_at bytes at) (u16_at bytes (at + resource_id_at)) (u32_at bytes (at + resource_data_at))
 
 -- the entry of an index
 abbrev pub entry_in : List ℕ → ℕ → Entry ℕ

@@ -67,6 +67,22 @@ record_size = 8
 abbrev pub resource_size : ℕ
 resource_size = 10
 
+-- In the entry of a record four bytes say where its data is. Its attributes follow, of one byte, and its
+-- unique ID, of three.
+abbrev pub record_attributes_at : ℕ
+record_attributes_at = 4
+
+abbrev pub record_id_at : ℕ
+record_id_at = 5
+
+-- In the entry of a resource its type comes first, of four bytes. Its id follows, of two bytes, and where
+-- its data is, of four.
+abbrev pub resource_id_at : ℕ
+resource_id_at = 4
+
+abbrev pub resource_data_at : ℕ
+resource_data_at = 6
+
 -- what an entry takes, in a database that holds resources or in one that holds records
 abbrev pub entry_size : Bool → ℕ
 entry_size true = resource_size

@@ -1,13 +1,13 @@
 -- Stores: what an image holds beyond its chunks. The directory lists the headers of databases, and each
 -- header names the chunks of its info blocks and of its entries' data.
-use Rattle.std.specs.Prelude.{◌≡◌, ◌≢◌, ◌≤◌, ◌%◌, ◌⊎◌, ℕ, true, List, [], length, map, Option, Some, None, All}
+use Rattle.std.specs.Prelude.{◌≡◌, ◌≢◌, ◌≤◌, ◌%◌, ◌⊎◌, ℕ, zero, suc, true, List, [], length, map, Option, Some, None, All}
 use Rattle.std.specs.List.{AllZip, Contains, filter_map, flat_map}
 use Rattle.heap_model.specs.Heap.{HeapAccepted, directory_of}
 use Rattle.heap_model.specs.Meaning.{LiveChunk, ChunkMap, Holds}
 use Rattle.heap_model.specs.Reading.{held}
 use Rattle.heap_model.specs.Maps.{without_owner, callers_map}
 use Rattle.heap_model.specs.Lists.{times, u32s_in, Distinct}
-use Rattle.heap_model.specs.Database.{Database, Entry, a_record, a_resource, data_in, is_deleted, database_in, IsSpelled}
+use Rattle.heap_model.specs.Database.{Database, Entry, a_record, a_resource, with_data, data_in, is_deleted, database_in, IsSpelled}
 
 -- ---- stores
 
@@ -37,6 +37,15 @@ data_owner = 15
 abbrev pub bytes_of : Option LiveChunk → List ℕ
 bytes_of None = []
 bytes_of (Some live) = live.bytes
+
+-- the bytes under a name, if it isn't 0
+abbrev pub bytes_named : ChunkMap → ℕ → Option (List ℕ)
+bytes_named map zero = None
+bytes_named map (suc name) = Some (bytes_of (map (suc name)))
+
+-- the content of a database: the bytes in place of the names
+abbrev pub content : ChunkMap → Database ℕ → Database (Option (List ℕ))
+content map database = with_data (bytes_named map) database
 
 -- the owner of a chunk; 16, which no chunk has, where there is none
 abbrev pub owner_of : Option LiveChunk → ℕ
@@ -117,7 +126,10 @@ pub record IsDatabase (image : List ℕ) (stored : StoredDatabase) : Type 0 wher
   pub entries : All (HasData image) stored.database.entries
   pub ids : HasUniqueIds stored.database
 
--- the names of some databases
+-- the numbers of some databases, and their names
+abbrev pub numbers_of : List StoredDatabase → List ℕ
+numbers_of stored = map (λ one. one.db) stored
+
 abbrev pub names_of : List StoredDatabase → List (List ℕ)
 names_of stored = map (λ one. one.database.header.name) stored
 

@@ -26,7 +26,7 @@
 //! | `Database` | a database, the bytes that spell it, and the one that is read off bytes |
 //! | `UniqueIds` | the unique ID that a new record gets |
 //! | `Store` | the databases of an image, the accepted image, and the store that it means |
-//! | `Counts` | the accepted image by how often each name is listed and named |
+//! | `Counts` | an image and its databases, by how often each name is listed and named |
 //! | `Rooms` | the rooms that are left for a call of several parts |
 //! | `Refusals` | checks in order, and the refusal that the first one brings |
 //! | `Steps` | what a row says of a call, and the step that it makes, whatever the call acts on |

@@ -21,8 +21,8 @@ ghost use Rattle.heap_model.specs.Maps.{callers_map};
 ghost use Rattle.heap_model.specs.Space.{rooms};
 ghost use Rattle.heap_model.specs.Lists.{moved};
 ghost use Rattle.heap_model.specs.Database.{a_record, a_resource};
-ghost use Rattle.heap_model.specs.UniqueIds.{next_id, id_behind};
-ghost use Rattle.heap_model.specs.Store.{StoredDatabase, listed, databases, named, names_of};
+ghost use Rattle.heap_model.specs.UniqueIds.{next_id, id_behind, IsFresh};
+ghost use Rattle.heap_model.specs.Store.{StoredDatabase, content, listed, databases, named, names_of};
 ghost use Rattle.heap_model.specs.Rooms.{stretch_of, makes, Stuck};
 ghost use Rattle.store_format_tests.specs.Images.{database_image, changed, resource_image, two_databases, two_rooms, broken};
 
@@ -49,6 +49,8 @@ fn records_are_read()
 fn resources_are_read()
     ensures accepted { broken resource_image ≡ [] }
     ensures entries { map (λ one. one.database.entries) (databases resource_image) ≡ (a_resource 0x74535452 1000 0x18 ∷ []) ∷ [] }
+    ensures content { map (λ one. (content (callers_map resource_image) one.database).entries) (databases resource_image) ≡ (a_resource 0x74535452 1000 (Some (0x48 ∷ 0x69 ∷ [])) ∷ []) ∷ [] }
+    ensures no_block { map (λ one. (content (callers_map resource_image) one.database).app_info) (databases resource_image) ≡ None ∷ [] }
     ensures attributes { map (λ one. one.database.header.attributes) (databases resource_image) ≡ 1 ∷ [] }
     ensures data { callers_map resource_image 0x18 ≡ Some (record { bytes = 0x48 ∷ 0x69 ∷ []; lock = 0; owner = 15 }) }
 {}
@@ -104,6 +106,8 @@ fn ids_go_round()
     ensures last { next_id 0xFFFFFE ≡ 0xFFFFFF }
     ensures round { next_id 0xFFFFFF ≡ 1 }
     ensures third { id_behind 0xFFFFFE 2 ≡ 2 }
+    ensures fresh { IsFresh (0xFFFFFF ∷ 1 ∷ []) 0xFFFFFE 2 }
+    ensures first_of_none { IsFresh [] 0 1 }
 {}
 
 /// A room of 96 bytes has none of 16 left behind a chunk of 88, and one of 88 beside one of 16 has room

@@ -1,10 +1,10 @@
 -- The bytes of entries where one is replaced, put in or taken out; and a header that is written anew.
-use Rattle.std.proofs.Common.{◌≡◌, ℕ, zero, suc, ◌+◌, ◌*◌, ◌<◌, ◌≤◌, Bool, List, [], ◌∷◌, ◌++◌, length, set, take, drop, refl, sym, ap, ◌∙◌, append_assoc, arith}
+use Rattle.std.proofs.Common.{◌≡◌, ℕ, zero, suc, ◌+◌, ◌*◌, ◌<◌, ◌≤◌, Bool, List, [], ◌∷◌, ◌++◌, length, set, take, drop, refl, sym, ap, ◌∙◌, append_assoc, arith, ◌-◌}
 use Rattle.std.proofs.Math.Seq.{take-append-add, drop-append-add}
 use Rattle.std.proofs.lemmas.List.{drop_at, length-set}
 use Rattle.std.proofs.lemmas.List.Elements.{All-head, All-tail}
 use Rattle.std.proofs.lemmas.Grind.{flat_map-append}
-use Rattle.std.specs.Prelude.{All, insert}
+use Rattle.std.specs.Prelude.{All, insert, slice_range}
 use Rattle.std.specs.List.{flat_map, remove}
 use Rattle.heap_model.specs.Bytes.{overwritten}
 use Rattle.heap_model.specs.DatabaseFields.{entry_size}
@@ -118,3 +118,41 @@ spelled_header d other fits others same =
     let b = length-header_bytes other others.name in
     ap (λ (es : List (Entry ℕ)). header_bytes other ++ flat_map entry_bytes es) same
     ∙ sym (written_over (header_bytes d) (flat_map entry_bytes d.entries) (header_bytes other) (a ∙ sym b))
+
+-- ---- entries put in and taken out, in the bytes
+
+-- what stands behind the header
+tail_from : (d : Database ℕ) (k : ℕ) → DatabaseFits d → drop (78 + k) (spelled d) ≡ drop k (flat_map entry_bytes d.entries)
+unfolding spelled
+tail_from d k fits =
+    let len = length-header_bytes d fits.name in
+    let e : 78 + k ≡ length (header_bytes d) + k = omega arith in
+    ap (λ (n : ℕ). drop n (header_bytes d ++ flat_map entry_bytes d.entries)) e ∙ drop-append-add (header_bytes d) (flat_map entry_bytes d.entries) k
+
+-- the entries in front of one
+front_to : (d : Database ℕ) (i : ℕ) → DatabaseFits d
+    → slice_range (spelled d) 78 (entry_offset (has_resources d.header.attributes) i) ≡ take (entry_size (has_resources d.header.attributes) * i) (flat_map entry_bytes d.entries)
+front_to d i fits =
+    let r : Bool = has_resources d.header.attributes in
+    let count : entry_offset r i - 78 ≡ entry_size r * i = omega arith in
+    ap (λ (n : ℕ). take n (drop 78 (spelled d))) count ∙ ap (take (entry_size r * i)) (tail_from d 0 fits)
+
+pub spelled_insert : (d other : Database ℕ) (i : ℕ) (e : Entry ℕ) → DatabaseFits d → i ≤ length d.entries → other.entries ≡ insert d.entries i e
+    → spelled other ≡ header_bytes other ++ (slice_range (spelled d) 78 (entry_offset (has_resources d.header.attributes) i) ++ (entry_bytes e ++ drop (entry_offset (has_resources d.header.attributes) i) (spelled d)))
+unfolding spelled
+spelled_insert d other i e fits below same =
+    let r : Bool = has_resources d.header.attributes in
+    ap (λ (es : List (Entry ℕ)). header_bytes other ++ flat_map entry_bytes es) same
+    ∙ ap (λ (xs : List ℕ). header_bytes other ++ xs) (entries_insert r d.entries i e fits.entries below)
+    ∙ ap (λ (xs : List ℕ). header_bytes other ++ (xs ++ (entry_bytes e ++ drop (entry_size r * i) (flat_map entry_bytes d.entries)))) (sym (front_to d i fits))
+    ∙ ap (λ (xs : List ℕ). header_bytes other ++ (slice_range (spelled d) 78 (entry_offset r i) ++ (entry_bytes e ++ xs))) (sym (tail_from d (entry_size r * i) fits))
+
+pub spelled_remove : (d other : Database ℕ) (i : ℕ) → DatabaseFits d → i < length d.entries → other.entries ≡ remove d.entries i
+    → spelled other ≡ header_bytes other ++ (slice_range (spelled d) 78 (entry_offset (has_resources d.header.attributes) i) ++ drop (entry_offset (has_resources d.header.attributes) (suc i)) (spelled d))
+unfolding spelled
+spelled_remove d other i fits below same =
+    let r : Bool = has_resources d.header.attributes in
+    ap (λ (es : List (Entry ℕ)). header_bytes other ++ flat_map entry_bytes es) same
+    ∙ ap (λ (xs : List ℕ). header_bytes other ++ xs) (entries_remove r d.entries i fits.entries below)
+    ∙ ap (λ (xs : List ℕ). header_bytes other ++ (xs ++ drop (entry_size r * suc i) (flat_map entry_bytes d.entries))) (sym (front_to d i fits))
+    ∙ ap (λ (xs : List ℕ). header_bytes other ++ (slice_range (spelled d) 78 (entry_offset r i) ++ xs)) (sym (tail_from d (entry_size r * suc i) fits))

@@ -6,7 +6,15 @@ pub mod Names
 pub mod Spellings
 pub mod Shapes
 pub mod Edits
+pub mod Bodies
+pub mod Directories
+pub mod Naming
 pub mod Owners
 pub mod Counting
 pub mod Deciding
+pub mod Keeping
+pub mod Calling
+pub mod Rewriting
+pub mod Listed
 pub mod Meaning
+pub mod Parts

@@ -93,7 +93,8 @@ read_bytes n at bs bytes inside =
 empty : List ℕ
 empty = []
 
-take_both : (n m : ℕ) (xs : List ℕ) → take n xs ++ take m (drop n xs) ≡ take (n + m) xs
+-- a front, and the next part
+pub take_both : (n m : ℕ) (xs : List ℕ) → take n xs ++ take m (drop n xs) ≡ take (n + m) xs
 unfolding onto empty
 take_both zero m xs = let e : 0 + m ≡ m = omega arith in sym (ap (λ (k : ℕ). take k xs) e)
 take_both (suc n) m [] = let e : suc n + m ≡ suc (n + m) = omega arith in none m ∙ sym (ap (λ (k : ℕ). take k empty) e) where

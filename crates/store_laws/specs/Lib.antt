@@ -1,2 +1,3 @@
 pub mod StoreTests
+pub mod Changes
 pub mod Laws

@@ -13,15 +13,26 @@
 //! | `Spellings` | what spells a database is read as that one |
 //! | `Shapes` | bytes in shape spell what is read off them |
 //! | `Edits` | entries replaced, put in and taken out, and headers replaced, by their bytes |
+//! | `Bodies` | what a heap of bytes holds are bytes |
+//! | `Directories` | the slots that a directory lists, and their bytes, both ways |
+//! | `Naming` | how often databases name something, and have an ID, as sums over databases and entries |
 //! | `Owners` | the owners of names: which names are slots, and which chunks are the manager's |
 //! | `Counting` | the accepted image, and the same by counts |
 //! | `Deciding` | the tests of `specs/StoreTests` decide which image is accepted |
+//! | `Keeping` | an image whose manager's chunks are as they were |
+//! | `Calling` | the memory manager's calls, which leave the databases |
+//! | `Rewriting` | an image in which one database was rewritten |
+//! | `Listed` | an image to which a database came, or of which one went |
 //! | `Meaning` | what an accepted image means: one store |
+//! | `Parts` | room for one part, and the number of the stretch around a chunk |
 #![tactic(auto)]
 
 mod laws;
 
 pub use laws::{
-    acceptance_is_counted, entries_are_written, fresh_ids_exist, headers_are_written,
-    means_one_store, shapes_are_spellings, spellings_are_read, stores_are_decided,
+    acceptance_is_counted, bodies_are_bytes, directories_are_read, entries_are_moved,
+    entries_are_written, fresh_ids_exist, headers_are_written, made_then_short, means_one_store,
+    memory_calls_keep_stores, one_part_is_short, shapes_are_spellings, spellings_are_read,
+    stores_are_appended, stores_are_decided, stores_are_dropped, stores_are_kept,
+    stores_are_rewritten,
 };

@@ -21,3 +21,11 @@ returns-clause-attributes c = refl
 pub returns-clause-data : goal.returns-clause-data
 unfolding u16_at u24_at u32_at u16_bytes u24_bytes u32_bytes overwritten slots_of chunk_at chunks_from chunks_of held is_accepted name_field header_bytes entry_bytes spelled name_in header_in database_in bytes_under owner_under directory_bytes listed databases named
 returns-clause-data c = refl
+
+pub returns-clause-content : goal.returns-clause-content
+unfolding u16_at u24_at u32_at u16_bytes u24_bytes u32_bytes overwritten slots_of chunk_at chunks_from chunks_of held is_accepted name_field header_bytes entry_bytes spelled name_in header_in database_in bytes_under owner_under directory_bytes listed databases named
+returns-clause-content c = refl
+
+pub returns-clause-no_block : goal.returns-clause-no_block
+unfolding u16_at u24_at u32_at u16_bytes u24_bytes u32_bytes overwritten slots_of chunk_at chunks_from chunks_of held is_accepted name_field header_bytes entry_bytes spelled name_in header_in database_in bytes_under owner_under directory_bytes listed databases named
+returns-clause-no_block c = refl

@@ -1,0 +1,65 @@
+-- What a call leaves of an image with databases: which chunks of the manager's are as they were, and how
+-- many of the names for data are.
+use Rattle.std.specs.Prelude.{◌≡◌, ◌≢◌, ◌<◌, ◌+◌, ◌%◌, ◌++◌, ◌↔◌, ℕ, List, [], ◌∷◌, length, slice_index_or, slice_set}
+use Rattle.std.specs.List.{remove}
+use Rattle.heap_model.specs.Heap.{HeapAccepted, directory_of}
+use Rattle.heap_model.specs.Reading.{held}
+use Rattle.heap_model.specs.Lists.{same, times, Distinct}
+use Rattle.heap_model.specs.Database.{data_in}
+use Rattle.heap_model.specs.Store.{StoredDatabase, managers_owner, data_owner, owner_under, directory_bytes, listed, most_databases, names_of}
+use Rattle.heap_model.specs.Counts.{IsWhole}
+
+-- The new image is an accepted heap. Its directory is the old one's, the manager's chunks are as they
+-- were, and the same names have chunks of the manager's, and the same ones chunks for data. What these
+-- chunks for data hold may be other.
+pub record KeepsManagers (old new : List ℕ) : Type 0 where
+  pub heap : HeapAccepted new
+  pub directory : directory_of new ≡ directory_of old
+  pub managers : (name : ℕ) → owner_under old name ≡ managers_owner → held new name ≡ held old name
+  pub owners : (name : ℕ) → ((owner_under new name ≡ managers_owner) ↔ (owner_under old name ≡ managers_owner))
+  pub «data» : (name : ℕ) → ((owner_under new name ≡ data_owner) ↔ (owner_under old name ≡ data_owner))
+
+-- One database of some became another of the same number. The new image is an accepted heap with the same
+-- directory, the manager's other chunks are as they were, and the same names have chunks of the manager's.
+-- A name is that of a chunk for data as often more as the database names it more often.
+pub record Rewrites (old new : List ℕ) (stored : List StoredDatabase) (index : ℕ) (one : StoredDatabase) : Type 0 where
+  pub heap : HeapAccepted new
+  pub directory : directory_of new ≡ directory_of old
+  pub inside : index < length stored
+  pub number : one.db ≡ (slice_index_or stored index one).db
+  pub whole : IsWhole new one
+  pub own_names : Distinct (names_of (slice_set stored index one))
+  pub managers : (name : ℕ) → name ≢ one.db → owner_under old name ≡ managers_owner → held new name ≡ held old name
+  pub owners : (name : ℕ) → ((owner_under new name ≡ managers_owner) ↔ (owner_under old name ≡ managers_owner))
+  pub balance : (name : ℕ) → 0 < name
+      → times name (data_in one.database) + same (owner_under old name) data_owner ≡ times name (data_in (slice_index_or stored index one).database) + same (owner_under new name) data_owner
+
+-- A database came behind some, and the directory lists it last. The new image is an accepted heap, maybe
+-- with another directory, and the manager's other chunks are as they were. The names that are new to the
+-- manager are the database's number and a new directory, and those new to data are what it names.
+pub record Appends (old new : List ℕ) (stored : List StoredDatabase) (one : StoredDatabase) : Type 0 where
+  pub heap : HeapAccepted new
+  pub whole : length (directory_bytes new) % 4 ≡ 0
+  pub listed_are : listed new ≡ listed old ++ one.db ∷ []
+  pub some : 0 < one.db
+  pub few : length stored < most_databases
+  pub database : IsWhole new one
+  pub own_names : Distinct (names_of (stored ++ one ∷ []))
+  pub managers : (name : ℕ) → name ≢ directory_of old → owner_under old name ≡ managers_owner → held new name ≡ held old name
+  pub owners : (name : ℕ) → 0 < name
+      → same name one.db + same name (directory_of new) + same (owner_under old name) managers_owner ≡ same name (directory_of old) + same (owner_under new name) managers_owner
+  pub balance : (name : ℕ) → 0 < name → times name (data_in one.database) + same (owner_under old name) data_owner ≡ same (owner_under new name) data_owner
+
+-- One database of some went, and the directory lists the others. The new image is an accepted heap with
+-- the directory in the same slot, and the manager's other chunks are as they were. Gone are the database's
+-- number and what it named.
+pub record Drops (old new : List ℕ) (stored : List StoredDatabase) (index : ℕ) (one : StoredDatabase) : Type 0 where
+  pub heap : HeapAccepted new
+  pub directory : directory_of new ≡ directory_of old
+  pub whole : length (directory_bytes new) % 4 ≡ 0
+  pub listed_are : listed new ≡ remove (listed old) index
+  pub inside : index < length stored
+  pub is : one ≡ slice_index_or stored index one
+  pub managers : (name : ℕ) → name ≢ directory_of old → name ≢ one.db → owner_under old name ≡ managers_owner → held new name ≡ held old name
+  pub owners : (name : ℕ) → 0 < name → same name one.db + same (owner_under new name) managers_owner ≡ same (owner_under old name) managers_owner
+  pub balance : (name : ℕ) → 0 < name → times name (data_in one.database) + same (owner_under new name) data_owner ≡ same (owner_under old name) data_owner
