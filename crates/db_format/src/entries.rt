@@ -6,7 +6,10 @@ ghost use Rattle.heap_model.specs.Database as databases;
 ghost use Rattle.heap_model.specs.UniqueIds.{greatest_id};
 ghost use Rattle.db_format.specs.Entries.{record_of, resource_of, WritesEntry};
 
-use crate::fields::{RECORD_SIZE, RESOURCE_SIZE, entry_offset};
+use crate::fields::{
+    RECORD_ATTRIBUTES_AT, RECORD_ID_AT, RECORD_SIZE, RESOURCE_DATA_AT, RESOURCE_ID_AT,
+    RESOURCE_SIZE, entry_offset,
+};
 use crate::record_attributes::RecordAttrs;
 use crate::words::{put_u8, put_u16, put_u24, put_u32, u16_in, u24_in, u32_in};
 use bitflags::Flags;
@@ -45,8 +48,8 @@ impl RecordEntry {
         let at = entry_offset(false, index);
         RecordEntry {
             slot: u32_in(body, at),
-            attributes: RecordAttrs::from_bits_retain(body[at + 4]),
-            id: u24_in(body, at + 5),
+            attributes: RecordAttrs::from_bits_retain(body[at + RECORD_ATTRIBUTES_AT]),
+            id: u24_in(body, at + RECORD_ID_AT),
         }
     }
 
@@ -58,8 +61,8 @@ impl RecordEntry {
     {
         let mut bytes = [0; RECORD_SIZE];
         put_u32(&mut bytes, 0, self.slot);
-        put_u8(&mut bytes, 4, self.attributes.bits());
-        put_u24(&mut bytes, 5, self.id);
+        put_u8(&mut bytes, RECORD_ATTRIBUTES_AT, self.attributes.bits());
+        put_u24(&mut bytes, RECORD_ID_AT, self.id);
         bytes
     }
 }
@@ -75,8 +78,8 @@ impl ResourceEntry {
         let at = entry_offset(true, index);
         ResourceEntry {
             kind: u32_in(body, at),
-            id: u16_in(body, at + 4),
-            slot: u32_in(body, at + 6),
+            id: u16_in(body, at + RESOURCE_ID_AT),
+            slot: u32_in(body, at + RESOURCE_DATA_AT),
         }
     }
 
@@ -87,8 +90,8 @@ impl ResourceEntry {
     {
         let mut bytes = [0; RESOURCE_SIZE];
         put_u32(&mut bytes, 0, self.kind);
-        put_u16(&mut bytes, 4, self.id);
-        put_u32(&mut bytes, 6, self.slot);
+        put_u16(&mut bytes, RESOURCE_ID_AT, self.id);
+        put_u32(&mut bytes, RESOURCE_DATA_AT, self.slot);
         bytes
     }
 }
@@ -102,7 +105,7 @@ pub fn entry_slot(body: &[u8], resources: bool, index: u16) -> u32
 {
     let at = entry_offset(resources, index);
     if resources {
-        u32_in(body, at + 6)
+        u32_in(body, at + RESOURCE_DATA_AT)
     } else {
         u32_in(body, at)
     }

@@ -38,6 +38,16 @@ pub(crate) const ENTRY_COUNT_AT: usize = 76;
 /// What a header takes: the entries begin behind it.
 pub const HEADER_SIZE: usize = 78;
 
+/// Where the fields of a record's entry stand, behind the slot of its data.
+pub(crate) const RECORD_ATTRIBUTES_AT: usize = 4;
+
+pub(crate) const RECORD_ID_AT: usize = 5;
+
+/// Where the fields of a resource's entry stand, behind its type.
+pub(crate) const RESOURCE_ID_AT: usize = 4;
+
+pub(crate) const RESOURCE_DATA_AT: usize = 6;
+
 /// What the entry of a record takes.
 pub const RECORD_SIZE: usize = 8;
 
