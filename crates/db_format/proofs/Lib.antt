@@ -1,0 +1,5 @@
+pub mod WordLaws
+pub mod AttributeLaws
+pub mod EntryLaws
+pub mod NameLaws
+pub mod HeaderLaws

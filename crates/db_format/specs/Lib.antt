@@ -1,0 +1,4 @@
+pub mod Entries
+pub mod Names
+pub mod Headers
+pub mod EitherEntry

@@ -1,0 +1,78 @@
+//! What is asked of the bytes of a database without the rest of its header.
+
+ghost use Rattle.std.specs.Prelude.{◌≡◌, ◌≤◌, ◌↔◌, length, IsTrue};
+ghost use Rattle.heap_model.specs.Bytes.{u16_at, u32_at};
+ghost use Rattle.heap_model.specs.DatabaseFields.{header_size, attributes_at, app_info_at, sort_info_at};
+ghost use Rattle.heap_model.specs.Database.{resources_in, entry_count_in};
+ghost use Rattle.db_format.specs.Headers.{IsWhole};
+
+use crate::fields::{
+    APP_INFO_AT, ATTRIBUTES_AT, ENTRY_COUNT_AT, HEADER_SIZE, NEXT_LIST_AT, SORT_INFO_AT,
+    entry_offset,
+};
+use crate::words::{u16_in, u32_in};
+
+/// The attribute of a database of resources.
+pub const RESOURCE_DATABASE: u16 = 0x0001;
+
+/// The attribute of a database that is read and not written.
+pub const READ_ONLY: u16 = 0x0002;
+
+/// The attributes of a database.
+#[inline]
+pub fn attributes(bytes: &[u8]) -> u16
+    requires { header_size ≤ length bytes.now }
+    ensures { result ≡ u16_at bytes.now attributes_at }
+{
+    u16_in(bytes, ATTRIBUTES_AT)
+}
+
+/// Whether the entries of a database are resources, and else records.
+#[inline]
+pub fn has_resources(bytes: &[u8]) -> bool
+    requires { header_size ≤ length bytes.now }
+    ensures { result ≡ resources_in bytes.now }
+{
+    attributes(bytes) & RESOURCE_DATABASE == RESOURCE_DATABASE
+}
+
+/// The slot of the AppInfo block, or 0.
+#[inline]
+pub fn app_info(bytes: &[u8]) -> u32
+    requires { header_size ≤ length bytes.now }
+    ensures { result ≡ u32_at bytes.now app_info_at }
+{
+    u32_in(bytes, APP_INFO_AT)
+}
+
+/// The slot of the SortInfo block, or 0.
+#[inline]
+pub fn sort_info(bytes: &[u8]) -> u32
+    requires { header_size ≤ length bytes.now }
+    ensures { result ≡ u32_at bytes.now sort_info_at }
+{
+    u32_in(bytes, SORT_INFO_AT)
+}
+
+/// How many entries there are.
+#[inline]
+pub fn entry_count(bytes: &[u8]) -> u16
+    requires { header_size ≤ length bytes.now }
+    ensures { result ≡ entry_count_in bytes.now }
+{
+    u16_in(bytes, ENTRY_COUNT_AT)
+}
+
+/// Whether the bytes are a header, whose list of entries goes on nowhere, and then as many entries as it
+/// says. Where they are, and the header has a name (`has_name`), they spell a database.
+pub fn is_whole(bytes: &[u8]) -> bool
+    ensures { IsTrue result ↔ IsWhole bytes.now }
+{
+    if bytes.len() < HEADER_SIZE {
+        return false;
+    }
+    if u32_in(bytes, NEXT_LIST_AT) != 0 {
+        return false;
+    }
+    bytes.len() == entry_offset(has_resources(bytes), entry_count(bytes))
+}

@@ -1,0 +1,96 @@
+//! The headers of databases.
+
+ghost use Rattle.std.specs.Prelude.{◌≡◌, ◌≤◌, ℕ, length, take};
+ghost use Rattle.heap_model.specs.DatabaseFields.{name_size, header_size};
+ghost use Rattle.heap_model.specs.Database.{Database, IsDatabaseName, name_field, name_in, header_bytes, database_in};
+ghost use Rattle.db_format.specs.Headers.{HasHeader, WritesHeader};
+
+use crate::fields::{
+    APP_INFO_AT, ATTRIBUTES_AT, BACKUP_DATE_AT, CREATION_DATE_AT, CREATOR_AT, ENTRY_COUNT_AT,
+    HEADER_SIZE, KIND_AT, MODIFICATION_DATE_AT, MODIFICATION_NUMBER_AT, NAME_SIZE, NEXT_LIST_AT,
+    SEED_AT, SORT_INFO_AT, VERSION_AT,
+};
+use crate::name::NameField;
+use crate::words::{put_u16, put_u32, u16_in, u32_in};
+
+/// The header of a database (Palm OS File Format Specification, "PDB Format"), with slots where a file
+/// has offsets. Where a file's list of entries could go on it has zeros, which are no field here.
+#[derive(Clone, Copy, PartialEq, Eq, Debug)]
+pub struct DbHeader {
+    pub name: NameField,
+    pub attributes: u16,
+    pub version: u16,
+    pub creation_date: u32,
+    pub modification_date: u32,
+    pub backup_date: u32,
+    pub modification_number: u32,
+    /// The slot of the AppInfo block, or 0.
+    pub app_info: u32,
+    /// The slot of the SortInfo block, or 0.
+    pub sort_info: u32,
+    /// The database's type, its four bytes as a number.
+    pub kind: u32,
+    /// Its creator, likewise.
+    pub creator: u32,
+    /// The seed of the unique IDs of records.
+    pub seed: u32,
+    pub entry_count: u16,
+}
+
+impl DbHeader {
+    /// The header at the front of the bytes of a database. They need be in no shape but that there is a
+    /// name.
+    pub fn read(bytes: &[u8]) -> DbHeader
+        requires header { header_size ≤ length bytes.now }
+        requires name { IsDatabaseName (name_in bytes.now) }
+        ensures { HasHeader (database_in bytes.now) result }
+    {
+        DbHeader {
+            name: NameField::read(bytes),
+            attributes: u16_in(bytes, ATTRIBUTES_AT),
+            version: u16_in(bytes, VERSION_AT),
+            creation_date: u32_in(bytes, CREATION_DATE_AT),
+            modification_date: u32_in(bytes, MODIFICATION_DATE_AT),
+            backup_date: u32_in(bytes, BACKUP_DATE_AT),
+            modification_number: u32_in(bytes, MODIFICATION_NUMBER_AT),
+            app_info: u32_in(bytes, APP_INFO_AT),
+            sort_info: u32_in(bytes, SORT_INFO_AT),
+            kind: u32_in(bytes, KIND_AT),
+            creator: u32_in(bytes, CREATOR_AT),
+            seed: u32_in(bytes, SEED_AT),
+            entry_count: u16_in(bytes, ENTRY_COUNT_AT),
+        }
+    }
+
+    /// The bytes of the header.
+    pub fn to_bytes(&self) -> [u8; 78]
+        ensures is { (database : Database ℕ) → HasHeader database self.now → result ≡ header_bytes database }
+        ensures written { WritesHeader self.now result }
+    {
+        let mut bytes = begin_with(self.name);
+        put_u16(&mut bytes, ATTRIBUTES_AT, self.attributes);
+        put_u16(&mut bytes, VERSION_AT, self.version);
+        put_u32(&mut bytes, CREATION_DATE_AT, self.creation_date);
+        put_u32(&mut bytes, MODIFICATION_DATE_AT, self.modification_date);
+        put_u32(&mut bytes, BACKUP_DATE_AT, self.backup_date);
+        put_u32(&mut bytes, MODIFICATION_NUMBER_AT, self.modification_number);
+        put_u32(&mut bytes, APP_INFO_AT, self.app_info);
+        put_u32(&mut bytes, SORT_INFO_AT, self.sort_info);
+        put_u32(&mut bytes, KIND_AT, self.kind);
+        put_u32(&mut bytes, CREATOR_AT, self.creator);
+        put_u32(&mut bytes, SEED_AT, self.seed);
+        put_u32(&mut bytes, NEXT_LIST_AT, 0);
+        put_u16(&mut bytes, ENTRY_COUNT_AT, self.entry_count);
+        bytes
+    }
+}
+
+/// The bytes of a header with a name and nothing else yet.
+fn begin_with(name: NameField) -> [u8; 78]
+    ensures front { take name_size result ≡ name_field name }
+    ensures valid { IsDatabaseName name }
+{
+    let mut bytes = [0; HEADER_SIZE];
+    bytes[..NAME_SIZE].copy_from_slice(&name.to_bytes());
+    bytes
+}

@@ -1,0 +1,41 @@
+//! The header of a database and its entries: read off the bytes of its chunk, and as bytes to write
+//! there.
+//!
+//! ```text
+//!  0              name, and zeros up to the end of its field
+//! 32  u16 attributes             u16 version
+//! 36  u32 creation date          u32 modification date       u32 date of the last backup
+//! 48  u32 modification number    u32 slot of AppInfo         u32 slot of SortInfo
+//! 60  u32 type                   u32 creator                 u32 seed of the unique IDs
+//! 72  u32 zero                   u16 number of entries
+//! 78  the entries: of a record   u32 slot, u8 attributes, unique ID of 3 bytes
+//!                  of a resource u32 type, u16 id, u32 slot
+//! ```
+//!
+//! The numbers are big-endian. A reader takes the bytes as a slice, which a heap lends; what is to be
+//! written comes as a small array, since no slice is lent over a write. To change a field, read the
+//! header or the entry, set the field, and write the bytes of the whole back. `specs/Headers.antt` and
+//! `specs/Entries.antt` say what such a write does to the database: start there.
+#![tactic(auto)]
+
+mod body;
+mod db_entry;
+mod entries;
+mod entry_bytes;
+mod fields;
+mod header;
+mod name;
+mod record_attributes;
+mod words;
+
+pub use body::{
+    READ_ONLY, RESOURCE_DATABASE, app_info, attributes, entry_count, has_resources, is_whole,
+    sort_info,
+};
+pub use db_entry::DbEntry;
+pub use entries::{RecordEntry, ResourceEntry, entry_slot};
+pub use entry_bytes::EntryBytes;
+pub use fields::{HEADER_SIZE, NAME_SIZE, RECORD_SIZE, RESOURCE_SIZE, entry_offset, entry_size};
+pub use header::DbHeader;
+pub use name::{NameField, has_name, is_name, name_in};
+pub use record_attributes::{CATEGORIES, RecordAttrs};

@@ -1,0 +1,82 @@
+//! The attributes of a record.
+
+ghost use Rattle.std.specs.Prelude.{⊤, ◌≡◌, ◌<◌, ◌/◌, ◌%◌, [], ◌∷◌, codes};
+ghost use Rattle.heap_model.specs.Database as databases;
+ghost use Rattle.db_format.specs.Entries.{categories};
+
+use bitflags::{Flag, Flags, bitflag_items};
+
+/// How many categories there are: they are numbered from 0.
+pub const CATEGORIES: u8 = 16;
+
+/// The attributes of a record: four bits, and in the low four its category (Palm OS File Format
+/// Specification, "PDB Format"). They are a set by the methods of `bitflags::Flags`.
+#[derive(Clone, Copy, PartialEq, Eq, Debug)]
+pub struct RecordAttrs(u8);
+
+bitflag_items! {
+    impl RecordAttrs: u8 {
+        /// The record is deleted. It may still have data, if it was archived.
+        const DELETE = 0x80;
+        /// The record was changed since the last synchronization.
+        const DIRTY = 0x40;
+        /// A caller has the record in use.
+        const BUSY = 0x20;
+        /// The record is shown only to who knows the password.
+        const SECRET = 0x10;
+        /// The bits of the category.
+        const CATEGORY = 0x0F;
+    }
+}
+
+impl Flags for RecordAttrs {
+    type Bits = u8;
+
+    ghost exact = { ⊤ };
+
+    ghost table = { (codes "DELETE", 0x80) ∷ (codes "DIRTY", 0x40) ∷ (codes "BUSY", 0x20) ∷ (codes "SECRET", 0x10) ∷ (codes "CATEGORY", 0x0F) ∷ [] };
+
+    ghost set_of = { λ attributes. attributes.0 };
+
+    fn flags<'a>() -> &'a [Flag<RecordAttrs>] {
+        RecordAttrs::FLAGS
+    }
+
+    fn bits(&self) -> u8 {
+        self.0
+    }
+
+    fn from_bits_retain(bits: u8) -> RecordAttrs {
+        RecordAttrs(bits)
+    }
+}
+
+impl RecordAttrs {
+    /// Whether the record is deleted.
+    #[inline]
+    #[tactic(auto, using(crate::proofs::AttributeLaws::deleted_by_mask))]
+    pub fn is_deleted(self) -> bool
+        ensures { result ≡ databases.is_deleted self.0 }
+    {
+        self.contains(RecordAttrs::DELETE)
+    }
+
+    /// The record's category, 0 to 15.
+    #[inline]
+    pub fn category(self) -> u8
+        ensures { result ≡ self.0 % categories }
+    {
+        self.intersection(RecordAttrs::CATEGORY).bits()
+    }
+
+    /// The same attributes with another category.
+    #[inline]
+    pub fn with_category(self, category: u8) -> RecordAttrs
+        requires { category < categories }
+        ensures category { result.0 % categories ≡ category }
+        ensures flags { result.0 / categories ≡ self.0 / categories }
+    {
+        let flags = self.0 / CATEGORIES;
+        RecordAttrs(flags * CATEGORIES + category)
+    }
+}
