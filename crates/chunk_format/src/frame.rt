@@ -3,8 +3,8 @@
 
 ghost use Rattle.std.specs.Prelude.{◌≡◌, ◌↔◌, ◌<◌, length, IsTrue};
 ghost use Rattle.heap_model.specs.Memory.{IsWithin};
-ghost use Rattle.heap_model.specs.Bytes.{u16_at, u32_at};
-ghost use Rattle.heap_model.specs.Frame.{magic, magic_at, size_at, reserved_at, HasFrame};
+ghost use Rattle.heap_model.specs.Bytes.{u16_at, u32_at, u32_bytes, overwritten};
+ghost use Rattle.heap_model.specs.Frame.{magic, magic_at, size_at, reserved_at, directory_at, HasFrame};
 ghost use Rattle.heap_model.specs.Slots.{slot_count as model_count, head_end as model_end, area_start as model_start, start_behind as model_behind};
 ghost use Rattle.heap_model.specs.Heap.{directory_of};
 ghost use Rattle.chunk_format.specs.Blank.{IsRegionSize, framed};
@@ -87,6 +87,15 @@ pub fn directory(region: &Region) -> u32
     ensures { result ≡ directory_of region.now.bytes }
 {
     region.get_u32(DIRECTORY_AT)
+}
+
+/// Writes the directory word: 0, or the offset of the directory's slot.
+pub fn put_directory(region: &mut Region, word: u32)
+    requires { HasFrame region.old }
+    ensures after { region.new ≡ record region.old { bytes = overwritten region.old.bytes directory_at (u32_bytes word) } }
+    ensures len { length region.new.bytes ≡ length region.old.bytes }
+{
+    region.put_u32(DIRECTORY_AT, word);
 }
 
 /// Where the head ends and the padding in front of the chunks begins, in bytes from the image's start.

@@ -21,8 +21,8 @@ mod image;
 mod walk;
 
 pub use frame::{
-    FRAME_SIZE, SLOT_SIZE, area_start, directory, has_magic, head_end, is_image_size, reserved,
-    size_field, slot_count,
+    FRAME_SIZE, SLOT_SIZE, area_start, directory, has_magic, head_end, is_image_size,
+    put_directory, reserved, size_field, slot_count,
 };
 pub use header::{FIXED_LOCK, Header, chunk_size, put_lock, put_owner, size_of_body};
 pub use image::{BlankFault, blank, blank_from};

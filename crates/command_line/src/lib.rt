@@ -107,7 +107,8 @@ Makes, checks and changes heap images: the memory of a Palm OS device, kept in a
 const IMAGES: &str = "\
 A heap image is a file of 64 to 16777208 bytes, a multiple of 8. A header of 16 bytes is
 followed by a table of slots, one for each chunk of memory that may move, and by the chunks
-themselves, which fill the rest: free ones, movable ones and fixed ones.
+themselves, which fill the rest: free ones, movable ones and fixed ones. Databases are made of
+movable chunks, and a directory lists them.
 
 Exit status:
   0  done
@@ -121,9 +122,10 @@ On 3 and 4 the first line on standard error is 'fault read', 'fault write' or 'f
 the first two a second line names the file and says why.";
 
 const SCRIPTS: &str = "\
-A script is a text of lines. Each is a call of the memory manager, and prints 'ok' with what the
-call answers, or 'refused' with the number and the name of the refusal. A chunk goes by a label,
-which 'new', 'ptrnew' and 'bind' give it: a letter, then letters, digits or '_'.
+A script is a text of lines. Each is a call of the memory manager or on databases, and prints 'ok'
+with what the call answers, or 'refused' with the number and the name of the refusal. A chunk goes by
+a label, which 'new', 'ptrnew' and 'bind' give it: a letter, then letters, digits or '_'. A database
+goes by a label of its own, which 'create', 'find' and 'nth' give it.
 
   bind A NAME         new A SIZE OWNER    ptrnew A SIZE OWNER
   free A              resize A SIZE       setowner A OWNER
@@ -132,9 +134,15 @@ which 'new', 'ptrnew' and 'bind' give it: a letter, then letters, digits or '_'.
   strcopy A AT \"TEXT\"                   freeowner OWNER
   freebytes           largest, compact
 
-'write', 'set' and 'strcopy' need a locked or a fixed chunk. OWNER is 1 to 14. Numbers are decimal,
-or hex behind '0x'. HEX is hex digits, or '-' for no byte. A line that is empty or starts with '#' is
-passed over.";
+  create D \"NAME\" \"TYPE\" \"CREATOR\" RESOURCES DATE
+  find D \"NAME\"       nth D INDEX         dbcount
+  dbinfo D            dbdelete D
+  dbset D \"NAME\" ATTRIBUTES VERSION CREATED MODIFIED BACKUP \"TYPE\" \"CREATOR\"
+
+'write', 'set' and 'strcopy' need a locked or a fixed chunk. OWNER is 1 to 14. RESOURCES is 1 where
+the entries are resources, and 0 where they are records. TYPE and CREATOR have four bytes. Numbers are
+decimal, or hex behind '0x'. HEX is hex digits, or '-' for no byte. A line that is empty or starts
+with '#' is passed over.";
 
 /// What the words of a command line ask for. The first word is the program's own name.
 ///

@@ -65,12 +65,12 @@ HasBadDirectory image = Tiles image (chunks_of image) × (HasDirectory image (ch
 
 infix 70 ◌brings◌
 -- where this holds, there is this fault
-abbrev pub ◌brings◌ : Type 0 → HeapFault → HeapFault → Type 0
+abbrev pub ◌brings◌ : {Fault : Type 0} → Type 0 → Fault → Fault → Type 0
 ◌brings◌ P named fault = P × (fault ≡ named)
 
 infix 70 ◌locates◌
 -- where this holds of an offset, there is this fault with the offset
-abbrev pub ◌locates◌ : (ℕ → Type 0) → (ℕ → HeapFault) → HeapFault → Type 0
+abbrev pub ◌locates◌ : {Fault : Type 0} → (ℕ → Type 0) → (ℕ → Fault) → Fault → Type 0
 ◌locates◌ P named fault = (offset : ℕ) × P offset × (fault ≡ named offset)
 
 -- of an image that is tiled
@@ -98,9 +98,9 @@ faults image =
     ∷ area_faults image
 
 -- the fault is what the first row of the table brings that brings any
-abbrev pub FirstBrought : List (HeapFault → Type 0) → HeapFault → Type 0
+abbrev pub FirstBrought : {Fault : Type 0} → List (Fault → Type 0) → Fault → Type 0
 FirstBrought [] fault = ⊥
-FirstBrought (row ∷ rows) fault = row fault ⊎ (((other : HeapFault) → row other → ⊥) × FirstBrought rows fault)
+FirstBrought {Fault} (row ∷ rows) fault = row fault ⊎ (((other : Fault) → row other → ⊥) × FirstBrought rows fault)
 
 -- the image has the fault, and none of those that are looked for earlier
 abbrev pub IsFirstFault : List ℕ → HeapFault → Type 0

@@ -13,7 +13,6 @@ use Rattle.heap_model.specs.Space.{ShortFor, Short, FitsInPlace, MovesAlone, Mov
 use Rattle.heap_model.specs.Layout.{IsRoom}
 use Rattle.heap_model.specs.Packing.{SlidesOneStretch, OpensBehind}
 use Rattle.heap_model.specs.Resizing.{with_length, GrowsInPlace, Relocates}
-use Rattle.heap_laws.proofs.Finding.{finds_held}
 use Rattle.heap_laws.proofs.Becoming.{frame_then}
 use Rattle.heap_laws.proofs.Exchanging.{ChangesName}
 use Rattle.heap_laws.proofs.Resizings.{live_sized, grow_changes, finds_behind, opened_behind}
@@ -21,7 +20,7 @@ use Rattle.heap_laws.proofs.Relocating.{relocate_changes}
 use Rattle.heap_laws.proofs.Compacting.{slides_alike, slides_move_one, opens_one}
 use Rattle.heap_laws.proofs.Stretches.{short_for_parts, room_of-middle}
 use Rattle.heap_laws.proofs.Updating.{held_updated}
-use Rattle.heap_place.proofs.FoundLaws.{found_inside, middle_of, heap_in_parts, one_held, when_movable}
+use Rattle.heap_place.proofs.FoundLaws.{name_held, found_inside, middle_of, heap_in_parts, one_held, when_movable}
 use Rattle.heap_place.proofs.WalkLaws.{free_within}
 use Rattle.heap_place.specs.declared.found.Found.{Found}
 use Rattle.heap_place.specs.declared.stretch.Stretch.{Stretch}
@@ -43,7 +42,7 @@ pub is_loose : (image : List ℕ) (found : Found) → HeapAccepted image → IsO
 is_loose image found h f none = record { live = f.live; is_held = one_held image found h f; unlocked = sym f.lock_is ∙ none }
 
 pub loose_lock : (image : List ℕ) (name : ℕ) (found : Found) → HeapAccepted image → IsLoose image name → IsFound image name found → found.lock ≡ 0
-loose_lock image name found h l f = f.lock_is ∙ ap (λ (x : LiveChunk). x.lock) (same_live (sym (finds_held image name f.live f.chunk (found.place.0 - 8) h f.finds) ∙ l.is_held)) ∙ l.unlocked
+loose_lock image name found h l f = f.lock_is ∙ ap (λ (x : LiveChunk). x.lock) (same_live (sym (name_held image name found h f) ∙ l.is_held)) ∙ l.unlocked
 
 -- ---- one name has changed
 

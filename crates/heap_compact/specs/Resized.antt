@@ -6,8 +6,8 @@ use Rattle.heap_model.specs.Slots.{area_start}
 use Rattle.heap_model.specs.Meaning.{LiveChunk}
 use Rattle.heap_model.specs.Reading.{held}
 use Rattle.heap_model.specs.Maps.{sized}
-use Rattle.heap_model.specs.Space.{Still, room_of}
-use Rattle.heap_model.specs.Placing.{SameFrame}
+use Rattle.heap_model.specs.Space.{room_of}
+use Rattle.heap_model.specs.Leaving.{Leaves}
 use Rattle.heap_model.specs.Packing.{WholeStretch}
 use Rattle.heap_place.specs.declared.found.Found.{Found}
 
@@ -18,10 +18,8 @@ pub record IsLoose (image : List ℕ) (name : ℕ) : Type 0 where
   pub unlocked : live.lock ≡ 0
 
 -- a name's chunk has so many bytes: its first ones, or all of them and zeros behind
-pub record Resized (old new : List ℕ) (name count : ℕ) : Type 0 where
-  pub frame : SameFrame old new
-  pub map : (other : ℕ) → held new other ≡ sized (held old) name count other
-  pub still : Still old new
+abbrev pub Resized : List ℕ → List ℕ → ℕ → ℕ → Type 0
+Resized old new name count = Leaves old new (sized (held old) name count)
 
 -- a movable chunk without locks was found, and the room of its stretch and its own bytes are so many
 pub record FitsInStretch (image : List ℕ) (found : Found) (size : ℕ) : Type 0 where

@@ -1,9 +1,9 @@
 //! A chunk gets another length where its place doesn't have it.
 
-ghost use Rattle.std.specs.Prelude.{◌≡◌, ◌≢◌, ◌≤◌};
+ghost use Rattle.std.specs.Prelude.{◌≡◌, ◌≤◌};
 ghost use Rattle.std.specs.Bool.{OnTrue, OnFalse};
 ghost use Rattle.heap_model.specs.Chunk.{need};
-ghost use Rattle.heap_model.specs.Heap.{HeapAccepted, directory_of};
+ghost use Rattle.heap_model.specs.Heap.{HeapAccepted};
 ghost use Rattle.heap_model.specs.Space.{ShortFor, FitsInPlace, MovesAlone, MovesOneStretchAnd};
 ghost use Rattle.heap_model.specs.Layout.{IsRoom};
 ghost use Rattle.heap_place.specs.Found.{IsOne};
@@ -18,12 +18,11 @@ use heap_place::{Found, Room, Space, Stretch};
 /// Gives a movable chunk without locks `count` bytes, where it or others of one stretch may move: its first
 /// ones, or all of them and zeros behind. Answers whether there is room for them: in a free run
 /// elsewhere, else in its own stretch, else in another, tried in this order. Where there is none, nothing
-/// has changed. The directory is not moved.
+/// has changed.
 pub fn resize_by_moving(space: &mut Space, found: Found, count: u32) -> bool
     requires accepted { HeapAccepted space.old.bytes }
     requires found { IsOne space.old.bytes found }
     requires unlocked { found.lock ≡ 0 }
-    requires no_directory { found.name.0 ≢ directory_of space.old.bytes }
     ensures resized { OnTrue result (Resized space.old.bytes space.new.bytes found.name.0 count) }
     ensures not_short { OnTrue result (ShortFor space.old.bytes found.name.0 (need count) → ⊥) }
     ensures short { OnFalse result (ShortFor space.old.bytes found.name.0 (need count)) }
@@ -57,7 +56,6 @@ pub fn resize_by_moving(space: &mut Space, found: Found, count: u32) -> bool
 fn relocate_named(space: &mut Space, name: Name, room: Room, count: u32)
     requires accepted { HeapAccepted space.old.bytes }
     requires loose { IsLoose space.old.bytes name.0 }
-    requires no_directory { name.0 ≢ directory_of space.old.bytes }
     requires room { IsRoom space.old.bytes room.at room.size }
     requires enough { need count ≤ room.size }
     ensures resized { Resized space.old.bytes space.new.bytes name.0 count }

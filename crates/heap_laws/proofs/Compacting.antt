@@ -2,17 +2,19 @@
 -- they were; which chunks have moved; and what packing has moved.
 use Rattle.std.proofs.Common.{◌≡◌, ℕ, zero, suc, ◌+◌, ◌-◌, ◌<◌, ◌≤◌, Bool, true, false, List, [], ◌∷◌, ◌++◌, length, Option, Some, None, refl, sym, ap, subst, ◌∙◌, arith, inl, inr}
 use Rattle.std.specs.Prelude.{◌↔◌, ◌==◌, count_by, if◌then◌else◌, IsSome}
+use Rattle.std.specs.Option.{is_none}
 use Rattle.std.proofs.lemmas.Bool.{eq-eqb, cases_eq}
 use Rattle.std.proofs.lemmas.Bool.Decides.{nat_tests}
 use Rattle.heap_model.specs.Bytes.{u32_at}
 use Rattle.heap_model.specs.Chunk.{Chunk, free, movable, fixed, need, total}
-use Rattle.heap_model.specs.Slots.{IsSlot, slots_of, area_start}
+use Rattle.heap_model.specs.Slots.{IsSlot, slot_count, slots_of, area_start}
 use Rattle.heap_model.specs.Heap.{BodyHere, IsBody, HeapAccepted}
 use Rattle.heap_model.specs.Placed.{EveryPlaced, AnyPlaced}
 use Rattle.heap_model.specs.Meaning.{LiveChunk}
 use Rattle.heap_model.specs.Reading.{chunks_of, held}
 use Rattle.heap_model.specs.Space.{free_slots, NoRun, Short, NoneStays, place_under, place_of, MovesNothing, MovesOneStretch, is_there, moved_from, moved_bytes}
 use Rattle.heap_model.specs.Layout.{layout_of, Becomes, gap}
+use Rattle.heap_model.specs.Rooms.{is_movable_as}
 use Rattle.heap_model.specs.Packing.{Packed, Slid, packed_behind, packed, moved_behind, moved_by_packing, WholeStretch, SlidesOneStretch, OpensBehind, opened}
 use Rattle.heap_laws.specs.Laws.{SlidAlike}
 use Rattle.heap_laws.proofs.Deciding.{none_some}
@@ -23,9 +25,10 @@ use Rattle.heap_laws.proofs.Meanings.{slot_place, empty_unheld, held-is}
 use Rattle.heap_laws.proofs.Finding.{read_heap, finds_held, in_slot}
 use Rattle.heap_laws.proofs.Lives.{live_placed, place_replaced}
 use Rattle.heap_laws.proofs.Altering.{finds_place}
-use Rattle.heap_laws.proofs.Becoming.{rooms-layout, becomes_held, becomes_place, becomes_free, becomes_no_run, becomes_body, slot_kept, count_alike}
+use Rattle.heap_laws.proofs.Becoming.{rooms-layout, becomes_held, becomes_place, becomes_free, becomes_no_run, becomes_body, count_alike}
 use Rattle.heap_laws.proofs.Exchanging.{layout_takes, ChangesName}
 use Rattle.heap_laws.proofs.Packings.{packed_slid, packed_once}
+use Rattle.heap_laws.proofs.Numbering.{stretch-layout, slid_stretch}
 use Rattle.heap_laws.proofs.Sliding.{slid_live, slid_place, slid_free, slid_rooms, slid_merged, slid_middle, no_run-packed, opened_slid}
 
 -- ---- the slots
@@ -39,21 +42,25 @@ slot_unheld image slot h s = (λ e. held-is image (chunks_of image) slot (read_h
       let f = in_slot image slot (suc n) h s there (omega arith) in
       absurd (none_some (held image slot) f.live none (finds_held image slot f.live _ _ h f.finds))
 
-both_zero : (x y : ℕ) → (x ≡ 0 → y ≡ 0) → (y ≡ 0 → x ≡ 0) → (x == 0) ≡ (y == 0)
-both_zero zero zero f g = refl
-both_zero zero (suc n) f g = absurd (let e = f refl in omega arith)
-both_zero (suc m) zero f g = absurd (let e = g refl in omega arith)
-both_zero (suc m) (suc n) f g = grind (arith, nat_tests)
+same_test : (x : ℕ) (o : Option LiveChunk) → (x ≡ 0) ↔ (o ≡ None) → (x == 0) ≡ is_none o
+same_test zero None both = refl
+same_test zero (Some live) both = absurd (none_some (Some live) live (both.0 refl) refl)
+same_test (suc n) None both = absurd (let e : suc n ≡ 0 = both.1 refl in omega arith)
+same_test (suc n) (Some live) both = grind (arith, nat_tests)
+
+-- so many are empty as name nothing
+pub free_slots_held : (image : List ℕ) → HeapAccepted image → free_slots image ≡ count_by (λ slot. is_none (held image slot)) (slots_of image)
+free_slots_held image h =
+    count_alike (λ slot. u32_at image slot == 0) (λ slot. is_none (held image slot)) (slots_of image)
+    (every_slot (λ slot. (u32_at image slot == 0) ≡ is_none (held image slot)) image (λ slot s. same_test (u32_at image slot) (held image slot) (slot_unheld image slot h s)))
 
 -- where the same is held, as many slots are empty
-pub same_free_slots : (old new : List ℕ) (cs : List Chunk) → HeapAccepted old → Becomes old new cs → ((name : ℕ) → held new name ≡ held old name) → free_slots new ≡ free_slots old
-same_free_slots old new cs h b same =
-    ap (count_by (λ slot. u32_at new slot == 0)) (same_slots old new b.frame.count)
-    ∙ count_alike (λ slot. u32_at new slot == 0) (λ slot. u32_at old slot == 0) (slots_of old)
-    (every_slot (λ slot. (u32_at new slot == 0) ≡ (u32_at old slot == 0)) old (λ slot s.
-    let is = slot_unheld new slot b.frame.accepted (slot_kept old new cs slot b s) in
-    let was = slot_unheld old slot h s in
-    both_zero (u32_at new slot) (u32_at old slot) (λ e. was.1 (sym (same slot) ∙ is.0 e)) (λ e. is.1 (same slot ∙ was.0 e))))
+pub slots_follow : (old new : List ℕ) → HeapAccepted old → HeapAccepted new → slot_count new ≡ slot_count old → ((name : ℕ) → held new name ≡ held old name) → free_slots new ≡ free_slots old
+slots_follow old new was is count same =
+    free_slots_held new is
+    ∙ ap (count_by (λ slot. is_none (held new slot))) (same_slots old new count)
+    ∙ count_alike (λ slot. is_none (held new slot)) (λ slot. is_none (held old slot)) (slots_of old) (every_slot (λ slot. is_none (held new slot) ≡ is_none (held old slot)) old (λ slot s. ap is_none (same slot)))
+    ∙ sym (free_slots_held old was)
 
 -- ---- chunks that have slid
 
@@ -66,12 +73,15 @@ slid_alike old new cs h b s = record {
   holds = holds;
   stays = λ name live e locked some. becomes_place old new cs name b ∙ slid_place (area_start old) (chunks_of old) cs name live s e locked;
   free_bytes = becomes_free old new cs b ∙ slid_free (chunks_of old) cs s;
-  slots = same_free_slots old new cs h b holds;
-  room = rooms-layout new
-      ∙ slid_rooms (area_start old) (area_start new) (chunks_of old) (layout_of new) (takes_bytes old h) (layout_takes new b.frame.accepted) (subst (λ (ds : List Chunk). Slid (chunks_of old) ds) (sym b.layout) (slid_merged (chunks_of old) cs s));
+  slots = slots_follow old new h b.frame.accepted b.frame.count holds;
+  room = rooms-layout new ∙ slid_rooms (area_start old) (area_start new) (chunks_of old) (layout_of new) (takes_bytes old h) (layout_takes new b.frame.accepted) slid;
+  stretch = λ name. stretch-layout new name ∙ slid_stretch (is_movable_as name) (area_start old) (area_start new) (chunks_of old) (layout_of new) (λ size. refl) (takes_bytes old h) (layout_takes new b.frame.accepted) slid;
 } where
   holds : (name : ℕ) → held new name ≡ held old name
   holds name = becomes_held old new cs name b ∙ slid_live (area_start old) (chunks_of old) cs name s
+
+  slid : Slid (chunks_of old) (layout_of new)
+  slid = subst (λ (ds : List Chunk). Slid (chunks_of old) ds) (sym b.layout) (slid_merged (chunks_of old) cs s)
 
 -- ---- a heap that is packed
 

@@ -24,9 +24,13 @@ pub mod Openness
 pub mod Carrying
 pub mod Packings
 pub mod Sliding
+pub mod Numbering
 pub mod Compacting
+pub mod Holding
 pub mod Stretches
+pub mod Lowering
 pub mod Resizings
 pub mod Relocating
 pub mod Updating
+pub mod Directory
 pub mod Fitting

@@ -88,6 +88,86 @@ stretch_among before c cs after n in_front behind =
     ∙ ap (λ (runs : List (List Chunk)). stretches before ++ filter has_chunk runs) (run_then (c ∷ cs) after o.runs n o.is)
     ∙ ap (λ (runs : List (List Chunk)). stretches before ++ (c ∷ cs) ∷ filter has_chunk runs) (sym o.is)
 
+-- ---- the stretch around any chunks of which none stays
+
+none_stays-cons : (c : Chunk) (cs : List Chunk) → stays c ≡ false → NoneStays cs → NoneStays (c ∷ cs)
+none_stays-cons (free size) cs e n = n
+none_stays-cons (movable bytes zero owner slot) cs e n = n
+none_stays-cons (movable bytes (suc count) owner slot) cs e n = absurd cc
+none_stays-cons (fixed bytes owner) cs e n = absurd cc
+
+-- the chunks up to the first that stays, and those from it on
+pub record LooseBehind (cs : List Chunk) : Type 0 where
+  pub back : List Chunk
+  pub later : List Chunk
+  pub parts : cs ≡ back ++ later
+  pub loose : NoneStays back
+  pub begins : BeginsStaying later
+
+pub loose_behind : (cs : List Chunk) → LooseBehind cs
+loose_behind [] = record { back = []; later = []; parts = refl; loose = tt; begins = tt }
+loose_behind (c ∷ cs) = by (stays c) refl (loose_behind cs) where
+  by : (b : Bool) → stays c ≡ b → LooseBehind cs → LooseBehind (c ∷ cs)
+  by true e rest = record { back = []; later = c ∷ cs; parts = refl; loose = tt; begins = e }
+  by false e rest = record { back = c ∷ rest.back; later = rest.later; parts = ap (λ (ds : List Chunk). c ∷ ds) rest.parts; loose = none_stays-cons c rest.back e rest.loose; begins = rest.begins }
+
+-- the chunks behind the last that stays, and those up to it
+pub record LooseFront (cs : List Chunk) : Type 0 where
+  pub earlier : List Chunk
+  pub front : List Chunk
+  pub parts : cs ≡ earlier ++ front
+  pub loose : NoneStays front
+  pub ends : EndsStaying earlier
+
+pub loose_front : (cs : List Chunk) → LooseFront cs
+loose_front [] = record { earlier = []; front = []; parts = refl; loose = tt; ends = tt }
+loose_front (c ∷ cs) = by (loose_front cs) where
+  first : (b : Bool) → stays c ≡ b → (front : List Chunk) → cs ≡ front → NoneStays front → LooseFront (c ∷ cs)
+  first true e front parts loose = record { earlier = c ∷ []; front = front; parts = ap (λ (ds : List Chunk). c ∷ ds) parts; loose = loose; ends = e }
+  first false e front parts loose = record { earlier = []; front = c ∷ front; parts = ap (λ (ds : List Chunk). c ∷ ds) parts; loose = none_stays-cons c front e loose; ends = tt }
+
+  more : (earlier front : List Chunk) → cs ≡ earlier ++ front → NoneStays front → EndsStaying earlier → LooseFront (c ∷ cs)
+  more [] front parts loose ends = first (stays c) refl front parts loose
+  more (d ∷ earlier) front parts loose ends = record { earlier = c ∷ d ∷ earlier; front = front; parts = ap (λ (ds : List Chunk). c ∷ ds) parts; loose = loose; ends = ends }
+
+  by : LooseFront cs → LooseFront (c ∷ cs)
+  by rest = more rest.earlier rest.front rest.parts rest.loose rest.ends
+
+-- chunks that are a whole stretch, one of which is given
+pub stretch_mid : (before front : List Chunk) (c : Chunk) (back after : List Chunk) → NoneStays (front ++ c ∷ back) → EndsStaying before → BeginsStaying after
+    → stretches (before ++ ((front ++ c ∷ back) ++ after)) ≡ stretches before ++ (front ++ c ∷ back) ∷ stretches after
+stretch_mid before [] c back after n ends begins = stretch_among before c back after n ends begins
+stretch_mid before (d ∷ front) c back after n ends begins = stretch_among before d (front ++ c ∷ back) after n ends begins
+
+-- Whatever stands between these chunks, if it is some chunks of which none stays, is in one stretch; the
+-- other stretches are the same.
+pub record StretchBetween (before after : List Chunk) : Type 0 where
+  pub earlier : List (List Chunk)
+  pub front : List Chunk
+  pub back : List Chunk
+  pub later : List (List Chunk)
+  pub among : (c : Chunk) (cs : List Chunk) → NoneStays (c ∷ cs) → stretches (before ++ ((c ∷ cs) ++ after)) ≡ earlier ++ (front ++ ((c ∷ cs) ++ back)) ∷ later
+
+pub stretch_between : (before after : List Chunk) → StretchBetween before after
+stretch_between before after =
+    let fore = loose_front before in
+    let rear = loose_behind after in
+    record {
+      earlier = stretches fore.earlier;
+      front = fore.front;
+      back = rear.back;
+      later = stretches rear.later;
+      among = λ c cs n.
+          let mid : List Chunk = (c ∷ cs) ++ rear.back in
+          let loose : NoneStays (fore.front ++ mid) = (none_stays-append fore.front mid).1 (fore.loose, (none_stays-append (c ∷ cs) rear.back).1 (n, rear.loose)) in
+          ap (λ (ds : List Chunk). stretches (ds ++ ((c ∷ cs) ++ after))) fore.parts
+          ∙ ap (λ (ds : List Chunk). stretches ((fore.earlier ++ fore.front) ++ ((c ∷ cs) ++ ds))) rear.parts
+          ∙ ap (λ (ds : List Chunk). stretches ((fore.earlier ++ fore.front) ++ ds)) (sym (append_assoc (c ∷ cs) rear.back rear.later))
+          ∙ ap stretches (append_assoc fore.earlier fore.front (mid ++ rear.later))
+          ∙ ap (λ (ds : List Chunk). stretches (fore.earlier ++ ds)) (sym (append_assoc fore.front mid rear.later))
+          ∙ stretch_mid fore.earlier fore.front c (cs ++ rear.back) rear.later loose fore.ends rear.begins;
+    }
+
 -- ---- the stretch around a chunk is one alone
 
 no_stay : (c : Chunk) (cs : List Chunk) → NoneStays (c ∷ cs) → IsTrue (stays c) → ⊥

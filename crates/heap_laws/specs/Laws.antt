@@ -1,12 +1,14 @@
 -- What the definitions promise together: the statements of the laws.
-use Rattle.std.specs.Prelude.{◌≡◌, ◌≤◌, ◌<◌, ◌+◌, ◌%◌, ◌++◌, ◌↔◌, ℕ, Bool, List, ◌∷◌, length, true, Some, None}
+use Rattle.std.specs.Prelude.{◌≡◌, ◌≤◌, ◌<◌, ◌+◌, ◌%◌, ◌++◌, ◌↔◌, ℕ, Bool, List, ◌∷◌, length, count_by, true, Some, None}
+use Rattle.std.specs.Option.{is_none}
 use Rattle.heap_model.specs.Chunk.{Chunk, movable, need, Spelled}
-use Rattle.heap_model.specs.Slots.{IsSlot, slots_of, area_start}
+use Rattle.heap_model.specs.Slots.{IsSlot, slot_count, slots_of, area_start}
 use Rattle.heap_model.specs.Placed.{EveryOne}
 use Rattle.heap_model.specs.Heap.{Tiles, IsBody, Tied, HeapAccepted}
 use Rattle.heap_model.specs.Meaning.{ChunkMap, Holds}
 use Rattle.heap_model.specs.Reading.{chunk_at, chunks_of, held, is_accepted}
 use Rattle.heap_model.specs.Space.{free_total, free_slots, rooms, NoRun, Short, ShortFor, room_of, place_of, Still, moved_bytes}
+use Rattle.heap_model.specs.Rooms.{stretch_of}
 use Rattle.heap_model.specs.Layout.{layout_of, Becomes}
 use Rattle.heap_model.specs.Packing.{Packed, Slid, packed, moved_by_packing, WholeStretch}
 
@@ -78,13 +80,15 @@ PackedOnce =
     (chunks : List Chunk) (image : List ℕ) → HeapAccepted image
     → (Packed (chunks_of image) → Slid chunks (chunks_of image) → chunks_of image ≡ packed chunks) × (Packed (layout_of image) → Slid chunks (layout_of image) → layout_of image ≡ packed chunks)
 
--- every name stands for what it stood for, nothing that stays has moved, and there is as much room
+-- every name stands for what it stood for, in the stretch in which it was; nothing that stays has moved,
+-- and there is as much room
 pub record SlidAlike (old new : List ℕ) : Type 0 where
   pub holds : (name : ℕ) → held new name ≡ held old name
   pub stays : Still old new
   pub free_bytes : free_total new ≡ free_total old
   pub slots : free_slots new ≡ free_slots old
   pub room : rooms new ≡ rooms old
+  pub stretch : (name : ℕ) → stretch_of new name ≡ stretch_of old name
 
 -- chunks that slide leave this as it was
 abbrev pub SlidingKeeps : Type 0
@@ -104,3 +108,13 @@ abbrev pub OwnRoomCounts : Type 0
 OwnRoomCounts =
     (image : List ℕ) (before front : List Chunk) (bytes : List ℕ) (owner slot : ℕ) (back after : List Chunk) (size : ℕ) → HeapAccepted image → WholeStretch image before (front ++ movable bytes 0 owner slot ∷ back) after
     → ShortFor image slot size ↔ (Short image size × (room_of (front ++ back) + need (length bytes) < size))
+
+-- where accepted heaps of one size, with as many slots, hold the same, as much is free in them
+abbrev pub HeldTellsFree : Type 0
+HeldTellsFree =
+    (image other : List ℕ) → HeapAccepted image → HeapAccepted other → length other ≡ length image → slot_count other ≡ slot_count image → ((name : ℕ) → held other name ≡ held image name)
+    → (free_total other ≡ free_total image) × (free_slots other ≡ free_slots image)
+
+-- a slot is empty where it names nothing
+abbrev pub SlotsAreNames : Type 0
+SlotsAreNames = (image : List ℕ) → HeapAccepted image → free_slots image ≡ count_by (λ slot. is_none (held image slot)) (slots_of image)

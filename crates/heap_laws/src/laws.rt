@@ -1,6 +1,6 @@
 //! The laws, each as the promise of a function.
 
-ghost use Rattle.heap_laws.specs.Laws.{TiledOnce, ChunksAreRead, TilesAreRead, SlotsAreListed, AcceptanceIsDecided, TiesPairOneToOne, HoldsOneMap, ZeroNamesNothing, NeedIsWhole, LayoutTells, PackingIsPacked, PackedOnce, SlidingKeeps, PackingJoinsRooms, PackingMoves, OwnRoomCounts};
+ghost use Rattle.heap_laws.specs.Laws.{TiledOnce, ChunksAreRead, TilesAreRead, SlotsAreListed, AcceptanceIsDecided, TiesPairOneToOne, HoldsOneMap, ZeroNamesNothing, NeedIsWhole, LayoutTells, PackingIsPacked, PackedOnce, SlidingKeeps, PackingJoinsRooms, PackingMoves, OwnRoomCounts, HeldTellsFree, SlotsAreNames};
 
 /// An image is tiled by one list of chunks at most.
 pub fn tiled_once()
@@ -83,4 +83,14 @@ pub fn packing_moves()
 /// stretch hasn't together with the chunk.
 pub fn own_room_counts()
     ensures { OwnRoomCounts }
+{}
+
+/// How many bytes and slots are free follows from what is held.
+pub fn held_tells_free()
+    ensures { HeldTellsFree }
+{}
+
+/// The free slots are those that name nothing.
+pub fn slots_are_names()
+    ensures { SlotsAreNames }
 {}

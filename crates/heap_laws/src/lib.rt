@@ -24,8 +24,11 @@
 //! | `Owning` | all chunks of an owner made free |
 //! | `Packings` | what packing leaves: it is packed, and one list alone |
 //! | `Sliding` | chunks that slide: what names stand for, which stay, and the rooms are as they were |
+//! | `Numbering` | the number of the stretch that a chunk is in, in lists of one layout, and where chunks slide |
 //! | `Compacting` | the same of an image; and which of its chunks have moved, and how much |
+//! | `Holding` | how much is free, by what is held |
 //! | `Stretches` | one stretch of an image: the one around a chunk, and its room among the others |
+//! | `Lowering` | a chunk that is made lowers one room, and no other changes its stretch |
 //! | `Resizings`, `Relocating` | a chunk that takes another length, in its place or elsewhere: what its name stands for then |
 //! | `Openness` | what contracts over layouts leave open, by bodies that split and join otherwise |
 //!
@@ -35,8 +38,8 @@
 mod laws;
 
 pub use laws::{
-    acceptance_is_decided, chunks_are_read, holds_one_map, layout_tells, need_is_whole,
-    own_room_counts, packed_once, packing_is_packed, packing_joins_rooms, packing_moves,
-    sliding_keeps, slots_are_listed, tied_one_to_one, tiled_once, tiles_are_read,
-    zero_names_nothing,
+    acceptance_is_decided, chunks_are_read, held_tells_free, holds_one_map, layout_tells,
+    need_is_whole, own_room_counts, packed_once, packing_is_packed, packing_joins_rooms,
+    packing_moves, sliding_keeps, slots_are_listed, slots_are_names, tied_one_to_one, tiled_once,
+    tiles_are_read, zero_names_nothing,
 };

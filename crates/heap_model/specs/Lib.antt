@@ -26,5 +26,5 @@ pub mod Numbers
 pub mod Refusals
 pub mod Steps
 pub mod MemorySteps
-pub mod Calls
+pub mod StoreSteps
 pub mod Counted

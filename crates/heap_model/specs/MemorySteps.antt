@@ -54,6 +54,14 @@ unknown map name = (map name ≡ None) brings InvalidHandle
 abbrev pub where_it : ChunkMap → ℕ → (LiveChunk → Type 0) → Refusal → Check
 where_it map name P refusal = Of (map name) P brings refusal
 
+-- Whether a name's chunk can have so many bytes: it may not move where it is locked, and else there has
+-- to be room for it.
+abbrev pub growth_checks : List ℕ → ChunkMap → ℕ → ℕ → List Check
+growth_checks image map name size =
+    where_it map name (λ live. IsLocked live × (need (length live.bytes) + free_behind image name < need size)) ChunkLocked
+    ∷ where_it map name (λ live. (live.lock ≡ 0) × (need (length live.bytes) < need size) × ShortFor image name (need size)) NotEnoughSpace
+    ∷ []
+
 -- The row of a call on a region, of whose chunks callers may name those of this map. Refusals and
 -- answers ask of what callers may name; the effect is on all that the region holds.
 abbrev pub row : Memory → ChunkMap → MemoryCall → Row ChunkMap
@@ -169,9 +177,7 @@ row old map (Resize name size) = record {
       unknown map name.0
       ∷ where_it map name.0 (λ live. live.owner ≡ 15) OwnedByDatabase
       ∷ where_it map name.0 (λ live. live.lock ≡ fixed_lock) ChunkFixed
-      ∷ where_it map name.0 (λ live. IsLocked live × (need (length live.bytes) + free_behind old.bytes name.0 < need size)) ChunkLocked
-      ∷ where_it map name.0 (λ live. (live.lock ≡ 0) × (need (length live.bytes) < need size) × ShortFor old.bytes name.0 (need size)) NotEnoughSpace
-      ∷ [];
+      ∷ growth_checks old.bytes map name.0 size;
   answers = done;
   effect = becomes (λ all. sized all name.0 size);
 }

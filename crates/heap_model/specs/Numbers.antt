@@ -1,7 +1,7 @@
 -- The numbers and the names of refusals.
 use Rattle.std.specs.Prelude.{ℕ, List, codes}
 use Rattle.heap_model.specs.declared.refusal.Refusal.{Refusal}
-use Rattle.heap_model.specs.declared.refusal.Refusal.TheVariants.{InvalidHandle, OwnedByDatabase, ChunkLocked, ChunkNotLocked, LockOverflow, ChunkFixed, InvalidOwner, NotEnoughSpace, OutOfBounds, OutOfMemory}
+use Rattle.heap_model.specs.declared.refusal.Refusal.TheVariants.{InvalidHandle, OwnedByDatabase, ChunkLocked, ChunkNotLocked, LockOverflow, ChunkFixed, InvalidOwner, NotEnoughSpace, OutOfBounds, NoSuchDatabase, TooManyEntries, AlreadyExists, InvalidName, OutOfMemory}
 
 abbrev pub number_of : Refusal → ℕ
 number_of InvalidHandle = 1
@@ -13,6 +13,10 @@ number_of ChunkFixed = 6
 number_of InvalidOwner = 7
 number_of NotEnoughSpace = 8
 number_of OutOfBounds = 9
+number_of NoSuchDatabase = 10
+number_of TooManyEntries = 17
+number_of AlreadyExists = 21
+number_of InvalidName = 22
 number_of OutOfMemory = 26
 
 abbrev pub name_of : Refusal → List ℕ
@@ -25,4 +29,8 @@ name_of ChunkFixed = codes "ChunkFixed"
 name_of InvalidOwner = codes "InvalidOwner"
 name_of NotEnoughSpace = codes "NotEnoughSpace"
 name_of OutOfBounds = codes "OutOfBounds"
+name_of NoSuchDatabase = codes "NoSuchDatabase"
+name_of TooManyEntries = codes "TooManyEntries"
+name_of AlreadyExists = codes "AlreadyExists"
+name_of InvalidName = codes "InvalidName"
 name_of OutOfMemory = codes "OutOfMemory"

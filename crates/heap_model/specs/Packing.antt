@@ -1,7 +1,7 @@
 -- Compaction: the chunks of each stretch slide to its front, so that its room is one free chunk behind
 -- them; and what is said of one stretch whose chunks slide.
 use Rattle.std.specs.Prelude.{◌≡◌, ◌+◌, ◌++◌, ◌==◌, if◌then◌else◌, IsTrue, ℕ, zero, suc, List, [], ◌∷◌, length, All}
-use Rattle.heap_model.specs.Chunk.{Chunk, free, movable, fixed, need, size_of, total}
+use Rattle.heap_model.specs.Chunk.{Chunk, free, movable, fixed, need, total}
 use Rattle.heap_model.specs.Slots.{area_start}
 use Rattle.heap_model.specs.Reading.{chunks_of}
 use Rattle.heap_model.specs.Space.{stays, NoneStays, stretches, room_of}

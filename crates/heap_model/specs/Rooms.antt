@@ -45,6 +45,10 @@ pub data Part : Type 0 where
   makes : ℕ → Part
   grows : ℕ → ℕ → ℕ → Part
 
+-- a chunk of so many bytes is made
+abbrev pub making : ℕ → Part
+making count = makes (need count)
+
 -- the growth of a name's chunk to so many bytes
 abbrev pub growth : List ℕ → ℕ → ℕ → Part
 growth image name count = grows (stretch_of image name) (need (length (bytes_under image name))) (need count)
@@ -60,7 +64,8 @@ rooms_for left (makes size) = left
 rooms_for left (grows stretch before size) = slice_set left stretch (slice_index left stretch + before)
 
 -- Some choice of stretches leaves a part that has no room: no room reaches what the first part takes;
--- or one does, and the other parts can run out of room once it is lowered by that.
+-- or one does, and the other parts can run out of room once it is lowered by that. Without parts there is
+-- none to run out of room.
 abbrev pub Stuck : List ℕ → List Part → Type 0
 Stuck left [] = ⊥
 Stuck left (part ∷ parts) =

@@ -1,5 +1,5 @@
 -- The unique IDs that new records get, which is this project's own rule.
-use Rattle.std.specs.Prelude.{◌≡◌, ◌<◌, ◌+◌, nat_lt, if◌then◌else◌, ℕ, zero, suc, List}
+use Rattle.std.specs.Prelude.{◌≡◌, ◌+◌, ◌*◌, ◌/◌, ◌%◌, ◌^◌, nat_lt, if◌then◌else◌, ℕ, zero, suc, List}
 use Rattle.heap_model.specs.Lists.{times, Least}
 
 -- the greatest unique ID; the least is 1
@@ -20,3 +20,11 @@ pub record IsFresh (ids : List ℕ) (seed id : ℕ) : Type 0 where
   pub behind : ℕ
   pub first : Least (λ count. times (id_behind seed count) ids ≡ 0) behind
   pub is : id ≡ id_behind seed behind
+
+-- the low 24 bits of the field of a seed, which is the seed that new IDs are counted from
+abbrev pub seed_in : ℕ → ℕ
+seed_in field = field % 2 ^ 24
+
+-- the field with another seed in its low 24 bits: the upper 8 stay
+abbrev pub with_seed : ℕ → ℕ → ℕ
+with_seed field seed = 2 ^ 24 * (field / 2 ^ 24) + seed

@@ -1,7 +1,8 @@
 //! Calls of the managers, and what they answer.
 
 use crate::bytes::Bytes;
-use crate::names::{Name, Place};
+use crate::database::{DbInfo, DbName};
+use crate::names::{Db, Name, Place};
 use crate::refusal::Refusal;
 
 /// A call of the memory manager (Palm OS Programmer's API Reference, "Memory Manager"). Sizes and
@@ -58,10 +59,34 @@ pub enum MemoryCall {
     Compact,
 }
 
+/// A call on the databases of a store (Palm OS Programmer's API Reference, "Data Manager").
+#[derive(Drop, Debug, PartialEq, Eq)]
+pub enum DatabaseCall {
+    Create {
+        name: DbName,
+        /// The type, its four bytes as a number.
+        kind: u32,
+        creator: u32,
+        /// The entries are resources, and else records.
+        resources: bool,
+        date: u32,
+    },
+    Delete(Db),
+    Find(DbName),
+    /// The database of an index, in the order in which they were made.
+    Nth(u32),
+    Count,
+    Info(Db),
+    /// Of what is given the modification number, the seed and the number of entries are passed over, and
+    /// the attribute that says whether there are resources.
+    SetInfo(Db, DbInfo),
+}
+
 /// A call of any manager.
 #[derive(Drop, Debug, PartialEq, Eq)]
 pub enum Call {
     Memory(MemoryCall),
+    Database(DatabaseCall),
 }
 
 /// What a call answers: a refusal, or a value of its own.
@@ -73,4 +98,6 @@ pub enum Reply {
     Named(Name),
     Locked { place: Place, count: u8 },
     Data(Bytes),
+    Database(Db),
+    Info(DbInfo),
 }

@@ -31,7 +31,7 @@
 //! | `Refusals` | checks in order, and the refusal that the first one brings |
 //! | `Steps` | what a row says of a call, and the step that it makes, whatever the call acts on |
 //! | `MemorySteps` | the row of each call of the memory manager: what it refuses, answers and does |
-//! | `Calls` | the step of a call, whichever manager it is of |
+//! | `StoreSteps` | the row of each call on a store with databases, the memory manager's calls among them |
 //! | `Counted` | what contracts see of a writer whose faults are counted |
 //!
 //! Offsets count bytes from the image's start, and numbers are big-endian. The fields of a chunk's
@@ -44,14 +44,16 @@ mod allowance;
 mod bytes;
 mod call;
 mod counted;
+mod database;
 mod names;
 mod refusal;
 mod tally;
 
 pub use allowance::Allowance;
 pub use bytes::Bytes;
-pub use call::{Call, MemoryCall, Reply};
+pub use call::{Call, DatabaseCall, MemoryCall, Reply};
 pub use counted::Counted;
-pub use names::{Name, Place};
+pub use database::{DbInfo, DbName};
+pub use names::{Db, Name, Place};
 pub use refusal::Refusal;
 pub use tally::Tally;

@@ -1,4 +1,4 @@
-//! Offsets by which callers speak of chunks.
+//! Offsets by which callers speak of chunks and databases.
 
 /// The name of a live chunk: of a movable one the offset of its slot, its handle, and of a fixed one
 /// the offset of its body, both in bytes from the image's start. `Name(0)` names nothing.
@@ -8,3 +8,8 @@ pub struct Name(pub u32);
 /// The offset of a chunk's body, in bytes from the image's start: 8 bytes behind its header.
 #[derive(Clone, Copy, Debug, PartialEq, Eq)]
 pub struct Place(pub u32);
+
+/// The number of a database: the offset of the slot of its header, in bytes from the image's start. It
+/// is the database's as long as that lives. `Db(0)` is no database's.
+#[derive(Clone, Copy, Debug, PartialEq, Eq)]
+pub struct Db(pub u32);

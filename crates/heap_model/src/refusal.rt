@@ -36,6 +36,18 @@ pub enum Refusal {
     /// The range reaches beyond the chunk's end.
     #[error("OutOfBounds")]
     OutOfBounds,
+    /// No database has this number, this name or this index.
+    #[error("NoSuchDatabase")]
+    NoSuchDatabase,
+    /// There are as many databases as there may be.
+    #[error("TooManyEntries")]
+    TooManyEntries,
+    /// Another database has the name.
+    #[error("AlreadyExists")]
+    AlreadyExists,
+    /// The name of a database has 1 to 31 bytes, none of them zero.
+    #[error("InvalidName")]
+    InvalidName,
     /// Memory for the answer was refused.
     #[error("OutOfMemory")]
     OutOfMemory,
@@ -71,6 +83,10 @@ impl Refusal {
             Refusal::InvalidOwner => (7, "InvalidOwner"),
             Refusal::NotEnoughSpace => (8, "NotEnoughSpace"),
             Refusal::OutOfBounds => (9, "OutOfBounds"),
+            Refusal::NoSuchDatabase => (10, "NoSuchDatabase"),
+            Refusal::TooManyEntries => (17, "TooManyEntries"),
+            Refusal::AlreadyExists => (21, "AlreadyExists"),
+            Refusal::InvalidName => (22, "InvalidName"),
             Refusal::OutOfMemory => (26, "OutOfMemory"),
         }
     }

@@ -1,7 +1,8 @@
 -- A live chunk of an accepted heap gets another lock count, another owner or other bytes.
-use Rattle.std.proofs.Common.{◌≡◌, ℕ, zero, suc, ◌+◌, ◌-◌, ◌<◌, ◌≤◌, List, [], ◌∷◌, ◌++◌, length, replicate, refl, sym, ap, subst, ◌∙◌, arith, inl, inr, length-append}
-use Rattle.std.specs.Prelude.{◌⊎◌}
+use Rattle.std.proofs.Common.{◌≡◌, ℕ, zero, suc, ◌+◌, ◌-◌, ◌<◌, ◌≤◌, List, [], ◌∷◌, ◌++◌, length, replicate, refl, sym, ap, subst, ◌∙◌, arith, inl, inr, length-append, length-take, length-drop}
+use Rattle.std.specs.Prelude.{◌⊎◌, slice_range}
 use Rattle.std.proofs.lemmas.List.{length-replicate}
+use Rattle.heap_model.specs.Memory.{Memory}
 use Rattle.heap_model.specs.Bytes.{u32_bytes, overwritten}
 use Rattle.heap_model.specs.Chunk.{Chunk, free, movable, fixed, fixed_lock, Spelled}
 use Rattle.heap_model.specs.Heap.{HeapAccepted}
@@ -16,7 +17,7 @@ use Rattle.heap_laws.proofs.Changing.{named_live_chunk}
 use Rattle.heap_laws.proofs.Altering.{body_written, movable_relabelled, fixed_relabelled}
 use Rattle.chunk_format.specs.Header.{Relocks, Reowns}
 use Rattle.heap_place.specs.declared.found.Found.{Found}
-use Rattle.heap_place.specs.Found.{IsOne, CanGoTo}
+use Rattle.heap_place.specs.Found.{IsOne, CanGoTo, SlidesWithin}
 use Rattle.heap_place.proofs.FoundLaws.{Fields, fields_of, bytes_inside}
 
 -- the second word was written
@@ -82,6 +83,14 @@ written_there old new found at part h f within is =
     let place : ℕ = found.place.0 - 8 in
     let done = body_written old new found.name.0 place at f.live f.chunk part h f.finds (omega arith) (is ∙ ap (λ (n : ℕ). overwritten old (n + at) part) (sym there)) in
     (changed_there old new found (with_bytes at part) h f done.0, done.1)
+
+pub slid_there : (old region : Memory) (new : List ℕ) (found : Found) (from to count : ℕ) → region ≡ old → HeapAccepted old.bytes → IsOne old.bytes found → from + count ≤ found.length → to + count ≤ found.length
+    → new ≡ overwritten region.bytes (found.place.0 + to) (slice_range region.bytes (found.place.0 + from) (found.place.0 + from + count)) → SlidesWithin old.bytes new found from to count
+slid_there old region new found from to count same h f in_from in_to is =
+    let inside = bytes_inside old.bytes found h f in
+    let many : length (slice_range old.bytes (found.place.0 + from) (found.place.0 + from + count)) ≡ count = simp (length-take, length-drop) (omega arith) in
+    (written_there old.bytes new found to (slice_range old.bytes (found.place.0 + from) (found.place.0 + from + count)) h f (omega arith)
+    (is ∙ ap (λ (m : Memory). overwritten m.bytes (found.place.0 + to) (slice_range m.bytes (found.place.0 + from) (found.place.0 + from + count))) same)).0
 
 pub filled_there : (old new : List ℕ) (found : Found) (at count byte : ℕ) → HeapAccepted old → IsOne old found → at + count ≤ found.length → new ≡ overwritten old (found.place.0 + at) (replicate count byte) → Alters old new (found.place.0 - 8) (with_bytes at (replicate count byte))
 filled_there old new found at count byte h f within is =

@@ -89,8 +89,11 @@ found_inside image found h f =
     omega arith
 
 -- what its name stands for
+pub name_held : (image : List ℕ) (name : ℕ) (found : Found) → HeapAccepted image → (f : IsFound image name found) → held image name ≡ Some f.live
+name_held image name found h f = finds_held image name f.live f.chunk (found.place.0 - 8) h f.finds
+
 pub one_held : (image : List ℕ) (found : Found) → HeapAccepted image → (f : IsOne image found) → held image found.name.0 ≡ Some f.live
-one_held image found h f = finds_held image found.name.0 f.live f.chunk (found.place.0 - 8) h f.finds
+one_held image found h f = name_held image found.name.0 found h f
 
 -- where it isn't fixed it is movable
 pub when_movable : (image : List ℕ) (name : ℕ) (found : Found) (f : IsFound image name found) (P : (c : Chunk) → Finds image name f.live c (found.place.0 - 8) → Type 0) → found.lock ≢ fixed_lock

@@ -23,3 +23,4 @@ pub mod RunLaws
 pub mod LargestLaws
 pub mod RelocateLaws
 pub mod SummingLaws
+pub mod DirectoryLaws

@@ -21,9 +21,6 @@ mid_spelled image before mid after stretch h s =
     let m = middle_of image before mid after stretch.start (heap_in_parts image _ h s.whole.chunks) s.from in
     (m.spelled, m.inside)
 
-pub summed_start : (image : List ℕ) (stretch : Stretch) → SumsUpTo image stretch stretch.start 0
-summed_start image stretch before mid after s = record { front = []; rest = mid; parts = refl; there = (let e : stretch.start ≡ stretch.start + 0 = omega arith in e); sums = refl }
-
 -- what stands where the walk has come
 record Next (image : List ℕ) (mid : List Chunk) (start at room : ℕ) : Type 0 where
   summed : Summed mid start at room

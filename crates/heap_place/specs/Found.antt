@@ -1,5 +1,5 @@
 -- A live chunk, as it is found.
-use Rattle.std.specs.Prelude.{◌≡◌, ◌<◌, ◌≤◌, ◌-◌, ◌==◌, if◌then◌else◌, ℕ, List, length, Option, Some, None}
+use Rattle.std.specs.Prelude.{◌≡◌, ◌<◌, ◌≤◌, ◌+◌, ◌-◌, ◌==◌, if◌then◌else◌, ℕ, List, length, slice_range, Option, Some, None}
 use Rattle.heap_model.specs.Chunk.{Chunk, fixed_lock}
 use Rattle.heap_model.specs.Heap.{directory_of}
 use Rattle.heap_model.specs.Placed.{EveryPlaced}
@@ -7,6 +7,7 @@ use Rattle.heap_model.specs.Slots.{area_start}
 use Rattle.heap_model.specs.Meaning.{LiveChunk}
 use Rattle.heap_model.specs.Space.{place_of}
 use Rattle.heap_model.specs.Placing.{Finds, NotFixedAs}
+use Rattle.heap_model.specs.Layout.{Alters, with_bytes}
 use Rattle.heap_model.specs.declared.names.Name.{Name}
 use Rattle.heap_model.specs.declared.names.Place.{Place}
 use Rattle.master_table.specs.Table.{HoldsPlace}
@@ -40,6 +41,10 @@ pub record CanGoTo (image : List ℕ) (found : Found) (owner : ℕ) : Type 0 whe
   pub locked : 0 < found.lock → 0 < owner
   pub fixed : found.lock ≡ fixed_lock → owner < 15
   pub directory : found.name.0 ≡ directory_of image → owner ≡ 0
+
+-- some bytes of the body of a found chunk stand at another offset within it too, as they were before
+abbrev pub SlidesWithin : List ℕ → List ℕ → Found → ℕ → ℕ → ℕ → Type 0
+SlidesWithin old new found from to count = Alters old new (found.place.0 - 8) (with_bytes to (slice_range old (found.place.0 + from) (found.place.0 + from + count)))
 
 -- what a header says of the movable chunk whose body is at a place
 abbrev pub movable_by : Header → Place → Option Found

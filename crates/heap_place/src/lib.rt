@@ -24,10 +24,12 @@
 //! | `lift` | moves chunks up over the free chunk behind them |
 //! | `open` | opens room behind a chunk |
 //! | `relocate` | moves a chunk to room elsewhere |
+//! | `directory` | reads and writes the directory word |
 #![tactic(auto)]
 
 mod alter;
 mod claim;
+mod directory;
 mod found;
 mod lift;
 mod lookup;

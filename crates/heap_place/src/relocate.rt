@@ -11,6 +11,7 @@ ghost use Rattle.heap_place.specs.Found.{IsOne};
 ghost use Rattle.heap_place.specs.Relocation.{stand_in, KeepsFound, Copies, with_name, RelocatesFound};
 
 use crate::claim::claim_fixed;
+use crate::directory::{directory_name, name_directory};
 use crate::found::Found;
 use crate::release::release;
 use crate::room::Room;
@@ -22,9 +23,46 @@ use raw_region::Region;
 const STAND_IN_OWNER: u8 = 1;
 
 /// Moves a movable chunk without locks to the front of room, and gives it `count` bytes there: its first
-/// ones, or all of them and zeros behind. A fixed chunk stands in for it there until it is free, so
-/// that each step leaves an accepted heap.
+/// ones, or all of them and zeros behind. It may be the directory.
 pub(crate) fn relocate(region: &mut Region, found: Found, room: Room, count: u32)
+    requires accepted { HeapAccepted region.old.bytes }
+    requires found { IsOne region.old.bytes found }
+    requires unlocked { found.lock ≡ 0 }
+    requires room { IsRoom region.old.bytes room.at room.size }
+    requires enough { need count ≤ room.size }
+    ensures moved { RelocatesFound region.old.bytes region.new.bytes found room.at count }
+    ensures frame { SameFrame region.old.bytes region.new.bytes }
+    ensures plain { WritesPlain region.old.bytes region.new.bytes }
+    ensures slid { region.new.slid ≡ region.old.slid + min found.length count }
+{
+    if directory_name(region) == found.name {
+        relocate_directory(region, found, room, count);
+    } else {
+        relocate_other(region, found, room, count);
+    }
+}
+
+/// Moves the directory. While it moves the image has none, so that each step leaves an accepted heap.
+fn relocate_directory(region: &mut Region, found: Found, room: Room, count: u32)
+    requires accepted { HeapAccepted region.old.bytes }
+    requires found { IsOne region.old.bytes found }
+    requires unlocked { found.lock ≡ 0 }
+    requires directory { found.name.0 ≡ directory_of region.old.bytes }
+    requires room { IsRoom region.old.bytes room.at room.size }
+    requires enough { need count ≤ room.size }
+    ensures moved { RelocatesFound region.old.bytes region.new.bytes found room.at count }
+    ensures frame { SameFrame region.old.bytes region.new.bytes }
+    ensures plain { WritesPlain region.old.bytes region.new.bytes }
+    ensures slid { region.new.slid ≡ region.old.slid + min found.length count }
+{
+    name_directory(region, Name(0));
+    relocate_other(region, found, room, count);
+    name_directory(region, found.name);
+}
+
+/// Moves a chunk that isn't the directory. A fixed chunk stands in for it there until it is free, so that
+/// each step leaves an accepted heap.
+fn relocate_other(region: &mut Region, found: Found, room: Room, count: u32)
     requires accepted { HeapAccepted region.old.bytes }
     requires found { IsOne region.old.bytes found }
     requires unlocked { found.lock ≡ 0 }

@@ -11,14 +11,17 @@ ghost use Rattle.heap_model.specs.Space.{NoRun, Short, free_total, moved_bytes, 
 ghost use Rattle.heap_model.specs.Packing.{packed, OpensBehind};
 ghost use Rattle.heap_model.specs.Resizing.{Shrinks, GrowsInPlace};
 ghost use Rattle.heap_model.specs.Placing.{SameFrame};
+ghost use Rattle.heap_model.specs.Store.{managers_owner, owner_under};
+ghost use Rattle.heap_model.specs.Leaving.{NamesDirectory};
 ghost use Rattle.heap_model.specs.Layout.{Becomes, layout_of, owned_freed, Exchanges, Alters, in_front, freed, with_lock, with_owner, with_bytes, FreeUpTo, IsRoom, WritesPlain};
-ghost use Rattle.heap_place.specs.Found.{IsFound, IsOne, NothingAt, CanGoTo};
+ghost use Rattle.heap_place.specs.Found.{IsFound, IsOne, NothingAt, CanGoTo, SlidesWithin};
 ghost use Rattle.heap_place.specs.Resizes.{TellsWhetherInPlace};
 ghost use Rattle.heap_place.specs.Relocation.{RelocatesFound};
 ghost use Rattle.heap_place.specs.Stretches.{IsStretch, IsAmong, HasRoom, HasRoomOf, PacksStretch, RoomAtEnd, SlidesStretch};
 
 use crate::alter::{relock_at, reown_at};
 use crate::claim::{claim_fixed, claim_movable, cut};
+use crate::directory::{directory_name, name_directory};
 use crate::found::Found;
 use crate::lookup::{find_named, find_placed};
 use crate::open::open_in;
@@ -93,6 +96,25 @@ impl Space {
         ensures none { IfNone result (NothingAt self.now.bytes place.0) }
     {
         find_placed(&self.region, place)
+    }
+
+    /// The name of the directory's chunk, or `Name(0)` where there is none.
+    pub fn directory(&self) -> Name
+        requires accepted { HeapAccepted self.now.bytes }
+        ensures { result.0 ≡ directory_of self.now.bytes }
+    {
+        directory_name(&self.region)
+    }
+
+    /// Makes a chunk of the manager's the directory, or no chunk, where the name is 0.
+    pub fn set_directory(&mut self, name: Name)
+        requires accepted { HeapAccepted self.old.bytes }
+        requires managers { (name.0 ≡ 0) ⊎ (owner_under self.old.bytes name.0 ≡ managers_owner) }
+        ensures names { NamesDirectory self.old.bytes self.new.bytes name.0 }
+        ensures plain { WritesPlain self.old.bytes self.new.bytes }
+        ensures rest { self.new ≡ record self.old { bytes = self.new.bytes } }
+    {
+        name_directory(&mut self.region, name);
     }
 
     /// The sizes of the free chunks together, in bytes.
@@ -243,6 +265,21 @@ impl Space {
             .fill(found.place.0 as usize + at as usize, count as usize, byte);
     }
 
+    /// Copies `count` bytes of a live chunk from `from` within its body to `to` within it, as they were
+    /// before, also where the two parts overlap.
+    pub fn slide_within(&mut self, found: Found, from: u32, to: u32, count: u32)
+        requires accepted { HeapAccepted self.old.bytes }
+        requires found { IsOne self.old.bytes found }
+        requires from_within { from + count ≤ found.length }
+        requires to_within { to + count ≤ found.length }
+        ensures made { SlidesWithin self.old.bytes self.new.bytes found from to count }
+        ensures rest { self.new ≡ record self.old { bytes = self.new.bytes; slid = self.old.slid + count } }
+    {
+        let body = found.place.0 as usize;
+        self.region
+            .slide(body + from as usize, body + to as usize, count as usize);
+    }
+
     /// Gives a live chunk `count` bytes where it stands, where they fit into what it takes. Bytes that it
     /// gains within its slack are zero, and what it takes no more is free. Nothing moves.
     pub fn shrink(&mut self, found: Found, count: u32)
@@ -345,12 +382,11 @@ impl Space {
     }
 
     /// Moves a movable chunk without locks to the front of room, and gives it `count` bytes there: its
-    /// first ones, or all of them and zeros behind. No other chunk moves. The directory is not moved.
+    /// first ones, or all of them and zeros behind. No other chunk moves.
     pub fn relocate(&mut self, found: Found, room: Room, count: u32)
         requires accepted { HeapAccepted self.old.bytes }
         requires found { IsOne self.old.bytes found }
         requires unlocked { found.lock ≡ 0 }
-        requires no_directory { found.name.0 ≢ directory_of self.old.bytes }
         requires room { IsRoom self.old.bytes room.at room.size }
         requires enough { need count ≤ room.size }
         ensures moved { RelocatesFound self.old.bytes self.new.bytes found room.at count }

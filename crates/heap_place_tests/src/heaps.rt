@@ -147,10 +147,10 @@ impl CheckedSpace {
     }
 
     /// Moves the movable chunk of a name, which has no locks, to the first room that has `count` bytes. None
-    /// where there is no such chunk or no such room, and for the directory.
+    /// where there is no such chunk or no such room.
     pub(crate) fn relocate(&mut self, name: Name, count: u32) -> Option<()> {
         let found = self.space.find(name)?;
-        if found.lock > 0 || found.name.0 == directory(self.space.region()) {
+        if found.lock > 0 {
             return None;
         }
         let room = self.space.place(chunk_size(count)?)?;

@@ -252,6 +252,16 @@ fn a_chunk_goes_to_room_elsewhere(rt: HostRuntime) -> Result<(), Fail> {
     Ok(())
 }
 
+/// So has the directory, which stays it.
+#[test]
+fn the_directory_goes_to_room_elsewhere(rt: HostRuntime) -> Result<(), Fail> {
+    let [(_, count, after), ..] = RELOCATIONS;
+    let before = (IN_FRONT, "12: 00000010, 36: 00FFFFF8");
+    let after = (after, "12: 00000010, 36: 00FFFFF8, 76: 00FFFFE4");
+    assert_eq!(rt; relocated(rt.alloc(), before, count, after)?, (true, true));
+    Ok(())
+}
+
 /// What is changed in the image, and how many bytes the chunk would get.
 const WITHOUT_ROOM: [(&str, u32); 2] = [("", 49), ("36: 11FFFFF8", 12)];
 

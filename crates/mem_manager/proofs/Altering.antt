@@ -16,10 +16,11 @@ use Rattle.heap_model.specs.declared.call.MemoryCall.TheVariants.{Lock, Unlock, 
 use Rattle.heap_model.specs.declared.call.Reply.TheVariants.{Refused, Done, Number, Locked, Data}
 use Rattle.heap_model.specs.declared.refusal.Refusal.TheVariants.{OwnedByDatabase, ChunkNotLocked, LockOverflow, ChunkFixed, InvalidOwner, OutOfBounds}
 use Rattle.heap_laws.proofs.Frames.{slice-of_slice}
-use Rattle.heap_laws.proofs.Finding.{finds_held, finds_spelled}
+use Rattle.heap_laws.proofs.Finding.{finds_spelled}
 use Rattle.heap_laws.proofs.Exchanging.{ChangesName}
 use Rattle.heap_laws.proofs.Changing.{lock_changes, owner_changes, bytes_changes}
 use Rattle.heap_laws.proofs.Owning.{not_directory}
+use Rattle.heap_place.proofs.FoundLaws.{name_held}
 use Rattle.heap_place.specs.declared.found.Found.{Found}
 use Rattle.heap_place.specs.Found.{IsFound, CanGoTo}
 use Rattle.mem_manager.proofs.Stepping.{OnlyBytes, known, of_known, not_of_known, is_known, unchanged, refused, altered}
@@ -71,7 +72,7 @@ write_changes old new name found at bytes h f within x = let n = f.count in byte
 pub not_the_directory : (image : List ℕ) (name : ℕ) (found : Found) → HeapAccepted image → IsFound image name found → 1 ≤ found.owner → found.name.0 ≢ directory_of image
 not_the_directory image name found h f positive at_directory =
     let own = f.owner_is in
-    not_directory image name f.live h (finds_held image name f.live f.chunk (found.place.0 - 8) h f.finds) (λ none. let z : f.live.owner ≡ 0 = none in omega arith) (sym f.name_is ∙ at_directory)
+    not_directory image name f.live h (name_held image name found h f) (λ none. let z : f.live.owner ≡ 0 = none in omega arith) (sym f.name_is ∙ at_directory)
 
 -- a caller's chunk may go to a caller
 pub can_go_to : (image : List ℕ) (name : ℕ) (found : Found) (owner : ℕ) → HeapAccepted image → IsFound image name found → 1 ≤ found.owner → (IsNoCaller owner → ⊥) → CanGoTo image found owner
@@ -100,10 +101,10 @@ locked old new name found count h f positive loose few is ch rest =
       before = h;
       step = (
         (is_known k, (not_of_known (λ live. live.lock ≡ fixed_lock) k (λ e. loose (l ∙ e)), (not_of_known (λ live. live.lock ≡ 14) k (λ e. few (l ∙ e)), tt))),
-        ((of_known (λ live. count ≡ live.lock + 1) k count_is, ch.place), a.map),
+        ((of_known (λ live. count ≡ live.lock + 1) k count_is, ch.place), a.leaves.map),
       );
-      frame = a.frame;
-      still = a.still;
+      frame = a.leaves.frame;
+      still = a.leaves.still;
       asks = tt;
       rest = a.rest;
     }
@@ -119,10 +120,10 @@ unlocked old new name found count h f positive loose some is ch rest =
       before = h;
       step = (
         (is_known k, (not_of_known (λ live. live.lock ≡ fixed_lock) k (λ e. loose (l ∙ e)), (not_of_known (λ live. live.lock ≡ 0) k (λ e. some (l ∙ e)), tt))),
-        (of_known (λ live. count ≡ live.lock - 1) k count_is, a.map),
+        (of_known (λ live. count ≡ live.lock - 1) k count_is, a.leaves.map),
       );
-      frame = a.frame;
-      still = a.still;
+      frame = a.leaves.frame;
+      still = a.leaves.still;
       asks = tt;
       rest = a.rest;
     }
@@ -138,13 +139,13 @@ pub wrote : (old new : Memory) (name : Name) (found : Found) (at : ℕ) (bytes :
     → ChangesName old.bytes new.bytes name.0 (Some (record f.live { bytes = overwritten f.live.bytes at bytes })) (Some found.place.0) → OnlyBytes old new → Does old (Write name at bytes) Done new
 wrote old new name found at bytes h f positive some inside ch rest =
     let a = altered old new name.0 found (λ live. record live { bytes = overwritten live.bytes at bytes }) h f ch rest in
-    record { before = h; step = (may_write old.bytes name found at (length bytes) h f positive some inside, (tt, a.map)); frame = a.frame; still = a.still; asks = tt; rest = a.rest }
+    record { before = h; step = (may_write old.bytes name found at (length bytes) h f positive some inside, (tt, a.leaves.map)); frame = a.leaves.frame; still = a.leaves.still; asks = tt; rest = a.rest }
 
 pub filled : (old new : Memory) (name : Name) (found : Found) (at count byte : ℕ) → HeapAccepted old.bytes → (f : IsFound old.bytes name.0 found) → 1 ≤ found.owner → found.lock ≢ 0 → (found.length < at + count → ⊥)
     → ChangesName old.bytes new.bytes name.0 (Some (record f.live { bytes = overwritten f.live.bytes at (replicate count byte) })) (Some found.place.0) → OnlyBytes old new → Does old (Set name at count byte) Done new
 filled old new name found at count byte h f positive some inside ch rest =
     let a = altered old new name.0 found (λ live. record live { bytes = overwritten live.bytes at (replicate count byte) }) h f ch rest in
-    record { before = h; step = (may_write old.bytes name found at count h f positive some inside, (tt, a.map)); frame = a.frame; still = a.still; asks = tt; rest = a.rest }
+    record { before = h; step = (may_write old.bytes name found at count h f positive some inside, (tt, a.leaves.map)); frame = a.leaves.frame; still = a.leaves.still; asks = tt; rest = a.rest }
 
 pub text_copied : (old new : Memory) (name : Name) (found : Found) (at : ℕ) (text bytes : List ℕ) → HeapAccepted old.bytes → (f : IsFound old.bytes name.0 found) → 1 ≤ found.owner → found.lock ≢ 0 → bytes ≡ text_of text → (found.length < at + length bytes → ⊥)
     → ChangesName old.bytes new.bytes name.0 (Some (record f.live { bytes = overwritten f.live.bytes at bytes })) (Some found.place.0) → OnlyBytes old new → Does old (StrCopy name at text) Done new
@@ -152,9 +153,9 @@ text_copied old new name found at text bytes h f positive some is inside ch rest
     let a = altered old new name.0 found (λ live. record live { bytes = overwritten live.bytes at (text_of text) }) h f (subst (λ (b : List ℕ). ChangesName old.bytes new.bytes name.0 (Some (record f.live { bytes = overwritten f.live.bytes at b })) (Some found.place.0)) is ch) rest in
     record {
       before = h;
-      step = (may_write old.bytes name found at (length (text_of text)) h f positive some (subst (λ (b : List ℕ). found.length < at + length b → ⊥) is inside), (tt, a.map));
-      frame = a.frame;
-      still = a.still;
+      step = (may_write old.bytes name found at (length (text_of text)) h f positive some (subst (λ (b : List ℕ). found.length < at + length b → ⊥) is inside), (tt, a.leaves.map));
+      frame = a.leaves.frame;
+      still = a.leaves.still;
       asks = tt;
       rest = a.rest;
     }
@@ -166,9 +167,9 @@ reowned_done old new name found owner h f positive other caller ch rest =
     let a = altered old new name.0 found (λ live. record live { owner = owner }) h f ch rest in
     record {
       before = h;
-      step = ((is_known k, (not_of_known (λ live. live.owner ≡ 15) k (λ e. other (f.owner_is ∙ e)), (caller, tt))), (tt, a.map));
-      frame = a.frame;
-      still = a.still;
+      step = ((is_known k, (not_of_known (λ live. live.owner ≡ 15) k (λ e. other (f.owner_is ∙ e)), (caller, tt))), (tt, a.leaves.map));
+      frame = a.leaves.frame;
+      still = a.leaves.still;
       asks = tt;
       rest = a.rest;
     }

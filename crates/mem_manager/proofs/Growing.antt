@@ -1,8 +1,8 @@
 -- The step of a chunk that takes another length.
-use Rattle.std.proofs.Common.{◌≡◌, ◌≢◌, ℕ, ◌+◌, ◌-◌, ◌<◌, ◌≤◌, List, length, Bool, true, false, Option, Some, None, refl, sym, ap, subst, ◌∙◌, arith, inl, inr}
+use Rattle.std.proofs.Common.{◌≡◌, ◌≢◌, ℕ, ◌+◌, ◌-◌, ◌<◌, ◌≤◌, List, [], ◌∷◌, length, Bool, true, false, Option, Some, None, refl, sym, ap, subst, ◌∙◌, arith, inl, inr}
 use Rattle.std.proofs.lemmas.Bool.{cases_eq, eq-eqb, OnTrue_at}
 use Rattle.std.proofs.lemmas.Bool.Decides.{nat_tests}
-use Rattle.std.specs.Prelude.{◌==◌, ◌↔◌, if◌then◌else◌, IsTrue}
+use Rattle.std.specs.Prelude.{◌==◌, ◌↔◌, if◌then◌else◌, IsTrue, Result, Ok, Err, OnOk, OnErr, IfErr}
 use Rattle.std.specs.Bool.{OnTrue}
 use Rattle.heap_model.specs.Memory.{Memory}
 use Rattle.heap_model.specs.Bytes.{sized_to}
@@ -13,29 +13,31 @@ use Rattle.heap_model.specs.Reading.{held}
 use Rattle.heap_model.specs.Maps.{changed}
 use Rattle.heap_model.specs.Space.{ShortFor, FitsInPlace, MovesNothing, free_behind, free_front, MovesOneStretchAnd}
 use Rattle.heap_model.specs.Resizing.{GrowsInPlace}
-use Rattle.heap_model.specs.MemorySteps.{Does, IsLocked}
+use Rattle.heap_model.specs.Refusals.{Check, NoneHolds, FirstBrings, ◌brings◌}
+use Rattle.heap_model.specs.MemorySteps.{Does, Of, IsLocked, reply_of, growth_checks}
 use Rattle.heap_model.specs.declared.names.Name.{Name}
 use Rattle.heap_model.specs.declared.call.MemoryCall.TheVariants.{Resize}
 use Rattle.heap_model.specs.declared.call.Reply.TheVariants.{Refused, Done}
+use Rattle.heap_model.specs.declared.refusal.Refusal.{Refusal}
 use Rattle.heap_model.specs.declared.refusal.Refusal.TheVariants.{OwnedByDatabase, ChunkFixed, ChunkLocked, NotEnoughSpace}
 use Rattle.heap_laws.proofs.Deciding.{cond-true, cond-false}
 use Rattle.heap_laws.proofs.Slots.{same_slots}
-use Rattle.heap_laws.proofs.Finding.{finds_held}
 use Rattle.heap_laws.proofs.Altering.{finds_place}
 use Rattle.heap_laws.proofs.Exchanging.{ChangesName}
 use Rattle.heap_laws.proofs.Resizings.{live_sized, grow_changes, finds_behind}
 use Rattle.heap_laws.proofs.Compacting.{slot_unheld, changes_move_nothing}
 use Rattle.heap_laws.proofs.Fitting.{fits_not_short_for}
-use Rattle.heap_place.proofs.FoundLaws.{when_movable}
+use Rattle.heap_place.proofs.FoundLaws.{name_held, one_held, when_movable}
 use Rattle.heap_place.specs.declared.found.Found.{Found}
-use Rattle.heap_place.specs.Found.{IsFound}
+use Rattle.heap_place.specs.Found.{IsFound, IsOne}
 use Rattle.heap_place.specs.Resizes.{TellsWhetherInPlace}
 use Rattle.heap_compact.specs.Resized.{Resized}
 use Rattle.heap_compact.proofs.ResizedLaws.{alone_one}
 use Rattle.master_table.proofs.TableLaws.{used_still}
 use Rattle.mem_manager.specs.Lookup.{IsManaged}
 use Rattle.mem_manager.proofs.Stepping.{known, of_known, not_of_known, is_known, refused, altered, slot_as, OnlyBytes}
-use Rattle.mem_manager.proofs.Moving.{BytesAndSlid, rest_then}
+use Rattle.mem_manager.proofs.Altering.{lock_small}
+use Rattle.mem_manager.proofs.Moving.{BytesAndSlid}
 
 -- ---- whether it fits where it stands
 
@@ -71,83 +73,40 @@ fits_there image name found size told h f loose tells told_true =
 pub never_fits : (image : List ℕ) (name : ℕ) (found : Found) (size : ℕ) (told : Bool) → HeapAccepted image → (f : IsFound image name found) → found.lock ≢ 15 → TellsWhetherInPlace image found size told → told ≡ false → FitsInPlace image name size → ⊥
 never_fits image name found size told h f loose tells told_false fits =
     let large = too_large image name found size told h f loose tells told_false in
-    let enough = fits f.live (finds_held image name f.live f.chunk (found.place.0 - 8) h f.finds) in
+    let enough = fits f.live (name_held image name found h f) in
     omega arith
 
--- ---- refusals
+-- ---- the checks
 
-pub resize_database : (region : Memory) (name : Name) (size : ℕ) (found : Found) → HeapAccepted region.bytes → IsFound region.bytes name.0 found → found.owner ≡ 15 → Does region (Resize name size) (Refused OwnedByDatabase) region
-resize_database region name size found h f is = refused region (Resize name size) OwnedByDatabase h (let k = known region.bytes name.0 found h f (omega arith) in inr (is_known k, inl (of_known (λ live. live.owner ≡ 15) k (sym f.owner_is ∙ is), refl)))
+abbrev TooLargeWhereLocked : List ℕ → ℕ → ℕ → LiveChunk → Type 0
+TooLargeWhereLocked image name size live = IsLocked live × (need (length live.bytes) + free_behind image name < need size)
 
-pub resize_fixed : (region : Memory) (name : Name) (size : ℕ) (found : Found) → HeapAccepted region.bytes → IsFound region.bytes name.0 found → 1 ≤ found.owner → found.owner ≢ 15 → found.lock ≡ 15 → Does region (Resize name size) (Refused ChunkFixed) region
-resize_fixed region name size found h f positive other is =
-    let k = known region.bytes name.0 found h f positive in
-    refused region (Resize name size) ChunkFixed h (inr (is_known k, inr (not_of_known (λ live. live.owner ≡ 15) k (λ e. other (f.owner_is ∙ e)), inl (of_known (λ live. live.lock ≡ fixed_lock) k (sym f.lock_is ∙ is), refl))))
+abbrev TooLarge : List ℕ → ℕ → ℕ → LiveChunk → Type 0
+TooLarge image name size live = (live.lock ≡ 0) × (need (length live.bytes) < need size) × ShortFor image name (need size)
 
-abbrev TooLargeWhereLocked : Memory → Name → ℕ → LiveChunk → Type 0
-TooLargeWhereLocked old name size live = IsLocked live × (need (length live.bytes) + free_behind old.bytes name.0 < need size)
+-- by what a map has under the name
+abbrev checks_of : List ℕ → ℕ → ℕ → Option LiveChunk → List Check
+checks_of image name size one = (Of one (TooLargeWhereLocked image name size) brings ChunkLocked) ∷ (Of one (TooLarge image name size) brings NotEnoughSpace) ∷ []
 
-abbrev TooLarge : Memory → Name → ℕ → LiveChunk → Type 0
-TooLarge old name size live = (live.lock ≡ 0) × (need (length live.bytes) < need size) × ShortFor old.bytes name.0 (need size)
-
-pub resize_locked : (region : Memory) (name : Name) (size : ℕ) (found : Found) (told : Bool) → HeapAccepted region.bytes → IsFound region.bytes name.0 found → 1 ≤ found.owner → found.owner ≢ 15 → found.lock ≢ 15 → found.lock ≤ fixed_lock → 0 < found.lock → TellsWhetherInPlace region.bytes found (need size) told → told ≡ false
-    → Does region (Resize name size) (Refused ChunkLocked) region
-resize_locked region name size found told h f positive other loose most some tells told_false =
-    let k = known region.bytes name.0 found h f positive in
+pub growth_locked : (image : List ℕ) (found : Found) (size : ℕ) (told : Bool) → HeapAccepted image → IsOne image found → found.lock ≢ 15 → 0 < found.lock → TellsWhetherInPlace image found (need size) told → told ≡ false → FirstBrings (growth_checks image (held image) found.name.0 size) ChunkLocked
+growth_locked image found size told h f loose some tells told_false =
     let lock = f.lock_is in
+    let most = lock_small image found.name.0 found h f in
     let locked : IsLocked f.live = (omega arith, omega arith) in
-    let large = too_large region.bytes name.0 found (need size) told h f loose tells told_false in
-    refused region (Resize name size) ChunkLocked h
-    (inr (is_known k, inr (not_of_known (λ live. live.owner ≡ 15) k (λ e. other (f.owner_is ∙ e)), inr (not_of_known (λ live. live.lock ≡ fixed_lock) k (λ e. loose (f.lock_is ∙ e)), inl (of_known (TooLargeWhereLocked region name size) k (locked, large), refl)))))
+    inl (of_known (TooLargeWhereLocked image found.name.0 size) (one_held image found h f) (locked, too_large image found.name.0 found (need size) told h f loose tells told_false), refl)
 
-pub resize_short : (region : Memory) (name : Name) (size : ℕ) (found : Found) (told : Bool) → HeapAccepted region.bytes → IsFound region.bytes name.0 found → 1 ≤ found.owner → found.owner ≢ 15 → found.lock ≡ 0 → TellsWhetherInPlace region.bytes found (need size) told → told ≡ false → ShortFor region.bytes name.0 (need size)
-    → Does region (Resize name size) (Refused NotEnoughSpace) region
-resize_short region name size found told h f positive other unlocked tells told_false short =
-    let k = known region.bytes name.0 found h f positive in
+pub growth_short : (image : List ℕ) (found : Found) (size : ℕ) (told : Bool) → HeapAccepted image → IsOne image found → found.lock ≢ 15 → found.lock ≡ 0 → TellsWhetherInPlace image found (need size) told → told ≡ false → ShortFor image found.name.0 (need size)
+    → FirstBrings (growth_checks image (held image) found.name.0 size) NotEnoughSpace
+growth_short image found size told h f loose unlocked tells told_false short =
+    let k = one_held image found h f in
     let lock = f.lock_is in
-    let loose : found.lock ≢ 15 = λ e. omega arith in
-    let large = too_large region.bytes name.0 found (need size) told h f loose tells told_false in
-    refused region (Resize name size) NotEnoughSpace h
-    (inr (
-      is_known k,
-      inr (
-        not_of_known (λ live. live.owner ≡ 15) k (λ e. other (f.owner_is ∙ e)),
-        inr (
-          not_of_known (λ live. live.lock ≡ fixed_lock) k (λ e. loose (f.lock_is ∙ e)),
-          inr (
-            not_of_known (TooLargeWhereLocked region name size) k (λ t. let some = t.0.0 in omega arith),
-            inl (of_known (TooLarge region name size) k (sym f.lock_is ∙ unlocked, omega arith, short), refl),
-          ),
-        ),
-      ),
-    ))
+    let large = too_large image found.name.0 found (need size) told h f loose tells told_false in
+    inr (not_of_known (TooLargeWhereLocked image found.name.0 size) k (λ t. let some = t.0.0 in omega arith), inl (of_known (TooLarge image found.name.0 size) k (sym f.lock_is ∙ unlocked, omega arith, short), refl))
 
--- ---- a resize that is done
-
-resized_done : (old new : Memory) (name : Name) (size : ℕ) (found : Found) → HeapAccepted old.bytes → (f : IsFound old.bytes name.0 found) → 1 ≤ found.owner → found.owner ≢ 15 → found.lock ≢ 15 → (TooLargeWhereLocked old name size f.live → ⊥) → (ShortFor old.bytes name.0 (need size) → ⊥)
-    → Resized old.bytes new.bytes name.0 size → BytesAndSlid old new → Does old (Resize name size) Done new
-resized_done old new name size found h f positive other loose reaches room r rest =
-    let k = known old.bytes name.0 found h f positive in
-    record {
-      before = h;
-      step = (
-        (
-          is_known k,
-          (
-            not_of_known (λ live. live.owner ≡ 15) k (λ e. other (f.owner_is ∙ e)),
-            (
-              not_of_known (λ live. live.lock ≡ fixed_lock) k (λ e. loose (f.lock_is ∙ e)),
-              (not_of_known (TooLargeWhereLocked old name size) k reaches, (not_of_known (TooLarge old name size) k (λ t. room t.2), tt)),
-            ),
-          ),
-        ),
-        (tt, r.map),
-      );
-      frame = r.frame;
-      still = r.still;
-      asks = tt;
-      rest = rest;
-    }
+growth_passes : (image : List ℕ) (found : Found) (size : ℕ) → HeapAccepted image → (f : IsOne image found) → (TooLargeWhereLocked image found.name.0 size f.live → ⊥) → (ShortFor image found.name.0 (need size) → ⊥) → NoneHolds (growth_checks image (held image) found.name.0 size)
+growth_passes image found size h f reaches room =
+    let k = one_held image found h f in
+    (not_of_known (TooLargeWhereLocked image found.name.0 size) k reaches, (not_of_known (TooLarge image found.name.0 size) k (λ t. room t.2), tt))
 
 -- ---- where it stands
 
@@ -162,14 +121,16 @@ not_short image name found size h f loose some =
     when_movable image name found f (λ c g. size ≤ size_of c + free_front g.after → ShortFor image name size → ⊥) loose
     (λ bytes lock owner slot g. fits_not_short_for image name (found.place.0 - 8) size f.live bytes lock owner slot h g some)
 
-pub resize_grown : (old new : Memory) (name : Name) (size : ℕ) (found : Found) (told : Bool) → HeapAccepted old.bytes → (f : IsFound old.bytes name.0 found) → 1 ≤ found.owner → found.owner ≢ 15 → found.lock ≢ 15 → TellsWhetherInPlace old.bytes found (need size) told → told ≡ true
-    → OnTrue told (GrowsInPlace old.bytes new.bytes (found.place.0 - 8) size) → OnlyBytes old new → Does old (Resize name size) Done new
-resize_grown old new name size found told h f positive other loose tells told_true grows rest =
-    let a = altered old new name.0 found (live_sized size) h f (grown_changes old.bytes new.bytes name.0 found size told h f tells told_true grows) rest in
-    let fits = fits_there old.bytes name.0 found (need size) told h f loose tells told_true in
-    let enough = (tells_found old.bytes name.0 found (need size) told f tells).0 (subst (λ (b : Bool). IsTrue b) (sym told_true) refl) in
-    resized_done old new name size found h f positive other loose (λ t. let low = t.1 in omega arith) (not_short old.bytes name.0 found (need size) h f loose (omega arith) enough) (record { frame = a.frame; map = a.map; still = a.still })
-    (rest_then old old new refl rest)
+pub grown_passes : (image : List ℕ) (found : Found) (size : ℕ) (told : Bool) → HeapAccepted image → IsOne image found → found.lock ≢ 15 → TellsWhetherInPlace image found (need size) told → told ≡ true → NoneHolds (growth_checks image (held image) found.name.0 size)
+grown_passes image found size told h f loose tells told_true =
+    let fits = fits_there image found.name.0 found (need size) told h f loose tells told_true in
+    let enough = (tells_found image found.name.0 found (need size) told f tells).0 (subst (λ (b : Bool). IsTrue b) (sym told_true) refl) in
+    growth_passes image found size h f (λ t. let low = t.1 in omega arith) (not_short image found.name.0 found (need size) h f loose (omega arith) enough)
+
+pub grown_leaves : (old new : Memory) (found : Found) (size : ℕ) (told : Bool) → HeapAccepted old.bytes → IsOne old.bytes found → TellsWhetherInPlace old.bytes found (need size) told → told ≡ true → OnTrue told (GrowsInPlace old.bytes new.bytes (found.place.0 - 8) size) → OnlyBytes old new
+    → Resized old.bytes new.bytes found.name.0 size
+grown_leaves old new found size told h f tells told_true grows rest =
+    (altered old new found.name.0 found (live_sized size) h f (grown_changes old.bytes new.bytes found.name.0 found size told h f tells told_true grows) rest).leaves
 
 pub grown_moves_nothing : (old new : List ℕ) (name : ℕ) (found : Found) (size : ℕ) (told : Bool) → HeapAccepted old → (f : IsFound old name found) → TellsWhetherInPlace old found (need size) told → told ≡ true → OnTrue told (GrowsInPlace old new (found.place.0 - 8) size) → MovesNothing old new
 grown_moves_nothing old new name found size told h f tells told_true grows =
@@ -184,10 +145,62 @@ nothing_alone old new name nothing = alone_one old new name (λ other apart was 
 
 -- ---- elsewhere, or once others have made way
 
-pub resize_moved : (old new : Memory) (name : Name) (size : ℕ) (found : Found) → HeapAccepted old.bytes → IsFound old.bytes name.0 found → 1 ≤ found.owner → found.owner ≢ 15 → found.lock ≡ 0 → (ShortFor old.bytes name.0 (need size) → ⊥) → Resized old.bytes new.bytes name.0 size → BytesAndSlid old new → Does old (Resize name size) Done new
-resize_moved old new name size found h f positive other unlocked room r rest =
-    let lock = f.lock_is in
-    resized_done old new name size found h f positive other (λ e. omega arith) (λ t. let some = t.0.0 in omega arith) room r rest
+pub moved_passes : (image : List ℕ) (found : Found) (size : ℕ) → HeapAccepted image → IsOne image found → found.lock ≡ 0 → (ShortFor image found.name.0 (need size) → ⊥) → NoneHolds (growth_checks image (held image) found.name.0 size)
+moved_passes image found size h f unlocked room = let lock = f.lock_is in growth_passes image found size h f (λ t. let some = t.0.0 in omega arith) room
+
+-- ---- the step
+
+abbrev pub PassesAll : Memory → ℕ → ℕ → Type 0
+PassesAll old name size = NoneHolds (growth_checks old.bytes (held old.bytes) name size)
+
+abbrev pub BringsOne : Memory → ℕ → ℕ → Refusal → Type 0
+BringsOne old name size refusal = FirstBrings (growth_checks old.bytes (held old.bytes) name size) refusal
+
+pub resize_database : (region : Memory) (name : Name) (size : ℕ) (found : Found) → HeapAccepted region.bytes → IsFound region.bytes name.0 found → found.owner ≡ 15 → Does region (Resize name size) (Refused OwnedByDatabase) region
+resize_database region name size found h f is = refused region (Resize name size) OwnedByDatabase h (let k = known region.bytes name.0 found h f (omega arith) in inr (is_known k, inl (of_known (λ live. live.owner ≡ 15) k (sym f.owner_is ∙ is), refl)))
+
+pub resize_fixed : (region : Memory) (name : Name) (size : ℕ) (found : Found) → HeapAccepted region.bytes → IsFound region.bytes name.0 found → 1 ≤ found.owner → found.owner ≢ 15 → found.lock ≡ 15 → Does region (Resize name size) (Refused ChunkFixed) region
+resize_fixed region name size found h f positive other is =
+    let k = known region.bytes name.0 found h f positive in
+    refused region (Resize name size) ChunkFixed h (inr (is_known k, inr (not_of_known (λ live. live.owner ≡ 15) k (λ e. other (f.owner_is ∙ e)), inl (of_known (λ live. live.lock ≡ fixed_lock) k (sym f.lock_is ∙ is), refl))))
+
+resize_refused : (region : Memory) (name : Name) (size : ℕ) (found : Found) (refusal : Refusal) → HeapAccepted region.bytes → IsFound region.bytes name.0 found → 1 ≤ found.owner → found.owner ≢ 15 → found.lock ≢ 15 → BringsOne region name.0 size refusal
+    → Does region (Resize name size) (Refused refusal) region
+resize_refused region name size found refusal h f positive other loose brought =
+    let k = known region.bytes name.0 found h f positive in
+    let same = name_held region.bytes name.0 found h f ∙ sym k in
+    refused region (Resize name size) refusal h
+    (inr (is_known k, inr (not_of_known (λ live. live.owner ≡ 15) k (λ e. other (f.owner_is ∙ e)), inr (not_of_known (λ live. live.lock ≡ fixed_lock) k (λ e. loose (f.lock_is ∙ e)), subst (λ (x : Option LiveChunk). FirstBrings (checks_of region.bytes name.0 size x) refusal) same brought))))
+
+resize_done : (old new : Memory) (name : Name) (size : ℕ) (found : Found) → HeapAccepted old.bytes → IsFound old.bytes name.0 found → 1 ≤ found.owner → found.owner ≢ 15 → found.lock ≢ 15 → PassesAll old name.0 size → Resized old.bytes new.bytes name.0 size → BytesAndSlid old new → Does old (Resize name size) Done new
+resize_done old new name size found h f positive other loose passes r rest =
+    let k = known old.bytes name.0 found h f positive in
+    let same = name_held old.bytes name.0 found h f ∙ sym k in
+    record {
+      before = h;
+      step = (
+        (
+          is_known k,
+          (
+            not_of_known (λ live. live.owner ≡ 15) k (λ e. other (f.owner_is ∙ e)),
+            (not_of_known (λ live. live.lock ≡ fixed_lock) k (λ e. loose (f.lock_is ∙ e)), subst (λ (x : Option LiveChunk). NoneHolds (checks_of old.bytes name.0 size x)) same passes),
+          ),
+        ),
+        (tt, r.map),
+      );
+      frame = r.frame;
+      still = r.still;
+      asks = tt;
+      rest = rest;
+    }
+
+-- by what is answered
+pub resize_replied : {A : Type 0} (old new : Memory) (name : Name) (size : ℕ) (found : Found) (result : Result A Refusal) → HeapAccepted old.bytes → IsFound old.bytes name.0 found → 1 ≤ found.owner → found.owner ≢ 15 → found.lock ≢ 15 → OnOk result (Resized old.bytes new.bytes found.name.0 size)
+    → OnOk result (PassesAll old found.name.0 size) → OnErr result (new ≡ old) → IfErr result (BringsOne old found.name.0 size) → BytesAndSlid old new → Does old (Resize name size) (reply_of (λ answer. Done) result) new
+resize_replied old new name size found (Ok answer) h f positive other loose done could refused why rest =
+    resize_done old new name size found h f positive other loose (subst (λ (n : ℕ). PassesAll old n size) f.name_is could) (subst (λ (n : ℕ). Resized old.bytes new.bytes n size) f.name_is done) rest
+resize_replied old new name size found (Err refusal) h f positive other loose done could same why rest =
+    subst (λ (m : Memory). Does old (Resize name size) (Refused refusal) m) (sym same) (resize_refused old name size found refusal h f positive other loose (subst (λ (n : ℕ). BringsOne old n size refusal) f.name_is why))
 
 -- the same slots are in use
 pub used_resized : (old new : List ℕ) (used name size : ℕ) → IsManaged old used → Resized old new name size → IsManaged new used
@@ -208,3 +221,7 @@ used_resized old new used name size m r = record {
     | inl same ↦ ap (held old) same ∙ none_changed (held old name) (sym (cond-true (slot == name) _ _ (eq-eqb slot name same)) ∙ e)
     | inr apart ↦ sym (cond-false (slot == name) _ _ (grind (arith, nat_tests))) ∙ e
   ]
+
+pub used_replied : {A : Type 0} (old new : Memory) (used name size : ℕ) (result : Result A Refusal) → IsManaged old.bytes used → OnOk result (Resized old.bytes new.bytes name size) → OnErr result (new ≡ old) → IsManaged new.bytes used
+used_replied old new used name size (Ok answer) m done same = used_resized old.bytes new.bytes used name size m done
+used_replied old new used name size (Err refusal) m done same = subst (λ (r : Memory). IsManaged r.bytes used) (sym same) m

@@ -12,6 +12,7 @@ use Rattle.heap_model.specs.Maps.{callers_map}
 use Rattle.heap_model.specs.Space.{Short}
 use Rattle.heap_model.specs.Packing.{SlidesOneStretch}
 use Rattle.heap_model.specs.Layout.{layout_of, Becomes, Exchanges, in_front, owned_freed, IsRoom}
+use Rattle.heap_model.specs.Rooms.{Lowers}
 use Rattle.heap_model.specs.MemorySteps.{Does, IsNoCaller, IsLocked, reply_of}
 use Rattle.heap_model.specs.declared.names.Name.{Name}
 use Rattle.heap_model.specs.declared.call.MemoryCall.TheVariants.{HandleNew, PtrNew, Free, FreeByOwner}
@@ -30,6 +31,7 @@ use Rattle.heap_place.specs.declared.found.Found.{Found}
 use Rattle.heap_place.specs.Found.{IsFound}
 use Rattle.heap_laws.proofs.Becoming.{frame_then}
 use Rattle.heap_laws.proofs.Compacting.{slides_alike}
+use Rattle.heap_laws.proofs.Lowering.{made_lowers}
 use Rattle.mem_manager.specs.Lookup.{IsManaged, MakesNew, HasNoRoomFor}
 use Rattle.mem_manager.proofs.Moving.{BytesAndSlid, rest_then, held_then, still_then, first_slid, used_slid}
 use Rattle.mem_manager.proofs.Stepping.{known, of_known, not_of_known, is_known, refused, OnlyBytes, still_others, used_altered}
@@ -164,6 +166,12 @@ new_claimed old mid new at room size owner slot before h s first r fits x =
 
 pub new_unheld : (old mid : List ℕ) (slot before : ℕ) → HeapAccepted old → SlidesOneStretch old mid → IsFirstEmpty old slot before → held mid slot ≡ None
 new_unheld old mid slot before h s first = slot_unheld mid slot before s.becomes.frame.accepted (first_slid old mid slot before h s first)
+
+-- one room is lower by what the chunk takes
+pub new_lowers : (old mid new : List ℕ) (at room size owner slot before : ℕ) → HeapAccepted old → SlidesOneStretch old mid → IsFirstEmpty old slot before → IsRoom mid at room → need size ≤ room → Exchanges mid new at (in_front (movable (replicate size 0) 0 owner slot)) → Lowers old new (need size)
+new_lowers old mid new at room size owner slot before h s first r fits x =
+    let takes : need (length (replicate {A = ℕ} size 0)) ≡ need size = ap need (length-replicate size 0) in
+    subst (λ (taken : ℕ). Lowers old new taken) takes (made_lowers old mid new at room (replicate size 0) owner slot h s (slot_unheld old slot before h first) r (omega arith) x)
 
 -- the slot that was found, of the region that is the heap's value
 pub as_first : (region read : Memory) (result : Option FreeSlot) (slot : FreeSlot) → read ≡ region → result ≡ Some slot → IfSome result (λ slot. IsFirstEmpty read.bytes slot.name.0 slot.before) → IsFirstEmpty region.bytes slot.name.0 slot.before

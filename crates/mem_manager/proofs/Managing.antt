@@ -1,34 +1,36 @@
 -- What the calls for the store leave behind.
-use Rattle.std.proofs.Common.{◌≡◌, ◌≢◌, ℕ, ◌+◌, ◌-◌, ◌<◌, ◌≤◌, List, length, Option, Some, None, refl, sym, ap, subst, ◌∙◌, arith, inr}
+use Rattle.std.proofs.Common.{◌≡◌, ◌≢◌, ℕ, ◌+◌, ◌<◌, ◌≤◌, List, length, Some, None, refl, sym, ap, subst, ◌∙◌, arith, inr, length-take, length-drop}
 use Rattle.std.specs.Prelude.{slice_range, IsSome}
 use Rattle.heap_model.specs.Memory.{Memory}
+use Rattle.heap_model.specs.Bytes.{overwritten}
+use Rattle.heap_model.specs.Chunk.{fixed_lock}
 use Rattle.heap_model.specs.Heap.{HeapAccepted, directory_of}
 use Rattle.heap_model.specs.Meaning.{LiveChunk}
 use Rattle.heap_model.specs.Reading.{held}
-use Rattle.heap_model.specs.Maps.{changed_at, gone}
-use Rattle.heap_model.specs.Store.{bytes_of, bytes_under}
-use Rattle.heap_model.specs.Leaving.{Leaves}
+use Rattle.heap_model.specs.Maps.{gone, put}
+use Rattle.heap_model.specs.Store.{bytes_of, owner_of, bytes_under, owner_under}
+use Rattle.heap_model.specs.Leaving.{Leaves, NamesDirectory}
 use Rattle.heap_laws.proofs.Frames.{slice-of_slice}
-use Rattle.heap_laws.proofs.Finding.{finds_held}
+use Rattle.heap_laws.proofs.Slots.{same_slots}
 use Rattle.heap_laws.proofs.Exchanging.{ChangesName}
 use Rattle.heap_laws.proofs.Updating.{held_updated}
+use Rattle.heap_laws.proofs.Compacting.{slot_unheld}
+use Rattle.master_table.proofs.TableLaws.{used_still}
+use Rattle.heap_place.proofs.FoundLaws.{name_held, bytes_inside}
 use Rattle.heap_place.specs.declared.found.Found.{Found}
-use Rattle.heap_place.specs.Found.{IsFound, CanGoTo}
-use Rattle.mem_manager.specs.Lookup.{IsMovable}
-use Rattle.mem_manager.proofs.Stepping.{Altered, still_others}
-use Rattle.mem_manager.proofs.Altering.{body_there}
+use Rattle.heap_place.specs.Found.{IsFound, IsOne, CanGoTo, SlidesWithin}
+use Rattle.mem_manager.specs.Lookup.{IsManaged, IsMovable}
+use Rattle.mem_manager.proofs.Stepping.{one_of, still_others, altered, slot_as}
+use Rattle.mem_manager.proofs.Altering.{body_there, write_changes}
 
 -- ---- a name's chunk that was found
 
-pub is_held : (image : List ℕ) (name : ℕ) (found : Found) → HeapAccepted image → (f : IsFound image name found) → held image name ≡ Some f.live
-is_held image name found h f = finds_held image name f.live f.chunk (found.place.0 - 8) h f.finds
-
-pub never_none : (image : List ℕ) (name : ℕ) → IsSome (held image name) → held image name ≡ None → ⊥
-never_none image name some none = let no : IsSome {T = LiveChunk} None = subst (λ (x : Option LiveChunk). IsSome x) none some in absurd cc
+one_live : {x y : LiveChunk} → Some x ≡ Some y → x ≡ y
+one_live e = cc
 
 bytes_found : (image : List ℕ) (name : ℕ) (found : Found) → HeapAccepted image → (f : IsFound image name found) → bytes_under image name ≡ f.live.bytes
 unfolding bytes_under
-bytes_found image name found h f = ap bytes_of (is_held image name found h f)
+bytes_found image name found h f = ap bytes_of (name_held image name found h f)
 
 pub within_found : (image : List ℕ) (name : ℕ) (found : Found) (end : ℕ) → HeapAccepted image → IsFound image name found → end ≤ length (bytes_under image name) → end ≤ found.length
 within_found image name found end h f within = let len = ap length (bytes_found image name found h f) in let count = f.count in omega (arith, len, count, within)
@@ -49,23 +51,71 @@ inside_found image name found at count h f within =
     let most = h.1.tiles.head.most in
     (omega (arith, fits, body), most)
 
+-- ---- a name's chunk that was found in a heap that is seen as another value
+
+there_viewed : (region value : Memory) (name : ℕ) (found : Found) → region ≡ value → HeapAccepted region.bytes → (f : IsFound region.bytes name found) → held value.bytes name ≡ Some f.live
+there_viewed region value name found same h f = ap (λ (m : Memory). held m.bytes name) (sym same) ∙ name_held region.bytes name found h f
+
+pub some_viewed : (region value : Memory) (name : ℕ) (found : Found) → region ≡ value → HeapAccepted region.bytes → IsFound region.bytes name found → IsSome (held value.bytes name)
+some_viewed region value name found same h f = subst IsSome (sym (there_viewed region value name found same h f)) refl
+
+pub owner_viewed : (region value : Memory) (name : ℕ) (found : Found) → region ≡ value → HeapAccepted region.bytes → IsFound region.bytes name found → found.owner ≡ owner_under value.bytes name
+unfolding owner_under
+owner_viewed region value name found same h f = f.owner_is ∙ sym (ap owner_of (there_viewed region value name found same h f))
+
+pub lock_viewed : (region value : Memory) (name : ℕ) (found : Found) (live : LiveChunk) → region ≡ value → HeapAccepted region.bytes → IsFound region.bytes name found → held value.bytes name ≡ Some live → found.lock ≡ live.lock
+lock_viewed region value name found live same h f is = f.lock_is ∙ ap (λ (x : LiveChunk). x.lock) (one_live (sym (there_viewed region value name found same h f) ∙ is))
+
+pub body_viewed : (region value : Memory) (name : ℕ) (found : Found) → region ≡ value → HeapAccepted region.bytes → IsFound region.bytes name found
+    → slice_range region.bytes found.place.0 (found.place.0 + found.length) ≡ bytes_under value.bytes name
+body_viewed region value name found same h f =
+    (body_there region.bytes name found h f).1 ∙ sym (bytes_found region.bytes name found h f) ∙ ap (λ (m : Memory). bytes_under m.bytes name) same
+
+-- where the name is known to be a movable one's
+pub loose_found : (image : List ℕ) (name : ℕ) (found : Found) → HeapAccepted image → IsFound image name found → IsMovable image name → found.lock ≢ fixed_lock
+loose_found image name found h f m is = m.movable (sym (ap (λ (x : LiveChunk). x.lock) (one_live (sym (name_held image name found h f) ∙ m.is_held))) ∙ sym f.lock_is ∙ is)
+
 -- a movable one may go to any owner but the manager
 pub may_go_to : (image : List ℕ) (name : ℕ) (found : Found) (owner : ℕ) → HeapAccepted image → IsFound image name found → IsMovable image name → name ≢ directory_of image → 0 < owner → owner < 16 → CanGoTo image found owner
-may_go_to image name found owner h f m other some most =
-    let same : f.live ≡ m.live = one_live (sym (is_held image name found h f) ∙ m.is_held) in
-    record {
-      fits = most;
-      locked = λ locks. some;
-      fixed = λ is. absurd (m.movable (sym (ap (λ (x : LiveChunk). x.lock) same) ∙ sym f.lock_is ∙ is));
-      directory = λ at_directory. absurd (other (sym f.name_is ∙ at_directory));
-    } where
-      one_live : {x y : LiveChunk} → Some x ≡ Some y → x ≡ y
-      one_live e = cc
+may_go_to image name found owner h f m other some most = record {
+  fits = most;
+  locked = λ locks. some;
+  fixed = λ is. absurd (loose_found image name found h f m is);
+  directory = λ at_directory. absurd (other (sym f.name_is ∙ at_directory));
+}
 
 -- ---- what is left
 
-pub leaves_changed : (old new : Memory) (name : ℕ) (change : LiveChunk → LiveChunk) → Altered old new name change → Leaves old.bytes new.bytes (changed_at (held old.bytes) name change)
-leaves_changed old new name change a = record { map = a.map; frame = a.frame; still = a.still }
-
 pub leaves_gone : (old new : List ℕ) (name : ℕ) → ChangesName old new name None None → Leaves old new (gone (held old) name)
 leaves_gone old new name ch = record { map = held_updated old new name None None ch; frame = ch.frame; still = still_others old new name None None ch (inr refl) }
+
+-- bytes slide within a chunk
+part_length : (image : List ℕ) (found : Found) (from count : ℕ) → HeapAccepted image → IsOne image found → from + count ≤ found.length → length (slice_range image (found.place.0 + from) (found.place.0 + from + count)) ≡ count
+part_length image found from count h f within = let inside = bytes_inside image found h f in simp (length-take, length-drop) (omega arith)
+
+pub slide_changes : (old new : List ℕ) (name : ℕ) (found : Found) (from to count : ℕ) → HeapAccepted old → (f : IsFound old name found) → from + count ≤ found.length → to + count ≤ found.length → SlidesWithin old new found from to count
+    → ChangesName old new name (Some (record f.live { bytes = overwritten f.live.bytes to (slice_range old (found.place.0 + from) (found.place.0 + from + count)) })) (Some found.place.0)
+slide_changes old new name found from to count h f in_from in_to made =
+    let many = part_length old found from count h (one_of f) in_from in
+    write_changes old new name found to (slice_range old (found.place.0 + from) (found.place.0 + from + count)) h f (omega arith) made
+
+pub leaves_slid : (old new : Memory) (name : ℕ) (found : Found) (from to count : ℕ) → HeapAccepted old.bytes → IsFound old.bytes name found → from + count ≤ length (bytes_under old.bytes name) → to + count ≤ length (bytes_under old.bytes name) → SlidesWithin old.bytes new.bytes found from to count
+    → Leaves old.bytes new.bytes (put (held old.bytes) name to (slice_range (bytes_under old.bytes name) from (from + count)))
+leaves_slid old new name found from to count h f in_from in_to made =
+    let ch = slide_changes old.bytes new.bytes name found from to count h f (within_found old.bytes name found (from + count) h f in_from) (within_found old.bytes name found (to + count) h f in_to) made in
+    subst (λ (part : List ℕ). Leaves old.bytes new.bytes (put (held old.bytes) name to part)) (slice_found old.bytes name found from count h f in_from)
+    (altered old (record old { bytes = new.bytes }) name found (λ live. record live { bytes = overwritten live.bytes to (slice_range old.bytes (found.place.0 + from) (found.place.0 + from + count)) }) h f ch refl).leaves
+
+-- of the heap's value
+pub slid_viewed : (region value new : Memory) (name : ℕ) (found : Found) (from to count : ℕ) → region ≡ value → HeapAccepted region.bytes → IsFound region.bytes name found → from + count ≤ length (bytes_under value.bytes name) → to + count ≤ length (bytes_under value.bytes name)
+    → SlidesWithin region.bytes new.bytes found from to count → Leaves value.bytes new.bytes (put (held value.bytes) name to (slice_range (bytes_under value.bytes name) from (from + count)))
+slid_viewed region value new name found from to count same h f in_from in_to made =
+    subst (λ (m : Memory). Leaves m.bytes new.bytes (put (held m.bytes) name to (slice_range (bytes_under m.bytes name) from (from + count)))) same
+    (leaves_slid region new name found from to count h f (subst (λ (m : Memory). from + count ≤ length (bytes_under m.bytes name)) (sym same) in_from) (subst (λ (m : Memory). to + count ≤ length (bytes_under m.bytes name)) (sym same) in_to) made)
+
+-- the same slots are in use where another directory is named
+pub used_named : (old new : List ℕ) (used word : ℕ) → IsManaged old used → NamesDirectory old new word → IsManaged new used
+used_named old new used word m n = record {
+  accepted = n.accepted;
+  in_use = used_still old new used (same_slots old new n.count) (λ slot s some empty. some ((slot_unheld old slot m.accepted s).1 (sym (n.map slot) ∙ (slot_unheld new slot n.accepted (slot_as old new slot n.count s)).0 empty))) m.in_use;
+}

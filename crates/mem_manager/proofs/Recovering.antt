@@ -10,8 +10,9 @@ use Rattle.heap_model.specs.Space.{place_of}
 use Rattle.heap_model.specs.Placing.{Finds}
 use Rattle.heap_model.specs.MemorySteps.{IsNowhere, Of}
 use Rattle.heap_laws.proofs.Deciding.{cond-true}
-use Rattle.heap_laws.proofs.Finding.{finds_held, held_finds, finds_one, callers_managers}
+use Rattle.heap_laws.proofs.Finding.{held_finds, finds_one, callers_managers}
 use Rattle.heap_laws.proofs.Altering.{finds_place}
+use Rattle.heap_place.proofs.FoundLaws.{name_held}
 use Rattle.heap_place.specs.declared.found.Found.{Found}
 use Rattle.heap_place.specs.Found.{IsFound, IsOne, NothingAt}
 use Rattle.mem_manager.specs.Lookup.{IsThere}
@@ -28,7 +29,7 @@ found_there image place found h f there positive =
 
 -- a chunk of the manager's is no caller's
 pub managers_unknown : (image : List ℕ) (name : ℕ) (found : Found) → HeapAccepted image → IsFound image name found → found.owner ≡ 0 → callers_map image name ≡ None
-managers_unknown image name found h f e = callers_managers image name f.live (finds_held image name f.live f.chunk (found.place.0 - 8) h f.finds) (sym f.owner_is ∙ e)
+managers_unknown image name found h f e = callers_managers image name f.live (name_held image name found h f) (sym f.owner_is ∙ e)
 
 -- what callers may name is held
 callers_held : (x : Option LiveChunk) (live : LiveChunk) → not_owned 0 x ≡ Some live → x ≡ Some live

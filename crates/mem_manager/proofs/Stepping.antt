@@ -12,7 +12,7 @@ use Rattle.heap_model.specs.Meaning.{LiveChunk}
 use Rattle.heap_model.specs.Reading.{chunks_of, held}
 use Rattle.heap_model.specs.Maps.{callers_map, updated, changed, changed_at}
 use Rattle.heap_model.specs.Space.{Still, place_of}
-use Rattle.heap_model.specs.Placing.{SameFrame}
+use Rattle.heap_model.specs.Leaving.{Leaves}
 use Rattle.heap_model.specs.Refusals.{FirstBrings}
 use Rattle.heap_model.specs.MemorySteps.{Does, MemoryStep, Of, row_of, may_slide, reply_of}
 use Rattle.heap_model.specs.declared.call.MemoryCall.{MemoryCall}
@@ -22,12 +22,13 @@ use Rattle.heap_model.specs.declared.refusal.Refusal.{Refusal}
 use Rattle.heap_laws.proofs.Meanings.{held-is, empty_unheld}
 use Rattle.heap_laws.proofs.Slots.{same_slots}
 use Rattle.heap_laws.proofs.Accepted.{heap_of_read}
-use Rattle.heap_laws.proofs.Finding.{finds_held, callers_some}
+use Rattle.heap_laws.proofs.Finding.{callers_some}
 use Rattle.heap_laws.proofs.Altering.{finds_place}
 use Rattle.heap_laws.proofs.Becoming.{same_frame}
 use Rattle.heap_laws.proofs.Exchanging.{ChangesName}
 use Rattle.heap_laws.proofs.Updating.{held_updated}
 use Rattle.master_table.proofs.TableLaws.{used_still}
+use Rattle.heap_place.proofs.FoundLaws.{name_held}
 use Rattle.heap_place.specs.declared.found.Found.{Found}
 use Rattle.heap_place.specs.Found.{IsFound, IsOne}
 use Rattle.mem_manager.specs.Lookup.{IsManaged}
@@ -41,7 +42,7 @@ one_of {image} {name} {found} f = subst (λ (n : ℕ). IsFound image n found) (s
 -- a name's chunk, as the store has it
 pub known : (image : List ℕ) (name : ℕ) (found : Found) → HeapAccepted image → (f : IsFound image name found) → 1 ≤ found.owner → callers_map image name ≡ Some f.live
 known image name found h f positive =
-    callers_some image name f.live (finds_held image name f.live f.chunk (found.place.0 - 8) h f.finds) (let e = f.owner_is in λ none. let n : f.live.owner ≡ 0 = none in omega arith)
+    callers_some image name f.live (name_held image name found h f) (let e = f.owner_is in λ none. let n : f.live.owner ≡ 0 = none in omega arith)
 
 pub of_known : {map : Option LiveChunk} {live : LiveChunk} (P : LiveChunk → Type 0) → map ≡ Some live → P live → Of map P
 of_known P e p = subst (λ (x : Option LiveChunk). Of x P) (sym e) p
@@ -110,9 +111,7 @@ still_altered old new name now place ch there n live held_there locked is_there 
 
 -- a name's chunk is changed where it stands
 pub record Altered (old new : Memory) (name : ℕ) (change : LiveChunk → LiveChunk) : Type 0 where
-  pub map : (n : ℕ) → held new.bytes n ≡ changed_at (held old.bytes) name change n
-  pub frame : SameFrame old.bytes new.bytes
-  pub still : Still old.bytes new.bytes
+  pub leaves : Leaves old.bytes new.bytes (changed_at (held old.bytes) name change)
   pub rest : new ≡ record old { bytes = new.bytes }
 
 pub altered : (old new : Memory) (name : ℕ) (found : Found) (change : LiveChunk → LiveChunk) → HeapAccepted old.bytes → (f : IsFound old.bytes name found) → ChangesName old.bytes new.bytes name (Some (change f.live)) (Some found.place.0) → OnlyBytes old new → Altered old new name change
@@ -121,10 +120,12 @@ altered old new name found change h f ch rest =
     let behind : found.place.0 - 8 + 8 ≡ found.place.0 = omega arith in
     let place : place_of old.bytes name ≡ Some found.place.0 = finds_place old.bytes name f.live f.chunk (found.place.0 - 8) h f.finds ∙ ap some_place behind in
     record {
-      map = λ n. held_updated old.bytes new.bytes name (Some (change f.live)) (Some found.place.0) ch n
-          ∙ ap (λ (x : Option LiveChunk). updated (held old.bytes) name x n) (sym (ap (changed change) (finds_held old.bytes name f.live f.chunk (found.place.0 - 8) h f.finds)));
-      frame = ch.frame;
-      still = still_altered old.bytes new.bytes name (change f.live) found.place.0 ch place;
+      leaves = record {
+        map = λ n. held_updated old.bytes new.bytes name (Some (change f.live)) (Some found.place.0) ch n
+            ∙ ap (λ (x : Option LiveChunk). updated (held old.bytes) name x n) (sym (ap (changed change) (name_held old.bytes name found h f)));
+        frame = ch.frame;
+        still = still_altered old.bytes new.bytes name (change f.live) found.place.0 ch place;
+      };
       rest = rest;
     } where
       some_place : ℕ → Option ℕ

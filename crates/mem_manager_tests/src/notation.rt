@@ -1,7 +1,7 @@
 //! Calls and replies as text: `lock 16 = at 40 locks 1`, `write 16 0: 4142 = done`,
 //! `read 16 0 2 = x4142`.
 
-use heap_model::{Bytes, MemoryCall, Name, Place, Reply};
+use heap_model::{Bytes, Db, MemoryCall, Name, Place, Reply};
 use mem_manager::{Heap, Locked};
 use std::alloc::{AllocError, Global};
 use std::test::*;
@@ -107,6 +107,8 @@ pub(crate) fn text_of(alloc: Global, reply: &Reply) -> Result<String, AllocError
             let digits = hex::encode(alloc, bytes.as_slice())?;
             format!(in alloc; "x{digits}")
         }
+        Reply::Database(Db(db)) => format!(in alloc; "database {db}"),
+        Reply::Info(info) => format!(in alloc; "{info:?}"),
     }
 }
 

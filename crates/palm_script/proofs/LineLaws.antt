@@ -6,52 +6,57 @@ use Rattle.heap_model.specs.Memory.{Memory}
 use Rattle.heap_model.specs.Counted.{Writing, Writes}
 use Rattle.heap_model.specs.declared.call.Reply.{Reply}
 use Rattle.script_lines.specs.declared.line.Line.{Line}
-use Rattle.palm_script.specs.Lines.{Bindings, BreaksOff, DoesLine, LineStep, Lines, bound_after, reply_line, unbound}
+use Rattle.palm_script.specs.Lines.{Bindings, BreaksOff, DoesLine, LineStep, Lines, bound_after, exported, reply_line, unbound}
 
 -- ---- the lines up to one of them
 
 pub take_one : (lines : List Line) (i : ℕ) (d : Line) → i < length lines → take (i + 1) lines ≡ take i lines ++ (get_or lines i d ∷ [])
 take_one lines i d within = rw add-one (take-suc lines i d within)
 
-pub one_more : (old : Memory) (names : Bindings) (lines : List Line) (text : List ℕ) (mid : Memory) (names_mid : Bindings) (line : Line) (reply : Reply) (new : Memory)
-    → Lines old names lines text mid names_mid → LineStep mid names_mid line reply new
-    → Lines old names (lines ++ (line ∷ [])) (text ++ reply_line line reply) new (bound_after names_mid line reply)
-one_more old names [] text mid names_mid line reply new (no_text, same, unchanged) step = (
+pub one_more : (inputs : List (List ℕ)) (old : Memory) (bound : Bindings) (lines : List Line) (text : List ℕ) (files : List (List ℕ)) (mid : Memory) (bound_mid : Bindings) (line : Line) (reply : Reply) (new : Memory)
+    → Lines inputs old bound lines text files mid bound_mid → LineStep inputs mid bound_mid line reply new
+    → Lines inputs old bound (lines ++ (line ∷ [])) (text ++ reply_line line reply) (files ++ exported line reply) new (bound_after bound_mid line reply)
+one_more inputs old bound [] text files mid bound_mid line reply new (no_text, no_files, same, unchanged) step = (
   reply,
   new,
   [],
-  subst (λ (m : Memory). LineStep m names line reply new) same (subst (λ (n : Bindings). LineStep mid n line reply new) unchanged step),
+  [],
+  subst (λ (m : Memory). LineStep inputs m bound line reply new) same (subst (λ (n : Bindings). LineStep inputs mid n line reply new) unchanged step),
   ap (λ t. t ++ reply_line line reply) no_text ∙ sym (append-nil (reply_line line reply)),
-  (refl, refl, ap (λ (n : Bindings). bound_after n line reply) unchanged),
+  ap (λ f. f ++ exported line reply) no_files ∙ sym (append-nil (exported line reply)),
+  (refl, refl, refl, ap (λ (n : Bindings). bound_after n line reply) unchanged),
 )
-one_more old names (first ∷ lines) text mid names_mid line reply new (answer, next, rest, before, is, tail) step = (
+one_more inputs old bound (first ∷ lines) text files mid bound_mid line reply new (answer, next, rest, more, before, is, are, tail) step = (
   answer,
   next,
   rest ++ reply_line line reply,
+  more ++ exported line reply,
   before,
   ap (λ t. t ++ reply_line line reply) is ∙ append_assoc (reply_line first answer) rest (reply_line line reply),
-  one_more next (bound_after names first answer) lines rest mid names_mid line reply new tail step,
+  ap (λ f. f ++ exported line reply) are ∙ append_assoc (exported first answer) more (exported line reply),
+  one_more inputs next (bound_after bound first answer) lines rest more mid bound_mid line reply new tail step,
 )
 
-pub one_further : (old : Memory) (names : Bindings) (lines : List Line) (i : ℕ) (line : Line) (text : List ℕ) (mid : Memory) (names_mid : Bindings) (reply : Reply) (new : Memory) (names_new : Bindings)
-    → i < length lines → line ≡ get_or lines i line → Lines old names (take i lines) text mid names_mid → LineStep mid names_mid line reply new → names_new ≡ bound_after names_mid line reply
-    → Lines old names (take (i + 1) lines) (text ++ reply_line line reply) new names_new
-one_further old names lines i line text mid names_mid reply new names_new within here ran step binds =
+pub one_further : (inputs : List (List ℕ)) (old : Memory) (bound : Bindings) (lines : List Line) (i : ℕ) (line : Line) (text : List ℕ) (mid : Memory) (bound_mid : Bindings) (reply : Reply) (new : Memory) (bound_new : Bindings)
+    → i < length lines → line ≡ get_or lines i line → Lines inputs old bound (take i lines) text [] mid bound_mid → LineStep inputs mid bound_mid line reply new → bound_new ≡ bound_after bound_mid line reply
+    → Lines inputs old bound (take (i + 1) lines) (text ++ reply_line line reply) [] new bound_new
+one_further inputs old bound lines i line text mid bound_mid reply new bound_new within here ran step binds =
     let to_here : take (i + 1) lines ≡ take i lines ++ (line ∷ []) = take_one lines i line within ∙ ap (λ l. take i lines ++ (l ∷ [])) (sym here) in
-    rw (to_here, binds) (one_more old names (take i lines) text mid names_mid line reply new ran step)
+    rw (to_here, binds) (one_more inputs old bound (take i lines) text [] mid bound_mid line reply new ran step)
 
 -- ---- a line whose reply line couldn't be written
 
-pub breaks : {W : Type 0} (contents : W → Option (List ℕ)) (lines : List Line) (old : Memory) (first : Writing W) (i : ℕ) (line : Line) (text : List ℕ) (mid : Memory) (names : Bindings) (before : Writing W) (new : Memory) (names_new : Bindings) (after : Writing W)
-    → i < length lines → line ≡ get_or lines i line → Lines old unbound (take i lines) text mid names → Writes contents first before text true → DoesLine contents line mid names before new names_new after false
-    → BreaksOff contents lines old first new after
-breaks contents lines old first i line text mid names before new names_new after within here ran all does =
+pub breaks : {W : Type 0} (contents : W → Option (List ℕ)) (inputs : List (List ℕ)) (lines : List Line) (old : Memory) (first : Writing W) (i : ℕ) (line : Line) (text : List ℕ) (mid : Memory) (bound : Bindings) (before : Writing W) (new : Memory) (bound_new : Bindings) (after : Writing W)
+    → i < length lines → line ≡ get_or lines i line → Lines inputs old unbound (take i lines) text [] mid bound → Writes contents first before text true → DoesLine contents inputs line mid bound before new bound_new after false
+    → BreaksOff contents inputs lines old first new after
+breaks contents inputs lines old first i line text mid bound before new bound_new after within here ran all does =
     let (n, short, appended) = does.written.0 in
     record {
       count = i;
       text = text;
+      files = [];
       mid = mid;
-      names = names;
+      bound = bound;
       before = ran;
       line = line;
       found = slice_get-get_or lines i line within ∙ ap Some (sym here);

@@ -22,5 +22,6 @@ mod runs;
 pub use calls::{do_call, do_call_from};
 pub use runs::{RunFault, run, run_from};
 pub use script_lines::{
-    ChunkCall, ChunkLabel, HeapCall, Line, LineFault, NewCall, Script, ScriptFault, parse,
+    ChunkCall, ChunkLabel, CreateCall, DatabaseLabel, DatabaseLineCall, HeapCall, Line, LineFault,
+    NewCall, Script, ScriptFault, parse,
 };

@@ -5,10 +5,10 @@ ghost use Rattle.heap_model.specs.Counted.{Writes};
 ghost use Rattle.heap_model.specs.MemorySteps.{reply_of};
 ghost use Rattle.heap_model.specs.Numbers.{number_of, name_of};
 ghost use Rattle.heap_model.specs.declared.call.Reply.{Reply};
-ghost use Rattle.palm_script.specs.Lines.{hex_text, is_silent, reply_line, reply_text, values_text};
+ghost use Rattle.palm_script.specs.Lines.{hex_text, info_words, is_silent, reply_line, reply_text, values_text, words_text};
 
-use heap_model::{Counted, Name, Refusal, Reply};
-use mem_manager::Locked;
+use heap_model::{Counted, Db, DbInfo, Name, Refusal, Reply};
+use palm_store::Locked;
 use palm_text::{Piece, WriteFault, put_pieces};
 use script_lines::{HeapCall, Line};
 use std::io::Write;
@@ -56,6 +56,24 @@ pub(crate) fn locked(answer: Result<Locked, Refusal>) -> Reply
 {
     match answer {
         Ok(Locked { place, count }) => Reply::Locked { place, count },
+        Err(refusal) => Reply::Refused(refusal),
+    }
+}
+
+pub(crate) fn database(answer: Result<Db, Refusal>) -> Reply
+    ensures { result ≡ reply_of (λ db. Reply.Database db) answer }
+{
+    match answer {
+        Ok(db) => Reply::Database(db),
+        Err(refusal) => Reply::Refused(refusal),
+    }
+}
+
+pub(crate) fn info(answer: Result<DbInfo, Refusal>) -> Reply
+    ensures { result ≡ reply_of (λ info. Reply.Info info) answer }
+{
+    match answer {
+        Ok(info) => Reply::Info(info),
         Err(refusal) => Reply::Refused(refusal),
     }
 }
@@ -112,7 +130,8 @@ fn put_values<W: Write>(out: &mut Counted<W>, reply: &Reply) -> Result<(), Write
         Reply::Number(number) => put_number(out, *number),
         Reply::Locked { count, .. } => put_number(out, u32::from(*count)),
         Reply::Data(bytes) => put_bytes(out, bytes.as_slice()),
-        Reply::Refused(_) | Reply::Done | Reply::Named(_) => {
+        Reply::Info(info) => put_info(out, info),
+        Reply::Refused(_) | Reply::Done | Reply::Named(_) | Reply::Database(_) => {
             put_pieces(out, &[Piece::Text(b"ok\n")])
         }
     }
@@ -143,5 +162,40 @@ pub(crate) fn put_bytes<W: Write>(out: &mut Counted<W>, bytes: &[u8]) -> Result<
     put_pieces(
         out,
         &[Piece::Text(b"ok "), Piece::Hex(bytes), Piece::Text(b"\n")],
+    )
+}
+
+/// Prints `ok` and what the header of a database says.
+fn put_info<W: Write>(out: &mut Counted<W>, info: &DbInfo) -> Result<(), WriteFault>
+    ensures { Writes W.contents out.old out.new
+        (codes "ok" ++ words_text (info_words info.now) ++ codes "\n") (is_ok result) }
+{
+    put_pieces(
+        out,
+        &[
+            Piece::Text(b"ok "),
+            Piece::Spelled(info.name.as_slice()),
+            Piece::Text(b" "),
+            Piece::Hex16(info.attributes),
+            Piece::Text(b" "),
+            Piece::Number(u32::from(info.version)),
+            Piece::Text(b" "),
+            Piece::Number(info.creation_date),
+            Piece::Text(b" "),
+            Piece::Number(info.modification_date),
+            Piece::Text(b" "),
+            Piece::Number(info.backup_date),
+            Piece::Text(b" "),
+            Piece::Number(info.modification_number),
+            Piece::Text(b" "),
+            Piece::FourBytes(info.kind),
+            Piece::Text(b" "),
+            Piece::FourBytes(info.creator),
+            Piece::Text(b" "),
+            Piece::Hex32(info.seed),
+            Piece::Text(b" "),
+            Piece::Number(u32::from(info.entry_count)),
+            Piece::Text(b"\n"),
+        ],
     )
 }

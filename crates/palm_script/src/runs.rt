@@ -1,11 +1,11 @@
 //! The lines of a script, one behind another.
 
 ghost use Rattle.std.specs.Prelude.{◌≡◌, [], Err, IfOk, OnOk, replicate};
-ghost use Rattle.palm_script.specs.Lines.{BreaksOff, RunsThrough, no_name};
+ghost use Rattle.palm_script.specs.Lines.{BreaksOff, RunsThrough, no_database, no_name};
 
 use crate::lines::do_line;
-use heap_model::{Allowance, Bytes, Counted, Name};
-use mem_manager::Heap;
+use heap_model::{Allowance, Bytes, Counted, Db, Name};
+use palm_store::Store;
 use script_lines::Script;
 use std::alloc::{AllocError, Global};
 use std::io::Write;
@@ -26,23 +26,23 @@ pub enum RunFault {
 /// end the run.
 ///
 /// `inputs` are the files that lines import, and the answer lists the files that they export. No
-/// line does either yet, so the answer is empty. Memory is taken before the first line alone.
+/// line does either, so the answer is empty. Memory is taken before the first line alone.
 pub fn run<W: Write>(
     alloc: Global,
-    heap: &mut Heap,
+    store: &mut Store,
     script: &Script,
-    _inputs: &[Bytes],
+    inputs: &[Bytes],
     out: &mut Counted<W>,
 ) -> Result<Vec<Bytes>, RunFault>
+    ensures ok { IfOk result (λ files. RunsThrough W.contents inputs.now script.now
+        store.old out.old store.new out.new files.items) }
     ensures files { IfOk result (λ files. files.items ≡ []) }
-    ensures ok { OnOk result (RunsThrough W.contents script.now
-        heap.old out.old heap.new out.new) }
-    ensures write { result ≡ Err RunFault.Write → BreaksOff W.contents script.now
-        heap.old out.old heap.new out.new }
+    ensures write { result ≡ Err RunFault.Write → BreaksOff W.contents inputs.now script.now
+        store.old out.old store.new out.new }
     ensures memory { result ≡ Err RunFault.OutOfMemory
-        → (heap.new ≡ heap.old) × (out.new ≡ out.old) }
+        → (store.new ≡ store.old) × (out.new ≡ out.old) }
 {
-    match run_from(&alloc, heap, script, out) {
+    match run_from(&alloc, store, script, inputs, out) {
         Ok(()) => Ok(Vec::new(alloc)),
         Err(fault) => Err(fault),
     }
@@ -51,23 +51,28 @@ pub fn run<W: Write>(
 /// `run`, where the growth asks for a grant.
 pub fn run_from<A: Allowance, W: Write>(
     memory: &A,
-    heap: &mut Heap,
+    store: &mut Store,
     script: &Script,
+    inputs: &[Bytes],
     out: &mut Counted<W>,
 ) -> Result<(), RunFault>
-    ensures ok { OnOk result (RunsThrough W.contents script.now
-        heap.old out.old heap.new out.new) }
-    ensures write { result ≡ Err RunFault.Write → BreaksOff W.contents script.now
-        heap.old out.old heap.new out.new }
+    ensures ok { OnOk result (RunsThrough W.contents inputs.now script.now
+        store.old out.old store.new out.new []) }
+    ensures write { result ≡ Err RunFault.Write → BreaksOff W.contents inputs.now script.now
+        store.old out.old store.new out.new }
     ensures memory { result ≡ Err RunFault.OutOfMemory
-        → (heap.new ≡ heap.old) × (out.new ≡ out.old) }
+        → (store.new ≡ store.old) × (out.new ≡ out.old) }
 {
     let Ok(mut names) = unbound_names(memory, script.chunk_label_count()) else {
         return Err(RunFault::OutOfMemory);
     };
+    let Ok(mut databases) = unbound_databases(memory, script.database_label_count()) else {
+        return Err(RunFault::OutOfMemory);
+    };
     let names = names.as_mut_slice();
+    let databases = databases.as_mut_slice();
     for line in script.lines() {
-        match do_line(heap, names, line, out) {
+        match do_line(store, names, databases, inputs, line, out) {
             Ok(()) => {}
             Err(_) => return Err(RunFault::Write),
         }
@@ -75,9 +80,16 @@ pub fn run_from<A: Allowance, W: Write>(
     Ok(())
 }
 
-/// A table of so many labels, none of them bound.
+/// A table of so many labels of chunks, none of them bound.
 fn unbound_names<A: Allowance>(memory: &A, count: usize) -> Result<Vec<Name>, AllocError>
     ensures { IfOk result (λ names. names.items ≡ replicate count no_name) }
 {
     vec![in memory.grant()?; Name(0); count]
+}
+
+/// The same of labels of databases.
+fn unbound_databases<A: Allowance>(memory: &A, count: usize) -> Result<Vec<Db>, AllocError>
+    ensures { IfOk result (λ databases. databases.items ≡ replicate count no_database) }
+{
+    vec![in memory.grant()?; Db(0); count]
 }

@@ -1,13 +1,38 @@
 -- The text of pieces.
-use Rattle.std.specs.Prelude.{◌++◌, ℕ, List, [], ◌∷◌, decimal}
+use Rattle.std.specs.Prelude.{◌++◌, ◌==◌, ◌&&◌, not, nat_le, ℕ, Bool, if◌then◌else◌, List, [], ◌∷◌, codes, decimal}
+use Rattle.std.specs.List.{list_all}
 use Rattle.hex.specs.Hex.{encode_lower}
+use Rattle.heap_model.specs.Bytes.{u16_bytes, u32_bytes}
 use Rattle.palm_text.specs.declared.pieces.Piece.{Piece}
-use Rattle.palm_text.specs.declared.pieces.Piece.TheVariants.{Text, Number, Hex}
+use Rattle.palm_text.specs.declared.pieces.Piece.TheVariants.{Text, Spelled, FourBytes, Number, Hex, Hex16, Hex32}
+
+-- what may stand in quotes: all from a space to `~` but `"`
+abbrev pub is_printable : ℕ → Bool
+is_printable b = nat_le 32 b && nat_le b 126 && not (b == 34)
+
+-- bytes with a quote behind them, and in quotes
+abbrev pub closed : List ℕ → List ℕ
+closed bytes = bytes ++ codes "\""
+
+abbrev pub quoted : List ℕ → List ℕ
+quoted bytes = codes "\"" ++ closed bytes
+
+-- bytes as `x:` and two hex digits for each
+abbrev pub marked_hex : List ℕ → List ℕ
+marked_hex bytes = codes "x:" ++ encode_lower bytes
+
+-- bytes as scripts spell text: in quotes, where all of them may stand there
+abbrev pub spelled : List ℕ → List ℕ
+spelled bytes = if list_all is_printable bytes then quoted bytes else marked_hex bytes
 
 abbrev pub piece_text : Piece → List ℕ
 piece_text (Text text) = text.now
+piece_text (Spelled text) = spelled text.now
+piece_text (FourBytes number) = spelled (u32_bytes number)
 piece_text (Number number) = decimal number
 piece_text (Hex bytes) = encode_lower bytes.now
+piece_text (Hex16 number) = encode_lower (u16_bytes number)
+piece_text (Hex32 number) = encode_lower (u32_bytes number)
 
 -- the pieces' texts, one behind another
 abbrev pub text_of : List Piece → List ℕ

@@ -7,6 +7,7 @@
 
 mod output;
 mod pieces;
+mod spelled;
 
 pub use output::{WriteFault, put_all};
 pub use pieces::{Piece, put_pieces};

@@ -2,10 +2,13 @@
 
 ghost use Rattle.std.specs.Prelude.{◌≤◌, is_ok, length};
 ghost use Rattle.hex.specs.Hex.{encode_lower};
+ghost use Rattle.heap_model.specs.Bytes.{u16_bytes, u32_bytes};
 ghost use Rattle.heap_model.specs.Counted.{Writes};
-ghost use Rattle.palm_text.specs.Pieces.{piece_text, text_of};
+ghost use Rattle.palm_text.specs.Pieces.{piece_text, spelled, text_of};
 
 use crate::output::{WriteFault, put_all};
+use crate::spelled::put_spelled;
+use byteorder::{BigEndian, ByteOrder};
 use heap_model::Counted;
 use itoa::Buffer;
 use std::io::Write;
@@ -18,10 +21,19 @@ const TURN: usize = 32;
 pub enum Piece<'a> {
     /// These bytes.
     Text(&'a [u8]),
+    /// A text as scripts spell it: in quotes, where each byte is a character from space to `~` but `"`,
+    /// and else as `x:` and two hex digits in lower case for each byte.
+    Spelled(&'a [u8]),
+    /// The four bytes of a number, as such a text: so a type or a creator is printed.
+    FourBytes(u32),
     /// A number in decimal.
     Number(u32),
     /// Two hex digits in lower case for each byte; nothing where there is none.
     Hex(&'a [u8]),
+    /// A number in four hex digits in lower case.
+    Hex16(u16),
+    /// A number in eight hex digits in lower case.
+    Hex32(u32),
 }
 
 /// Writes pieces, one behind another.
@@ -42,16 +54,47 @@ fn put_piece<W: Write>(out: &mut Counted<W>, piece: &Piece) -> Result<(), WriteF
 {
     match piece {
         Piece::Text(text) => put_all(out, text),
+        Piece::Spelled(text) => put_spelled(out, text),
+        Piece::FourBytes(number) => put_four_bytes(out, *number),
         Piece::Number(number) => {
             let mut buffer = Buffer::new();
             put_all(out, buffer.format(*number).as_bytes())
         }
         Piece::Hex(bytes) => put_hex(out, bytes),
+        Piece::Hex16(number) => put_hex_16(out, *number),
+        Piece::Hex32(number) => put_hex_32(out, *number),
     }
 }
 
+/// Writes the four bytes of a number as a text.
+fn put_four_bytes<W: Write>(out: &mut Counted<W>, number: u32) -> Result<(), WriteFault>
+    ensures { Writes W.contents out.old out.new (spelled (u32_bytes number)) (is_ok result) }
+{
+    let mut bytes = [0; 4];
+    BigEndian::write_u32(&mut bytes, number);
+    put_spelled(out, &bytes)
+}
+
+/// Writes a number in four hex digits.
+fn put_hex_16<W: Write>(out: &mut Counted<W>, number: u16) -> Result<(), WriteFault>
+    ensures { Writes W.contents out.old out.new (encode_lower (u16_bytes number)) (is_ok result) }
+{
+    let mut bytes = [0; 2];
+    BigEndian::write_u16(&mut bytes, number);
+    put_hex_turn(out, &bytes)
+}
+
+/// Writes a number in eight hex digits.
+fn put_hex_32<W: Write>(out: &mut Counted<W>, number: u32) -> Result<(), WriteFault>
+    ensures { Writes W.contents out.old out.new (encode_lower (u32_bytes number)) (is_ok result) }
+{
+    let mut bytes = [0; 4];
+    BigEndian::write_u32(&mut bytes, number);
+    put_hex_turn(out, &bytes)
+}
+
 /// Writes bytes in hex, in turns, which take no memory.
-fn put_hex<W: Write>(out: &mut Counted<W>, bytes: &[u8]) -> Result<(), WriteFault>
+pub(crate) fn put_hex<W: Write>(out: &mut Counted<W>, bytes: &[u8]) -> Result<(), WriteFault>
     ensures { Writes W.contents out.old out.new (encode_lower bytes.now) (is_ok result) }
 {
     let mut rest = bytes;

@@ -3,25 +3,29 @@ use Rattle.std.specs.Prelude.{◌≡◌, ◌⊎◌, ℕ, Bool, true, false, List
 use Rattle.heap_model.specs.Counted.{Writing}
 use Rattle.chunk_format.specs.Blank.{IsBlank, IsRegionSize, LeavesRoom}
 use Rattle.heap_check.specs.declared.summary.Summary.{Summary}
-use Rattle.heap_check.specs.Summary.{Summarizes}
+use Rattle.store_check.specs.declared.summary.StoreSummary.{StoreSummary}
+use Rattle.store_check.specs.Checks.{Summarizes}
 use Rattle.program_io.specs.FaultLines.{PutsBad}
 use Rattle.program_io.specs.Output.{Puts}
 
--- the line that `check` prints of an accepted heap
-abbrev pub summary_line : Summary → List ℕ
-summary_line summary =
+-- the line that `check` prints of an accepted heap, and the lines of an accepted image
+abbrev pub heap_line : Summary → List ℕ
+heap_line summary =
     codes "ok size " ++ (decimal summary.size ++ (codes " slots " ++ (decimal summary.slots
     ++ (codes " movable " ++ (decimal summary.movable ++ (codes " fixed " ++ (decimal summary.fixed
     ++ (codes " free " ++ (decimal summary.free ++ codes "\n")))))))))
+
+abbrev pub summary_lines : StoreSummary → List ℕ
+summary_lines summary = heap_line summary.heap ++ (codes "databases " ++ (decimal summary.databases ++ codes "\n"))
 
 module _ {W : Type 0} where
   -- a blank image of this size and slot count
   abbrev pub PutsBlank : (size slots : ℕ) → (W → Option (List ℕ)) → Writing W → Writing W → Bool → Type 0
   PutsBlank size slots contents old new ok = (image : List ℕ) × IsBlank size slots image × Puts contents old new image ok
 
-  -- the line for an accepted image
+  -- the lines for an accepted image
   abbrev pub PutsSummary : List ℕ → (W → Option (List ℕ)) → Writing W → Writing W → Bool → Type 0
-  PutsSummary image contents old new ok = (summary : Summary) × Summarizes image summary × Puts contents old new (summary_line summary) ok
+  PutsSummary image contents old new ok = (summary : StoreSummary) × Summarizes image summary × Puts contents old new (summary_lines summary) ok
 
 -- A write or a flush failed in `new`, and nothing was written after it: it was one of the image's, and
 -- nothing was printed; or one of `ok`, behind the whole image; or there is no such image, it was one of

@@ -1,5 +1,5 @@
 pub mod Commands
 pub mod Runs
-pub use Rattle.heap_model.specs.Heap
+pub use Rattle.heap_model.specs.Store
 pub use Rattle.chunk_format.specs.Blank
-pub use Rattle.heap_check.specs.Summary
+pub use Rattle.store_check.specs.Checks

@@ -1,20 +1,21 @@
 //! The commands `new` and `check`, over bytes and writers.
 
 ghost use Rattle.std.specs.Prelude.{◌≡◌, ◌≢◌, codes, true, false, IfOk, string_bytes};
-ghost use Rattle.heap_model.specs.Heap.{HeapAccepted};
+ghost use Rattle.heap_model.specs.Store.{Accepted};
 ghost use Rattle.chunk_format.specs.Blank.{IsRegionSize, LeavesRoom};
-ghost use Rattle.palmheap_commands.specs.Commands.{NewBreaksOff, PutsBlank, PutsSummary, summary_line};
+ghost use Rattle.palmheap_commands.specs.Commands.{NewBreaksOff, PutsBlank, PutsSummary, heap_line, summary_lines};
 ghost use Rattle.program_io.specs.FaultLines.{PutsBad};
 ghost use Rattle.program_io.specs.Output.{Puts};
 
 use crate::images::put_image;
 use chunk_format::{BlankFault, blank};
-use heap_check::{Summary, check_heap};
+use heap_check::Summary;
 use heap_model::Counted;
 use program_io::{Status, say, say_bad, say_text};
 use raw_region::Region;
 use std::alloc::{AllocError, Global};
 use std::io::Write;
+use store_check::{StoreFault, StoreSummary, check_store};
 
 /// Writes a blank image of this size and slot count to `image_out`, and then `ok` to `out`.
 ///
@@ -55,13 +56,13 @@ pub fn cmd_new<W: Write, V: Write>(
 pub fn cmd_check<V: Write>(alloc: Global, image: &[u8], out: &mut Counted<V>) -> Status
     ensures done { result ≡ Status.Done
         → PutsSummary image.now V.contents out.old out.new true }
-    ensures accepted { result ≡ Status.Done → HeapAccepted image.now }
-    ensures refused { result ≡ Status.Refused → HeapAccepted image.now → ⊥ }
+    ensures accepted { result ≡ Status.Done → Accepted image.now }
+    ensures refused { result ≡ Status.Refused → Accepted image.now → ⊥ }
     ensures fault { result ≡ Status.Refused → PutsBad V.contents out.old out.new true }
     ensures no_memory { result ≡ Status.NoMemory → out.new ≡ out.old }
-    ensures summary_fault { result ≡ Status.WriteFault → HeapAccepted image.now
+    ensures summary_fault { result ≡ Status.WriteFault → Accepted image.now
         → PutsSummary image.now V.contents out.old out.new false }
-    ensures bad_fault { result ≡ Status.WriteFault → (HeapAccepted image.now → ⊥)
+    ensures bad_fault { result ≡ Status.WriteFault → (Accepted image.now → ⊥)
         → PutsBad V.contents out.old out.new false }
     ensures good_words { result ≢ Status.BadWords }
     ensures reads_nothing { result ≢ Status.ReadFault }
@@ -76,26 +77,36 @@ pub fn cmd_check<V: Write>(alloc: Global, image: &[u8], out: &mut Counted<V>) ->
 pub fn check_region<V: Write>(alloc: Global, region: &Region, out: &mut Counted<V>) -> Status
     ensures done { result ≡ Status.Done
         → PutsSummary region.now.bytes V.contents out.old out.new true }
-    ensures accepted { result ≡ Status.Done → HeapAccepted region.now.bytes }
-    ensures refused { result ≡ Status.Refused → HeapAccepted region.now.bytes → ⊥ }
+    ensures accepted { result ≡ Status.Done → Accepted region.now.bytes }
+    ensures refused { result ≡ Status.Refused → Accepted region.now.bytes → ⊥ }
     ensures fault { result ≡ Status.Refused → PutsBad V.contents out.old out.new true }
     ensures no_memory { result ≡ Status.NoMemory → out.new ≡ out.old }
-    ensures summary_fault { result ≡ Status.WriteFault → HeapAccepted region.now.bytes
+    ensures summary_fault { result ≡ Status.WriteFault → Accepted region.now.bytes
         → PutsSummary region.now.bytes V.contents out.old out.new false }
-    ensures bad_fault { result ≡ Status.WriteFault → (HeapAccepted region.now.bytes → ⊥)
+    ensures bad_fault { result ≡ Status.WriteFault → (Accepted region.now.bytes → ⊥)
         → PutsBad V.contents out.old out.new false }
     ensures good_words { result ≢ Status.BadWords }
     ensures reads_nothing { result ≢ Status.ReadFault }
 {
-    match check_heap(region) {
+    match check_store(alloc, region) {
         Ok(summary) => say_text(summary_text(alloc, &summary), Status::Done, out),
+        Err(fault) if fault == StoreFault::OutOfMemory => Status::NoMemory,
         Err(fault) => say_bad(alloc, fault, Status::Refused, out),
     }
 }
 
+/// The lines for an accepted image.
+fn summary_text(alloc: Global, summary: &StoreSummary) -> Result<String, AllocError>
+    ensures { IfOk result (λ lines. string_bytes lines ≡ summary_lines summary.now) }
+{
+    let line = heap_text(alloc, &summary.heap)?;
+    let databases = summary.databases;
+    format!(in alloc; "{line}databases {databases}\n")
+}
+
 /// The line for an accepted heap.
-fn summary_text(alloc: Global, summary: &Summary) -> Result<String, AllocError>
-    ensures { IfOk result (λ line. string_bytes line ≡ summary_line summary.now) }
+fn heap_text(alloc: Global, summary: &Summary) -> Result<String, AllocError>
+    ensures { IfOk result (λ line. string_bytes line ≡ heap_line summary.now) }
 {
     let Summary {
         size,

@@ -1,15 +1,15 @@
 //! The command `run`: a script, run on an image.
 
 ghost use Rattle.std.specs.Prelude.{◌≡◌, ◌≢◌, ◌⊎◌, Ok, Err, IfOk, IfErr, OnOk, [], true, false};
-ghost use Rattle.heap_model.specs.Heap.{HeapAccepted};
+ghost use Rattle.heap_model.specs.Store.{Accepted};
 ghost use Rattle.script_lines.specs.Reading.{read_script};
 ghost use Rattle.palmheap_commands.specs.Runs.{EndsEarly, PrintingFails, PutsRefusal, RunBreaksOff};
 ghost use Rattle.palmheap_commands.specs.Runs.{RunsAndFlushes, RunsAndWrites, RunsScript};
 
 use crate::images::put_image;
 use heap_model::{Bytes, Counted};
-use mem_manager::Heap;
 use palm_script::{RunFault, Script, ScriptFault, parse, run};
+use palm_store::{NotAStore, Store, StoreFault};
 use program_io::{Status, say_bad, say_line_fault};
 use raw_region::Region;
 use std::alloc::Global;
@@ -29,8 +29,8 @@ pub fn cmd_run<W: Write, V: Write>(
     files: &mut Vec<Bytes>,
     out: &mut Counted<V>,
 ) -> Status
-    ensures done { result ≡ Status.Done → RunsScript image.now script.now
-        V.contents out.old out.new W.contents image_out.old image_out.new true }
+    ensures done { result ≡ Status.Done → RunsScript image.now script.now inputs.now
+        V.contents out.old out.new W.contents image_out.old image_out.new files.new.items true }
     ensures no_file { result ≡ Status.Done → files.new.items ≡ [] }
     ensures files_kept { result ≢ Status.Done → files.new ≡ files.old }
     ensures refused { result ≡ Status.Refused
@@ -38,7 +38,7 @@ pub fn cmd_run<W: Write, V: Write>(
     ensures no_image { result ≡ Status.Refused → image_out.new ≡ image_out.old }
     ensures no_memory { result ≡ Status.NoMemory
         → (image_out.new ≡ image_out.old) × (out.new ≡ out.old) }
-    ensures write_fault { result ≡ Status.WriteFault → RunBreaksOff image.now script.now
+    ensures write_fault { result ≡ Status.WriteFault → RunBreaksOff image.now script.now inputs.now
         V.contents out.old out.new W.contents image_out.old image_out.new }
     ensures good_words { result ≢ Status.BadWords }
     ensures reads_nothing { result ≢ Status.ReadFault }
@@ -59,8 +59,8 @@ pub fn run_region<W: Write, V: Write>(
     files: &mut Vec<Bytes>,
     out: &mut Counted<V>,
 ) -> Status
-    ensures done { result ≡ Status.Done → RunsScript region.bytes script.now
-        V.contents out.old out.new W.contents image_out.old image_out.new true }
+    ensures done { result ≡ Status.Done → RunsScript region.bytes script.now inputs.now
+        V.contents out.old out.new W.contents image_out.old image_out.new files.new.items true }
     ensures no_file { result ≡ Status.Done → files.new.items ≡ [] }
     ensures files_kept { result ≢ Status.Done → files.new ≡ files.old }
     ensures refused { result ≡ Status.Refused
@@ -68,27 +68,27 @@ pub fn run_region<W: Write, V: Write>(
     ensures no_image { result ≡ Status.Refused → image_out.new ≡ image_out.old }
     ensures no_memory { result ≡ Status.NoMemory
         → (image_out.new ≡ image_out.old) × (out.new ≡ out.old) }
-    ensures write_fault { result ≡ Status.WriteFault → RunBreaksOff region.bytes script.now
+    ensures write_fault { result ≡ Status.WriteFault → RunBreaksOff region.bytes script.now inputs.now
         V.contents out.old out.new W.contents image_out.old image_out.new }
     ensures good_words { result ≢ Status.BadWords }
     ensures reads_nothing { result ≢ Status.ReadFault }
 {
     match read(alloc, region, script, out) {
-        Ok((heap, script)) => run_script(alloc, heap, &script, inputs, image_out, files, out),
+        Ok((store, script)) => run_script(alloc, store, &script, inputs, image_out, files, out),
         Err(status) => status,
     }
 }
 
-/// The heap of an image, and the script of a text. What is refused is said, the image before the
+/// The store of an image, and the script of a text. What is refused is said, the image before the
 /// script.
 fn read<V: Write>(
     alloc: Global,
     region: Region,
     script: &[u8],
     out: &mut Counted<V>,
-) -> Result<(Heap, Script), Status>
-    ensures heap { IfOk result (λ read. read.0 ≡ region) }
-    ensures accepted { OnOk result (HeapAccepted region.bytes) }
+) -> Result<(Store, Script), Status>
+    ensures store { IfOk result (λ read. read.0 ≡ region) }
+    ensures accepted { OnOk result (Accepted region.bytes) }
     ensures script { IfOk result (λ read. read_script script.now ≡ Ok read.1) }
     ensures silent { OnOk result (out.new ≡ out.old) }
     ensures faults { IfErr result (λ status. (status ≡ Status.Refused)
@@ -99,21 +99,27 @@ fn read<V: Write>(
         → PutsRefusal region.bytes script.now V.contents out.old out.new false }
     ensures memory { result ≡ Err Status.NoMemory → out.new ≡ out.old }
 {
-    let heap = match Heap::adopt(region) {
-        Ok(heap) => heap,
+    let store = match Store::check(alloc, region) {
+        Ok(store) => store,
+        Err(
+            NotAStore {
+                fault: StoreFault::OutOfMemory,
+                ..
+            },
+        ) => return Err(Status::NoMemory),
         Err(error) => return Err(say_bad(alloc, error.fault, Status::Refused, out)),
     };
     match parse(alloc, script) {
-        Ok(script) => Ok((heap, script)),
+        Ok(script) => Ok((store, script)),
         Err(fault) if fault.fault == ScriptFault::OutOfMemory => Err(Status::NoMemory),
         Err(fault) => Err(say_line_fault(alloc, fault, out)),
     }
 }
 
-/// Runs a script on a heap, prints its reply lines, and then writes the image.
+/// Runs a script on a store, prints its reply lines, and then writes the image.
 fn run_script<W: Write, V: Write>(
     alloc: Global,
-    mut heap: Heap,
+    mut store: Store,
     script: &Script,
     inputs: &[Bytes],
     image_out: &mut Counted<W>,
@@ -122,20 +128,20 @@ fn run_script<W: Write, V: Write>(
 ) -> Status
     ensures statuses { (result ≡ Status.Done) ⊎ (result ≡ Status.WriteFault)
         ⊎ (result ≡ Status.NoMemory) }
-    ensures done { result ≡ Status.Done → RunsAndWrites script.now heap
-        V.contents out.old out.new W.contents image_out.old image_out.new true }
+    ensures done { result ≡ Status.Done → RunsAndWrites inputs.now script.now store
+        V.contents out.old out.new W.contents image_out.old image_out.new files.new.items true }
     ensures no_file { result ≡ Status.Done → files.new.items ≡ [] }
     ensures files_kept { result ≢ Status.Done → files.new ≡ files.old }
-    ensures write_fault { result ≡ Status.WriteFault → EndsEarly script.now heap
+    ensures write_fault { result ≡ Status.WriteFault → EndsEarly inputs.now script.now store
         V.contents out.old out.new W.contents image_out.old image_out.new }
     ensures no_memory { result ≡ Status.NoMemory
         → (image_out.new ≡ image_out.old) × (out.new ≡ out.old) }
 {
-    let exported = match print_replies(alloc, &mut heap, script, inputs, out) {
+    let exported = match print_replies(alloc, &mut store, script, inputs, out) {
         Ok(exported) => exported,
         Err(status) => return status,
     };
-    match put_image(image_out, &heap.into_region()) {
+    match put_image(image_out, &store.into_region()) {
         Ok(()) => {
             *files = exported;
             Status::Done
@@ -147,21 +153,21 @@ fn run_script<W: Write, V: Write>(
 /// Runs a script, and prints its reply lines.
 fn print_replies<V: Write>(
     alloc: Global,
-    heap: &mut Heap,
+    store: &mut Store,
     script: &Script,
     inputs: &[Bytes],
     out: &mut Counted<V>,
 ) -> Result<Vec<Bytes>, Status>
-    ensures ok { OnOk result (RunsAndFlushes V.contents script.now
-        heap.old out.old heap.new out.new true) }
+    ensures ok { IfOk result (λ files. RunsAndFlushes V.contents inputs.now script.now
+        store.old out.old store.new out.new files.items true) }
     ensures files { IfOk result (λ files. files.items ≡ []) }
     ensures faults { IfErr result (λ status.
         (status ≡ Status.WriteFault) ⊎ (status ≡ Status.NoMemory)) }
-    ensures write { result ≡ Err Status.WriteFault → PrintingFails V.contents script.now
-        heap.old out.old heap.new out.new }
+    ensures write { result ≡ Err Status.WriteFault → PrintingFails V.contents inputs.now script.now
+        store.old out.old store.new out.new }
     ensures memory { result ≡ Err Status.NoMemory → out.new ≡ out.old }
 {
-    match run(alloc, heap, script, inputs, out) {
+    match run(alloc, store, script, inputs, out) {
         Ok(files) => match out.flush() {
             Ok(()) => Ok(files),
             Err(_) => Err(Status::WriteFault),

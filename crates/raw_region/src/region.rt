@@ -2,7 +2,7 @@
 
 ghost use Rattle.std.specs.Prelude.{◌≡◌, ◌+◌, length, slice_range, replicate, IfOk};
 ghost use Rattle.heap_model.specs.Memory.{IsWithin};
-ghost use Rattle.heap_model.specs.Bytes.{u16_at, u32_at, u16_bytes, u32_bytes, overwritten};
+ghost use Rattle.heap_model.specs.Bytes.{AreBytes, u16_at, u32_at, u16_bytes, u32_bytes, overwritten};
 
 use crate::words;
 use heap_model::Tally;
@@ -64,6 +64,15 @@ impl Region {
         ensures { result ≡ length self.now.bytes }
     {
         self.bytes.len()
+    }
+
+    /// All bytes of the region, in order.
+    #[inline]
+    pub fn as_slice(&self) -> &[u8]
+        ensures is { result.now ≡ self.now.bytes }
+        ensures bytes { AreBytes self.now.bytes }
+    {
+        words::all(&self.bytes)
     }
 
     /// The number in the two bytes at `at`.

@@ -1,45 +1,50 @@
 -- Laws that tie the tables of commands to each other.
-use Rattle.std.proofs.Common.{◌≡◌, ◌≢◌, ◌+◌, ℕ, List, [], ◌∷◌, ◌++◌, Bool, true, false, refl, ap, sym, ◌∙◌, append_assoc, append-nil}
+use Rattle.std.proofs.Common.{◌≡◌, ◌≢◌, ◌+◌, ℕ, if◌then◌else◌, List, [], ◌∷◌, ◌++◌, Bool, true, false, refl, ap, sym, ◌∙◌, append_assoc, append-nil}
 use Rattle.std.specs.Prelude.{Option, Some, None, Ok, Err, ◌^◌}
 use Rattle.std.specs.Option.{option_map, option_map_or}
 use Rattle.script_lines.specs.declared.fault.ScriptFault.TheVariants.{BadWord}
 use Rattle.script_lines.specs.declared.line.ChunkLabel.{ChunkLabel}
+use Rattle.script_lines.specs.declared.line.DatabaseLabel.{DatabaseLabel}
 use Rattle.script_lines.specs.declared.line.Line.{Line}
 use Rattle.script_lines.specs.declared.command.Command.{Command}
 use Rattle.script_lines.specs.declared.value.Kind.{Kind}
-use Rattle.script_lines.specs.declared.value.Kind.TheVariants.{Chunk, Byte, Number, Bytes, Text}
+use Rattle.script_lines.specs.declared.value.Kind.TheVariants.{Chunk, Database, Byte, Short, Number, Flag, FourBytes, Bytes, Text}
 use Rattle.script_lines.specs.declared.value.Value.{Value}
-use Rattle.script_lines.specs.declared.value.Value.TheVariants.{Label, Byte as ByteValue, Number as NumberValue}
-use Rattle.script_lines.specs.Commands.{Shape, chunk_number_byte, chunk_two_numbers_byte, chunk_two_numbers, chunk_number_bytes, chunk_number_text, chunk_number, chunk_byte, chunk_alone, byte_alone, nothing, kinds_by, row_of, kinds_of, line_by, line_of}
-use Rattle.script_lines.specs.Kinds.{WordsRead, read_word, read_words, with_bytes, with_chunk, with_value}
-use Rattle.script_lines.specs.Numbering.{Numbering, label_number}
+use Rattle.script_lines.specs.declared.value.Value.TheVariants.{Chunk as ChunkValue, Database as DatabaseValue, Byte as ByteValue, Short as ShortValue, Number as NumberValue, Flag as FlagValue, FourBytes as FourBytesValue}
+use Rattle.script_lines.specs.Commands.{Makes, row_of, kinds_of, line_by, line_of}
+use Rattle.script_lines.specs.Kinds.{WordsRead, read_word, read_words, with_bytes, with_chunk, with_database, with_value}
+use Rattle.script_lines.specs.Numbering.{Numberings, label_number}
 use Rattle.script_lines.specs.Reading.{none_read}
-use Rattle.script_lines.specs.Spellings.{is_label, number_below, spelled_bytes, spelled_text}
+use Rattle.script_lines.specs.Spellings.{is_label, number_below, spelled_bytes, spelled_text, spelled_flag, spelled_four}
 
 -- the values that words of some kinds stand for: one for each word, but none for bytes or text
 abbrev pub AreOfKinds : List Kind → List Value → Type 0
 AreOfKinds [] values = values ≡ []
-AreOfKinds (Chunk ∷ kinds) values = (label : ChunkLabel) × (more : List Value) × (values ≡ Label label ∷ more) × AreOfKinds kinds more
+AreOfKinds (Chunk ∷ kinds) values = (label : ChunkLabel) × (more : List Value) × (values ≡ ChunkValue label ∷ more) × AreOfKinds kinds more
+AreOfKinds (Database ∷ kinds) values = (label : DatabaseLabel) × (more : List Value) × (values ≡ DatabaseValue label ∷ more) × AreOfKinds kinds more
 AreOfKinds (Byte ∷ kinds) values = (byte : ℕ) × (more : List Value) × (values ≡ ByteValue byte ∷ more) × AreOfKinds kinds more
+AreOfKinds (Short ∷ kinds) values = (number : ℕ) × (more : List Value) × (values ≡ ShortValue number ∷ more) × AreOfKinds kinds more
 AreOfKinds (Number ∷ kinds) values = (number : ℕ) × (more : List Value) × (values ≡ NumberValue number ∷ more) × AreOfKinds kinds more
+AreOfKinds (Flag ∷ kinds) values = (is_set : Bool) × (more : List Value) × (values ≡ FlagValue is_set ∷ more) × AreOfKinds kinds more
+AreOfKinds (FourBytes ∷ kinds) values = (number : ℕ) × (more : List Value) × (values ≡ FourBytesValue number ∷ more) × AreOfKinds kinds more
 AreOfKinds (Bytes ∷ kinds) values = AreOfKinds kinds values
 AreOfKinds (Text ∷ kinds) values = AreOfKinds kinds values
 
--- values of a shape's kinds make a line
-line_made : (shape : Shape) (values : List Value) (bytes : List ℕ) → AreOfKinds (kinds_by shape) values → (line : Line) × (line_by shape values bytes ≡ Some line)
-line_made (chunk_number make) values bytes (label, r0, is_label, (b, r1, is_b, end)) = rw (is_label, is_b, end) (make label b, refl)
-line_made (chunk_number_byte make) values bytes (label, r0, is_label, (b, r1, is_b, (c, r2, is_c, end))) = rw (is_label, is_b, is_c, end) (make label b c, refl)
-line_made (chunk_alone make) values bytes (label, r0, is_label, end) = rw (is_label, end) (make label, refl)
-line_made (chunk_byte make) values bytes (label, r0, is_label, (b, r1, is_b, end)) = rw (is_label, is_b, end) (make label b, refl)
-line_made (chunk_two_numbers make) values bytes (label, r0, is_label, (b, r1, is_b, (c, r2, is_c, end))) = rw (is_label, is_b, is_c, end) (make label b c, refl)
-line_made (chunk_number_bytes make) values bytes (label, r0, is_label, (b, r1, is_b, end)) = rw (is_label, is_b, end) (make label b bytes, refl)
-line_made (chunk_two_numbers_byte make) values bytes (label, r0, is_label, (b, r1, is_b, (c, r2, is_c, (d, r3, is_d, end)))) = rw (is_label, is_b, is_c, is_d, end) (make label b c d, refl)
-line_made (chunk_number_text make) values bytes (label, r0, is_label, (b, r1, is_b, end)) = rw (is_label, is_b, end) (make label b bytes, refl)
-line_made (byte_alone make) values bytes (a, r0, is_a, end) = rw (is_a, end) (make a, refl)
-line_made (nothing make) values bytes end = rw end (make, refl)
+-- values of some kinds make a line
+line_made : (kinds : List Kind) (make : Makes kinds) (values : List Value) (bytes : List ℕ) → AreOfKinds kinds values → (line : Line) × (line_by kinds make values bytes ≡ Some line)
+line_made [] make values bytes end = rw end (make, refl)
+line_made (Chunk ∷ kinds) make values bytes (label, more, is, fit) = rw is (line_made kinds (make label) more bytes fit)
+line_made (Database ∷ kinds) make values bytes (label, more, is, fit) = rw is (line_made kinds (make label) more bytes fit)
+line_made (Byte ∷ kinds) make values bytes (byte, more, is, fit) = rw is (line_made kinds (make byte) more bytes fit)
+line_made (Short ∷ kinds) make values bytes (number, more, is, fit) = rw is (line_made kinds (make number) more bytes fit)
+line_made (Number ∷ kinds) make values bytes (number, more, is, fit) = rw is (line_made kinds (make number) more bytes fit)
+line_made (Flag ∷ kinds) make values bytes (is_set, more, is, fit) = rw is (line_made kinds (make is_set) more bytes fit)
+line_made (FourBytes ∷ kinds) make values bytes (number, more, is, fit) = rw is (line_made kinds (make number) more bytes fit)
+line_made (Bytes ∷ kinds) make values bytes fit = line_made kinds (make bytes) values bytes fit
+line_made (Text ∷ kinds) make values bytes fit = line_made kinds (make bytes) values bytes fit
 
 pub makes_line : (command : Command) (values : List Value) (bytes : List ℕ) → AreOfKinds (kinds_of command) values → (line : Line) × (line_of command values bytes ≡ Some line)
-makes_line command values bytes fit = line_made (row_of command).shape values bytes fit
+makes_line command values bytes fit = line_made (row_of command).of (row_of command).make values bytes fit
 
 -- what a word of a kind adds: values that stand for it, in front of those of the words behind it
 abbrev pub AddsOfKind : Kind → List Value → List Value → Type 0
@@ -49,22 +54,34 @@ mapped : {A B : Type 0} (f : A → B) (from : Option A) (to : B) → option_map 
 mapped f None to e = cc
 mapped f (Some x) to e = (x, cc)
 
+labelled : (read next after : WordsRead) (kind : Kind) (value : Value) (is_label : Bool) → after.values ≡ read.values ++ value ∷ [] → (if is_label then Some after else None) ≡ Some next → ((kinds : List Kind) (more : List Value) → AreOfKinds kinds more → AreOfKinds (kind ∷ kinds) (value ∷ more)) → AddsOfKind kind read.values next.values
+labelled read next after kind value true adds is fits =
+    let same : next ≡ after = cc in
+    (value ∷ [], ap (λ (r : WordsRead). r.values) same ∙ adds, fits)
+labelled read next after kind value false adds is fits = cc
+
 word_adds : (read next : WordsRead) (kind : Kind) (word : List ℕ) → read_word read kind word ≡ Some next → AddsOfKind kind read.values next.values
-word_adds read next Chunk word is = by_label (is_label word) refl
-  where
-    by_label : (v : Bool) → is_label word ≡ v → AddsOfKind Chunk read.values next.values
-    by_label true e =
-        let some : Some (with_chunk read word) ≡ Some next = rw e at is in
-        let same : next ≡ with_chunk read word = cc in
-        (Label (record { 0 = label_number read.labels word }) ∷ [], ap (λ (r : WordsRead). r.values) same, λ kinds more fit. (record { 0 = label_number read.labels word }, more, refl, fit))
-    by_label false e =
-        let none : ◌≡◌ {A = Option WordsRead} None (Some next) = rw e at is in cc
+word_adds read next Chunk word is =
+    let label : ChunkLabel = record { 0 = label_number read.labels.chunks word } in
+    labelled read next (with_chunk read word) Chunk (ChunkValue label) (is_label word) refl is (λ kinds more fit. (label, more, refl, fit))
+word_adds read next Database word is =
+    let label : DatabaseLabel = record { 0 = label_number read.labels.databases word } in
+    labelled read next (with_database read word) Database (DatabaseValue label) (is_label word) refl is (λ kinds more fit. (label, more, refl, fit))
 word_adds read next Byte word is =
     let (byte, same) = mapped (λ byte. with_value read (ByteValue byte)) (number_below (2 ^ 8) word) next is in
     (ByteValue byte ∷ [], ap (λ (r : WordsRead). r.values) same, λ kinds more fit. (byte, more, refl, fit))
+word_adds read next Short word is =
+    let (number, same) = mapped (λ number. with_value read (ShortValue number)) (number_below (2 ^ 16) word) next is in
+    (ShortValue number ∷ [], ap (λ (r : WordsRead). r.values) same, λ kinds more fit. (number, more, refl, fit))
 word_adds read next Number word is =
     let (number, same) = mapped (λ number. with_value read (NumberValue number)) (number_below (2 ^ 32) word) next is in
     (NumberValue number ∷ [], ap (λ (r : WordsRead). r.values) same, λ kinds more fit. (number, more, refl, fit))
+word_adds read next Flag word is =
+    let (is_set, same) = mapped (λ is_set. with_value read (FlagValue is_set)) (spelled_flag word) next is in
+    (FlagValue is_set ∷ [], ap (λ (r : WordsRead). r.values) same, λ kinds more fit. (is_set, more, refl, fit))
+word_adds read next FourBytes word is =
+    let (number, same) = mapped (λ number. with_value read (FourBytesValue number)) (spelled_four word) next is in
+    (FourBytesValue number ∷ [], ap (λ (r : WordsRead). r.values) same, λ kinds more fit. (number, more, refl, fit))
 word_adds read next Bytes word is =
     let (bytes, same) = mapped (with_bytes read) (spelled_bytes word) next is in
     ([], ap (λ (r : WordsRead). r.values) same ∙ sym (append-nil read.values), λ kinds more fit. fit)
@@ -86,7 +103,7 @@ adds_of_kinds number read after (kind ∷ kinds) (word ∷ words) e = by_word (r
         (front ++ more, behind ∙ ap (λ vs. vs ++ more) adds ∙ append_assoc read.values front more, goes_on kinds more fit)
 
 -- a command's words that were read make a line
-pub read_makes_line : (command : Command) (labels : Numbering) (words : List (List ℕ)) (after : WordsRead) → read_words 2 (none_read labels) (kinds_of command) words ≡ Ok after → line_of command after.values after.bytes ≢ None
+pub read_makes_line : (command : Command) (labels : Numberings) (words : List (List ℕ)) (after : WordsRead) → read_words 2 (none_read labels) (kinds_of command) words ≡ Ok after → line_of command after.values after.bytes ≢ None
 read_makes_line command labels words after e none =
     let (more, all, fit) = adds_of_kinds 2 (none_read labels) after (kinds_of command) words e in
     let (line, made) = makes_line command after.values after.bytes (rw all fit) in

@@ -15,7 +15,7 @@ use Rattle.script_lines.specs.Words.{is_passed_over, words_of, with_word, word_c
 use Rattle.script_lines.specs.Cuts.{CutsWord}
 use Rattle.script_lines.specs.Kinds.{WordsRead, read_word, read_words}
 use Rattle.script_lines.specs.Views.{Adds}
-use Rattle.script_lines.specs.Numbering.{Numbering, no_labels}
+use Rattle.script_lines.specs.Numbering.{Numberings, none_numbered}
 use Rattle.script_lines.specs.Reading.{HasLine, LineRead, read_lines, read_script, unless_faulty, words_in, line_unless_broken, line_of_words, read_line}
 
 -- words in front of others
@@ -55,17 +55,17 @@ added (Some after) is_of_kind new adds is = ap Some (sym adds.1)
 pub read_short : (number : ℕ) (read : WordsRead) (kinds : List Kind) (i : ℕ) (kind : Kind) → i < length kinds → read_words number read (drop i kinds) [] ≡ Err WrongCount
 read_short number read kinds i kind within = rw (drop-cons kinds i kind within) refl
 
-line_at : (labels : Numbering) (word : List ℕ) (count : ℕ) (behind : Result (List (List ℕ)) ℕ) → Ok count ≡ word_count (with_word word behind) → line_unless_broken labels (with_word word behind) ≡ line_of_words labels (word ∷ result_unwrap_or behind [])
+line_at : (labels : Numberings) (word : List ℕ) (count : ℕ) (behind : Result (List (List ℕ)) ℕ) → Ok count ≡ word_count (with_word word behind) → line_unless_broken labels (with_word word behind) ≡ line_of_words labels (word ∷ result_unwrap_or behind [])
 line_at labels word count (Ok more) counted = refl
 line_at labels word count (Err number) counted = cc
 
 -- a line that isn't passed over and has no broken word is that of its words
-pub read_line-words : (labels : Numbering) (text word rest : List ℕ) (count : ℕ) → is_passed_over text ≡ false → words_of text ≡ with_word word (words_of rest) → Ok count ≡ word_count (words_of text) → read_line labels text ≡ line_of_words labels (word ∷ words_in rest)
+pub read_line-words : (labels : Numberings) (text word rest : List ℕ) (count : ℕ) → is_passed_over text ≡ false → words_of text ≡ with_word word (words_of rest) → Ok count ≡ word_count (words_of text) → read_line labels text ≡ line_of_words labels (word ∷ words_in rest)
 read_line-words labels text word rest count here cut counted =
     rw here (ap (line_unless_broken labels) cut ∙ line_at labels word count (words_of rest) (counted ∙ ap word_count cut))
 
 -- a faulty line is one of those that are read
-pub faulty_line : (number : ℕ) (labels : Numbering) (front : List Line) (texts : List (List ℕ)) (fault : LineFault) → read_lines number labels front texts ≡ Err fault → (number ≤ fault.line) × (fault.line < number + length texts)
+pub faulty_line : (number : ℕ) (labels : Numberings) (front : List Line) (texts : List (List ℕ)) (fault : LineFault) → read_lines number labels front texts ≡ Err fault → (number ≤ fault.line) × (fault.line < number + length texts)
 faulty_line number labels front [] fault e = cc
 faulty_line number labels front (text ∷ texts) fault e = by_line (read_line labels text) e (λ read at. faulty_line (number + 1) read.labels (front ++ option_to_list read.line) texts fault at)
   where
@@ -76,4 +76,4 @@ faulty_line number labels front (text ∷ texts) fault e = by_line (read_line la
     by_line (Ok read) e later = let behind = later read e in (omega arith, omega arith)
 
 pub has_faulty_line : (text : List ℕ) (fault : LineFault) → read_script text ≡ Err fault → HasLine text fault.line
-has_faulty_line text fault e = let among = faulty_line 1 no_labels [] (lines text) fault e in (among.0, omega arith)
+has_faulty_line text fault e = let among = faulty_line 1 none_numbered [] (lines text) fault e in (among.0, omega arith)

@@ -4,18 +4,18 @@ use Rattle.std.specs.Option.{option_map, option_map_or}
 use Rattle.script_lines.specs.declared.fault.ScriptFault.{ScriptFault}
 use Rattle.script_lines.specs.declared.fault.ScriptFault.TheVariants.{WrongCount, BadWord}
 use Rattle.script_lines.specs.declared.value.Kind.{Kind}
-use Rattle.script_lines.specs.declared.value.Kind.TheVariants.{Chunk, Byte, Number, Bytes, Text}
+use Rattle.script_lines.specs.declared.value.Kind.TheVariants.{Chunk, Database, Byte, Short, Number, Flag, Bytes, Text, FourBytes}
 use Rattle.script_lines.specs.declared.value.Value.{Value}
-use Rattle.script_lines.specs.declared.value.Value.TheVariants.{Label, Byte as ByteValue, Number as NumberValue}
-use Rattle.script_lines.specs.Numbering.{Numbering, label_number, with_label}
-use Rattle.script_lines.specs.Spellings.{is_label, number_below, spelled_bytes, spelled_text}
+use Rattle.script_lines.specs.declared.value.Value.TheVariants.{Chunk as ChunkValue, Database as DatabaseValue, Byte as ByteValue, Short as ShortValue, Number as NumberValue, Flag as FlagValue, FourBytes as FourBytesValue}
+use Rattle.script_lines.specs.Numbering.{Numberings, label_number, with_chunk_label, with_database_label}
+use Rattle.script_lines.specs.Spellings.{is_label, number_below, spelled_bytes, spelled_text, spelled_flag, spelled_four}
 
 -- what was read of a line so far: the values of its words; the bytes of its word of bytes or text,
 -- of which no line has two; and the labels that have appeared in the script
 pub record WordsRead : Type 0 where
   pub values : List Value
   pub bytes : List ℕ
-  pub labels : Numbering
+  pub labels : Numberings
 
 -- the same with a value more
 abbrev pub with_value : WordsRead → Value → WordsRead
@@ -33,21 +33,35 @@ with_bytes read bytes = record {
   labels = read.labels;
 }
 
--- the same with a label more
+-- the same with a chunk's label more
 abbrev pub with_chunk : WordsRead → List ℕ → WordsRead
 with_chunk read word = record {
-  values = read.values ++ Label (record { 0 = label_number read.labels word }) ∷ [];
+  values = read.values ++ ChunkValue (record { 0 = label_number read.labels.chunks word }) ∷ [];
   bytes = read.bytes;
-  labels = with_label read.labels word;
+  labels = with_chunk_label read.labels word;
+}
+
+-- the same with a database's label more
+abbrev pub with_database : WordsRead → List ℕ → WordsRead
+with_database read word = record {
+  values = read.values ++ DatabaseValue (record { 0 = label_number read.labels.databases word }) ∷ [];
+  bytes = read.bytes;
+  labels = with_database_label read.labels word;
 }
 
 -- the same with a word more, if that is of its kind
 abbrev pub read_word : WordsRead → Kind → List ℕ → Option WordsRead
 read_word read Chunk word = if is_label word then Some (with_chunk read word) else None
+read_word read Database word = if is_label word then Some (with_database read word) else None
 read_word read Byte word =
     option_map (λ byte. with_value read (ByteValue byte)) (number_below (2 ^ 8) word)
+read_word read Short word =
+    option_map (λ number. with_value read (ShortValue number)) (number_below (2 ^ 16) word)
 read_word read Number word =
     option_map (λ number. with_value read (NumberValue number)) (number_below (2 ^ 32) word)
+read_word read Flag word = option_map (λ is_set. with_value read (FlagValue is_set)) (spelled_flag word)
+read_word read FourBytes word =
+    option_map (λ number. with_value read (FourBytesValue number)) (spelled_four word)
 read_word read Bytes word = option_map (with_bytes read) (spelled_bytes word)
 read_word read Text word = option_map (with_bytes read) (spelled_text word)
 

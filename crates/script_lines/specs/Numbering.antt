@@ -24,3 +24,25 @@ with_next labels word = record {
 -- the labels, after one has appeared, for the first time or again
 abbrev pub with_label : Numbering → List ℕ → Numbering
 with_label labels word = if is_some (labels.number word) then labels else with_next labels word
+
+-- the labels of chunks that have appeared, and those of databases: one label may stand in both tables
+pub record Numberings : Type 0 where
+  pub chunks : Numbering
+  pub databases : Numbering
+
+abbrev pub none_numbered : Numberings
+none_numbered = record { chunks = no_labels; databases = no_labels }
+
+-- the tables, after a label of a chunk has appeared
+abbrev pub with_chunk_label : Numberings → List ℕ → Numberings
+with_chunk_label labels word = record {
+  chunks = with_label labels.chunks word;
+  databases = labels.databases;
+}
+
+-- the tables, after a label of a database has appeared
+abbrev pub with_database_label : Numberings → List ℕ → Numberings
+with_database_label labels word = record {
+  chunks = labels.chunks;
+  databases = with_label labels.databases word;
+}

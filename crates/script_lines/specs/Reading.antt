@@ -9,7 +9,7 @@ use Rattle.script_lines.specs.declared.fault.ScriptFault.TheVariants.{UnknownCom
 use Rattle.script_lines.specs.declared.line.Line.{Line}
 use Rattle.script_lines.specs.declared.command.Command.{Command}
 use Rattle.script_lines.specs.declared.value.Kind.{Kind}
-use Rattle.script_lines.specs.Numbering.{Numbering, no_labels}
+use Rattle.script_lines.specs.Numbering.{Numberings, none_numbered}
 use Rattle.script_lines.specs.Words.{is_passed_over, words_of}
 use Rattle.script_lines.specs.Kinds.{WordsRead, read_words}
 use Rattle.script_lines.specs.Commands.{kinds_of, line_of, command_of}
@@ -17,13 +17,13 @@ use Rattle.script_lines.specs.Commands.{kinds_of, line_of, command_of}
 -- what a line is: none, where it is passed over; and the labels that have appeared up to its end
 pub record LineRead : Type 0 where
   pub line : Option Line
-  pub labels : Numbering
+  pub labels : Numberings
 
-abbrev pub line_read : Option Line → Numbering → LineRead
+abbrev pub line_read : Option Line → Numberings → LineRead
 line_read line labels = record { line = line; labels = labels }
 
 -- nothing of a line yet
-abbrev pub none_read : Numbering → WordsRead
+abbrev pub none_read : Numberings → WordsRead
 none_read labels = record { values = []; bytes = []; labels = labels }
 
 -- the line of a command and what its words stand for
@@ -35,25 +35,25 @@ made_line command (Ok read) =
     (Err WrongCount)
 
 -- the line of a command and the words behind it, of which there are as many as the command takes
-abbrev pub read_command : Numbering → Command → List (List ℕ) → Result LineRead ScriptFault
+abbrev pub read_command : Numberings → Command → List (List ℕ) → Result LineRead ScriptFault
 read_command labels command words =
     if length (kinds_of command) == length words then
     made_line command (read_words 2 (none_read labels) (kinds_of command) words)
     else Err WrongCount
 
 -- the line of some words, the first of which is a command's
-abbrev pub line_of_words : Numbering → List (List ℕ) → Result LineRead ScriptFault
+abbrev pub line_of_words : Numberings → List (List ℕ) → Result LineRead ScriptFault
 line_of_words labels [] = Ok (line_read None labels)
 line_of_words labels (word ∷ words) =
     option_map_or (λ command. read_command labels command words) (command_of word) (Err UnknownCommand)
 
 -- the same, where there may be a broken word, which is the line's first fault
-abbrev pub line_unless_broken : Numbering → Result (List (List ℕ)) ℕ → Result LineRead ScriptFault
+abbrev pub line_unless_broken : Numberings → Result (List (List ℕ)) ℕ → Result LineRead ScriptFault
 line_unless_broken labels (Ok words) = line_of_words labels words
 line_unless_broken labels (Err number) = Err (BadWord number)
 
 -- the line of a text, or its fault
-abbrev pub read_line : Numbering → List ℕ → Result LineRead ScriptFault
+abbrev pub read_line : Numberings → List ℕ → Result LineRead ScriptFault
 read_line labels text =
     if is_passed_over text then Ok (line_read None labels)
     else line_unless_broken labels (words_of text)
@@ -65,7 +65,7 @@ unless_faulty number (Err fault) go_on = Err (record { line = number; fault = fa
 unless_faulty number (Ok read) go_on = go_on read
 
 -- the lines of some texts behind those of others, the first of them line `number` of the script
-abbrev pub read_lines : ℕ → Numbering → List Line → List (List ℕ) → Result (List Line) LineFault
+abbrev pub read_lines : ℕ → Numberings → List Line → List (List ℕ) → Result (List Line) LineFault
 read_lines number labels front [] = Ok front
 read_lines number labels front (text ∷ texts) =
     unless_faulty number (read_line labels text)
@@ -73,7 +73,7 @@ read_lines number labels front (text ∷ texts) =
 
 -- the lines of a script, or its first faulty line; lines are counted from 1, all of them
 abbrev pub read_script : List ℕ → Result (List Line) LineFault
-read_script text = read_lines 1 no_labels [] (lines text)
+read_script text = read_lines 1 none_numbered [] (lines text)
 
 -- whether a script has a line of this number
 abbrev pub HasLine : List ℕ → ℕ → Type 0
@@ -84,9 +84,9 @@ abbrev pub words_in : List ℕ → List (List ℕ)
 words_in text = result_unwrap_or (words_of text) []
 
 -- what the words of a text behind a command stand for
-abbrev pub read_behind : Numbering → List Kind → List ℕ → Result WordsRead ScriptFault
+abbrev pub read_behind : Numberings → List Kind → List ℕ → Result WordsRead ScriptFault
 read_behind labels kinds text = read_words 2 (none_read labels) kinds (words_in text)
 
 -- the line of a first word and the text behind it
-abbrev pub line_behind : Numbering → List ℕ → List ℕ → Result LineRead ScriptFault
+abbrev pub line_behind : Numberings → List ℕ → List ℕ → Result LineRead ScriptFault
 line_behind labels word text = line_of_words labels (word ∷ words_in text)

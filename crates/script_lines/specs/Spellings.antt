@@ -1,10 +1,12 @@
 -- How the words of each kind are spelled, and what they stand for.
-use Rattle.std.specs.Prelude.{ℕ, ◌+◌, ◌-◌, ◌*◌, ◌==◌, ◌&&◌, ◌||◌, not, nat_lt, nat_le, Bool, false, if◌then◌else◌, List, [], ◌∷◌, length, take, drop, codes, slice_index, Option, Some, None}
+use Rattle.std.specs.Prelude.{ℕ, ◌+◌, ◌-◌, ◌*◌, ◌==◌, ◌&&◌, ◌||◌, not, nat_lt, nat_le, Bool, true, false, if◌then◌else◌, List, [], ◌∷◌, length, take, drop, codes, slice_index, Option, Some, None}
 use Rattle.std.specs.List.{list_all}
+use Rattle.std.specs.Option.{option_and_then}
 use Rattle.std.specs.Result.{result_ok}
 use Rattle.std.specs.Char.{is_ascii_alphabetic, is_ascii_digit}
 use Rattle.std.specs.Str.{bytes_eq}
 use Rattle.hex.specs.Hex.{decode_of}
+use Rattle.heap_model.specs.Bytes.{u32_at}
 
 -- a letter, a digit or `_`
 abbrev pub is_label_byte : ℕ → Bool
@@ -75,4 +77,19 @@ abbrev pub spelled_text : List ℕ → Option (List ℕ)
 spelled_text word =
     if bytes_eq (take 2 word) (codes "x:") then hex_bytes (drop 2 word)
     else if is_quoted word && list_all is_printable (inside word) then Some (inside word)
+    else None
+
+-- four bytes as a number, if there are so many
+abbrev pub number_of_four : List ℕ → Option ℕ
+number_of_four bytes = if length bytes == 4 then Some (u32_at bytes 0) else None
+
+-- a type or a creator: text of four bytes, which are a number
+abbrev pub spelled_four : List ℕ → Option ℕ
+spelled_four word = option_and_then number_of_four (spelled_text word)
+
+-- whether a flag is set: `0` or `1`
+abbrev pub spelled_flag : List ℕ → Option Bool
+spelled_flag word =
+    if bytes_eq word (codes "0") then Some false
+    else if bytes_eq word (codes "1") then Some true
     else None

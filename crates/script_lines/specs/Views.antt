@@ -1,11 +1,12 @@
--- What the program's values say: a table of labels, and the values of a line's words.
+-- What the program's values say: the tables of labels, and the values of a line's words.
 use Rattle.std.specs.Prelude.{◌≡◌, Bool, true, false, Option, Some, None}
 use Rattle.std.specs.BTreeMap.{get_by, btree_map_len}
 use Rattle.std.specs.Cmp.Lexicographic.{slice_cmp}
 use Rattle.std.specs.Ordering.{nat_cmp}
 use Rattle.script_lines.specs.declared.label.Labels.{Labels}
+use Rattle.script_lines.specs.declared.label.LabelTables.{LabelTables}
 use Rattle.script_lines.specs.declared.value.Values.{Values}
-use Rattle.script_lines.specs.Numbering.{Numbering}
+use Rattle.script_lines.specs.Numbering.{Numbering, Numberings}
 use Rattle.script_lines.specs.Kinds.{WordsRead}
 
 -- the numbers that a table of labels has
@@ -15,9 +16,13 @@ numbering labels = record {
   count = btree_map_len labels.numbers;
 }
 
+-- the same of both tables
+abbrev pub numberings : LabelTables → Numberings
+numberings labels = record { chunks = numbering labels.chunks; databases = numbering labels.databases }
+
 -- what the values of a line's words say, with the labels
-abbrev pub words_read : Values → Labels → WordsRead
-words_read values labels = record { values = values.values.items; bytes = values.bytes; labels = numbering labels }
+abbrev pub words_read : Values → LabelTables → WordsRead
+words_read values labels = record { values = values.values.items; bytes = values.bytes; labels = numberings labels }
 
 -- what came of a word that was to be added: the words read, if it is of its kind
 abbrev pub Adds : Option WordsRead → Bool → WordsRead → Type 0

@@ -2,14 +2,14 @@
 
 ghost use Rattle.std.specs.Prelude.{◌≡◌, IfOk, OnOk};
 ghost use Rattle.script_lines.specs.Numbering.{no_labels, label_number, with_label};
-ghost use Rattle.script_lines.specs.Views.{numbering};
+ghost use Rattle.script_lines.specs.Numbering.{none_numbered};
+ghost use Rattle.script_lines.specs.Views.{numbering, numberings};
 
-use crate::line::ChunkLabel;
 use heap_model::Allowance;
 use std::alloc::{AllocError, Global};
 use std::collections::BTreeMap;
 
-/// The labels that have appeared, each with its number.
+/// The labels of one table that have appeared, each with its number.
 #[derive(Drop)]
 pub(crate) struct Labels<'a> {
     numbers: BTreeMap<&'a [u8], usize>,
@@ -25,25 +25,40 @@ impl<'a> Labels<'a> {
         }
     }
 
-    /// The label that a word spells. A label that hasn't appeared takes the next number.
-    pub fn number<A: Allowance>(
-        &mut self,
-        memory: &A,
-        word: &'a [u8],
-    ) -> Result<ChunkLabel, AllocError>
-        ensures number { IfOk result (λ label.
-            label.0 ≡ label_number (numbering self.old) word.now) }
+    /// The number of the label that a word spells. A label that hasn't appeared takes the next one.
+    pub fn number<A: Allowance>(&mut self, memory: &A, word: &'a [u8]) -> Result<usize, AllocError>
+        ensures number { IfOk result (λ number.
+            number ≡ label_number (numbering self.old) word.now) }
         ensures labels { OnOk result
             (numbering self.new ≡ with_label (numbering self.old) word.now) }
     {
         if let Some(number) = self.numbers.get(&word) {
-            return Ok(ChunkLabel(*number));
+            return Ok(*number);
         }
         memory.grant()?;
         let number = self.numbers.len();
         match self.numbers.insert(word, number) {
-            Ok(_) => Ok(ChunkLabel(number)),
+            Ok(_) => Ok(number),
             Err(_) => Err(AllocError),
+        }
+    }
+}
+
+/// The two tables of labels. A label of the same spelling in both is two labels.
+#[derive(Drop)]
+pub(crate) struct LabelTables<'a> {
+    pub chunks: Labels<'a>,
+    pub databases: Labels<'a>,
+}
+
+impl<'a> LabelTables<'a> {
+    /// No labels.
+    pub fn new(alloc: Global) -> LabelTables<'a>
+        ensures { numberings result ≡ none_numbered }
+    {
+        LabelTables {
+            chunks: Labels::new(alloc),
+            databases: Labels::new(alloc),
         }
     }
 }

@@ -3,20 +3,26 @@
 //! `specs/Reading.antt` says what a text reads as, line for line: start there. `Words` says how a
 //! line is cut into words, `Spellings` how a word of each kind is spelled, `Kinds` what the words of a
 //! line stand for, `Commands` the commands, one row each: the word, the kinds of the words behind it and
-//! the line that they make; and `Numbering` which number a label has.
+//! the line that they make; and `Numbering` which number a label has in its table, that of chunks or that of
+//! databases.
 //! `parse` answers that script or its first faulty line, and nothing else unless memory is refused.
 //! Each growth asks an `Allowance` of heap_model first.
 #![tactic(auto)]
 
 mod command;
+mod database_command;
 mod fault;
 mod label;
 mod line;
+mod memory_command;
 mod reading;
 mod spelling;
 mod text;
 mod value;
 
 pub use fault::{LineFault, ScriptFault};
-pub use line::{ChunkCall, ChunkLabel, HeapCall, Line, NewCall, Script};
+pub use line::{
+    ChunkCall, ChunkLabel, CreateCall, DatabaseLabel, DatabaseLineCall, HeapCall, Line, NewCall,
+    Script,
+};
 pub use reading::{parse, parse_from};

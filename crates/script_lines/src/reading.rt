@@ -4,12 +4,12 @@ ghost use Rattle.std.specs.Prelude.{◌≡◌, ◌≢◌, ◌<◌, length, IfOk,
 ghost use Rattle.script_lines.specs.Reading as reading;
 ghost use Rattle.script_lines.specs.Reading.{HasLine, line_behind, line_read, read_behind};
 ghost use Rattle.script_lines.specs.Reading.{read_script, words_in};
-ghost use Rattle.script_lines.specs.Views.{numbering, words_read};
+ghost use Rattle.script_lines.specs.Views.{numberings, words_read};
 ghost use Rattle.script_lines.specs.Words.{words_of};
 
 use crate::command::{find_command, make_line, row_of};
 use crate::fault::{LineFault, ScriptFault};
-use crate::label::Labels;
+use crate::label::LabelTables;
 use crate::line::{Line, Script};
 use crate::text::{WordCut, count_words, cut_line, cut_word, is_passed_over};
 use crate::value::{Kind, Values};
@@ -22,14 +22,14 @@ fn read_values<'a, A: Allowance>(
     memory: &A,
     kinds: &[Kind],
     words: &'a [u8],
-    labels: &mut Labels<'a>,
+    labels: &mut LabelTables<'a>,
 ) -> Result<Values, ScriptFault>
     requires few { length kinds.now < 16 }
     requires whole { words_of words.now ≡ Ok (words_in words.now) }
-    ensures ok { IfOk result (λ values. read_behind (numbering labels.old) kinds.now words.now
+    ensures ok { IfOk result (λ values. read_behind (numberings labels.old) kinds.now words.now
         ≡ Ok (words_read values labels.new)) }
     ensures err { IfErr result (λ fault. fault ≢ ScriptFault.OutOfMemory
-        → read_behind (numbering labels.old) kinds.now words.now ≡ Err fault) }
+        → read_behind (numberings labels.old) kinds.now words.now ≡ Err fault) }
 {
     let mut values = Values::new(memory.allocator());
     let mut rest = words;
@@ -58,14 +58,14 @@ fn read_command<'a, A: Allowance>(
     word: &[u8],
     words: &'a [u8],
     count: usize,
-    labels: &mut Labels<'a>,
+    labels: &mut LabelTables<'a>,
 ) -> Result<Line, ScriptFault>
     requires whole { words_of words.now ≡ Ok (words_in words.now) }
     requires count { count ≡ length (words_in words.now) }
-    ensures ok { IfOk result (λ line. line_behind (numbering labels.old) word.now words.now
-        ≡ Ok (line_read (Some line) (numbering labels.new))) }
+    ensures ok { IfOk result (λ line. line_behind (numberings labels.old) word.now words.now
+        ≡ Ok (line_read (Some line) (numberings labels.new))) }
     ensures err { IfErr result (λ fault. fault ≢ ScriptFault.OutOfMemory
-        → line_behind (numbering labels.old) word.now words.now ≡ Err fault) }
+        → line_behind (numberings labels.old) word.now words.now ≡ Err fault) }
 {
     let Some(command) = find_command(word) else {
         return Err(ScriptFault::UnknownCommand);
@@ -88,12 +88,12 @@ fn read_command<'a, A: Allowance>(
 fn read_line<'a, A: Allowance>(
     memory: &A,
     text: &'a [u8],
-    labels: &mut Labels<'a>,
+    labels: &mut LabelTables<'a>,
 ) -> Result<Option<Line>, ScriptFault>
-    ensures ok { IfOk result (λ line. reading.read_line (numbering labels.old) text.now
-        ≡ Ok (line_read line (numbering labels.new))) }
+    ensures ok { IfOk result (λ line. reading.read_line (numberings labels.old) text.now
+        ≡ Ok (line_read line (numberings labels.new))) }
     ensures err { IfErr result (λ fault. fault ≢ ScriptFault.OutOfMemory
-        → reading.read_line (numbering labels.old) text.now ≡ Err fault) }
+        → reading.read_line (numberings labels.old) text.now ≡ Err fault) }
 {
     if is_passed_over(text) {
         return Ok(None);
@@ -139,7 +139,7 @@ pub fn parse_from<A: Allowance>(memory: &A, text: &[u8]) -> Result<Script, LineF
     ensures refused { IfErr result (λ e. e.fault ≡ ScriptFault.OutOfMemory → e.line ≡ 0) }
 {
     let mut script = Script::new(memory.allocator());
-    let mut labels = Labels::new(memory.allocator());
+    let mut labels = LabelTables::new(memory.allocator());
     let mut rest = text;
     let mut number = 0;
     while !rest.is_empty() {

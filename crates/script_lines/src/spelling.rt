@@ -1,11 +1,14 @@
 //! How the words of each kind are spelled, and what they stand for.
 
 ghost use Rattle.std.specs.Prelude.{◌≡◌, ◌<◌, ◌≤◌, ◌^◌, IfOk, false, true, MatchOption};
+ghost use Rattle.std.specs.Option.{option_and_then};
 ghost use Rattle.std.specs.List.{list_all};
 ghost use Rattle.script_lines.specs.Spellings as spellings;
 ghost use Rattle.script_lines.specs.Spellings.{below, number_behind, number_below, hex_bytes};
 ghost use Rattle.script_lines.specs.Spellings.{is_quoted, spelled_bytes, spelled_text};
+ghost use Rattle.script_lines.specs.Spellings.{spelled_flag, spelled_four};
 
+use byteorder::{BigEndian, ByteOrder};
 use heap_model::{Allowance, Bytes};
 use std::alloc::AllocError;
 
@@ -98,6 +101,24 @@ pub(crate) fn byte_of(word: &[u8]) -> Option<u8>
     u8::try_from(number_of(word)?).ok()
 }
 
+/// The number below 2^16 that a word spells.
+pub(crate) fn short_of(word: &[u8]) -> Option<u16>
+    ensures { result ≡ number_below (2 ^ 16) word.now }
+{
+    u16::try_from(number_of(word)?).ok()
+}
+
+/// The flag that a word spells.
+pub(crate) fn flag_of(word: &[u8]) -> Option<bool>
+    ensures { result ≡ spelled_flag word.now }
+{
+    match word {
+        b"0" => Some(false),
+        b"1" => Some(true),
+        _ => None,
+    }
+}
+
 /// The bytes that hex digits spell, if there is an even number of them.
 fn decode<A: Allowance>(memory: &A, digits: &[u8]) -> Result<Option<Bytes>, AllocError>
     ensures { IfOk result (λ bytes. bytes ≡ hex_bytes digits.now) }
@@ -176,4 +197,40 @@ pub(crate) fn text_of<A: Allowance>(memory: &A, word: &[u8]) -> Result<Option<By
         }
         None => Ok(None),
     }
+}
+
+/// Four bytes as a number, if there are so many.
+fn number_of_four(bytes: &[u8]) -> Option<u32>
+    ensures { result ≡ spellings.number_of_four bytes.now }
+{
+    if bytes.len() == 4 {
+        Some(BigEndian::read_u32(bytes))
+    } else {
+        None
+    }
+}
+
+/// The four bytes that hex digits spell, if they spell so many, as a number.
+fn four_in_hex(digits: &[u8]) -> Option<u32>
+    ensures { result ≡ option_and_then spellings.number_of_four (hex_bytes digits.now) }
+{
+    let mut bytes = [0; 4];
+    match hex::decode_to_slice(digits, &mut bytes) {
+        Ok(()) => Some(BigEndian::read_u32(&bytes)),
+        Err(_) => None,
+    }
+}
+
+/// The four bytes of the text that a word spells, if it has so many, as a number. This takes no memory.
+pub(crate) fn four_bytes_of(word: &[u8]) -> Option<u32>
+    ensures { result ≡ spelled_four word.now }
+{
+    if let Some(digits) = word.strip_prefix(b"x:") {
+        return four_in_hex(digits);
+    }
+    let inside = inside_quotes(word)?;
+    if !are_printable(inside) {
+        return None;
+    }
+    number_of_four(inside)
 }

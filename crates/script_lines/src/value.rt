@@ -4,21 +4,31 @@ ghost use Rattle.std.specs.Prelude.{◌≡◌, ◌++◌, ◌∷◌, [], false, t
 ghost use Rattle.script_lines.specs.Kinds.{read_word};
 ghost use Rattle.script_lines.specs.Views.{Adds, words_read};
 
-use crate::label::Labels;
-use crate::line::ChunkLabel;
-use crate::spelling::{byte_of, bytes_of, is_label, number_of, text_of};
+use crate::label::LabelTables;
+use crate::line::{ChunkLabel, DatabaseLabel};
+use crate::spelling::{
+    byte_of, bytes_of, flag_of, four_bytes_of, is_label, number_of, short_of, text_of,
+};
 use heap_model::{Allowance, Bytes};
 use std::alloc::{AllocError, Global};
 
 /// What a word of a command is to be.
 #[derive(Clone, Copy, Debug, PartialEq, Eq)]
 pub(crate) enum Kind {
-    /// A letter, then letters, digits or `_`, at most 31 characters.
+    /// A chunk's label: a letter, then letters, digits or `_`, at most 31 characters.
     Chunk,
+    /// A database's label, likewise.
+    Database,
     /// A number below 2^8.
     Byte,
+    /// A number below 2^16.
+    Short,
     /// A number below 2^32.
     Number,
+    /// `0` or `1`.
+    Flag,
+    /// A type or a creator: a text of four bytes.
+    FourBytes,
     /// An even number of hex digits, at least two, or `-` for no bytes.
     Bytes,
     /// Bytes in quotes, or `x:` and an even number of hex digits.
@@ -28,9 +38,14 @@ pub(crate) enum Kind {
 /// What a word stands for, other than bytes.
 #[derive(Clone, Copy, Debug, PartialEq, Eq)]
 pub(crate) enum Value {
-    Label(ChunkLabel),
+    Chunk(ChunkLabel),
+    Database(DatabaseLabel),
     Byte(u8),
+    Short(u16),
     Number(u32),
+    Flag(bool),
+    /// The four bytes as a number.
+    FourBytes(u32),
 }
 
 /// What the words behind a command stand for: their values in order, but the bytes of a word of
@@ -66,12 +81,12 @@ impl Values {
         }
     }
 
-    /// Puts a label's number behind the values, and answers whether the word is a label.
-    fn add_label<'a, A: Allowance>(
+    /// Puts the number of a chunk's label behind the values, and answers whether the word is a label.
+    fn add_chunk<'a, A: Allowance>(
         &mut self,
         memory: &A,
         word: &'a [u8],
-        labels: &mut Labels<'a>,
+        labels: &mut LabelTables<'a>,
     ) -> Result<bool, AllocError>
         ensures { IfOk result (λ is_of_kind.
             Adds (read_word (words_read self.old labels.old) Kind.Chunk word.now)
@@ -80,8 +95,27 @@ impl Values {
         if !is_label(word) {
             return Ok(false);
         }
-        let label = labels.number(memory, word)?;
-        self.push(memory, Value::Label(label))?;
+        let number = labels.chunks.number(memory, word)?;
+        self.push(memory, Value::Chunk(ChunkLabel(number)))?;
+        Ok(true)
+    }
+
+    /// The same of a database's label.
+    fn add_database<'a, A: Allowance>(
+        &mut self,
+        memory: &A,
+        word: &'a [u8],
+        labels: &mut LabelTables<'a>,
+    ) -> Result<bool, AllocError>
+        ensures { IfOk result (λ is_of_kind.
+            Adds (read_word (words_read self.old labels.old) Kind.Database word.now)
+            is_of_kind (words_read self.new labels.new)) }
+    {
+        if !is_label(word) {
+            return Ok(false);
+        }
+        let number = labels.databases.number(memory, word)?;
+        self.push(memory, Value::Database(DatabaseLabel(number)))?;
         Ok(true)
     }
 
@@ -126,16 +160,20 @@ impl Values {
         memory: &A,
         kind: Kind,
         word: &'a [u8],
-        labels: &mut Labels<'a>,
+        labels: &mut LabelTables<'a>,
     ) -> Result<bool, AllocError>
         ensures { IfOk result (λ is_of_kind.
             Adds (read_word (words_read self.old labels.old) kind word.now)
             is_of_kind (words_read self.new labels.new)) }
     {
         match kind {
-            Kind::Chunk => self.add_label(memory, word, labels),
+            Kind::Chunk => self.add_chunk(memory, word, labels),
+            Kind::Database => self.add_database(memory, word, labels),
             Kind::Byte => self.add_value(memory, byte_of(word).map(Value::Byte)),
+            Kind::Short => self.add_value(memory, short_of(word).map(Value::Short)),
             Kind::Number => self.add_value(memory, number_of(word).map(Value::Number)),
+            Kind::Flag => self.add_value(memory, flag_of(word).map(Value::Flag)),
+            Kind::FourBytes => self.add_value(memory, four_bytes_of(word).map(Value::FourBytes)),
             Kind::Bytes => Ok(self.add_bytes(bytes_of(memory, word)?)),
             Kind::Text => Ok(self.add_bytes(text_of(memory, word)?)),
         }

@@ -3,20 +3,20 @@
 use crate::fakes::RefusesOne;
 use chunk_format::blank;
 use heap_model::{Bytes, Call, Counted, MemoryCall, Name, Place, Refusal, Reply};
-use mem_manager::Heap;
 use palm_script::{RunFault, do_call, do_call_from, parse, run, run_from};
+use palm_store::Store;
 use std::alloc::{AllocError, Global};
 use std::test::Fail;
 
-/// A heap of 128 bytes with 4 slots, and one free chunk of 96.
-fn small_heap(alloc: Global) -> Result<Heap, Fail> {
-    blank_heap(alloc, 128)
+/// A store of 128 bytes with 4 slots, and one free chunk of 96.
+fn small_store(alloc: Global) -> Result<Store, Fail> {
+    blank_store(alloc, 128)
 }
 
-fn blank_heap(alloc: Global, size: u32) -> Result<Heap, Fail> {
-    match Heap::adopt(blank(alloc, size, 4)?) {
-        Ok(heap) => Ok(heap),
-        Err(_) => Err("no heap")?,
+fn blank_store(alloc: Global, size: u32) -> Result<Store, Fail> {
+    match Store::check(alloc, blank(alloc, size, 4)?) {
+        Ok(store) => Ok(store),
+        Err(_) => Err("no store")?,
     }
 }
 
@@ -25,28 +25,29 @@ const SCRIPT: &[u8] = b"new a 10 1\nlock a\nread a 0 2\n";
 /// Runs the script where a growth behind so many is refused: the answer, and what was printed.
 fn run_without(
     alloc: Global,
-    heap: &mut Heap,
+    store: &mut Store,
     before: u32,
 ) -> Result<(Result<(), RunFault>, Vec<u8>), Fail> {
     let script = parse(alloc, SCRIPT).ok().ok_or("no script")?;
     let mut out = Counted::new(Vec::new(alloc));
     let memory = RefusesOne::behind(alloc, before);
-    let ran = run_from(&memory, heap, &script, &mut out);
+    let ran = run_from(&memory, store, &script, &[], &mut out);
     Ok((ran, out.into_inner()))
 }
 
 /// What comes of the script then: the answer, how many bytes are free, and what was printed.
 fn told_without(alloc: Global, before: u32) -> Result<String, Fail> {
-    let mut heap = small_heap(alloc)?;
-    let (ran, out) = run_without(alloc, &mut heap, before)?;
+    let mut store = small_store(alloc)?;
+    let (ran, out) = run_without(alloc, &mut store, before)?;
     let printed = String::from_utf8(out).ok().ok_or("no text")?;
-    Ok(format!(in alloc; "{ran:?} {} {printed}", heap.free_bytes())?)
+    Ok(format!(in alloc; "{ran:?} {} {printed}", store.free_bytes())?)
 }
 
-/// How many growths are granted, and what comes of the script: nothing but the table of labels grows.
-const RUNS: [(u32, &str); 2] = [
+/// How many growths are granted, and what comes of the script: nothing but the tables of labels grows.
+const RUNS: [(u32, &str); 3] = [
     (0, "Err(OutOfMemory) 96 "),
-    (1, "Ok(()) 72 ok\nok 1\nok 0000\n"),
+    (1, "Err(OutOfMemory) 96 "),
+    (2, "Ok(()) 72 ok\nok 1\nok 0000\n"),
 ];
 
 #[test]
@@ -58,8 +59,8 @@ fn refused_memory_leaves_all_as_it_was(rt: HostRuntime) -> Result<(), Fail> {
 }
 
 /// Makes a chunk of so many bytes.
-fn chunk_of(heap: &mut Heap, length: u32) -> Result<Name, Fail> {
-    Ok(heap.handle_new(length, 1).ok().ok_or("no chunk")?)
+fn chunk_of(store: &mut Store, length: u32) -> Result<Name, Fail> {
+    Ok(store.handle_new(length, 1).ok().ok_or("no chunk")?)
 }
 
 /// The number of a refusal, and 0 where there is none.
@@ -73,12 +74,12 @@ fn refused(reply: &Reply) -> u8 {
 /// The number with which a read from a chunk of 2 bytes is refused where a growth behind so many is,
 /// 0 where it isn't. `is_named` says whether the read names the chunk.
 fn read_without(alloc: Global, before: u32, is_named: bool, count: u32) -> Result<u8, Fail> {
-    let mut heap = small_heap(alloc)?;
-    let chunk = chunk_of(&mut heap, 2)?;
+    let mut store = small_store(alloc)?;
+    let chunk = chunk_of(&mut store, 2)?;
     let name = if is_named { chunk } else { Name(0) };
     let call = Call::Memory(MemoryCall::Read { name, at: 0, count });
     let memory = RefusesOne::behind(alloc, before);
-    Ok(refused(&do_call_from(&memory, &mut heap, &call)))
+    Ok(refused(&do_call_from(&memory, &mut store, &call)))
 }
 
 /// How many growths are granted, whether the read names the chunk, how many bytes it asks for, and the
@@ -102,15 +103,15 @@ fn a_read_is_refused_for_want_of_memory_alone(rt: HostRuntime) -> Result<(), Fai
 }
 
 /// The reply to a call.
-fn reply_to(alloc: Global, heap: &mut Heap, call: MemoryCall) -> Reply {
-    do_call(alloc, heap, &Call::Memory(call))
+fn reply_to(alloc: Global, store: &mut Store, call: MemoryCall) -> Reply {
+    do_call(alloc, store, &Call::Memory(call))
 }
 
 /// How many bytes a read of so many answers, from a chunk of 70,000; none where it is refused.
 fn bytes_read(alloc: Global, count: u32) -> Result<Option<usize>, Fail> {
-    let mut heap = blank_heap(alloc, 80_000)?;
-    let name = chunk_of(&mut heap, 70_000)?;
-    match reply_to(alloc, &mut heap, MemoryCall::Read { name, at: 0, count }) {
+    let mut store = blank_store(alloc, 80_000)?;
+    let name = chunk_of(&mut store, 70_000)?;
+    match reply_to(alloc, &mut store, MemoryCall::Read { name, at: 0, count }) {
         Reply::Data(bytes) => Ok(Some(bytes.as_slice().len())),
         _ => Ok(None),
     }
@@ -176,10 +177,10 @@ fn bytes_of(alloc: Global, bytes: &[u8]) -> Result<Bytes, AllocError> {
 
 /// The replies to the calls, as text.
 fn answers(alloc: Global) -> Result<String, Fail> {
-    let mut heap = small_heap(alloc)?;
+    let mut store = small_store(alloc)?;
     let mut said = String::new(alloc);
     for number in 0..CALL_COUNT {
-        let reply = reply_to(alloc, &mut heap, call_of(alloc, number)?);
+        let reply = reply_to(alloc, &mut store, call_of(alloc, number)?);
         put_reply(&mut said, &reply)?;
     }
     Ok(said)
@@ -196,7 +197,7 @@ fn calls_are_done_one_by_one(rt: HostRuntime) -> Result<(), Fail> {
 }
 
 /// A reply as text.
-fn put_reply(text: &mut String, reply: &Reply) -> Result<(), AllocError> {
+pub(crate) fn put_reply(text: &mut String, reply: &Reply) -> Result<(), AllocError> {
     match reply {
         Reply::Refused(refusal) => write!(text, "refused {}; ", refusal.number()),
         Reply::Done => write!(text, "done; "),
@@ -204,19 +205,26 @@ fn put_reply(text: &mut String, reply: &Reply) -> Result<(), AllocError> {
         Reply::Named(name) => write!(text, "name {}; ", name.0),
         Reply::Locked { place, count } => write!(text, "at {}, {count}; ", place.0),
         Reply::Data(bytes) => write!(text, "{:?}; ", bytes.as_slice()),
+        Reply::Database(db) => write!(text, "database {}; ", db.0),
+        Reply::Info(info) => write!(
+            text,
+            "{} of {}; ",
+            info.entry_count,
+            info.name.as_slice().len()
+        ),
     }
 }
 
 /// The reply to a place so far behind that of a chunk.
 fn recovered(alloc: Global, distance: u32) -> Result<Reply, Fail> {
-    let mut heap = small_heap(alloc)?;
-    let name = chunk_of(&mut heap, 8)?;
-    let place = match reply_to(alloc, &mut heap, MemoryCall::Lock(name)) {
+    let mut store = small_store(alloc)?;
+    let name = chunk_of(&mut store, 8)?;
+    let place = match reply_to(alloc, &mut store, MemoryCall::Lock(name)) {
         Reply::Locked { place, .. } => place.0,
         _ => 0,
     };
     let place = Place(place.saturating_add(distance));
-    Ok(reply_to(alloc, &mut heap, MemoryCall::Recover(place)))
+    Ok(reply_to(alloc, &mut store, MemoryCall::Recover(place)))
 }
 
 #[test]
@@ -232,11 +240,11 @@ fn a_place_has_its_name(rt: HostRuntime) -> Result<(), Fail> {
 /// What comes of the script on a writer with room for 4 bytes, and how often its chunk is locked then.
 fn run_cut(alloc: Global, room: &mut [u8; 4]) -> Result<(Option<RunFault>, Option<u8>), Fail> {
     let script = parse(alloc, SCRIPT).ok().ok_or("no script")?;
-    let mut heap = small_heap(alloc)?;
+    let mut store = small_store(alloc)?;
     let mut out = Counted::new(room.as_mut_slice());
-    let ran = run(alloc, &mut heap, &script, &[], &mut out);
+    let ran = run(alloc, &mut store, &script, &[], &mut out);
     drop(out.into_inner());
-    Ok((ran.err(), heap.locks(CHUNK).ok()))
+    Ok((ran.err(), store.locks(CHUNK).ok()))
 }
 
 #[test]

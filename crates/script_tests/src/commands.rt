@@ -99,17 +99,17 @@ const CHECKS: [(&str, &str, &str); 17] = [
     (
         BLANK,
         "",
-        "Done ok size 128 slots 4 movable 0 fixed 0 free 96\n",
+        "Done ok size 128 slots 4 movable 0 fixed 0 free 96\ndatabases 0\n",
     ),
     (
         ONE_CHUNK,
         "",
-        "Done ok size 128 slots 4 movable 1 fixed 0 free 72\n",
+        "Done ok size 128 slots 4 movable 1 fixed 0 free 72\ndatabases 0\n",
     ),
     (
         DATABASE,
         "",
-        "Done ok size 208 slots 8 movable 4 fixed 0 free 8\n",
+        "Done ok size 208 slots 8 movable 4 fixed 0 free 8\ndatabases 1\n",
     ),
     ("", "", "Refused bad TooShort\n"),
     ("5048 49", "", "Refused bad TooShort\n"),
@@ -224,7 +224,7 @@ fn check_unflushed(alloc: Global, listing: &str) -> Result<(Status, usize), Fail
 
 #[test]
 fn check_says_that_its_line_is_not_flushed(rt: HostRuntime) -> Result<(), Fail> {
-    for (listing, printed) in [(BLANK, 46), ("", 13)] {
+    for (listing, printed) in [(BLANK, 58), ("", 13)] {
         assert!(rt; check_unflushed(rt.alloc(), listing)? == (Status::WriteFault, printed));
     }
     Ok(())

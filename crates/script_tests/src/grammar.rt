@@ -3,16 +3,19 @@
 //! the format's own words.
 
 use crate::fakes::RefusesOne;
-use heap_model::Bytes;
-use script_lines::{ChunkCall, HeapCall, Line, LineFault, NewCall, ScriptFault, parse, parse_from};
+use heap_model::DbInfo;
+use script_lines::{
+    ChunkCall, CreateCall, DatabaseLineCall, HeapCall, Line, LineFault, NewCall, ScriptFault,
+    parse, parse_from,
+};
 use std::alloc::{AllocError, Global};
 use std::process::Abort;
 use std::test::*;
 
 /// Bytes in hex, behind a `/`.
-fn put_bytes(text: &mut String, bytes: &Bytes) -> Result<(), AllocError> {
+fn put_bytes(text: &mut String, bytes: &[u8]) -> Result<(), AllocError> {
     text.push_str("/")?;
-    for byte in bytes.as_slice() {
+    for byte in bytes {
         write!(text, "{byte:02x}")?;
     }
     Ok(())
@@ -33,7 +36,46 @@ fn put_line(text: &mut String, line: &Line) -> Result<(), AllocError> {
         Line::Whole(HeapCall::FreeBytes) => write!(text, "freebytes"),
         Line::Whole(HeapCall::LargestStretch) => write!(text, "largest"),
         Line::Whole(HeapCall::Compact) => write!(text, "compact"),
+        Line::Create(label, call) => put_creation(text, label.0, call),
+        Line::Find(label, name) => {
+            write!(text, "find {} ", label.0)?;
+            put_bytes(text, name.as_slice())
+        }
+        Line::Nth(label, index) => write!(text, "nth {} {index}", label.0),
+        Line::DatabaseCount => write!(text, "dbcount"),
+        Line::OnDatabase(label, DatabaseLineCall::Delete) => write!(text, "dbdelete {}", label.0),
+        Line::OnDatabase(label, DatabaseLineCall::Info) => write!(text, "dbinfo {}", label.0),
+        Line::OnDatabase(label, DatabaseLineCall::SetInfo(info)) => put_info(text, label.0, info),
     }
+}
+
+/// A call that makes a database, as its command, its label's number and what else stands in its line.
+fn put_creation(text: &mut String, label: usize, call: &CreateCall) -> Result<(), AllocError> {
+    write!(text, "create {label} ")?;
+    put_bytes(text, call.name.as_slice())?;
+    write!(
+        text,
+        " {:08x} {:08x} {} {}",
+        call.kind, call.creator, call.resources, call.date
+    )
+}
+
+/// The call `dbset`, likewise, and behind it what no line has.
+fn put_info(text: &mut String, label: usize, info: &DbInfo) -> Result<(), AllocError> {
+    write!(text, "dbset {label} ")?;
+    put_bytes(text, info.name.as_slice())?;
+    write!(text, " {} {}", info.attributes, info.version)?;
+    write!(
+        text,
+        " {} {} {}",
+        info.creation_date, info.modification_date, info.backup_date
+    )?;
+    write!(text, " {:08x} {:08x}", info.kind, info.creator)?;
+    write!(
+        text,
+        " ({} {} {})",
+        info.modification_number, info.seed, info.entry_count
+    )
 }
 
 /// A call on a chunk, as its command, its label's number and what else stands in its line.
@@ -50,12 +92,12 @@ fn put_call(text: &mut String, label: usize, call: &ChunkCall) -> Result<(), All
         ChunkCall::Read { at, count } => write!(text, "read {label} {at} {count}"),
         ChunkCall::Write { at, bytes } => {
             write!(text, "write {label} {at} ")?;
-            put_bytes(text, bytes)
+            put_bytes(text, bytes.as_slice())
         }
         ChunkCall::Set { at, count, byte } => write!(text, "set {label} {at} {count} {byte}"),
         ChunkCall::StrCopy { at, text: copied } => {
             write!(text, "strcopy {label} {at} ")?;
-            put_bytes(text, copied)
+            put_bytes(text, copied.as_slice())
         }
     }
 }
@@ -232,6 +274,107 @@ fn bytes_and_texts(rt: HostRuntime) -> Result<(), Fail> {
     check(&rt, &BYTES_CASES)
 }
 
+const DATABASE_CASES: [(&[u8], &str); 41] = [
+    (
+        b"create d \"No\" \"DATA\" \"Test\" 0 7",
+        "create 0 /4e6f 44415441 54657374 false 7;",
+    ),
+    (
+        b"create d x: x:00fF1022 \"a ~b\" 1 0xffffffff",
+        "create 0 / 00ff1022 61207e62 true 4294967295;",
+    ),
+    (b"find d \"Order\"", "find 0 /4f72646572;"),
+    // of a name the first 32 bytes are kept, one more than a name may have
+    (
+        b"find d \"abcdefghijabcdefghijabcdefghijabcdefghij\"",
+        "find 0 /6162636465666768696a6162636465666768696a6162636465666768696a6162;",
+    ),
+    (b"nth d 4294967295", "nth 0 4294967295;"),
+    (b"dbcount", "dbcount;"),
+    (b"dbdelete d", "dbdelete 0;"),
+    (b"dbinfo d", "dbinfo 0;"),
+    (
+        b"dbset d \"N\" 0xFFFF 65535 1 2 3 \"DATA\" x:54657374",
+        "dbset 0 /4e 65535 65535 1 2 3 44415441 54657374 (0 0 0);",
+    ),
+    // texts
+    (b"create d \"No", "line 1 BadWord 3"),
+    (
+        b"create d \"No\"x \"DATA\" \"Test\" 0 0",
+        "line 1 BadWord 3",
+    ),
+    (b"create d No \"DATA\" \"Test\" 0 0", "line 1 BadWord 3"),
+    (b"find d -", "line 1 BadWord 3"),
+    // types and creators have four bytes
+    (b"create d \"N\" \"DAT\" \"Test\" 0 0", "line 1 BadWord 4"),
+    (b"create d \"N\" \"DATAS\" \"Test\" 0 0", "line 1 BadWord 4"),
+    (b"create d \"N\" \"\" \"Test\" 0 0", "line 1 BadWord 4"),
+    (
+        b"create d \"N\" \"DAT\x7f\" \"Test\" 0 0",
+        "line 1 BadWord 4",
+    ),
+    (b"create d \"N\" x:444154 \"Test\" 0 0", "line 1 BadWord 4"),
+    (b"create d \"N\" x:4441544 \"Test\" 0 0", "line 1 BadWord 4"),
+    (
+        b"create d \"N\" x:4441544g \"Test\" 0 0",
+        "line 1 BadWord 4",
+    ),
+    (
+        b"create d \"N\" x:4441544142 \"Test\" 0 0",
+        "line 1 BadWord 4",
+    ),
+    (b"create d \"N\" DATA \"Test\" 0 0", "line 1 BadWord 4"),
+    (b"create d \"N\" 44415441 \"Test\" 0 0", "line 1 BadWord 4"),
+    (b"create d \"N\" \"DATA\" x: 0 0", "line 1 BadWord 5"),
+    // flags
+    (b"create d \"N\" \"DATA\" \"Test\" 2 0", "line 1 BadWord 6"),
+    (b"create d \"N\" \"DATA\" \"Test\" 01 0", "line 1 BadWord 6"),
+    (
+        b"create d \"N\" \"DATA\" \"Test\" 0x1 0",
+        "line 1 BadWord 6",
+    ),
+    (
+        b"create d \"N\" \"DATA\" \"Test\" \"1\" 0",
+        "line 1 BadWord 6",
+    ),
+    // numbers below 2^16
+    (
+        b"dbset d \"N\" 65536 0 0 0 0 \"DATA\" \"Test\"",
+        "line 1 BadWord 4",
+    ),
+    (
+        b"dbset d \"N\" 0 0x10000 0 0 0 \"DATA\" \"Test\"",
+        "line 1 BadWord 5",
+    ),
+    (
+        b"dbset d \"N\" 0 0 0 0 4294967296 \"DATA\" \"Test\"",
+        "line 1 BadWord 8",
+    ),
+    (
+        b"dbset d \"N\" 0 0 0 0 0 \"DATA\" \"Tes\"",
+        "line 1 BadWord 10",
+    ),
+    // labels, of which those of chunks and of databases are apart
+    (b"nth 1 0", "line 1 BadWord 2"),
+    (b"dbinfo \"d\"", "line 1 BadWord 2"),
+    (
+        b"free a\nnth d 0\nnth a 1\nfree d\nnth d 2\nfree a",
+        "free 0;nth 0 0;nth 1 1;free 1;nth 0 2;free 0;",
+    ),
+    // counts, and commands of other cases
+    (b"dbinfo", "line 1 WrongCount"),
+    (b"dbcount d", "line 1 WrongCount"),
+    (b"nth d", "line 1 WrongCount"),
+    (b"find d \"a\" \"b\"", "line 1 WrongCount"),
+    (b"create d \"N\" \"DAT\" \"Test\" 0", "line 1 WrongCount"),
+    (b"dbDelete d", "line 1 UnknownCommand"),
+];
+
+#[test]
+fn lines_on_databases(rt: HostRuntime) -> Result<(), Fail> {
+    check(&rt, &DATABASE_CASES)
+}
+
 const LINE_CASES: [(&[u8], &str); 21] = [
     // no lines, and lines that are passed over
     (b"", ""),
@@ -348,12 +491,35 @@ fn labels_are_counted(rt: HostRuntime) {
     }
 }
 
-/// A script that takes each kind of memory, with how many growths: 5 lines, 2 labels, 9 values, and
-/// bytes or text 3 times.
-const EACH_GROWTH: &[u8] =
-    b"new a 8 1\nwrite a 0 4142\nstrcopy a 0 \"x\"\nstrcopy b 0 x:79\nfreebytes";
+/// How many labels of databases a script has, if it is one.
+fn database_label_count(alloc: Global, script: &[u8]) -> Option<usize> {
+    match parse(alloc, script) {
+        Ok(script) => Some(script.database_label_count()),
+        Err(_) => None,
+    }
+}
 
-const GROWTHS: u32 = 19;
+const DATABASE_COUNT_CASES: [(&[u8], Option<usize>); 4] = [
+    (b"free a\nfree b\ndbcount", Some(0)),
+    (b"free a\nfree b\ndbinfo a", Some(1)),
+    (b"nth a 0\nnth b 0\nnth a 1", Some(2)),
+    (b"nth a 0\nnth b", None),
+];
+
+#[test]
+fn labels_of_databases_are_counted(rt: HostRuntime) {
+    for (script, want) in &DATABASE_COUNT_CASES {
+        assert_eq!(rt; database_label_count(rt.alloc(), script), *want);
+    }
+}
+
+/// A script that takes each kind of memory, with how many growths: 6 lines, 3 labels, 14 values, and
+/// bytes or text 4 times. A type takes none.
+const EACH_GROWTH: &[u8] =
+    b"new a 8 1\nwrite a 0 4142\nstrcopy a 0 \"x\"\nstrcopy b 0 x:79\nfreebytes\n\
+    create a \"N\" \"DATA\" x:54657374 0 0";
+
+const GROWTHS: u32 = 27;
 
 /// How many lines that script has, or its fault, where a growth behind so many is refused.
 fn lines_without(alloc: Global, before: u32) -> Result<usize, LineFault> {
@@ -374,7 +540,7 @@ fn every_growth_may_be_refused(rt: HostRuntime) {
         let wanted = if before < GROWTHS {
             Err(REFUSED)
         } else {
-            Ok(5)
+            Ok(6)
         };
         assert_eq!(rt; lines_without(rt.alloc(), before), wanted, "after {before}");
     }

@@ -93,7 +93,7 @@ fn the_largest_image_is_checked(rt: HostRuntime) -> Result<(), Fail> {
     assert_eq!(rt; image.len(), 16_777_208);
     assert_eq!(rt;
         check_said(rt.alloc(), image.as_slice())?.as_str(),
-        "Done ok size 16777208 slots 4 movable 0 fixed 0 free 16777176\n"
+        "Done ok size 16777208 slots 4 movable 0 fixed 0 free 16777176\ndatabases 0\n"
     );
     Ok(())
 }

@@ -7,6 +7,8 @@ mod calls;
 #[cfg(test)]
 mod commands;
 #[cfg(test)]
+mod databases;
+#[cfg(test)]
 mod fakes;
 #[cfg(test)]
 mod files;

@@ -13,18 +13,28 @@ const BYTES: [u8; 33] = [
 ];
 
 /// Every kind of piece, and the text of them.
-const PIECES: [Piece<'static>; 7] = [
+const PIECES: [Piece<'static>; 16] = [
     Piece::Text(b"ok "),
     Piece::Number(0),
     Piece::Text(b" "),
     Piece::Number(4_294_967_295),
     Piece::Hex(b""),
     Piece::Hex(&BYTES),
+    Piece::Spelled(b" a~"),
+    Piece::Spelled(b""),
+    Piece::Spelled(b"a\"b"),
+    Piece::Spelled(b"a\x7f"),
+    Piece::Spelled(b"\x1fa"),
+    Piece::FourBytes(0x4441_5441),
+    Piece::FourBytes(0x22),
+    Piece::Hex16(0xa),
+    Piece::Hex32(0xbeef),
     Piece::Text(b"\n"),
 ];
 
 const TEXT: &str =
-    "ok 0 42949672950001090a0f101f207f80909fa0abcdeff0feff000000000000000000000000005a\n";
+    "ok 0 42949672950001090a0f101f207f80909fa0abcdeff0feff000000000000000000000000005a\
+    \" a~\"\"\"x:612262x:617fx:1f61\"DATA\"x:00000022000a0000beef\n";
 
 /// What `put_pieces` answers, and what its writer came to.
 fn put_to(alloc: Global, room: usize, step: usize, way: WhenFull) -> (bool, Narrow) {

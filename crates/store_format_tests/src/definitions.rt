@@ -21,9 +21,9 @@ ghost use Rattle.heap_model.specs.Maps.{callers_map};
 ghost use Rattle.heap_model.specs.Space.{rooms};
 ghost use Rattle.heap_model.specs.Lists.{moved};
 ghost use Rattle.heap_model.specs.Database.{a_record, a_resource};
-ghost use Rattle.heap_model.specs.UniqueIds.{next_id, id_behind, IsFresh};
+ghost use Rattle.heap_model.specs.UniqueIds.{next_id, id_behind, seed_in, with_seed, IsFresh};
 ghost use Rattle.heap_model.specs.Store.{StoredDatabase, content, listed, databases, named, names_of};
-ghost use Rattle.heap_model.specs.Rooms.{stretch_of, makes, Stuck};
+ghost use Rattle.heap_model.specs.Rooms.{stretch_of, makes, grows, Stuck};
 ghost use Rattle.store_format_tests.specs.Images.{database_image, changed, resource_image, two_databases, two_rooms, broken};
 
 /// A database of records, with the chunks that callers may name.
@@ -108,6 +108,8 @@ fn ids_go_round()
     ensures third { id_behind 0xFFFFFE 2 ≡ 2 }
     ensures fresh { IsFresh (0xFFFFFF ∷ 1 ∷ []) 0xFFFFFE 2 }
     ensures first_of_none { IsFresh [] 0 1 }
+    ensures seed { seed_in 0x07FFFFFE ≡ 0xFFFFFE }
+    ensures upper_bits_stay { with_seed 0x07FFFFFE 2 ≡ 0x07000002 }
 {}
 
 /// A room of 96 bytes has none of 16 left behind a chunk of 88, and one of 88 beside one of 16 has room
@@ -117,6 +119,9 @@ fn rooms_run_out()
     ensures locked { stretch_of two_rooms 16 ≡ 2 }
     ensures stuck { Stuck (96 ∷ []) (makes 88 ∷ makes 16 ∷ []) }
     ensures not_stuck { Stuck (88 ∷ 16 ∷ []) (makes 88 ∷ makes 16 ∷ []) → ⊥ }
+    ensures grown { Stuck (88 ∷ 16 ∷ []) (grows 0 16 104 ∷ []) → ⊥ }
+    ensures not_grown { Stuck (88 ∷ 16 ∷ []) (grows 1 16 104 ∷ []) }
+    ensures room_is_taken { Stuck (88 ∷ 16 ∷ []) (makes 16 ∷ grows 0 16 96 ∷ []) }
 {}
 
 /// What the functions above promise is proved, and they run to their end.

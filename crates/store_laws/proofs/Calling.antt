@@ -14,7 +14,7 @@ use Rattle.heap_model.specs.Placing.{SameFrame}
 use Rattle.heap_model.specs.declared.call.MemoryCall.{MemoryCall}
 use Rattle.heap_model.specs.declared.call.MemoryCall.TheVariants.{HandleNew, PtrNew, Free, Lock, Unlock, Size, Owner, Locks, Read, Write, Set, StrCopy, Resize, SetOwner, Recover, FreeByOwner, FreeBytes, LargestStretch, Compact}
 use Rattle.heap_model.specs.declared.call.Reply.{Reply}
-use Rattle.heap_model.specs.declared.call.Reply.TheVariants.{Refused, Done, Number, Named, Locked, Data}
+use Rattle.heap_model.specs.declared.call.Reply.TheVariants.{Refused, Done, Number, Named, Locked, Data, Database, Info}
 use Rattle.heap_model.specs.Store.{StoredDatabase, owner_of, owner_under}
 use Rattle.heap_model.specs.Counts.{HasDatabases}
 use Rattle.heap_laws.proofs.Deciding.{cond-true, cond-false}
@@ -61,7 +61,7 @@ managers_kept old new frame k = record {
 none : Option LiveChunk
 none = None
 
-known_owner : (held_there : Option LiveChunk) → (not_owned 0 held_there ≡ None → ⊥) → owner_of held_there ≢ 0
+pub known_owner : (held_there : Option LiveChunk) → (not_owned 0 held_there ≡ None → ⊥) → owner_of held_there ≢ 0
 unfolding none
 known_owner None known e = omega arith
 known_owner (Some live) known e = known (cond-true (live.owner == 0) none (Some live) (eq-eqb live.owner 0 e))
@@ -73,7 +73,7 @@ not_data (Some live) other e =
     let shown : not_owned 0 (Some live) ≡ Some live = cond-false (live.owner == 0) none (Some live) (ne_eqb live.owner 0 (λ z. omega arith)) in
     other (subst (λ (o : Option LiveChunk). Of o (λ l. l.owner ≡ 15)) (sym shown) e)
 
-callers_owner : (owner : ℕ) → (IsNoCaller owner → ⊥) → (owner ≢ 0) × (owner ≢ 15)
+pub callers_owner : (owner : ℕ) → (IsNoCaller owner → ⊥) → (owner ≢ 0) × (owner ≢ 15)
 callers_owner owner caller = (λ z. caller (inl z), λ z. caller (inr (omega arith)))
 
 -- ---- one name changed
@@ -122,6 +122,8 @@ row_holds row before was (Number count) region now s = inr s
 row_holds row before was (Named name) region now s = inr s
 row_holds row before was (Locked place count) region now s = inr s
 row_holds row before was (Data bytes) region now s = inr s
+row_holds row before was (Database db) region now s = inr s
+row_holds row before was (Info info) region now s = inr s
 
 Holds : Memory → Memory → MemoryCall → Reply → Type 0
 Holds old new call reply = NoneHolds (row_of old call).refusals × ((row_of old call).answers reply new × (row_of old call).effect reply (held old.bytes) (held new.bytes))
@@ -141,6 +143,8 @@ handle_new_keeps old new size owner (Number count) p = absurd p.1.0
 handle_new_keeps old new size owner (Named name) p = made_kept old.bytes new.bytes name.0 size owner 0 p.0.0 p.1.0 p.1.1
 handle_new_keeps old new size owner (Locked place count) p = absurd p.1.0
 handle_new_keeps old new size owner (Data bytes) p = absurd p.1.0
+handle_new_keeps old new size owner (Database db) p = absurd p.1.0
+handle_new_keeps old new size owner (Info info) p = absurd p.1.0
 
 ptr_new_keeps : (old new : Memory) (size owner : ℕ) (reply : Reply) → Holds old new (PtrNew size owner) reply → Keeps old.bytes new.bytes
 unfolding Holds
@@ -150,6 +154,8 @@ ptr_new_keeps old new size owner (Number count) p = absurd p.1.0
 ptr_new_keeps old new size owner (Named name) p = made_kept old.bytes new.bytes name.0 size owner 15 p.0.0 p.1.0 p.1.1
 ptr_new_keeps old new size owner (Locked place count) p = absurd p.1.0
 ptr_new_keeps old new size owner (Data bytes) p = absurd p.1.0
+ptr_new_keeps old new size owner (Database db) p = absurd p.1.0
+ptr_new_keeps old new size owner (Info info) p = absurd p.1.0
 
 all_stay : (old new : List ℕ) → ((q : ℕ) → held new q ≡ held old q) → Keeps old new
 unfolding Keeps

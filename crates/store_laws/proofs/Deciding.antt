@@ -34,7 +34,7 @@ Decides-distinct same each (x ∷ xs) = Decides-like _ (λ p. AllPairs-cons (λ 
 
 -- ---- one database
 
-Decides-name : (name : List ℕ) → Decides (is_name name) (IsDatabaseName name)
+pub Decides-name : (name : List ℕ) → Decides (is_name name) (IsDatabaseName name)
 Decides-name name = Decides-like _ (λ h. record { some = h.0.0; room = h.0.1; none_zero = h.1 }) (λ is. ((is.some, is.room), is.none_zero))
     (Decides-and _ _ (Decides-and _ _ (Decides-ltb 0 (length name)) (Decides-ltb (length name) 32)) (Decides-all (λ byte. nat_lt 0 byte) (λ byte. 0 < byte) (λ byte. Decides-ltb 0 byte) name))
 

@@ -14,7 +14,13 @@ pub mod Counting
 pub mod Deciding
 pub mod Keeping
 pub mod Calling
+pub mod Lifting
 pub mod Rewriting
+pub mod Found
 pub mod Listed
+pub mod Stepping
 pub mod Meaning
+pub mod Telling
 pub mod Parts
+pub mod Creating
+pub mod Deleting

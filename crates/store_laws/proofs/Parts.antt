@@ -1,6 +1,6 @@
 -- Room for one part: it runs out where the image is short, and for a chunk that grows where the image is
 -- short for that one.
-use Rattle.std.proofs.Common.{◌≡◌, ℕ, zero, suc, ◌+◌, ◌-◌, ◌<◌, Bool, true, false, cond, List, [], ◌∷◌, ◌++◌, length, get_or, set, Option, Some, None, refl, sym, ap, subst, ◌∙◌, append_assoc, arith, length-append, inl, inr}
+use Rattle.std.proofs.Common.{◌≡◌, ℕ, ◌+◌, ◌-◌, ◌<◌, Bool, true, false, cond, List, [], ◌∷◌, ◌++◌, length, get_or, set, Option, Some, None, refl, sym, ap, subst, ◌∙◌, append_assoc, arith, length-append, inl, inr}
 use Rattle.std.proofs.Math.Seq.{set-append_seam}
 use Rattle.std.proofs.lemmas.Bool.{eq-eqb}
 use Rattle.std.proofs.lemmas.List.{get_or_append_left, get_or-append_right}
@@ -16,62 +16,13 @@ use Rattle.heap_model.specs.Heap.{HeapAccepted}
 use Rattle.heap_model.specs.Meaning.{LiveChunk, NamedHere}
 use Rattle.heap_model.specs.Reading.{chunks_of, live_under, held}
 use Rattle.heap_model.specs.Space.{stays, NoneStays, onto_first, runs_between, has_chunk, stretches, room_of, rooms_of, rooms, with_freed, Short, ShortFor}
-use Rattle.heap_model.specs.Packing.{EndsStaying, BeginsStaying}
 use Rattle.heap_model.specs.Store.{bytes_of, bytes_under}
 use Rattle.heap_model.specs.Rooms.{is_movable_as, stretch_of, KeepsStretches, Lowers, Part, makes, grows, growth, rooms_for, Stuck}
 use Rattle.heap_laws.proofs.Deciding.{none_some}
 use Rattle.heap_laws.proofs.Finding.{held_finds}
 use Rattle.heap_laws.proofs.Exchanging.{named_beside}
 use Rattle.heap_laws.proofs.Sliding.{none_stays-append}
-use Rattle.heap_laws.proofs.Stretches.{stretch_among, rooms_of-append, room_of-middle, freed_middle}
-
--- ---- the stretch around a chunk
-
-none_stays-cons : (c : Chunk) (cs : List Chunk) → stays c ≡ false → NoneStays cs → NoneStays (c ∷ cs)
-none_stays-cons (free size) cs e n = n
-none_stays-cons (movable bytes zero owner slot) cs e n = n
-none_stays-cons (movable bytes (suc count) owner slot) cs e n = absurd cc
-none_stays-cons (fixed bytes owner) cs e n = absurd cc
-
-record Behind (cs : List Chunk) : Type 0 where
-  back : List Chunk
-  later : List Chunk
-  parts : cs ≡ back ++ later
-  loose : NoneStays back
-  begins : BeginsStaying later
-
-behind : (cs : List Chunk) → Behind cs
-behind [] = record { back = []; later = []; parts = refl; loose = tt; begins = tt }
-behind (c ∷ cs) = by (stays c) refl (behind cs) where
-  by : (b : Bool) → stays c ≡ b → Behind cs → Behind (c ∷ cs)
-  by true e rest = record { back = []; later = c ∷ cs; parts = refl; loose = tt; begins = e }
-  by false e rest = record { back = c ∷ rest.back; later = rest.later; parts = ap (λ (ds : List Chunk). c ∷ ds) rest.parts; loose = none_stays-cons c rest.back e rest.loose; begins = rest.begins }
-
-record InFront (cs : List Chunk) : Type 0 where
-  earlier : List Chunk
-  front : List Chunk
-  parts : cs ≡ earlier ++ front
-  loose : NoneStays front
-  ends : EndsStaying earlier
-
-in_front : (cs : List Chunk) → InFront cs
-in_front [] = record { earlier = []; front = []; parts = refl; loose = tt; ends = tt }
-in_front (c ∷ cs) = by (in_front cs) where
-  first : (b : Bool) → stays c ≡ b → (front : List Chunk) → cs ≡ front → NoneStays front → InFront (c ∷ cs)
-  first true e front parts loose = record { earlier = c ∷ []; front = front; parts = ap (λ (ds : List Chunk). c ∷ ds) parts; loose = loose; ends = e }
-  first false e front parts loose = record { earlier = []; front = c ∷ front; parts = ap (λ (ds : List Chunk). c ∷ ds) parts; loose = none_stays-cons c front e loose; ends = tt }
-
-  more : (earlier front : List Chunk) → cs ≡ earlier ++ front → NoneStays front → EndsStaying earlier → InFront (c ∷ cs)
-  more [] front parts loose ends = first (stays c) refl front parts loose
-  more (d ∷ earlier) front parts loose ends = record { earlier = c ∷ d ∷ earlier; front = front; parts = ap (λ (ds : List Chunk). c ∷ ds) parts; loose = loose; ends = ends }
-
-  by : InFront cs → InFront (c ∷ cs)
-  by rest = more rest.earlier rest.front rest.parts rest.loose rest.ends
-
-stretch_mid : (before front : List Chunk) (c : Chunk) (back after : List Chunk) → NoneStays (front ++ c ∷ back) → EndsStaying before → BeginsStaying after
-    → stretches (before ++ ((front ++ c ∷ back) ++ after)) ≡ stretches before ++ (front ++ c ∷ back) ∷ stretches after
-stretch_mid before [] c back after n ends begins = stretch_among before c back after n ends begins
-stretch_mid before (d ∷ front) c back after n ends begins = stretch_among before d (front ++ c ∷ back) after n ends begins
+use Rattle.heap_laws.proofs.Stretches.{loose_behind, loose_front, stretch_mid, rooms_of-append, room_of-middle, freed_middle}
 
 -- ---- the number of a stretch
 
@@ -143,8 +94,8 @@ around_middle : (image : List ℕ) (before : List Chunk) (name : ℕ) (bytes : L
 around_middle image before name bytes owner after lock h e =
     let c : Chunk = movable bytes 0 owner name in
     let taken : ℕ = need (length bytes) in
-    let fore = in_front before in
-    let rear = behind after in
+    let fore = loose_front before in
+    let rear = loose_behind after in
     let pre : List (List Chunk) = stretches fore.earlier in
     let post : List (List Chunk) = stretches rear.later in
     let loose : NoneStays (fore.front ++ c ∷ rear.back) = (none_stays-append fore.front (c ∷ rear.back)).1 (fore.loose, rear.loose) in

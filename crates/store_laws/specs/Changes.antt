@@ -1,12 +1,13 @@
 -- What a call leaves of an image with databases: which chunks of the manager's are as they were, and how
 -- many of the names for data are.
-use Rattle.std.specs.Prelude.{◌≡◌, ◌≢◌, ◌<◌, ◌+◌, ◌%◌, ◌++◌, ◌↔◌, ℕ, List, [], ◌∷◌, length, slice_index_or, slice_set}
+use Rattle.std.specs.Prelude.{◌≡◌, ◌≢◌, ◌<◌, ◌+◌, ◌%◌, ◌++◌, ◌↔◌, ℕ, List, None, [], ◌∷◌, length, slice_index_or, slice_set}
 use Rattle.std.specs.List.{remove}
 use Rattle.heap_model.specs.Heap.{HeapAccepted, directory_of}
 use Rattle.heap_model.specs.Reading.{held}
 use Rattle.heap_model.specs.Lists.{same, times, Distinct}
 use Rattle.heap_model.specs.Database.{data_in}
-use Rattle.heap_model.specs.Store.{StoredDatabase, managers_owner, data_owner, owner_under, directory_bytes, listed, most_databases, names_of}
+use Rattle.heap_model.specs.Store.{StoredDatabase, Store, managers_owner, data_owner, owner_under, directory_bytes, listed, most_databases, names_of, Accepted, store_of}
+use Rattle.heap_model.specs.StoreSteps.{SameStore, all_gone}
 use Rattle.heap_model.specs.Counts.{IsWhole}
 
 -- The new image is an accepted heap. Its directory is the old one's, the manager's chunks are as they
@@ -63,3 +64,14 @@ pub record Drops (old new : List ℕ) (stored : List StoredDatabase) (index : �
   pub managers : (name : ℕ) → name ≢ directory_of old → name ≢ one.db → owner_under old name ≡ managers_owner → held new name ≡ held old name
   pub owners : (name : ℕ) → 0 < name → same name one.db + same (owner_under new name) managers_owner ≡ same (owner_under old name) managers_owner
   pub balance : (name : ℕ) → 0 < name → times name (data_in one.database) + same (owner_under new name) data_owner ≡ same (owner_under old name) data_owner
+
+-- With a database went its header and the chunks that it named. All chunks but the manager's are otherwise
+-- as they were.
+pub record Clears (old new : List ℕ) (one : StoredDatabase) : Type 0 where
+  pub header : held new one.db ≡ None
+  pub others : (name : ℕ) → owner_under old name ≢ managers_owner → held new name ≡ all_gone (held old) (data_in one.database) name
+
+-- the image is accepted, and means this store
+pub record HasStore (image : List ℕ) (store : Store) : Type 0 where
+  pub accepted : Accepted image
+  pub same : SameStore (store_of image) store

@@ -1,25 +1,30 @@
 -- What the definitions of databases and stores promise together: the statements of the laws.
-use Rattle.std.specs.Prelude.{◌≡◌, ◌<◌, ◌≤◌, ◌%◌, ◌^◌, ◌++◌, ◌↔◌, ℕ, true, List, [], ◌∷◌, length, slice_set, All, Some, suc, insert, drop, slice_range}
+use Rattle.std.specs.Prelude.{◌≡◌, ◌<◌, ◌≤◌, ◌%◌, ◌^◌, ◌++◌, ◌↔◌, ℕ, true, List, [], ◌∷◌, length, slice_get, slice_set, All, Some, None, IsSome, suc, insert, drop, slice_range}
 use Rattle.std.specs.List.{flat_map, remove}
 use Rattle.heap_model.specs.Bytes.{u32_bytes, AreBytes, overwritten}
 use Rattle.heap_model.specs.Chunk.{need}
-use Rattle.heap_model.specs.Heap.{HeapAccepted}
+use Rattle.heap_model.specs.Heap.{HeapAccepted, directory_of}
 use Rattle.heap_model.specs.Meaning.{LiveChunk}
 use Rattle.heap_model.specs.Reading.{held}
+use Rattle.heap_model.specs.Maps.{callers_map}
+use Rattle.heap_model.specs.Placing.{SameFrame}
 use Rattle.heap_model.specs.Space.{rooms, Short, ShortFor}
-use Rattle.heap_model.specs.Lists.{times, u32s_in}
+use Rattle.heap_model.specs.Lists.{times, u32s_in, Distinct}
 use Rattle.heap_model.specs.DatabaseFields.{header_size}
 use Rattle.heap_model.specs.Database.{Database, Entry, has_resources, header_bytes, entry_bytes, spelled, EntryFits, DatabaseFits, IsSpelled, entry_offset, database_in, HasShape}
 use Rattle.heap_model.specs.UniqueIds.{greatest_id, IsFresh}
-use Rattle.heap_model.specs.Store.{StoredDatabase, Store, databases, Accepted, Means, store_of, bytes_under}
+use Rattle.heap_model.specs.Store.{StoredDatabase, Store, databases, numbers_of, IsHeaderSlot, Accepted, Means, store_of, bytes_under}
 use Rattle.heap_model.specs.Counts.{HasDatabases}
 use Rattle.heap_model.specs.Rooms.{Lowers, makes, growth, Stuck}
 use Rattle.heap_model.specs.Memory.{Memory}
-use Rattle.heap_model.specs.MemorySteps.{Does}
+use Rattle.heap_model.specs.MemorySteps.{AsBefore, Does}
+use Rattle.heap_model.specs.declared.names.Db.{Db}
 use Rattle.heap_model.specs.declared.call.MemoryCall.{MemoryCall}
+use Rattle.heap_model.specs.declared.call.Call.TheVariants as calls
 use Rattle.heap_model.specs.declared.call.Reply.{Reply}
+use Rattle.heap_model.specs.StoreSteps.{SameStore, with_number, with_changed, without_database, dropped, StoreAsBefore, DoesInStore}
 use Rattle.store_laws.specs.StoreTests.{is_store}
-use Rattle.store_laws.specs.Changes.{KeepsManagers, Rewrites, Appends, Drops}
+use Rattle.store_laws.specs.Changes.{KeepsManagers, Rewrites, Appends, Drops, Clears, HasStore}
 
 -- ---- spellings
 
@@ -93,6 +98,13 @@ StoresAreDecided = (image : List ℕ) → ((is_store image ≡ true) ↔ Accepte
 abbrev pub MeansOneStore : Type 0
 MeansOneStore = (image : List ℕ) → Accepted image → Means image (store_of image) × ((one other : Store) → Means image one → Means image other → one ≡ other)
 
+-- accepted images of bytes that mean one store, and have one directory word, hold the same chunk under each
+-- name, the manager's among them
+abbrev pub StoresTell : Type 0
+StoresTell =
+    (one other : List ℕ) → AreBytes one → AreBytes other → Accepted one → Accepted other → directory_of one ≡ directory_of other → SameStore (store_of one) (store_of other)
+    → (name : ℕ) → held one name ≡ held other name
+
 -- ---- changes
 
 -- an image whose manager's chunks were kept has the databases that the old one had
@@ -102,6 +114,10 @@ StoresAreKept = (old new : List ℕ) (stored : List StoredDatabase) → HasDatab
 -- a call of the memory manager leaves the databases that the heap had, also where it is refused
 abbrev pub MemoryCallsKeepStores : Type 0
 MemoryCallsKeepStores = (old new : Memory) (call : MemoryCall) (reply : Reply) (stored : List StoredDatabase) → Does old call reply new → HasDatabases old.bytes stored → HasDatabases new.bytes stored
+
+-- a call of the memory manager on an accepted image is a step of the store that the image means
+abbrev pub MemoryCallsAreStoreSteps : Type 0
+MemoryCallsAreStoreSteps = (old new : Memory) (call : MemoryCall) (reply : Reply) → Accepted old.bytes → Does old call reply new → DoesInStore old (calls.Memory call) reply new
 
 -- an image in which one database was rewritten has the others as they were
 abbrev pub StoresAreRewritten : Type 0
@@ -116,6 +132,62 @@ StoresAreAppended = (old new : List ℕ) (stored : List StoredDatabase) (one : S
 abbrev pub StoresAreDropped : Type 0
 StoresAreDropped =
     (old new : List ℕ) (stored : List StoredDatabase) (index : ℕ) (one : StoredDatabase) → HasDatabases old stored → Drops old new stored index one → HasDatabases new (remove stored index)
+
+-- ---- databases by number
+
+-- where no two databases have one number, the one with a number is found wherever it stands
+abbrev pub DatabasesAreFound : Type 0
+DatabasesAreFound =
+    (store : Store) (db : ℕ) (one : StoredDatabase) → Distinct (numbers_of store.databases) → ((with_number store db ≡ Some one) ↔ ((one.db ≡ db) × ((index : ℕ) × (slice_get store.databases index ≡ Some one))))
+
+-- one with a number is changed where it stands
+abbrev pub DatabasesAreChanged : Type 0
+DatabasesAreChanged =
+    (stored : List StoredDatabase) (db index : ℕ) (one : StoredDatabase) (change : Database ℕ → Database ℕ) → Distinct (numbers_of stored) → slice_get stored index ≡ Some one → one.db ≡ db
+    → with_changed stored db change ≡ slice_set stored index (record { db = db; database = change one.database })
+
+-- one with a number is taken out where it stands
+abbrev pub DatabasesAreTakenOut : Type 0
+DatabasesAreTakenOut = (stored : List StoredDatabase) (db index : ℕ) (one : StoredDatabase) → Distinct (numbers_of stored) → slice_get stored index ≡ Some one → one.db ≡ db → without_database stored db ≡ remove stored index
+
+-- A number of a database is known by its chunk alone: it is one of the manager's that is not the directory.
+-- No two databases have one number.
+abbrev pub NumbersAreKnown : Type 0
+NumbersAreKnown =
+    (image : List ℕ) (store : Store) → HasDatabases image store.databases
+    → Distinct (numbers_of store.databases)
+    × ((db : ℕ) → (IsHeaderSlot image db ↔ IsSome (with_number store db)) × ((IsHeaderSlot image db → ⊥) ↔ (with_number store db ≡ None)))
+
+-- ---- steps of the store
+
+-- an image that has some databases means the store of these, and of what callers may name
+abbrev pub DatabasesAreStores : Type 0
+DatabasesAreStores = (image : List ℕ) (store : Store) → HasDatabases image store.databases → ((name : ℕ) → callers_map image name ≡ store.map name) → HasStore image store
+
+-- an image in which one database was rewritten, and callers may name what they might, means the store with
+-- that database changed
+abbrev pub SetsAreSteps : Type 0
+SetsAreSteps =
+    (old new : List ℕ) (db index : ℕ) (was : StoredDatabase) (change : Database ℕ → Database ℕ) → Accepted old → slice_get (databases old) index ≡ Some was → was.db ≡ db
+    → Rewrites old new (databases old) index (record { db = db; database = change was.database }) → ((name : ℕ) → callers_map new name ≡ callers_map old name)
+    → HasStore new (record (store_of old) { databases = with_changed (store_of old).databases db change })
+
+-- an image to which a database came, and callers may name what they might, means the store with that one more
+abbrev pub CreatesAreSteps : Type 0
+CreatesAreSteps =
+    (old new : List ℕ) (one : StoredDatabase) → Accepted old → Appends old new (databases old) one → ((name : ℕ) → callers_map new name ≡ callers_map old name)
+    → HasStore new (record (store_of old) { databases = (store_of old).databases ++ (one ∷ []) })
+
+-- an image of which a database went with all that it named means the store without them
+abbrev pub DropsAreSteps : Type 0
+DropsAreSteps = (old new : List ℕ) (db : Db) (index : ℕ) (one : StoredDatabase) → Accepted old → one.db ≡ db.0 → Drops old new (databases old) index one → Clears old new one → HasStore new (dropped (store_of old) db)
+
+-- An image that holds what it held under every name means the store that it meant; and where as much is free
+-- too, all is as before, as a refusal leaves it.
+abbrev pub RefusalsAreSteps : Type 0
+RefusalsAreSteps =
+    ((old new : List ℕ) → Accepted old → SameFrame old new → ((name : ℕ) → held new name ≡ held old name) → HasStore new (store_of old))
+    × ((old new : Memory) → Accepted old.bytes → SameFrame old.bytes new.bytes → AsBefore old new → Accepted new.bytes × StoreAsBefore old new)
 
 -- ---- rooms
 

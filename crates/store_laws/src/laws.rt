@@ -1,6 +1,6 @@
 //! The laws, each as the promise of a function.
 
-ghost use Rattle.store_laws.specs.Laws.{SpellingsAreRead, ShapesAreSpellings, EntriesAreWritten, EntriesAreMoved, HeadersAreWritten, BodiesAreBytes, DirectoriesAreRead, FreshIdsExist, AcceptanceIsCounted, StoresAreDecided, MeansOneStore, StoresAreKept, MemoryCallsKeepStores, StoresAreRewritten, StoresAreAppended, StoresAreDropped, OnePartIsShort, MadeThenShort};
+ghost use Rattle.store_laws.specs.Laws.{SpellingsAreRead, ShapesAreSpellings, EntriesAreWritten, EntriesAreMoved, HeadersAreWritten, BodiesAreBytes, DirectoriesAreRead, FreshIdsExist, AcceptanceIsCounted, StoresAreDecided, MeansOneStore, StoresTell, StoresAreKept, MemoryCallsKeepStores, MemoryCallsAreStoreSteps, StoresAreRewritten, StoresAreAppended, StoresAreDropped, DatabasesAreFound, DatabasesAreChanged, DatabasesAreTakenOut, NumbersAreKnown, DatabasesAreStores, SetsAreSteps, CreatesAreSteps, DropsAreSteps, RefusalsAreSteps, OnePartIsShort, MadeThenShort};
 
 /// The database that is read off bytes is the one that they spell.
 pub fn spellings_are_read()
@@ -57,6 +57,11 @@ pub fn means_one_store()
     ensures { MeansOneStore }
 {}
 
+/// Accepted images that mean one store hold the same chunk under each name.
+pub fn stores_tell()
+    ensures { StoresTell }
+{}
+
 /// An image whose manager's chunks are as they were has the databases that it had.
 pub fn stores_are_kept()
     ensures { StoresAreKept }
@@ -65,6 +70,11 @@ pub fn stores_are_kept()
 /// A call of the memory manager leaves the databases that the heap had.
 pub fn memory_calls_keep_stores()
     ensures { MemoryCallsKeepStores }
+{}
+
+/// A call of the memory manager is a step of the store.
+pub fn memory_calls_are_store_steps()
+    ensures { MemoryCallsAreStoreSteps }
 {}
 
 /// An image in which one database was rewritten has the others as they were.
@@ -80,6 +90,51 @@ pub fn stores_are_appended()
 /// An image of which a database went has the others.
 pub fn stores_are_dropped()
     ensures { StoresAreDropped }
+{}
+
+/// The database with a number is found wherever it stands.
+pub fn databases_are_found()
+    ensures { DatabasesAreFound }
+{}
+
+/// The database with a number is changed where it stands.
+pub fn databases_are_changed()
+    ensures { DatabasesAreChanged }
+{}
+
+/// The database with a number is taken out where it stands.
+pub fn databases_are_taken_out()
+    ensures { DatabasesAreTakenOut }
+{}
+
+/// A number of a database is known by its chunk alone.
+pub fn numbers_are_known()
+    ensures { NumbersAreKnown }
+{}
+
+/// An image that has some databases means the store of these.
+pub fn databases_are_stores()
+    ensures { DatabasesAreStores }
+{}
+
+/// An image in which one database was rewritten means the store with that one changed.
+pub fn sets_are_steps()
+    ensures { SetsAreSteps }
+{}
+
+/// An image to which a database came means the store with that one more.
+pub fn creates_are_steps()
+    ensures { CreatesAreSteps }
+{}
+
+/// An image of which a database went means the store without that one.
+pub fn drops_are_steps()
+    ensures { DropsAreSteps }
+{}
+
+/// An image that holds what it held means the store that it meant.
+pub fn refusals_are_steps()
+    ensures { RefusalsAreSteps }
 {}
 
 /// A call of one part runs out of room exactly where the image is short of that part.

@@ -21,18 +21,26 @@
 //! | `Deciding` | the tests of `specs/StoreTests` decide which image is accepted |
 //! | `Keeping` | an image whose manager's chunks are as they were |
 //! | `Calling` | the memory manager's calls, which leave the databases |
+//! | `Lifting` | the memory manager's calls, which are steps of the store |
 //! | `Rewriting` | an image in which one database was rewritten |
+//! | `Found` | databases by their numbers: found, changed and taken out |
 //! | `Listed` | an image to which a database came, or of which one went |
+//! | `Stepping` | images with their databases changed, which mean the store changed |
 //! | `Meaning` | what an accepted image means: one store |
+//! | `Telling` | what a store says of the chunks of an image |
 //! | `Parts` | room for one part, and the number of the stretch around a chunk |
+//! | `Creating` | a slot listed last, and the room and the slots of two chunks that are made |
+//! | `Deleting` | a slot taken out of those that are listed |
 #![tactic(auto)]
 
 mod laws;
 
 pub use laws::{
-    acceptance_is_counted, bodies_are_bytes, directories_are_read, entries_are_moved,
-    entries_are_written, fresh_ids_exist, headers_are_written, made_then_short, means_one_store,
-    memory_calls_keep_stores, one_part_is_short, shapes_are_spellings, spellings_are_read,
-    stores_are_appended, stores_are_decided, stores_are_dropped, stores_are_kept,
-    stores_are_rewritten,
+    acceptance_is_counted, bodies_are_bytes, creates_are_steps, databases_are_changed,
+    databases_are_found, databases_are_stores, databases_are_taken_out, directories_are_read,
+    drops_are_steps, entries_are_moved, entries_are_written, fresh_ids_exist, headers_are_written,
+    made_then_short, means_one_store, memory_calls_are_store_steps, memory_calls_keep_stores,
+    numbers_are_known, one_part_is_short, refusals_are_steps, sets_are_steps, shapes_are_spellings,
+    spellings_are_read, stores_are_appended, stores_are_decided, stores_are_dropped,
+    stores_are_kept, stores_are_rewritten, stores_tell,
 };

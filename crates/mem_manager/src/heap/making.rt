@@ -7,6 +7,7 @@ ghost use Rattle.heap_model.specs.Reading.{chunks_of};
 ghost use Rattle.heap_model.specs.Space.{NoRun, Short, MovesNothing, MovesOneStretch, moved_bytes};
 ghost use Rattle.heap_model.specs.Packing.{SlidesOneStretch};
 ghost use Rattle.heap_model.specs.Layout.{IsRoom};
+ghost use Rattle.heap_model.specs.Rooms.{Lowers};
 ghost use Rattle.heap_model.specs.MemorySteps.{Does, reply_of};
 ghost use Rattle.heap_model.specs.declared.call.MemoryCall.{MemoryCall};
 ghost use Rattle.heap_model.specs.declared.call.Reply.{Reply};
@@ -111,6 +112,7 @@ pub(crate) fn make_movable(
     ensures refused { OnErr result (space.new ≡ space.old) }
     ensures unmoved { (NoRun (chunks_of space.old.bytes) (need size) → ⊥) → MovesNothing space.old.bytes space.new.bytes }
     ensures one_stretch { MovesOneStretch space.old.bytes space.new.bytes }
+    ensures lowers { OnOk result (Lowers space.old.bytes space.new.bytes (need size)) }
     ensures once { space.new.slid ≡ space.old.slid + moved_bytes space.old.bytes space.new.bytes }
     ensures rest { space.new ≡ record space.old { bytes = space.new.bytes; slid = space.new.slid } }
 {

@@ -1,18 +1,23 @@
 //! Calls for the store above, on its own chunks and on those of databases, whose owners are 0 and 15.
-//! Their callers show what they ask: nothing is refused but want of room, and what a lock forbids.
+//! Their callers show what they ask: nothing is refused but want of room, and a locked chunk that would
+//! have to move.
 
 ghost use Rattle.std.specs.Prelude.{◌≡◌, ◌≢◌, ◌≤◌, ◌<◌, ◌+◌, length, slice_range, IsSome, IfOk, IfErr, OnOk, OnErr};
 ghost use Rattle.heap_model.specs.Chunk.{need};
+ghost use Rattle.heap_model.specs.Rooms.{Lowers};
 ghost use Rattle.heap_model.specs.Heap.{directory_of};
 ghost use Rattle.heap_model.specs.Reading.{held, chunks_of};
-ghost use Rattle.heap_model.specs.Space.{NoRun, MovesNothing, MovesOneStretch, moved_bytes};
-ghost use Rattle.heap_model.specs.Maps.{gone, put, reowned};
-ghost use Rattle.heap_model.specs.Store.{bytes_under};
-ghost use Rattle.heap_model.specs.Leaving.{Leaves};
+ghost use Rattle.heap_model.specs.Space.{NoRun, FitsInPlace, MovesNothing, MovesOneStretch, MovesOneStretchAnd, moved_bytes};
+ghost use Rattle.heap_model.specs.Maps.{gone, put, sized, reowned};
+ghost use Rattle.heap_model.specs.Store.{managers_owner, bytes_under, owner_under};
+ghost use Rattle.heap_model.specs.Leaving.{Leaves, NamesDirectory};
+ghost use Rattle.heap_model.specs.Refusals.{NoneHolds, FirstBrings};
+ghost use Rattle.heap_model.specs.MemorySteps.{growth_checks};
 ghost use Rattle.mem_manager.specs.Lookup.{IsMovable, MakesNew, HasNoRoomFor};
 
 use crate::heap::Heap;
 use crate::heap::making::{make_movable, used_without};
+use crate::heap::moving::resize_found;
 use heap_model::{Name, Refusal};
 
 impl Heap {
@@ -27,6 +32,7 @@ impl Heap {
         ensures refused { OnErr result (self.new ≡ self.old) }
         ensures unmoved { (NoRun (chunks_of self.old.bytes) (need size) → ⊥) → MovesNothing self.old.bytes self.new.bytes }
         ensures one_stretch { MovesOneStretch self.old.bytes self.new.bytes }
+        ensures lowers { OnOk result (Lowers self.old.bytes self.new.bytes (need size)) }
         ensures once { self.new.slid ≡ self.old.slid + moved_bytes self.old.bytes self.new.bytes }
         ensures rest { self.new ≡ record self.old { bytes = self.new.bytes; slid = self.new.slid } }
     {
@@ -62,6 +68,40 @@ impl Heap {
         }
     }
 
+    /// Copies `count` bytes of a chunk's body from `from` within it to `to` within it; the ranges may overlap.
+    pub fn sys_slide(&mut self, name: Name, from: u32, to: u32, count: u32)
+        requires there { IsSome (held self.old.bytes name.0) }
+        requires from_within { from + count ≤ length (bytes_under self.old.bytes name.0) }
+        requires to_within { to + count ≤ length (bytes_under self.old.bytes name.0) }
+        ensures leaves { Leaves self.old.bytes self.new.bytes (put (held self.old.bytes) name.0 to (slice_range (bytes_under self.old.bytes name.0) from (from + count))) }
+        ensures rest { self.new ≡ record self.old { bytes = self.new.bytes; slid = self.old.slid + count } }
+    {
+        if let Some(found) = self.space.find(name) {
+            self.space.slide_within(found, from, to, count);
+        }
+    }
+
+    /// Gives a movable chunk, the directory too, `size` bytes: its first ones, or all of them and zeros behind.
+    /// What moves is as with `resize`.
+    ///
+    /// Refused: `ChunkLocked`, where it is locked and would have to move; `NotEnoughSpace`, where it is not
+    /// locked and no stretch has the room. Then nothing has changed.
+    pub fn sys_resize(&mut self, name: Name, size: u32) -> Result<(), Refusal>
+        requires movable { IsMovable self.old.bytes name.0 }
+        ensures done { OnOk result (Leaves self.old.bytes self.new.bytes (sized (held self.old.bytes) name.0 size)) }
+        ensures could { OnOk result (NoneHolds (growth_checks self.old.bytes (held self.old.bytes) name.0 size)) }
+        ensures refused { OnErr result (self.new ≡ self.old) }
+        ensures why { IfErr result (λ refusal. FirstBrings (growth_checks self.old.bytes (held self.old.bytes) name.0 size) refusal) }
+        ensures unmoved { FitsInPlace self.old.bytes name.0 (need size) → MovesNothing self.old.bytes self.new.bytes }
+        ensures one_stretch { MovesOneStretchAnd self.old.bytes self.new.bytes name.0 }
+        ensures rest { self.new ≡ record self.old { bytes = self.new.bytes; slid = self.new.slid } }
+    {
+        match self.space.find(name) {
+            Some(found) => resize_found(&mut self.space, found, size),
+            None => Err(Refusal::InvalidHandle),
+        }
+    }
+
     /// Gives a movable chunk to another owner, 1 to 15. The directory has none but the manager.
     pub fn sys_set_owner(&mut self, name: Name, owner: u8)
         requires movable { IsMovable self.old.bytes name.0 }
@@ -87,5 +127,20 @@ impl Heap {
             self.used = used_without(self.space.region(), self.used, name);
             self.space.give_back(found);
         }
+    }
+    /// The name of the directory's chunk, or `Name(0)` where there is none.
+    pub fn directory(&self) -> Name
+        ensures { result.0 ≡ directory_of self.now.bytes }
+    {
+        self.space.directory()
+    }
+
+    /// Makes a chunk of the manager's the directory.
+    pub fn set_directory(&mut self, name: Name)
+        requires managers { owner_under self.old.bytes name.0 ≡ managers_owner }
+        ensures names { NamesDirectory self.old.bytes self.new.bytes name.0 }
+        ensures rest { self.new ≡ record self.old { bytes = self.new.bytes } }
+    {
+        self.space.set_directory(name);
     }
 }

@@ -1,18 +1,23 @@
 //! Calls that move chunks.
 
-ghost use Rattle.std.specs.Prelude.{◌≡◌, ◌+◌, OnErr};
-ghost use Rattle.heap_model.specs.Chunk.{need};
+ghost use Rattle.std.specs.Prelude.{◌≡◌, ◌≢◌, ◌+◌, OnOk, OnErr, IfErr};
+ghost use Rattle.heap_model.specs.Chunk.{need, fixed_lock};
+ghost use Rattle.heap_model.specs.Heap.{HeapAccepted};
 ghost use Rattle.heap_model.specs.Space.{FitsInPlace, MovesNothing, MovesOneStretchAnd};
-ghost use Rattle.heap_model.specs.Reading.{chunks_of};
+ghost use Rattle.heap_model.specs.Reading.{held, chunks_of};
 ghost use Rattle.heap_model.specs.Packing.{Packed, Slid};
-ghost use Rattle.heap_model.specs.MemorySteps.{Does, reply_of};
+ghost use Rattle.heap_model.specs.Refusals.{NoneHolds, FirstBrings};
+ghost use Rattle.heap_model.specs.MemorySteps.{Does, reply_of, growth_checks};
 ghost use Rattle.heap_model.specs.declared.call.MemoryCall.{MemoryCall};
 ghost use Rattle.heap_model.specs.declared.call.Reply.{Reply};
+ghost use Rattle.heap_place.specs.Found.{IsOne};
+ghost use Rattle.heap_compact.specs.Resized.{Resized};
 
 use crate::heap::Heap;
 use crate::lookup::{check_callers, check_movable, find};
 use heap_compact::resize_by_moving;
 use heap_model::{Name, Refusal};
+use heap_place::{Found, Space};
 
 impl Heap {
     /// Gathers the free bytes of each stretch in one chunk behind its live ones, which keep their order, and
@@ -41,15 +46,31 @@ impl Heap {
         let found = find(&self.space, name)?;
         check_callers(found)?;
         check_movable(found)?;
-        if self.space.grow_in_place(found, size) {
-            return Ok(());
-        }
-        if found.lock > 0 {
-            return Err(Refusal::ChunkLocked);
-        }
-        if !resize_by_moving(&mut self.space, found, size) {
-            return Err(Refusal::NotEnoughSpace);
-        }
-        Ok(())
+        resize_found(&mut self.space, found, size)
     }
+}
+
+/// Gives a movable chunk that was found `size` bytes, as `Heap::resize` does.
+pub(crate) fn resize_found(space: &mut Space, found: Found, size: u32) -> Result<(), Refusal>
+    requires accepted { HeapAccepted space.old.bytes }
+    requires found { IsOne space.old.bytes found }
+    requires movable { found.lock ≢ fixed_lock }
+    ensures done { OnOk result (Resized space.old.bytes space.new.bytes found.name.0 size) }
+    ensures could { OnOk result (NoneHolds (growth_checks space.old.bytes (held space.old.bytes) found.name.0 size)) }
+    ensures refused { OnErr result (space.new ≡ space.old) }
+    ensures why { IfErr result (λ refusal. FirstBrings (growth_checks space.old.bytes (held space.old.bytes) found.name.0 size) refusal) }
+    ensures unmoved { FitsInPlace space.old.bytes found.name.0 (need size) → MovesNothing space.old.bytes space.new.bytes }
+    ensures one_stretch { MovesOneStretchAnd space.old.bytes space.new.bytes found.name.0 }
+    ensures rest { space.new ≡ record space.old { bytes = space.new.bytes; slid = space.new.slid } }
+{
+    if space.grow_in_place(found, size) {
+        return Ok(());
+    }
+    if found.lock > 0 {
+        return Err(Refusal::ChunkLocked);
+    }
+    if !resize_by_moving(space, found, size) {
+        return Err(Refusal::NotEnoughSpace);
+    }
+    Ok(())
 }

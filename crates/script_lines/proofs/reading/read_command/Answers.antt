@@ -3,7 +3,7 @@ use Rattle.std.specs.Prelude.{Ok}
 use Rattle.script_lines.specs.Commands.{kinds_of, line_of}
 use Rattle.script_lines.specs.Kinds.{read_words}
 use Rattle.script_lines.specs.Reading.{none_read, words_in}
-use Rattle.script_lines.specs.Views.{numbering, words_read}
+use Rattle.script_lines.specs.Views.{numberings, words_read}
 use Rattle.script_lines.proofs.CommandLaws.{read_makes_line}
 use Rattle.script_lines.proofs.reading.read_command.Goals as goal
 
@@ -11,7 +11,7 @@ use Rattle.script_lines.proofs.reading.read_command.Goals as goal
 pub unreachable-requires : goal.unreachable-requires
 unreachable-requires g c =
     let command = c.in-Some.command in
-    let labels = numbering c.args.labels.now in
+    let labels = numberings c.args.labels.now in
     let words = words_in c.args.words.now in
     let after = words_read c.in-Ok.values c.read_values.new.labels in
     let read : read_words 2 (none_read labels) (kinds_of command) words ≡ Ok after = rw c.row_of.ensures.kinds at c.in-Ok.ensures.ok in

@@ -22,3 +22,14 @@ returns-clause-stuck c = inr (
   record { stretch = 0; inside = omega arith; reaches = omega arith; lower = refl },
   inl (All-cons (λ room. room < 16) 8 [] (omega arith) (All-nil (λ room. room < 16))),
 )
+
+pub returns-clause-not_grown : goal.returns-clause-not_grown
+returns-clause-not_grown c = inl (All-cons (λ room. room < 104) 88 (32 ∷ []) (omega arith) (All-cons (λ room. room < 104) 32 [] (omega arith) (All-nil (λ room. room < 104))))
+
+-- the first part takes from the room that the second counts on
+pub returns-clause-room_is_taken : goal.returns-clause-room_is_taken
+returns-clause-room_is_taken c = inr (
+  72 ∷ 16 ∷ [],
+  record { stretch = 0; inside = omega arith; reaches = omega arith; lower = refl },
+  inl (All-cons (λ room. room < 96) 88 (16 ∷ []) (omega arith) (All-cons (λ room. room < 96) 16 [] (omega arith) (All-nil (λ room. room < 96)))),
+)

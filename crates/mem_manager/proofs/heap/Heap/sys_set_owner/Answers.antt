@@ -7,7 +7,7 @@ use Rattle.heap_model.specs.Leaving.{Leaves}
 use Rattle.mem_manager.specs.Lookup.{IsMovable}
 use Rattle.mem_manager.proofs.Altering.{reown_changes}
 use Rattle.mem_manager.proofs.Stepping.{used_altered, altered}
-use Rattle.mem_manager.proofs.Managing.{may_go_to, leaves_changed}
+use Rattle.mem_manager.proofs.Managing.{may_go_to}
 use Rattle.mem_manager.proofs.heap.Heap.sys_set_owner.Goals as goal
 
 pub reown-requires-clause-owner : goal.reown-requires-clause-owner
@@ -23,6 +23,5 @@ invariant_of-self c =
 pub returns-in-Some-clause-leaves : goal.returns-in-Some-clause-leaves
 returns-in-Some-clause-leaves c =
     subst (λ (m : Memory). Leaves m.bytes c.reown.new.self.bytes (reowned (held m.bytes) c.args.name.0 c.args.owner)) c.self.view_is
-    (leaves_changed c.self.inside.space c.reown.new.self c.args.name.0 (λ live. record live { owner = c.args.owner })
     (altered c.self.inside.space c.reown.new.self c.args.name.0 c.in-Some.found (λ live. record live { owner = c.args.owner }) c.self.invariant.accepted c.in-Some.ensures.found
-    (reown_changes c.self.inside.space.bytes c.reown.new.self.bytes c.args.name.0 c.in-Some.found c.args.owner c.self.invariant.accepted c.in-Some.ensures.found c.reown.ensures.made) c.reown.ensures.rest))
+    (reown_changes c.self.inside.space.bytes c.reown.new.self.bytes c.args.name.0 c.in-Some.found c.args.owner c.self.invariant.accepted c.in-Some.ensures.found c.reown.ensures.made) c.reown.ensures.rest).leaves

@@ -6,7 +6,7 @@ use Rattle.heap_model.specs.Reading.{held}
 use Rattle.heap_model.specs.Leaving.{Leaves}
 use Rattle.mem_manager.proofs.Altering.{write_changes}
 use Rattle.mem_manager.proofs.Stepping.{used_altered, altered}
-use Rattle.mem_manager.proofs.Managing.{within_viewed, leaves_changed}
+use Rattle.mem_manager.proofs.Managing.{within_viewed}
 use Rattle.mem_manager.proofs.heap.Heap.sys_write.Goals as goal
 
 pub write-requires-clause-within : goal.write-requires-clause-within
@@ -20,6 +20,5 @@ invariant_of-self c =
 pub returns-in-Some-clause-leaves : goal.returns-in-Some-clause-leaves
 returns-in-Some-clause-leaves c =
     subst (λ (m : Memory). Leaves m.bytes c.write.new.self.bytes (put (held m.bytes) c.args.name.0 c.args.at c.args.bytes.now)) c.self.view_is
-    (leaves_changed c.self.inside.space c.write.new.self c.args.name.0 (λ live. record live { bytes = overwritten live.bytes c.args.at c.args.bytes.now })
     (altered c.self.inside.space c.write.new.self c.args.name.0 c.in-Some.found (λ live. record live { bytes = overwritten live.bytes c.args.at c.args.bytes.now }) c.self.invariant.accepted c.in-Some.ensures.found
-    (write_changes c.self.inside.space.bytes c.write.new.self.bytes c.args.name.0 c.in-Some.found c.args.at c.args.bytes.now c.self.invariant.accepted c.in-Some.ensures.found (within_viewed c.self.inside.space c.args.self.now c.args.name.0 c.in-Some.found (c.args.at + length c.args.bytes.now) c.self.view_is c.self.invariant.accepted c.in-Some.ensures.found c.requires.within) c.write.ensures.made) c.write.ensures.rest))
+    (write_changes c.self.inside.space.bytes c.write.new.self.bytes c.args.name.0 c.in-Some.found c.args.at c.args.bytes.now c.self.invariant.accepted c.in-Some.ensures.found (within_viewed c.self.inside.space c.args.self.now c.args.name.0 c.in-Some.found (c.args.at + length c.args.bytes.now) c.self.view_is c.self.invariant.accepted c.in-Some.ensures.found c.requires.within) c.write.ensures.made) c.write.ensures.rest).leaves

@@ -2,7 +2,7 @@ use Rattle.std.proofs.Common.{◌≡◌, ◌+◌, Some, None, sym, ap, ◌∙◌
 use Rattle.heap_model.specs.Memory.{Memory}
 use Rattle.heap_model.specs.Space.{free_slots}
 use Rattle.master_table.specs.declared.table.FreeSlot.{FreeSlot}
-use Rattle.mem_manager.proofs.Making.{new_left, new_claimed, new_unheld, used_made, as_first}
+use Rattle.mem_manager.proofs.Making.{new_left, new_claimed, new_lowers, new_unheld, used_made, as_first}
 use Rattle.mem_manager.proofs.Moving.{nothing_slides, once_then, first_slid, made_moves_nothing, nothing_then, one_stretch_then, itself_one}
 use Rattle.mem_manager.proofs.heap.making.make_movable.Goals as goal
 
@@ -57,6 +57,12 @@ returns-clause-one_stretch c =
     (made_moves_nothing c.room_for.new.space.bytes c.claim.new.self.bytes c.in_ok-slot.slot.name.0 _ _ (new_unheld c.args.space.now.bytes c.room_for.new.space.bytes c.in_ok-slot.slot.name.0 c.in_ok-slot.slot.before c.requires.managed.accepted c.room_for.ensures.slides first)
     (new_claimed c.args.space.now.bytes c.room_for.new.space.bytes c.claim.new.self.bytes c.in_ok-room.room.at c.in_ok-room.room.size c.args.size c.args.owner c.in_ok-slot.slot.name.0 c.in_ok-slot.slot.before c.requires.managed.accepted c.room_for.ensures.slides first c.in_ok-room.ensures.room
     c.in_ok-room.ensures.enough c.claim.ensures.made))
+
+pub returns-clause-lowers : goal.returns-clause-lowers
+returns-clause-lowers c =
+    let first = as_first c.args.space.now c.region.result.now c.free_slot.result c.in_ok-slot.slot c.region.ensures c.in_ok-slot.ensures.ok_part c.free_slot.ensures.some in
+    new_lowers c.args.space.now.bytes c.room_for.new.space.bytes c.claim.new.self.bytes c.in_ok-room.room.at c.in_ok-room.room.size c.args.size c.args.owner c.in_ok-slot.slot.name.0 c.in_ok-slot.slot.before c.requires.managed.accepted c.room_for.ensures.slides first c.in_ok-room.ensures.room
+    c.in_ok-room.ensures.enough c.claim.ensures.made
 
 pub returns-clause-once : goal.returns-clause-once
 returns-clause-once c =

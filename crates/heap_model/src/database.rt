@@ -1,0 +1,84 @@
+//! What callers say and hear of a database.
+
+ghost use Rattle.std.specs.Prelude.{◌≡◌, ◌≤◌, length, take, bytes_eq};
+ghost use Rattle.std.specs.Cmp.{partial_equiv_from_equiv};
+ghost use Rattle.std.specs.Cmp.Lexicographic.{nat_list_eq_equiv};
+ghost use Rattle.heap_model.specs.DatabaseFields.{name_size};
+
+use std::marker::Model;
+
+/// Bytes that a caller gives for the name of a database, or finds there. Of more than 32 the first 32
+/// are kept, which are too many for a name already. Contracts see a list of bytes.
+#[derive(Drop, Debug)]
+pub struct DbName {
+    bytes: [u8; 32],
+    length: u8,
+}
+
+impl Model for DbName {
+    ghost use Rattle.std.specs.Prelude.{ℕ, List, ◌≤◌, take};
+
+    ghost Value = { List ℕ };
+
+    ghost view = { λ name. take name.length name.bytes };
+
+    ghost invariant = { λ name. name.length ≤ 32 };
+}
+
+impl DbName {
+    /// The first 32 of some bytes, or all of them.
+    pub fn of(bytes: &[u8]) -> DbName
+        ensures { result ≡ take name_size bytes.now }
+    {
+        let mut kept = [0; 32];
+        let length = bytes.len().min(kept.len());
+        kept[..length].copy_from_slice(&bytes[..length]);
+        DbName {
+            bytes: kept,
+            length: length as u8,
+        }
+    }
+
+    /// The bytes, in order.
+    pub fn as_slice(&self) -> &[u8]
+        ensures is { result.now ≡ self.now }
+        ensures few { length result.now ≤ name_size }
+    {
+        &self.bytes[..self.length as usize]
+    }
+}
+
+impl PartialEq for DbName {
+    ghost eq = { λ a b. bytes_eq a b };
+
+    ghost laws = { partial_equiv_from_equiv nat_list_eq_equiv };
+
+    fn eq(&self, other: &DbName) -> bool {
+        self.as_slice() == other.as_slice()
+    }
+}
+
+impl Eq for DbName {
+    ghost laws = { nat_list_eq_equiv };
+}
+
+/// What the header of a database says (Palm OS Programmer's API Reference, `DmDatabaseInfo`; the fields
+/// are those of the File Format Specification). Dates count seconds, and mean nothing here.
+#[derive(Drop, Debug, PartialEq, Eq)]
+pub struct DbInfo {
+    pub name: DbName,
+    pub attributes: u16,
+    pub version: u16,
+    pub creation_date: u32,
+    pub modification_date: u32,
+    pub backup_date: u32,
+    /// How often calls have changed the database, modulo 2^32.
+    pub modification_number: u32,
+    /// The database's type, its four bytes as a number.
+    pub kind: u32,
+    /// Its creator, likewise.
+    pub creator: u32,
+    /// The seed of the unique IDs of its records.
+    pub seed: u32,
+    pub entry_count: u16,
+}

@@ -1,0 +1,10 @@
+use Rattle.std.proofs.Common.{ap, arith}
+use Rattle.heap_model.specs.Memory.{Memory}
+use Rattle.heap_laws.proofs.Directory.{directory_written}
+use Rattle.heap_place.proofs.directory.name_directory.Goals as goal
+
+pub returns-clause-names : goal.returns-clause-names
+returns-clause-names c = (directory_written c.args.region.now.bytes c.put_directory.new.region.bytes c.args.name.0 c.requires.accepted (ap (λ (m : Memory). m.bytes) c.put_directory.ensures.after) (let small = c.well_formed in omega arith) c.requires.managers).0
+
+pub returns-clause-plain : goal.returns-clause-plain
+returns-clause-plain c = (directory_written c.args.region.now.bytes c.put_directory.new.region.bytes c.args.name.0 c.requires.accepted (ap (λ (m : Memory). m.bytes) c.put_directory.ensures.after) (let small = c.well_formed in omega arith) c.requires.managers).1

@@ -1,0 +1,81 @@
+//! What a heap lends and tells to the store above, of any chunk.
+
+ghost use Rattle.std.specs.Prelude.{◌≡◌, IsSome, Some, IfSome, IfNone};
+ghost use Rattle.heap_model.specs.Heap.{HeapAccepted};
+ghost use Rattle.heap_model.specs.Meaning.{LiveChunk};
+ghost use Rattle.heap_model.specs.Reading.{held};
+ghost use Rattle.heap_model.specs.Store.{bytes_under, owner_under};
+ghost use Rattle.heap_check.specs.Summary.{Summarizes};
+
+use crate::heap::Heap;
+use heap_check::{Summary, check_heap};
+use heap_model::Name;
+use heap_place::Space;
+use raw_region::Region;
+
+impl Heap {
+    /// Takes a region whose caller knows that it is an accepted heap, without a look at it.
+    pub fn of_accepted(region: Region) -> Heap
+        requires accepted { HeapAccepted region.bytes }
+        ensures same { result ≡ region }
+    {
+        Heap {
+            space: Space::new(region),
+            used: 0,
+        }
+    }
+
+    /// The counts of the chunks, which are walked for it.
+    pub fn summary(&self) -> Summary
+        ensures { Summarizes self.now.bytes result }
+    {
+        match check_heap(self.space.region()) {
+            Ok(summary) => summary,
+            Err(_) => unreachable!(),
+        }
+    }
+
+    /// The bytes of the image.
+    pub fn image(&self) -> &[u8]
+        ensures { result.now ≡ self.now.bytes }
+    {
+        let region = self.space.region();
+        region.slice(0, region.len())
+    }
+
+    /// The owner of any chunk, or none where the name stands for nothing. That of a slot costs the same
+    /// however large the heap is.
+    pub fn sys_owner(&self, name: Name) -> Option<u8>
+        ensures owner { IfSome result (λ owner. owner ≡ owner_under self.now.bytes name.0) }
+        ensures there { IfSome result (λ owner. IsSome (held self.now.bytes name.0)) }
+        ensures none { IfNone result (held self.now.bytes name.0 ≡ None) }
+    {
+        let found = self.space.find(name)?;
+        Some(found.owner)
+    }
+
+    /// The lock count of any chunk, 15 of a fixed one.
+    pub fn sys_locks(&self, name: Name) -> u8
+        requires there { IsSome (held self.now.bytes name.0) }
+        ensures { (live : LiveChunk) → held self.now.bytes name.0 ≡ Some live → result ≡ live.lock }
+    {
+        match self.space.find(name) {
+            Some(found) => found.lock,
+            None => 0,
+        }
+    }
+
+    /// The bytes of any chunk, as they lie in the image.
+    pub fn sys_body(&self, name: Name) -> &[u8]
+        requires { IsSome (held self.now.bytes name.0) }
+        ensures { result.now ≡ bytes_under self.now.bytes name.0 }
+    {
+        match self.space.find(name) {
+            Some(found) => self
+                .space
+                .region()
+                .slice(found.place.0 as usize, found.length as usize),
+            None => &[],
+        }
+    }
+}

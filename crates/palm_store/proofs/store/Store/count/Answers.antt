@@ -1,0 +1,5 @@
+use Rattle.palm_store.proofs.Forwarding.{ask_viewed}
+use Rattle.palm_store.proofs.store.Store.count.Goals as goal
+
+pub returns : goal.returns
+returns c = ask_viewed c.self.inside.heap c.args.self.now _ _ c.self.view_is c.count_databases.ensures.does

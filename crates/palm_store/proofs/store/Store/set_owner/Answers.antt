@@ -1,0 +1,8 @@
+use Rattle.palm_store.proofs.Forwarding.{forwarded, kept}
+use Rattle.palm_store.proofs.store.Store.set_owner.Goals as goal
+
+pub invariant_of-self : goal.invariant_of-self
+invariant_of-self c = kept c.self.inside.heap c.set_owner.new.self _ _ c.self.invariant c.set_owner.ensures
+
+pub returns : goal.returns
+returns c = forwarded c.self.inside.heap c.args.self.now c.set_owner.new.self _ _ c.self.view_is c.self.invariant c.set_owner.ensures

@@ -1,0 +1,115 @@
+//! The store. Its calls stand in the modules below: those of the memory manager, that ask, that change a
+//! chunk where it stands, and that make, free and move chunks.
+
+ghost use Rattle.std.specs.Prelude.{◌≡◌, ◌⊎◌, is_ok, IfOk, IfErr, OnOk};
+ghost use Rattle.heap_model.specs.Store.{Accepted};
+ghost use Rattle.heap_model.specs.Counted.{Writes};
+ghost use Rattle.store_check.specs.Checks.{IsAnswered, Summarizes};
+
+mod asking;
+mod changing;
+mod databases;
+mod making;
+
+use heap_model::{Allowance, Counted};
+use mem_manager::Heap;
+use palm_text::{WriteFault, put_all};
+use raw_region::Region;
+use std::alloc::Global;
+use std::fmt;
+use std::io::Write;
+use std::marker::Model;
+use store_check::{StoreFault, StoreSummary, check_store_from};
+use store_lookup::count_databases;
+use thiserror::Error;
+
+/// A region that is an accepted image. Contracts see the region's value alone, and no method asks for
+/// anything of its caller: what a call can't do it refuses. Neither its region nor its heap is lent, so
+/// no byte of it is written but by its calls.
+#[derive(Drop)]
+pub struct Store {
+    heap: Heap,
+}
+
+impl Model for Store {
+    ghost use Rattle.heap_model.specs.Memory.{Memory};
+    ghost use Rattle.heap_model.specs.Store.{Accepted};
+
+    ghost Value = { Memory };
+
+    ghost view = { λ store. store.heap };
+
+    ghost invariant = { λ store. Accepted store.heap.bytes };
+}
+
+/// A region that is no accepted image, or for whose check memory was refused: unchanged, and what is
+/// wrong first.
+#[derive(Drop, Error)]
+#[error("{fault}")]
+pub struct NotAStore {
+    pub fault: StoreFault,
+    pub region: Region,
+}
+
+impl fmt::Debug for NotAStore {
+    fn fmt<W: fmt::Write>(&self, f: &mut fmt::Formatter<W>) -> fmt::Result {
+        f.debug_struct("NotAStore")
+            .field("fault", &self.fault)
+            .finish()
+    }
+}
+
+impl Store {
+    /// Takes a region that is an accepted image, and hands back any other. Takes memory for the check: a
+    /// mark for each slot, and 2 MiB for the IDs of a database; it is free again afterwards.
+    pub fn check(alloc: Global, region: Region) -> Result<Store, NotAStore>
+        ensures accepted { OnOk result (Accepted region.bytes) }
+        ensures same { IfOk result (λ store. store ≡ region) }
+        ensures fault { IfErr result (λ error. IsAnswered region.bytes error.fault) }
+        ensures refused { IfErr result (λ error. (error.fault ≡ StoreFault.OutOfMemory) ⊎ (Accepted region.bytes → ⊥)) }
+        ensures handed_back { IfErr result (λ error. error.region ≡ region) }
+    {
+        Store::check_from(&alloc, region)
+    }
+
+    /// `check`, where each growth asks for a grant.
+    pub fn check_from<A: Allowance>(memory: &A, region: Region) -> Result<Store, NotAStore>
+        ensures accepted { OnOk result (Accepted region.bytes) }
+        ensures same { IfOk result (λ store. store ≡ region) }
+        ensures fault { IfErr result (λ error. IsAnswered region.bytes error.fault) }
+        ensures refused { IfErr result (λ error. (error.fault ≡ StoreFault.OutOfMemory) ⊎ (Accepted region.bytes → ⊥)) }
+        ensures handed_back { IfErr result (λ error. error.region ≡ region) }
+    {
+        match check_store_from(memory, &region) {
+            Ok(_) => Ok(Store {
+                heap: Heap::of_accepted(region),
+            }),
+            Err(fault) => Err(NotAStore { fault, region }),
+        }
+    }
+
+    /// Gives the region back.
+    pub fn into_region(self) -> Region
+        ensures same { result ≡ self }
+        ensures accepted { Accepted result.bytes }
+    {
+        self.heap.into_region()
+    }
+
+    /// The counts of the chunks, which are walked for it, and of the databases.
+    pub fn summary(&self) -> StoreSummary
+        ensures { Summarizes self.now.bytes result }
+    {
+        StoreSummary {
+            heap: self.heap.summary(),
+            databases: count_databases(&self.heap),
+        }
+    }
+
+    /// Writes the image. Where a write fails or takes 0 bytes, a front of it was written.
+    pub fn write_image<W: Write>(&self, writer: &mut Counted<W>) -> Result<(), WriteFault>
+        ensures { Writes W.contents writer.old writer.new self.now.bytes (is_ok result) }
+    {
+        put_all(writer, self.heap.image())
+    }
+}

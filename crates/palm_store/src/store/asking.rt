@@ -1,0 +1,75 @@
+//! Calls of the memory manager that ask of a store and leave it as it is.
+
+ghost use Rattle.std.specs.Prelude.{◌≢◌, Err};
+ghost use Rattle.heap_model.specs.MemorySteps.{reply_of};
+ghost use Rattle.heap_model.specs.StoreSteps.{DoesInStore};
+ghost use Rattle.heap_model.specs.declared.call.Call.{Call};
+ghost use Rattle.heap_model.specs.declared.call.MemoryCall.{MemoryCall};
+ghost use Rattle.heap_model.specs.declared.call.Reply.{Reply};
+
+use crate::store::Store;
+use heap_model::{Name, Place, Refusal};
+
+impl Store {
+    /// The size of a chunk's body in bytes, as it was asked for.
+    ///
+    /// Refused: `InvalidHandle`.
+    pub fn size(&self, name: Name) -> Result<u32, Refusal>
+        ensures { DoesInStore self.now (Call.Memory (MemoryCall.Size name)) (reply_of (λ size. Reply.Number size) result) self.now }
+    {
+        self.heap.size(name)
+    }
+
+    /// The owner of a chunk.
+    ///
+    /// Refused: `InvalidHandle`.
+    pub fn owner(&self, name: Name) -> Result<u8, Refusal>
+        ensures { DoesInStore self.now (Call.Memory (MemoryCall.Owner name)) (reply_of (λ owner. Reply.Number owner) result) self.now }
+    {
+        self.heap.owner(name)
+    }
+
+    /// The lock count of a chunk, up to 14; that of a fixed chunk is 15.
+    ///
+    /// Refused: `InvalidHandle`.
+    pub fn locks(&self, name: Name) -> Result<u8, Refusal>
+        ensures { DoesInStore self.now (Call.Memory (MemoryCall.Locks name)) (reply_of (λ count. Reply.Number count) result) self.now }
+    {
+        self.heap.locks(name)
+    }
+
+    /// `count` bytes of a chunk, from `at` within it on, as they lie in the image. Takes no memory.
+    ///
+    /// Refused: `InvalidHandle`, `OutOfBounds`.
+    pub fn read(&self, name: Name, at: u32, count: u32) -> Result<&[u8], Refusal>
+        ensures does { DoesInStore self.now (Call.Memory (MemoryCall.Read name at count)) (reply_of (λ bytes. Reply.Data bytes.now) result) self.now }
+        ensures takes_no_memory { result ≢ Err Refusal.OutOfMemory }
+    {
+        self.heap.read(name, at, count)
+    }
+
+    /// The name of the caller's chunk whose body is at a place. Bytes of a body that look like a header
+    /// name nothing.
+    ///
+    /// Refused: `InvalidHandle`, where no caller's chunk has its body there.
+    pub fn recover(&self, place: Place) -> Result<Name, Refusal>
+        ensures { DoesInStore self.now (Call.Memory (MemoryCall.Recover place)) (reply_of (λ name. Reply.Named name) result) self.now }
+    {
+        self.heap.recover(place)
+    }
+
+    /// The sizes of the free chunks together, in bytes.
+    pub fn free_bytes(&self) -> u32
+        ensures { DoesInStore self.now (Call.Memory MemoryCall.FreeBytes) (Reply.Number result) self.now }
+    {
+        self.heap.free_bytes()
+    }
+
+    /// The greatest room of a stretch, in bytes: the most that its free chunks come to once it is compacted.
+    /// A chunk takes 8 bytes more than its body, and whole units of 8. 0 where there is no stretch.
+    pub fn largest_stretch(&self) -> u32
+        ensures { DoesInStore self.now (Call.Memory MemoryCall.LargestStretch) (Reply.Number result) self.now }
+    {
+        self.heap.largest_stretch()
+    }
+}

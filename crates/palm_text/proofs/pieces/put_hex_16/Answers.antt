@@ -1,0 +1,12 @@
+use Rattle.std.proofs.Common.{List, ℕ, subst}
+use Rattle.std.specs.Prelude.{is_ok}
+use Rattle.hex.specs.Hex.{encode_lower}
+use Rattle.heap_model.specs.Bytes.{u16_bytes}
+use Rattle.heap_model.specs.Counted.{Writes}
+use Rattle.palm_text.proofs.pieces.put_hex_16.Goals as goal
+
+pub returns : goal.returns
+unfolding u16_bytes
+returns g c =
+    subst (λ (bytes : List ℕ). Writes g.W.Write.contents c.args.out.now c.put_hex_turn.new.out (encode_lower bytes) (is_ok c.put_hex_turn.result))
+    c.write_u16.ensures c.put_hex_turn.ensures

@@ -1,0 +1,68 @@
+-- What names stand for after one of them changed, and what stays where it is through two calls.
+use Rattle.std.proofs.Common.{◌≡◌, ◌≢◌, ℕ, ◌<◌, List, Option, Some, None, refl, sym, ap, ◌∙◌, arith}
+use Rattle.std.proofs.lemmas.Bool.{eq-eqb, ne_eqb}
+use Rattle.std.specs.Prelude.{◌==◌}
+use Rattle.std.specs.Option.{is_some}
+use Rattle.heap_model.specs.Heap.{HeapAccepted}
+use Rattle.heap_model.specs.Meaning.{LiveChunk, ChunkMap}
+use Rattle.heap_model.specs.Reading.{held}
+use Rattle.heap_model.specs.Space.{Still}
+use Rattle.heap_model.specs.Maps.{updated}
+use Rattle.heap_model.specs.Store.{bytes_of, owner_of, bytes_under, owner_under}
+use Rattle.heap_laws.proofs.Deciding.{cond-true, cond-false}
+use Rattle.store_laws.proofs.Owners.{owned_some}
+
+pub updated_here : (map : ChunkMap) (name : ℕ) (now : Option LiveChunk) → updated map name now name ≡ now
+updated_here map name now = cond-true (name == name) now (map name) (eq-eqb name name refl)
+
+pub updated_apart : (map : ChunkMap) (name other : ℕ) (now : Option LiveChunk) → other ≢ name → updated map name now other ≡ map other
+updated_apart map name other now ne = cond-false (other == name) now (map other) (ne_eqb other name ne)
+
+-- ---- the chunk of a name
+
+pub owner_held : (image : List ℕ) (name : ℕ) (live : LiveChunk) → held image name ≡ Some live → owner_under image name ≡ live.owner
+unfolding owner_under
+owner_held image name live e = ap owner_of e
+
+pub owner_none : (image : List ℕ) (name : ℕ) → held image name ≡ None → owner_under image name ≡ 16
+unfolding owner_under
+owner_none image name e = ap owner_of e
+
+pub owner_alike : (old new : List ℕ) (name : ℕ) → held new name ≡ held old name → owner_under new name ≡ owner_under old name
+unfolding owner_under
+owner_alike old new name e = ap owner_of e
+
+pub bytes_held : (image : List ℕ) (name : ℕ) (live : LiveChunk) → held image name ≡ Some live → bytes_under image name ≡ live.bytes
+unfolding bytes_under
+bytes_held image name live e = ap bytes_of e
+
+-- a chunk that has an owner
+pub record Owned (image : List ℕ) (name owner : ℕ) : Type 0 where
+  pub live : LiveChunk
+  pub there : held image name ≡ Some live
+  pub own : live.owner ≡ owner
+
+pub owned : (image : List ℕ) (name owner : ℕ) → owner_under image name ≡ owner → owner < 16 → Owned image name owner
+unfolding owner_under
+owned image name owner own low = by (held image name) refl own where
+  by : (o : Option LiveChunk) → held image name ≡ o → owner_of o ≡ owner → Owned image name owner
+  by None e is = absurd (omega arith)
+  by (Some live) e is = record { live = live; there = e; own = is }
+
+pub held_some : (image : List ℕ) (name : ℕ) (live : LiveChunk) → HeapAccepted image → held image name ≡ Some live → live.owner < 16 → 0 < name
+held_some image name live h e low = owned_some image name live.owner h (owner_held image name live e) low
+
+-- ---- what stays
+
+pub still_through : (old mid new : List ℕ) → Still old mid → Still mid new → ((name : ℕ) (live : LiveChunk) → held old name ≡ Some live → 0 < live.lock → held mid name ≡ Some live) → Still old new
+still_through old mid new first second kept name live e locked there = second name live (kept name live e locked) locked there ∙ first name live e locked (ap is_some (kept name live e locked))
+
+-- a chunk with a lock is another than one that had none
+pub kept_apart : (old mid : List ℕ) (changed : ℕ) → ((name : ℕ) → name ≢ changed → held mid name ≡ held old name) → ((live : LiveChunk) → held old changed ≡ Some live → live.lock ≡ 0) → (name : ℕ) (live : LiveChunk) → held old name ≡ Some live → 0 < live.lock
+    → held mid name ≡ Some live
+kept_apart old mid changed others loose name live e locked = others name (λ same. (let none = loose live (sym (ap (held old) same) ∙ e) in omega arith)) ∙ e
+
+pub none_loose : (o : Option LiveChunk) → o ≡ None → (live : LiveChunk) → o ≡ Some live → live.lock ≡ 0
+none_loose o none live e = absurd (no_both o live none e) where
+  no_both : (o : Option LiveChunk) (live : LiveChunk) → o ≡ None → o ≡ Some live → ⊥
+  no_both o live none e = cc

@@ -1,0 +1,34 @@
+-- What was found of the database and of the name, and what was written, is what a header that is set has.
+use Rattle.std.proofs.Common.{ℕ, List, sym, subst}
+use Rattle.heap_model.specs.Database.{IsDatabaseName, IsSpelled, database_in}
+use Rattle.heap_model.specs.Bytes.{overwritten}
+use Rattle.heap_model.specs.Store.{store_of}
+use Rattle.heap_model.specs.StoreSteps.{IsTaken}
+use Rattle.store_lookup.proofs.Numbers.{number_held}
+use Rattle.store_change.proofs.Infos.{with_info, set_spelled, set_step}
+use Rattle.store_change.proofs.setting.set_database_info.Goals as goal
+
+pub sys_write-requires-clause-there : goal.sys_write-requires-clause-there
+sys_write-requires-clause-there c = number_held c.args.heap.now.bytes c.args.db.0 c.requires.accepted c.in_ok-check_database.ensures.known
+
+pub returns-clause-does : goal.returns-clause-does
+returns-clause-does c =
+    let image : List ℕ = c.args.heap.now.bytes in
+    let body = c.header_of.ensures.is in
+    let given = c.as_slice.ensures.is in
+    let named : IsDatabaseName c.args.info.now.name = subst (λ (name : List ℕ). IsDatabaseName name) given c.in-Some.ensures.0 in
+    let free : IsTaken (store_of image) c.args.db.0 c.args.info.now.name → ⊥ = λ taken.
+    (let yes = c.has_other_name.ensures.1 (subst (λ (name : List ℕ). IsTaken (store_of image) c.args.db.0 name) (sym c.as_slice-2.ensures.is) taken) in absurd cc) in
+    let spelled = set_spelled c.header_of.result.now c.to_bytes.result c.args.info.now c.read.result c.with_info-header.result c.header_of.ensures.spelled c.read.ensures c.with_info-header.ensures.set c.with_info-header.ensures.keeps c.to_bytes.ensures.written in
+    set_step c.args.heap.now c.sys_write.new.self c.args.db c.args.info.now c.requires.accepted
+    (record {
+      number = c.in_ok-check_database.ensures.known;
+      name = named;
+      free = free;
+      bytes = c.to_bytes.result;
+      spelled = subst (λ (bytes : List ℕ). IsSpelled (with_info c.args.info.now (database_in bytes)) (overwritten bytes 0 c.to_bytes.result)) body spelled;
+      leaves = c.sys_write.ensures.leaves;
+    }) c.sys_write.ensures.rest
+
+pub returns-clause-accepted : goal.returns-clause-accepted
+returns-clause-accepted c = let does = returns-clause-does c in does.accepted

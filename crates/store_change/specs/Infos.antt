@@ -1,0 +1,11 @@
+-- What stays of a header that is set.
+use Rattle.std.specs.Prelude.{◌≡◌}
+use Rattle.heap_model.specs.Database.{has_resources}
+use Rattle.db_format.specs.declared.header.DbHeader.{DbHeader}
+
+-- the info blocks stay, and so do the number of the entries and which kind they are of
+pub record KeepsEntries (old new : DbHeader) : Type 0 where
+  pub app_info : new.app_info ≡ old.app_info
+  pub sort_info : new.sort_info ≡ old.sort_info
+  pub entry_count : new.entry_count ≡ old.entry_count
+  pub kind : has_resources new.attributes ≡ has_resources old.attributes

@@ -1,0 +1,4 @@
+pub mod Listing
+pub mod Infos
+pub mod Named
+pub mod Unlisting

@@ -1,0 +1,73 @@
+-- The passes together.
+use Rattle.std.proofs.Common.{◌≡◌, ℕ, List, [], ◌∷◌, ◌++◌, length, refl, sym, subst, ◌∙◌, inl, inr}
+use Rattle.std.specs.Prelude.{Result, Ok, Err, IsErr, IsErrAnd, IfErr}
+use Rattle.heap_model.specs.Bytes.{AreBytes}
+use Rattle.heap_model.specs.Heap.{HeapAccepted}
+use Rattle.heap_model.specs.Store.{listed, Accepted}
+use Rattle.store_laws.proofs.Listing.{no_least, no_least_pair}
+use Rattle.heap_check.specs.Faults.{FirstBrought}
+use Rattle.heap_check.specs.Faults as heaps
+use Rattle.heap_check.specs.declared.fault.HeapFault.{HeapFault}
+use Rattle.heap_check.proofs.CheckLaws as heap_laws
+use Rattle.store_check.specs.declared.fault.StoreFault.{StoreFault}
+use Rattle.store_check.specs.declared.fault.StoreFault.TheVariants.{Heap}
+use Rattle.store_check.specs.Listing.{listed_count, IsListing}
+use Rattle.store_check.specs.Faults.{IsBadSlot, IsBadHeader, IsBadEntry, slot_faults, header_faults, entry_faults, store_faults, NoneBrought}
+use Rattle.store_check.specs.Naming.{AreNamed}
+use Rattle.store_check.specs.Checks.{IsFirstOr, IsRefusal, IsAnswered, marked_faults, own_faults}
+use Rattle.store_check.proofs.FaultLaws.{length-listed, are_named, accepted_none}
+
+-- ---- rows, part by part
+
+pub first_before : (xs ys : List (StoreFault → Type 0)) (fault : StoreFault) → FirstBrought xs fault → FirstBrought (xs ++ ys) fault
+first_before [] ys fault f = absurd f
+first_before (row ∷ xs) ys fault f = elim f [ inl here ↦ inl here | inr later ↦ inr (later.0, first_before xs ys fault later.1) ]
+
+pub first_after : (xs ys : List (StoreFault → Type 0)) (fault : StoreFault) → NoneBrought xs → FirstBrought ys fault → FirstBrought (xs ++ ys) fault
+first_after [] ys fault n f = f
+first_after (row ∷ xs) ys fault n f = inr (n.0, first_after xs ys fault n.1 f)
+
+pub none_both : (xs ys : List (StoreFault → Type 0)) → NoneBrought xs → NoneBrought ys → NoneBrought (xs ++ ys)
+none_both [] ys n m = m
+none_both (row ∷ xs) ys n m = (n.0, none_both xs ys n.1 m)
+
+first_none : (rows : List (StoreFault → Type 0)) (fault : StoreFault) → FirstBrought rows fault → NoneBrought rows → ⊥
+first_none [] fault f n = f
+first_none (row ∷ rows) fault f n = elim f [ inl here ↦ n.0 fault here | inr later ↦ first_none rows fault later.1 n.1 ]
+
+-- ---- what is known where the first three passes found nothing
+
+pub listed_named : (image : List ℕ) → HeapAccepted image → NoneBrought (slot_faults image) → NoneBrought (header_faults image) → NoneBrought (entry_faults image) → AreNamed image
+listed_named image h slots headers entries =
+    are_named image h (no_least (IsBadSlot image) (λ k l. slots.0 _ (k, l, refl))) (no_least (IsBadHeader image) (λ k l. headers.0 _ (k, l, refl))) (no_least_pair (IsBadEntry image) (λ k i l. entries.0 _ (k, i, l, refl)))
+
+pub listed_length : (image directory : List ℕ) (count : ℕ) → IsListing image directory → count ≡ listed_count image → count ≡ length (listed image)
+listed_length image directory count l e = e ∙ sym (length-listed image)
+
+-- ---- the whole
+
+-- what an error that was handed up brings
+pub if_err : {A : Type 0} {brought : StoreFault} (P : StoreFault → Type 0) (result : Result A StoreFault) → IsErr result × IsErrAnd result (λ fault. fault ≡ brought) → P brought → IfErr result P
+if_err P (Ok answer) is p = tt
+if_err P (Err fault) is p = subst P (sym is.1) p
+
+pub marked_first : (image : List ℕ) (fault : StoreFault) → IsFirstOr (marked_faults image) fault → IsFirstOr (store_faults image) fault
+marked_first image fault f = elim f [ inl none ↦ inl none | inr first ↦ inr (first_before (marked_faults image) (own_faults image) fault first) ]
+
+pub own_first : (image : List ℕ) (fault : StoreFault) → NoneBrought (marked_faults image) → IsFirstOr (own_faults image) fault → IsFirstOr (store_faults image) fault
+own_first image fault n f = elim f [ inl none ↦ inl none | inr first ↦ inr (first_after (marked_faults image) (own_faults image) fault n first) ]
+
+pub none_accepted : (image : List ℕ) → HeapAccepted image → AreBytes image → NoneBrought (marked_faults image) → NoneBrought (own_faults image) → Accepted image
+none_accepted image h b n o = (accepted_none image h b).1 (none_both (marked_faults image) (own_faults image) n o)
+
+pub heap_first : (image : List ℕ) (first : HeapFault) → heaps.IsFirstFault image first → IsAnswered image (Heap first)
+heap_first image first f = inr (inl (first, f, refl))
+
+pub heap_refused : (image : List ℕ) (first : HeapFault) → heaps.IsFirstFault image first → Accepted image → ⊥
+heap_refused image first f a = heap_laws.refuses image first f a.heap
+
+pub store_first : (image : List ℕ) (fault : StoreFault) → HeapAccepted image → IsFirstOr (store_faults image) fault → IsAnswered image fault
+store_first image fault h f = elim f [ inl none ↦ inl (none, h) | inr first ↦ inr (inr (λ other row. heap_laws.refuses image row.0 row.1 h, first)) ]
+
+pub first_refused : (image : List ℕ) (fault : StoreFault) → HeapAccepted image → AreBytes image → IsFirstOr (store_faults image) fault → IsRefusal image fault
+first_refused image fault h b f = elim f [ inl none ↦ inl none | inr first ↦ inr (λ a. first_none (store_faults image) fault first ((accepted_none image h b).0 a)) ]

@@ -1,0 +1,12 @@
+pub mod LookupLaws
+pub mod Indexing
+pub mod Counting
+pub mod FaultLaws
+pub mod MarkLaws
+pub mod SlotLaws
+pub mod UseLaws
+pub mod PassLaws
+pub mod ChunkLaws
+pub mod IdLaws
+pub mod NameLaws
+pub mod CheckLaws

@@ -1,0 +1,68 @@
+-- Marks of what one entry, one database more names.
+use Rattle.std.proofs.Common.{◌≡◌, ℕ, suc, ◌+◌, List, [], ◌∷◌, ◌++◌, map, refl, sym, ap, ◌∙◌, arith, append_assoc}
+use Rattle.std.proofs.lemmas.List.{map-append, append-nil}
+use Rattle.std.proofs.lemmas.Grind.{flat_map-append}
+use Rattle.std.specs.List.{flat_map}
+use Rattle.heap_model.specs.Bytes.{u32_at}
+use Rattle.heap_model.specs.Heap.{directory_of}
+use Rattle.heap_model.specs.Lists.{numbered}
+use Rattle.heap_model.specs.Database.{entry_data, data_in, entry_in, entry_count_in, database_in}
+use Rattle.heap_model.specs.Store.{StoredDatabase, listed, database_under, databases, named_by, named}
+use Rattle.store_laws.proofs.Numbers.{numbered_more}
+use Rattle.store_check.specs.Listing.{listed_at, listed_count, header_at, entries_in}
+
+-- one number more
+one_more : {X : Type 0} (each : ℕ → X) (n : ℕ) → numbered each (n + 1) ≡ numbered each n ++ each n ∷ []
+one_more each n = let e : n + 1 ≡ suc n = omega arith in ap (numbered each) e ∙ numbered_more each n
+
+-- ---- entries
+
+pub entries_more : (bytes xs : List ℕ) (i slot : ℕ) → slot ≡ entry_data (entry_in bytes i) → (xs ++ map entry_data (numbered (entry_in bytes) i)) ++ slot ∷ [] ≡ xs ++ map entry_data (numbered (entry_in bytes) (i + 1))
+entries_more bytes xs i slot e =
+    append_assoc xs (map entry_data (numbered (entry_in bytes) i)) (slot ∷ [])
+    ∙ ap (λ (l : List ℕ). xs ++ l)
+    (ap (λ (s : ℕ). map entry_data (numbered (entry_in bytes) i) ++ s ∷ []) e
+    ∙ sym (map-append entry_data (numbered (entry_in bytes) i) (entry_in bytes i ∷ []))
+    ∙ sym (ap (map entry_data) (one_more (entry_in bytes) i)))
+
+pub entries_all : (bytes xs : List ℕ) (i : ℕ) → i ≡ entry_count_in bytes → xs ++ map entry_data (numbered (entry_in bytes) i) ≡ xs ++ map entry_data (entries_in bytes)
+entries_all bytes xs i e = ap (λ (n : ℕ). xs ++ map entry_data (numbered (entry_in bytes) n)) e
+
+-- ---- a database
+
+pub data_all : (bytes xs : List ℕ) (app sort : ℕ) → app ≡ u32_at bytes 52 → sort ≡ u32_at bytes 56 → ((xs ++ app ∷ []) ++ sort ∷ []) ++ map entry_data (entries_in bytes) ≡ xs ++ data_in (database_in bytes)
+unfolding database_in
+data_all bytes xs app sort e f =
+    let rest : List ℕ = map entry_data (entries_in bytes) in
+    append_assoc (xs ++ app ∷ []) (sort ∷ []) rest ∙ append_assoc xs (app ∷ []) (sort ∷ rest)
+    ∙ ap (λ (a : ℕ). xs ++ a ∷ sort ∷ rest) e ∙ ap (λ (s : ℕ). xs ++ u32_at bytes 52 ∷ s ∷ rest) f
+
+-- ---- databases
+
+-- what the databases below an index name
+abbrev pub named_below : List ℕ → ℕ → List ℕ
+named_below image db = named_by (map (database_under image) (numbered (listed_at image) db))
+
+data_of : StoredDatabase → List ℕ
+data_of one = data_in one.database
+
+pub named_more : (image xs bytes : List ℕ) (db : ℕ) → bytes ≡ header_at image db → (xs ++ named_below image db) ++ data_in (database_in bytes) ≡ xs ++ named_below image (db + 1)
+unfolding header_at data_of
+named_more image xs bytes db e =
+    let front : List ℕ = numbered (listed_at image) db in
+    let one : StoredDatabase = database_under image (listed_at image db) in
+    append_assoc xs (named_below image db) (data_in (database_in bytes))
+    ∙ ap (λ (l : List ℕ). xs ++ l)
+    (ap (λ (b : List ℕ). named_below image db ++ data_in (database_in b)) e
+    ∙ ap (λ (l : List ℕ). named_below image db ++ l) (sym (append-nil (data_of one)))
+    ∙ sym (flat_map-append data_of (map (database_under image) front) (one ∷ []))
+    ∙ sym (ap (flat_map data_of) (ap (map (database_under image)) (one_more (listed_at image) db) ∙ map-append (database_under image) front (listed_at image db ∷ []))))
+
+pub named_all : (image xs : List ℕ) (db : ℕ) → db ≡ listed_count image → xs ++ named_below image db ≡ xs ++ named image
+unfolding named databases listed
+named_all image xs db e = ap (λ (n : ℕ). xs ++ named_below image n) e
+
+-- ---- all that is accounted for
+
+pub all_accounted : (image : List ℕ) → (directory_of image ∷ listed image) ++ named image ≡ directory_of image ∷ (listed image ++ named image)
+all_accounted image = refl

@@ -1,0 +1,5 @@
+use Rattle.store_check.proofs.CheckLaws.{listed_named}
+use Rattle.store_check.proofs.check.check_listed.Goals as goal
+
+pub returns-in-None-clause-named : goal.returns-in-None-clause-named
+returns-in-None-clause-named c = listed_named c.args.region.now.bytes c.requires.accepted c.in_default.ensures.none c.in_default-find_bad_header.ensures.none c.in-None.ensures.none

@@ -1,0 +1,6 @@
+use Rattle.std.proofs.Common.{ℕ, ◌<◌}
+use Rattle.store_check.specs.Faults.{IsBadEntry}
+use Rattle.store_check.proofs.entries.find_bad_entry.Given as goal
+
+abbrev pub invariant-loop-db : goal.invariant-loop-db
+invariant-loop-db l = (db : ℕ) → db < l.db → (index : ℕ) → IsBadEntry l.region.bytes db index → ⊥

@@ -1,0 +1,12 @@
+use Rattle.std.proofs.Common.{refl, arith, inl}
+use Rattle.store_check.proofs.IdLaws.{bad_first, bad_more}
+use Rattle.store_check.proofs.ids.find_bad_id.Goals as goal
+
+pub returns-in-Some-clause-some : goal.returns-in-Some-clause-some
+returns-in-Some-clause-some c =
+    let count = c.requires.listing.count in
+    inl (c.loop-db.db, c.in-Some.index, bad_first c.args.region.now.bytes c.header_of.result.now c.loop-db.seen c.loop-db.db c.in-Some.index c.header_of.ensures (omega arith) c.in-Some.ensures.some c.loop-db.invariant, refl)
+
+pub loop-db-preserved : goal.loop-db-preserved
+loop-db-preserved c =
+    bad_more c.args.region.now.bytes c.header_of.result.now c.loop-db.seen c.find_bad_id_in.new.seen c.loop-db.db c.header_of.ensures c.in_default.ensures.none c.in_default.ensures.empty c.loop-db.invariant

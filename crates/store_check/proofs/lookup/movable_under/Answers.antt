@@ -1,0 +1,13 @@
+use Rattle.std.proofs.Common.{MatchOption, Option, subst}
+use Rattle.heap_model.specs.declared.names.Place.{Place}
+use Rattle.master_table.specs.Table.{HoldsPlace, HoldsNothing}
+use Rattle.store_check.proofs.LookupLaws.{slot_behind, empty_not_ours}
+use Rattle.store_check.proofs.lookup.movable_under.Goals as goal
+
+pub movable_at-requires-clause-behind_header : goal.movable_at-requires-clause-behind_header
+movable_at-requires-clause-behind_header c = slot_behind c.args.region.now.bytes c.args.slot c.resolve.result c.in-Some.place c.requires.accepted c.resolve.ensures c.in-Some.is
+
+pub returns-in-None-clause-none : goal.returns-in-None-clause-none
+returns-in-None-clause-none c =
+    empty_not_ours c.args.region.now.bytes c.args.slot c.requires.accepted
+    (subst (λ (place : Option Place). MatchOption place (HoldsNothing c.args.region.now.bytes c.args.slot) (λ place. HoldsPlace c.args.region.now.bytes c.args.slot place.0)) c.in-None.is c.resolve.ensures)

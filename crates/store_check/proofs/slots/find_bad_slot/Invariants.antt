@@ -1,0 +1,5 @@
+use Rattle.store_check.proofs.SlotLaws.{SlotsSoFar}
+use Rattle.store_check.proofs.slots.find_bad_slot.Given as goal
+
+abbrev pub invariant-loop-index : goal.invariant-loop-index
+invariant-loop-index l = SlotsSoFar l.region.bytes l.marks l.index

@@ -1,0 +1,37 @@
+-- The databases of an image by their indexes in the directory.
+use Rattle.std.specs.Prelude.{◌≡◌, ◌≤◌, ◌<◌, ◌*◌, ◌/◌, ℕ, List, length}
+use Rattle.heap_model.specs.Bytes.{u32_at}
+use Rattle.heap_model.specs.Heap.{HeapAccepted}
+use Rattle.heap_model.specs.Lists.{numbered}
+use Rattle.heap_model.specs.Database.{Entry, entry_in, entry_count_in}
+use Rattle.heap_model.specs.Store.{bytes_under, directory_bytes, most_databases, IsHeaderSlot}
+use Rattle.db_format.specs.Headers.{IsWhole}
+
+-- the word of an index in the directory: the slot of a header, where it is a right one
+abbrev pub listed_at : List ℕ → ℕ → ℕ
+listed_at image index = u32_at (directory_bytes image) (4 * index)
+
+-- how many databases are listed
+abbrev pub listed_count : List ℕ → ℕ
+listed_count image = length (directory_bytes image) / 4
+
+-- the bytes of the header of the database of an index, and of its entries
+unfoldable pub header_at : List ℕ → ℕ → List ℕ
+header_at image db = bytes_under image (listed_at image db)
+
+-- the entries that are read off the bytes of a header
+abbrev pub entries_in : List ℕ → List (Entry ℕ)
+entries_in bytes = numbered (entry_in bytes) (entry_count_in bytes)
+
+-- These are the bytes of the directory in an accepted heap, and each of its words is a right one: what
+-- is known where no slot of it is bad.
+pub record IsListing (image directory : List ℕ) : Type 0 where
+  pub heap : HeapAccepted image
+  pub bytes : directory ≡ directory_bytes image
+  pub count : length directory / 4 ≡ listed_count image
+  pub few : length directory / 4 ≤ most_databases
+  pub headers : (db : ℕ) → db < listed_count image → IsHeaderSlot image (listed_at image db)
+
+-- each database that is listed has a whole header with its entries: what is known where no header is bad
+pub record HaveHeaders (image : List ℕ) : Type 0 where
+  pub whole : (db : ℕ) → db < listed_count image → IsWhole (header_at image db)

@@ -1,0 +1,37 @@
+-- How often slots are listed and named.
+use Rattle.std.specs.Prelude.{◌≡◌, ◌≢◌, ◌<◌, ◌≤◌, ◌++◌, ◌⊎◌, ℕ, List, ◌∷◌, slice_index, min, All}
+use Rattle.heap_model.specs.Slots.{StandsBehind}
+use Rattle.heap_model.specs.Heap.{HeapAccepted, directory_of}
+use Rattle.heap_model.specs.Lists.{times, Distinct, numbered}
+use Rattle.heap_model.specs.Store.{managers_owner, data_owner, owner_under, listed, named, IsHeaderSlot}
+use Rattle.store_check.specs.Listing.{listed_at}
+
+-- Each header that is listed is a chunk of the manager's and listed once, and all that databases name
+-- are chunks for data: what is known where no slot of the directory, no header and no entry is bad.
+pub record AreNamed (image : List ℕ) : Type 0 where
+  pub heap : HeapAccepted image
+  pub distinct : Distinct (listed image)
+  pub headers : All (IsHeaderSlot image) (listed image)
+  pub «data» : (slot : ℕ) → slot ≢ 0 → 0 < times slot (named image) → owner_under image slot ≡ data_owner
+
+-- all that must be a slot, in the order in which a checker meets it: the directory, the headers, and what
+-- the databases name
+abbrev pub accounted : List ℕ → List ℕ
+accounted image = directory_of image ∷ (listed image ++ named image)
+
+-- the first of these, up to the word of an index in the directory
+abbrev pub met : List ℕ → ℕ → List ℕ
+met image index = directory_of image ∷ numbered (listed_at image) index
+
+-- the slot behind so many others has the mark 0, 1 or 2, as it stands in a list never, once or more often
+abbrev pub AreMarks : List ℕ → List ℕ → List ℕ → Type 0
+AreMarks image xs marks = (slot number : ℕ) → StandsBehind image slot number → slice_index marks number ≡ min (times slot xs) 2
+
+-- the slot behind so many others has the mark 2
+abbrev pub IsMarkedTwice : List ℕ → List ℕ → ℕ → Type 0
+IsMarkedTwice image marks number = (slot : ℕ) × StandsBehind image slot number × (2 ≤ slice_index marks number)
+
+-- the slot behind so many others has no mark, and yet a chunk for data or of the manager's
+abbrev pub IsUnmarked : List ℕ → List ℕ → ℕ → Type 0
+IsUnmarked image marks number =
+    (slot : ℕ) × StandsBehind image slot number × (slice_index marks number ≡ 0) × ((owner_under image slot ≡ managers_owner) ⊎ (owner_under image slot ≡ data_owner))

@@ -1,0 +1,230 @@
+//! The check of a whole image.
+
+ghost use Rattle.std.specs.Prelude.{◌≡◌, ◌≤◌, ◌⊎◌, ℕ, [], ◌∷◌, List, length, IfOk, IfErr, OnOk};
+ghost use Rattle.heap_model.specs.Slots.{slot_count};
+ghost use Rattle.heap_model.specs.Bytes.{AreBytes};
+ghost use Rattle.heap_model.specs.Heap.{HeapAccepted, directory_of};
+ghost use Rattle.heap_model.specs.Store.{directory_bytes, listed, Accepted};
+ghost use Rattle.heap_check.specs.Faults.{FirstBrought};
+ghost use Rattle.master_table.specs.Table.{IsTable};
+ghost use Rattle.store_check.specs.Listing.{IsListing, HaveHeaders};
+ghost use Rattle.store_check.specs.Faults.{store_faults, NoneBrought};
+ghost use Rattle.store_check.specs.Naming.{AreNamed, accounted, AreMarks};
+ghost use Rattle.store_check.specs.Ids.{id_set_size, NoneSeen};
+ghost use Rattle.store_check.specs.Checks.{IsFirstOr, IsRefusal, Summarizes, IsAnswered, listed_faults, chunk_faults, marked_faults, own_faults};
+
+use crate::chunks::{find_shared, find_stray};
+use crate::entries::find_bad_entry;
+use crate::fault::StoreFault;
+use crate::headers::find_bad_header;
+use crate::ids::{ID_SET_SIZE, empty_set, find_bad_id};
+use crate::lookup::directory_in;
+use crate::marks::{mark, no_marks};
+use crate::names::{find_bad_name, find_same_name};
+use crate::slots::find_bad_slot;
+use crate::summary::StoreSummary;
+use crate::uses::mark_databases;
+use heap_check::check_heap;
+use heap_model::Allowance;
+use master_table::Table;
+use raw_region::Region;
+use std::alloc::{AllocError, Global};
+
+/// Whether the bytes of a region are an accepted heap with databases: its counts, or else its first
+/// fault. It takes memory for a mark for each slot, and then 2 MiB for the IDs of a database, and changes
+/// nothing. Only where memory is refused does it answer `OutOfMemory`.
+pub fn check_store(alloc: Global, region: &Region) -> Result<StoreSummary, StoreFault>
+    ensures accepted { OnOk result (Accepted region.now.bytes) }
+    ensures summary { IfOk result (Summarizes region.now.bytes) }
+    ensures fault { IfErr result (IsAnswered region.now.bytes) }
+    ensures refused { IfErr result (IsRefusal region.now.bytes) }
+{
+    check_store_from(&alloc, region)
+}
+
+/// `check_store`, where each growth asks for a grant.
+pub fn check_store_from<A: Allowance>(
+    memory: &A,
+    region: &Region,
+) -> Result<StoreSummary, StoreFault>
+    ensures accepted { OnOk result (Accepted region.now.bytes) }
+    ensures summary { IfOk result (Summarizes region.now.bytes) }
+    ensures fault { IfErr result (IsAnswered region.now.bytes) }
+    ensures refused { IfErr result (IsRefusal region.now.bytes) }
+{
+    let heap = match check_heap(region) {
+        Ok(heap) => heap,
+        Err(fault) => return Err(StoreFault::Heap(fault)),
+    };
+    let databases = check_databases(memory, region)?;
+    Ok(StoreSummary { heap, databases })
+}
+
+/// Looks for the faults of the databases in an accepted heap, and answers how many they are.
+fn check_databases<A: Allowance>(memory: &A, region: &Region) -> Result<u32, StoreFault>
+    requires { HeapAccepted region.now.bytes }
+    ensures accepted { OnOk result (Accepted region.now.bytes) }
+    ensures count { IfOk result (λ count. count ≡ length (listed region.now.bytes)) }
+    ensures fault { IfErr result (IsFirstOr (store_faults region.now.bytes)) }
+    ensures refused { IfErr result (IsRefusal region.now.bytes) }
+{
+    know_bytes(region);
+    let directory = directory_in(region);
+    check_marks(memory, region, directory)?;
+    check_ids_and_names(memory, region, directory)?;
+    Ok((directory.len() / 4) as u32)
+}
+
+/// The numbers in a region are bytes: it is known of those that a slice has.
+fn know_bytes(region: &Region)
+    ensures { AreBytes region.now.bytes }
+{
+    let _bytes = region.as_slice();
+}
+
+/// Looks for the faults that are found by marks for slots, with marks of its own.
+fn check_marks<A: Allowance>(
+    memory: &A,
+    region: &Region,
+    directory: &[u8],
+) -> Result<(), StoreFault>
+    requires accepted { HeapAccepted region.now.bytes }
+    requires directory { directory.now ≡ directory_bytes region.now.bytes }
+    ensures fault { IfErr result (IsFirstOr (marked_faults region.now.bytes)) }
+    ensures none { OnOk result (NoneBrought (marked_faults region.now.bytes)) }
+    ensures listing { OnOk result (IsListing region.now.bytes directory.now) }
+    ensures headers { OnOk result (HaveHeaders region.now.bytes) }
+{
+    let table = Table::of(region);
+    let Ok(mut marks) = marks_for(memory, table) else {
+        return Err(StoreFault::OutOfMemory);
+    };
+    check_with_marks(region, table, directory, &mut marks)
+}
+
+/// A mark for each slot, and none is set.
+fn marks_for<A: Allowance>(memory: &A, table: Table) -> Result<Vec<u8>, AllocError>
+    ensures len { IfOk result (λ marks. length marks.items ≡ table.count) }
+    ensures clear { IfOk result (λ marks. (image : List ℕ) → AreMarks image [] marks.items) }
+{
+    no_marks(memory.grant()?, table)
+}
+
+/// Looks for the faults that are found by these marks for slots, none of which is set yet.
+fn check_with_marks(
+    region: &Region,
+    table: Table,
+    directory: &[u8],
+    marks: &mut [u8],
+) -> Result<(), StoreFault>
+    requires accepted { HeapAccepted region.now.bytes }
+    requires table { IsTable region.now.bytes table }
+    requires room { table.count ≤ length marks.old }
+    requires directory { directory.now ≡ directory_bytes region.now.bytes }
+    requires clear { AreMarks region.now.bytes [] marks.old }
+    ensures fault { IfErr result (FirstBrought (marked_faults region.now.bytes)) }
+    ensures none { OnOk result (NoneBrought (marked_faults region.now.bytes)) }
+    ensures listing { OnOk result (IsListing region.now.bytes directory.now) }
+    ensures headers { OnOk result (HaveHeaders region.now.bytes) }
+{
+    mark(table, chunk_format::directory(region), marks);
+    check_listed(region, table, directory, marks)?;
+    mark_databases(region, table, directory, marks);
+    check_chunks(region, marks)
+}
+
+/// Looks for the faults of what the directory lists, whose own slot is marked. All that it lists is then
+/// marked too.
+fn check_listed(
+    region: &Region,
+    table: Table,
+    directory: &[u8],
+    marks: &mut [u8],
+) -> Result<(), StoreFault>
+    requires accepted { HeapAccepted region.now.bytes }
+    requires table { IsTable region.now.bytes table }
+    requires room { table.count ≤ length marks.old }
+    requires directory { directory.now ≡ directory_bytes region.now.bytes }
+    requires marks { AreMarks region.now.bytes (directory_of region.now.bytes ∷ []) marks.old }
+    ensures fault { IfErr result (FirstBrought (listed_faults region.now.bytes)) }
+    ensures none { OnOk result (NoneBrought (listed_faults region.now.bytes)) }
+    ensures listing { OnOk result (IsListing region.now.bytes directory.now) }
+    ensures headers { OnOk result (HaveHeaders region.now.bytes) }
+    ensures named { OnOk result (AreNamed region.now.bytes) }
+    ensures marked { OnOk result (AreMarks region.now.bytes (directory_of region.now.bytes ∷ listed region.now.bytes) marks.new) }
+{
+    if let Some(fault) = find_bad_slot(region, table, directory, marks) {
+        return Err(fault);
+    }
+    if let Some(fault) = find_bad_header(region, directory) {
+        return Err(fault);
+    }
+    match find_bad_entry(region, directory) {
+        Some(fault) => Err(fault),
+        None => Ok(()),
+    }
+}
+
+/// Looks for chunks that are named twice and for those that nothing names, where all that must be named
+/// is marked.
+fn check_chunks(region: &Region, marks: &[u8]) -> Result<(), StoreFault>
+    requires room { slot_count region.now.bytes ≤ length marks.now }
+    requires named { AreNamed region.now.bytes }
+    requires marks { AreMarks region.now.bytes (accounted region.now.bytes) marks.now }
+    ensures fault { IfErr result (FirstBrought (chunk_faults region.now.bytes)) }
+    ensures none { OnOk result (NoneBrought (chunk_faults region.now.bytes)) }
+{
+    if let Some(fault) = find_shared(region, marks) {
+        return Err(fault);
+    }
+    match find_stray(region, marks) {
+        Some(fault) => Err(fault),
+        None => Ok(()),
+    }
+}
+
+/// Looks for the faults of IDs and names, with a set of IDs of its own.
+fn check_ids_and_names<A: Allowance>(
+    memory: &A,
+    region: &Region,
+    directory: &[u8],
+) -> Result<(), StoreFault>
+    requires listing { IsListing region.now.bytes directory.now }
+    requires headers { HaveHeaders region.now.bytes }
+    ensures fault { IfErr result (IsFirstOr (own_faults region.now.bytes)) }
+    ensures none { OnOk result (NoneBrought (own_faults region.now.bytes)) }
+{
+    let Ok(mut seen) = set_for(memory, ID_SET_SIZE) else {
+        return Err(StoreFault::OutOfMemory);
+    };
+    check_with_set(region, directory, &mut seen)
+}
+
+/// A set of so many bytes with no ID in it.
+fn set_for<A: Allowance>(memory: &A, size: usize) -> Result<Vec<u8>, AllocError>
+    ensures len { IfOk result (λ seen. length seen.items ≡ size) }
+    ensures empty { IfOk result (λ seen. NoneSeen seen.items) }
+{
+    empty_set(memory.grant()?, size)
+}
+
+/// Looks for the faults of IDs and names, with this set of IDs, which is empty.
+fn check_with_set(region: &Region, directory: &[u8], seen: &mut [u8]) -> Result<(), StoreFault>
+    requires listing { IsListing region.now.bytes directory.now }
+    requires headers { HaveHeaders region.now.bytes }
+    requires room { length seen.old ≡ id_set_size }
+    requires empty { NoneSeen seen.old }
+    ensures fault { IfErr result (FirstBrought (own_faults region.now.bytes)) }
+    ensures none { OnOk result (NoneBrought (own_faults region.now.bytes)) }
+{
+    if let Some(fault) = find_bad_id(region, directory, seen) {
+        return Err(fault);
+    }
+    if let Some(fault) = find_bad_name(region, directory) {
+        return Err(fault);
+    }
+    match find_same_name(region, directory) {
+        Some(fault) => Err(fault),
+        None => Ok(()),
+    }
+}

@@ -1,0 +1,30 @@
+//! The checker of stores: whether an image is an accepted heap with databases in it, and if not, its
+//! first fault.
+//!
+//! `check_store` has the heap checked, and then looks for each fault in all databases before it looks for
+//! the next. A mark for each slot, counted up to two, says how often slots are listed and named: so the
+//! directory, the headers and all entries are gone over once each. A set with a bit for each ID serves the
+//! databases in turn, and names are compared pair by pair, of which there are few. `specs/Faults.antt`
+//! says what each fault means and in which order they are looked for; `heap_model` says what an accepted
+//! image is.
+#![tactic(auto)]
+
+mod check;
+mod chunks;
+mod entries;
+mod fault;
+mod headers;
+mod ids;
+mod laws;
+mod lookup;
+mod marks;
+mod names;
+mod slots;
+mod summary;
+mod uses;
+mod words;
+
+pub use check::{check_store, check_store_from};
+pub use fault::StoreFault;
+pub use laws::accepted_without_faults;
+pub use summary::StoreSummary;

@@ -1,0 +1,125 @@
+//! The chunks of databases and of the manager, by their slots.
+
+ghost use Rattle.std.specs.Prelude.{◌≡◌, ◌≤◌, ◌<◌, ◌/◌, ◌↔◌, ℕ, length, IsTrue, IfSome, IfNone, MatchOption};
+ghost use Rattle.heap_model.specs.Heap.{HeapAccepted};
+ghost use Rattle.heap_model.specs.Store.{managers_owner, data_owner, bytes_under, owner_under, directory_bytes};
+ghost use Rattle.master_table.specs.Table.{HoldsPlace};
+ghost use Rattle.store_check.specs.Listing.{listed_count, header_at, IsListing};
+ghost use Rattle.store_check.specs.Lookup.{IsMovable, NotOurs, movable_by};
+
+use crate::words::u32_in;
+use chunk_format::{Header, directory};
+use heap_model::{Name, Place};
+use master_table::resolve;
+use raw_region::Region;
+
+/// The owner of the manager's chunks.
+const MANAGERS_OWNER: u8 = 0;
+
+/// The owner of chunks for data.
+const DATA_OWNER: u8 = 15;
+
+/// A movable chunk: where its body is, how many bytes that has, and its owner.
+#[derive(Clone, Copy)]
+pub(crate) struct Movable {
+    pub(crate) place: Place,
+    pub(crate) length: u32,
+    pub(crate) owner: u8,
+}
+
+/// The movable chunk of a slot.
+#[inline]
+fn movable_under(region: &Region, slot: u32) -> Option<Movable>
+    requires accepted { HeapAccepted region.now.bytes }
+    ensures some { IfSome result (IsMovable region.now.bytes slot) }
+    ensures none { IfNone result (NotOurs region.now.bytes slot) }
+{
+    match resolve(region, Name(slot)) {
+        Some(place) => movable_at(region, place),
+        None => None,
+    }
+}
+
+/// The movable chunk whose body is at a place.
+#[inline]
+fn movable_at(region: &Region, place: Place) -> Option<Movable>
+    requires accepted { HeapAccepted region.now.bytes }
+    requires behind_header { 8 ≤ place.0 }
+    ensures { (slot : ℕ) → HoldsPlace region.now.bytes slot place.0 → MatchOption result ⊥ (IsMovable region.now.bytes slot) }
+{
+    match Header::read(region, place.0 - 8) {
+        Some(header) => as_movable(header, place),
+        None => None,
+    }
+}
+
+/// The chunk with this header, if it is a movable one.
+#[inline]
+fn as_movable(header: Header, place: Place) -> Option<Movable>
+    ensures { result ≡ movable_by header place }
+{
+    match header {
+        Header::Movable { length, owner, .. } => Some(Movable {
+            place,
+            length,
+            owner,
+        }),
+        _ => None,
+    }
+}
+
+/// Whether a slot has a chunk of the manager's.
+pub(crate) fn is_managers(region: &Region, slot: u32) -> bool
+    requires { HeapAccepted region.now.bytes }
+    ensures { IsTrue result ↔ (owner_under region.now.bytes slot ≡ managers_owner) }
+{
+    match movable_under(region, slot) {
+        Some(chunk) => chunk.owner == MANAGERS_OWNER,
+        None => false,
+    }
+}
+
+/// Whether a slot has a chunk for data.
+#[inline]
+pub(crate) fn is_for_data(region: &Region, slot: u32) -> bool
+    requires { HeapAccepted region.now.bytes }
+    ensures { IsTrue result ↔ (owner_under region.now.bytes slot ≡ data_owner) }
+{
+    match movable_under(region, slot) {
+        Some(chunk) => chunk.owner == DATA_OWNER,
+        None => false,
+    }
+}
+
+/// The bytes of a chunk of the manager's.
+fn body_under(region: &Region, slot: u32) -> &[u8]
+    requires accepted { HeapAccepted region.now.bytes }
+    requires managers { owner_under region.now.bytes slot ≡ managers_owner }
+    ensures { result.now ≡ bytes_under region.now.bytes slot }
+{
+    match movable_under(region, slot) {
+        Some(chunk) => region.slice(chunk.place.0 as usize, chunk.length as usize),
+        None => region.slice(0, 0),
+    }
+}
+
+/// The bytes of the directory. There are none where the directory word is 0.
+pub(crate) fn directory_in(region: &Region) -> &[u8]
+    requires { HeapAccepted region.now.bytes }
+    ensures { result.now ≡ directory_bytes region.now.bytes }
+{
+    let slot = directory(region);
+    if slot == 0 {
+        return region.slice(0, 0);
+    }
+    body_under(region, slot)
+}
+
+/// The bytes of the header of the database of an index, and of its entries.
+pub(crate) fn header_of<'a>(region: &'a Region, directory: &[u8], db: usize) -> &'a [u8]
+    requires listing { IsListing region.now.bytes directory.now }
+    requires below { db < listed_count region.now.bytes }
+    ensures { result.now ≡ header_at region.now.bytes db }
+{
+    body_under(region, u32_in(directory, 4 * db))
+}

@@ -1,0 +1,12 @@
+//! Tests of the checker of stores: each fault, the order of faults, memory that is refused, and images
+//! as large as they come.
+//!
+//! This crate has no code but its tests.
+#![tactic(auto)]
+
+#[cfg(test)]
+mod checks;
+#[cfg(test)]
+mod large;
+#[cfg(test)]
+mod memory;

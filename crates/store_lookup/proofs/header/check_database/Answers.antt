@@ -1,0 +1,23 @@
+use Rattle.std.proofs.Common.{sym, ◌∙◌}
+use Rattle.store_lookup.proofs.Numbers.{number_slot, slot_number, no_number, none_owner}
+use Rattle.store_lookup.proofs.header.check_database.Goals as goal
+use Rattle.store_lookup.proofs.header.check_database.Goals.{then-owner-ne-MANAGERS_OWNER-via-then-owner-ne-MANAGERS_OWNER, then-owner-ne-MANAGERS_OWNER-via-else-owner-ne-MANAGERS_OWNER+then-db-directory}
+
+pub returns-in_default-clause-unknown : goal.returns-in_default-clause-unknown
+returns-in_default-clause-unknown c = no_number c.args.heap.now.bytes c.args.db.0 (λ has.
+    let slot = number_slot c.args.heap.now.bytes c.args.db.0 c.requires has in
+    none_owner c.args.heap.now.bytes c.args.db.0 c.in_default.ensures.none slot.owner)
+
+pub returns-then-owner-ne-MANAGERS_OWNER-clause-unknown : goal.returns-then-owner-ne-MANAGERS_OWNER-clause-unknown
+returns-then-owner-ne-MANAGERS_OWNER-clause-unknown c = no_number c.args.heap.now.bytes c.args.db.0 (λ has.
+    let slot = number_slot c.args.heap.now.bytes c.args.db.0 c.requires has in
+    elim c.then-owner-ne-MANAGERS_OWNER.branch [
+      | then-owner-ne-MANAGERS_OWNER-via-then-owner-ne-MANAGERS_OWNER w ↦ w.if-owner-ne-MANAGERS_OWNER.true (c.in-Some.ensures.owner ∙ slot.owner)
+      | then-owner-ne-MANAGERS_OWNER-via-else-owner-ne-MANAGERS_OWNER+then-db-directory w ↦ slot.other (w.if-db-directory.true ∙ w.directory.ensures)
+    ])
+
+pub returns-clause-known : goal.returns-clause-known
+returns-clause-known c = slot_number c.args.heap.now.bytes c.args.db.0 c.requires (record {
+  owner = sym c.in-Some.ensures.owner ∙ c.if-owner-ne-MANAGERS_OWNER.false;
+  other = λ directory. c.if-db-directory.false (directory ∙ sym c.directory.ensures);
+})

@@ -1,0 +1,80 @@
+//! The header of a database, by its number.
+
+ghost use Rattle.std.specs.Prelude.{◌≡◌, None, IfErr, OnOk, OnErr};
+ghost use Rattle.heap_model.specs.Database.{IsSpelled, HasShape, database_in};
+ghost use Rattle.heap_model.specs.MemorySteps.{reply_of};
+ghost use Rattle.heap_model.specs.Store.{Accepted, bytes_under, store_of};
+ghost use Rattle.heap_model.specs.StoreSteps.{with_number, info_of, DoesInStore};
+ghost use Rattle.heap_model.specs.declared.call.Call.{Call};
+ghost use Rattle.heap_model.specs.declared.call.DatabaseCall.{DatabaseCall};
+ghost use Rattle.heap_model.specs.declared.call.Reply.{Reply};
+ghost use Rattle.store_lookup.specs.Databases.{HasNumber};
+
+use db_format::DbHeader;
+use heap_model::{Db, DbInfo, DbName, Name, Refusal};
+use mem_manager::Heap;
+
+/// The owner of the manager's own chunks: the directory and the headers of databases.
+const MANAGERS_OWNER: u8 = 0;
+
+/// Whether a database has this number. It costs the same however many there are: each chunk of the
+/// manager's is a header or the directory.
+///
+/// Refused: `NoSuchDatabase`.
+pub fn check_database(heap: &Heap, db: Db) -> Result<(), Refusal>
+    requires { Accepted heap.now.bytes }
+    ensures known { OnOk result (HasNumber heap.now.bytes db.0) }
+    ensures unknown { OnErr result (with_number (store_of heap.now.bytes) db.0 ≡ None) }
+    ensures refusal { IfErr result (λ refusal. refusal ≡ Refusal.NoSuchDatabase) }
+{
+    let Some(owner) = heap.sys_owner(Name(db.0)) else {
+        return Err(Refusal::NoSuchDatabase);
+    };
+    if owner != MANAGERS_OWNER || db.0 == heap.directory().0 {
+        return Err(Refusal::NoSuchDatabase);
+    }
+    Ok(())
+}
+
+/// The bytes of a database, as they lie in the image: its header, and its entries behind that.
+pub fn header_of(heap: &Heap, db: Db) -> &[u8]
+    requires accepted { Accepted heap.now.bytes }
+    requires number { HasNumber heap.now.bytes db.0 }
+    ensures is { result.now ≡ bytes_under heap.now.bytes db.0 }
+    ensures spelled { IsSpelled (database_in result.now) result.now }
+    ensures shape { HasShape result.now }
+{
+    heap.sys_body(Name(db.0))
+}
+
+/// What the header of a database says.
+///
+/// Refused: `NoSuchDatabase`.
+pub fn database_info(heap: &Heap, db: Db) -> Result<DbInfo, Refusal>
+    requires { Accepted heap.now.bytes }
+    ensures { DoesInStore heap.now (Call.Database (DatabaseCall.Info db)) (reply_of (λ info. Reply.Info info) result) heap.now }
+{
+    check_database(heap, db)?;
+    Ok(info_in(header_of(heap, db)))
+}
+
+/// What the header in these bytes says.
+fn info_in(bytes: &[u8]) -> DbInfo
+    requires { HasShape bytes.now }
+    ensures { result ≡ info_of (database_in bytes.now) }
+{
+    let header = DbHeader::read(bytes);
+    DbInfo {
+        name: DbName::of(header.name.name()),
+        attributes: header.attributes,
+        version: header.version,
+        creation_date: header.creation_date,
+        modification_date: header.modification_date,
+        backup_date: header.backup_date,
+        modification_number: header.modification_number,
+        kind: header.kind,
+        creator: header.creator,
+        seed: header.seed,
+        entry_count: header.entry_count,
+    }
+}
