@@ -1,18 +1,18 @@
 //! The calls of the memory manager, each by the words of docs/SCRIPTS.md: its refusals in their order,
 //! what it does and what it answers.
 
+use crate::heap::{Chunk, PlainHeap};
 use crate::image::{Image, Kind};
-use crate::store::{Chunk, PlainStore};
 use heap_model::{Bytes, MemoryCall, Name, Place, Refusal, Reply};
 use std::alloc::Global;
 
 /// The most locks that a chunk can have.
 const MOST_LOCKS: u8 = 14;
 
-impl PlainStore {
+impl PlainHeap {
     /// Does a call, and answers what the reply to it must be.
     ///
-    /// Most of that follows from the store. How much room there was and where chunks were stands in the
+    /// Most of that follows from the chunks. How much room there was and where chunks were stands in the
     /// image before the call, where they are in the one after it, and which of the free names a new
     /// chunk was given in the reply.
     pub fn call(
@@ -91,7 +91,8 @@ impl PlainStore {
         self.make(alloc, name, Kind::Fixed, size, owner)
     }
 
-    fn make(
+    /// A chunk of zeros.
+    pub(crate) fn make(
         &mut self,
         alloc: Global,
         name: Name,
@@ -107,12 +108,21 @@ impl PlainStore {
         }
     }
 
+    fn resize(&mut self, name: Name, size: u32, before: &Image) -> Result<Reply, Refusal> {
+        self.chunk(name)?.check_callers()?;
+        self.set_length(name, size, before)
+    }
+
     /// Another length: bytes at the end go, or zeros come. A locked chunk grows in its place alone, over
     /// the free chunks directly behind it. One without a lock grows wherever a stretch has room, its own
     /// size being room in its own stretch.
-    fn resize(&mut self, name: Name, size: u32, before: &Image) -> Result<Reply, Refusal> {
+    pub(crate) fn set_length(
+        &mut self,
+        name: Name,
+        size: u32,
+        before: &Image,
+    ) -> Result<Reply, Refusal> {
         let chunk = self.chunk_mut(name)?;
-        chunk.check_callers()?;
         let is_locked = *chunk.locks_mut()? > 0;
         if need(size) > before.size_with_behind(name) && is_locked {
             return Err(Refusal::ChunkLocked);
@@ -293,6 +303,6 @@ pub(crate) fn need(size: u32) -> u64 {
     8 + u64::from(size).next_multiple_of(8)
 }
 
-fn number(count: usize) -> Reply {
+pub(crate) fn number(count: usize) -> Reply {
     Reply::Number(u32::try_from(count).unwrap_or(u32::MAX))
 }
