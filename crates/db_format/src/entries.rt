@@ -1,8 +1,9 @@
 //! The entries of records and of resources.
 
-ghost use Rattle.std.specs.Prelude.{◌≡◌, ◌+◌, ◌≤◌, ◌<◌, ◌^◌, true, false, length};
+ghost use Rattle.std.specs.Prelude.{◌≡◌, ◌+◌, ◌≤◌, ◌<◌, ◌^◌, true, false, Some, length};
 ghost use Rattle.heap_model.specs.Database.{resources_in, entry_in, entry_bytes, entry_data};
 ghost use Rattle.heap_model.specs.Database as databases;
+ghost use Rattle.heap_model.specs.Store.{unique_id};
 ghost use Rattle.heap_model.specs.UniqueIds.{greatest_id};
 ghost use Rattle.db_format.specs.Entries.{record_of, resource_of, WritesEntry};
 
@@ -94,6 +95,17 @@ impl ResourceEntry {
         put_u32(&mut bytes, RESOURCE_DATA_AT, self.slot);
         bytes
     }
+}
+
+/// The unique ID in the entry of a record.
+#[inline]
+pub fn record_id(body: &[u8], index: u16) -> u32
+    requires inside { databases.entry_offset false (index + 1) ≤ length body.now }
+    requires records { resources_in body.now ≡ false }
+    ensures is { Some result ≡ unique_id (entry_in body.now index) }
+    ensures most { result ≤ greatest_id }
+{
+    u24_in(body, entry_offset(false, index) + RECORD_ID_AT)
 }
 
 /// The slot in the entry of an index, of whichever kind.

@@ -29,11 +29,11 @@ mod record_attributes;
 mod words;
 
 pub use body::{
-    READ_ONLY, RESOURCE_DATABASE, app_info, attributes, entry_count, has_resources, is_whole,
+    READ_ONLY, RESOURCE_DATABASE, app_info, attributes, entry_count, has_resources, is_whole, seed,
     sort_info,
 };
 pub use db_entry::DbEntry;
-pub use entries::{RecordEntry, ResourceEntry, entry_slot};
+pub use entries::{RecordEntry, ResourceEntry, entry_slot, record_id};
 pub use entry_bytes::EntryBytes;
 pub use fields::{HEADER_SIZE, NAME_SIZE, RECORD_SIZE, RESOURCE_SIZE, entry_offset, entry_size};
 pub use header::DbHeader;

@@ -3,7 +3,7 @@
 use Rattle.std.specs.Prelude.{◌≡◌, ◌≤◌, ◌<◌, ◌+◌, ◌%◌, ℕ, true, List, length, All}
 use Rattle.heap_model.specs.Heap.{HeapAccepted, directory_of}
 use Rattle.heap_model.specs.Lists.{same, times, Distinct}
-use Rattle.heap_model.specs.Database.{Entry, a_record, a_resource, is_deleted, IsSpelled}
+use Rattle.heap_model.specs.Database.{Database, Entry, a_record, a_resource, is_deleted, DatabaseFits, IsSpelled}
 use Rattle.heap_model.specs.Store.{StoredDatabase, managers_owner, data_owner, bytes_under, owner_under, directory_bytes, listed, named_by, most_databases, HasUniqueIds, numbers_of, names_of}
 
 -- an entry names data, if it isn't that of a deleted record
@@ -30,3 +30,10 @@ pub record HasDatabases (image : List ℕ) (stored : List StoredDatabase) : Type
   pub named_once : (name : ℕ) → 0 < name → times name (named_by stored) ≡ same (owner_under image name) data_owner
   pub listed_once : (name : ℕ) → 0 < name → times name (numbers_of stored) + same name (directory_of image) ≡ same (owner_under image name) managers_owner
   pub none_listed : times 0 (numbers_of stored) ≡ 0
+
+-- A database is whole by itself, whatever spells it: it can be spelled, its entries name data where they
+-- have to, and its records have unique IDs.
+pub record IsSound (database : Database ℕ) : Type 0 where
+  pub fits : DatabaseFits database
+  pub entries : All NamesData database.entries
+  pub ids : HasUniqueIds database

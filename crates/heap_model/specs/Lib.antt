@@ -26,5 +26,9 @@ pub mod Numbers
 pub mod Refusals
 pub mod Steps
 pub mod MemorySteps
+pub mod StoreWords
+pub mod DatabaseSteps
+pub mod EntrySteps
+pub mod RecordSteps
 pub mod StoreSteps
 pub mod Counted

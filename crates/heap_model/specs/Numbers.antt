@@ -1,7 +1,7 @@
 -- The numbers and the names of refusals.
 use Rattle.std.specs.Prelude.{ℕ, List, codes}
 use Rattle.heap_model.specs.declared.refusal.Refusal.{Refusal}
-use Rattle.heap_model.specs.declared.refusal.Refusal.TheVariants.{InvalidHandle, OwnedByDatabase, ChunkLocked, ChunkNotLocked, LockOverflow, ChunkFixed, InvalidOwner, NotEnoughSpace, OutOfBounds, NoSuchDatabase, TooManyEntries, AlreadyExists, InvalidName, OutOfMemory}
+use Rattle.heap_model.specs.declared.refusal.Refusal.TheVariants.{InvalidHandle, OwnedByDatabase, ChunkLocked, ChunkNotLocked, LockOverflow, ChunkFixed, InvalidOwner, NotEnoughSpace, OutOfBounds, NoSuchDatabase, NotRecordDatabase, ReadOnly, IndexOutOfRange, RecordDeleted, RecordBusy, TooManyEntries, AlreadyExists, InvalidName, OutOfMemory}
 
 abbrev pub number_of : Refusal → ℕ
 number_of InvalidHandle = 1
@@ -14,6 +14,11 @@ number_of InvalidOwner = 7
 number_of NotEnoughSpace = 8
 number_of OutOfBounds = 9
 number_of NoSuchDatabase = 10
+number_of NotRecordDatabase = 11
+number_of ReadOnly = 13
+number_of IndexOutOfRange = 14
+number_of RecordDeleted = 15
+number_of RecordBusy = 16
 number_of TooManyEntries = 17
 number_of AlreadyExists = 21
 number_of InvalidName = 22
@@ -30,6 +35,11 @@ name_of InvalidOwner = codes "InvalidOwner"
 name_of NotEnoughSpace = codes "NotEnoughSpace"
 name_of OutOfBounds = codes "OutOfBounds"
 name_of NoSuchDatabase = codes "NoSuchDatabase"
+name_of NotRecordDatabase = codes "NotRecordDatabase"
+name_of ReadOnly = codes "ReadOnly"
+name_of IndexOutOfRange = codes "IndexOutOfRange"
+name_of RecordDeleted = codes "RecordDeleted"
+name_of RecordBusy = codes "RecordBusy"
 name_of TooManyEntries = codes "TooManyEntries"
 name_of AlreadyExists = codes "AlreadyExists"
 name_of InvalidName = codes "InvalidName"

@@ -2,6 +2,7 @@
 
 use crate::bytes::Bytes;
 use crate::database::{DbInfo, DbName};
+use crate::entry::RecordInfo;
 use crate::names::{Db, Name, Place};
 use crate::refusal::Refusal;
 
@@ -73,7 +74,7 @@ pub enum DatabaseCall {
     },
     Delete(Db),
     Find(DbName),
-    /// The database of an index, in the order in which they were made.
+    /// The database of an index, in the order of the directory.
     Nth(u32),
     Count,
     Info(Db),
@@ -82,11 +83,31 @@ pub enum DatabaseCall {
     SetInfo(Db, DbInfo),
 }
 
+/// A call on the records of a database (Palm OS Programmer's API Reference, "Data Manager"). Records are
+/// counted from 0.
+#[derive(Drop, Debug, PartialEq, Eq)]
+pub enum RecordCall {
+    /// A record of so many bytes at an index. Where that is beyond the end it is the end.
+    New { db: Db, at: u32, size: u32 },
+    Delete(Db, u32),
+    Archive(Db, u32),
+    Remove(Db, u32),
+    /// `to` is the index in front of which the record goes, as the records stand before the call.
+    Move { db: Db, from: u32, to: u32 },
+    Get(Db, u32),
+    Query(Db, u32),
+    Release { db: Db, index: u32, dirty: bool },
+    Info(Db, u32),
+    Resize { db: Db, index: u32, size: u32 },
+    Count(Db),
+}
+
 /// A call of any manager.
 #[derive(Drop, Debug, PartialEq, Eq)]
 pub enum Call {
     Memory(MemoryCall),
     Database(DatabaseCall),
+    Record(RecordCall),
 }
 
 /// What a call answers: a refusal, or a value of its own.
@@ -100,4 +121,7 @@ pub enum Reply {
     Data(Bytes),
     Database(Db),
     Info(DbInfo),
+    /// The index and the name of what is new.
+    Made { index: u32, name: Name },
+    Record(RecordInfo),
 }

@@ -31,7 +31,11 @@
 //! | `Refusals` | checks in order, and the refusal that the first one brings |
 //! | `Steps` | what a row says of a call, and the step that it makes, whatever the call acts on |
 //! | `MemorySteps` | the row of each call of the memory manager: what it refuses, answers and does |
-//! | `StoreSteps` | the row of each call on a store with databases, the memory manager's calls among them |
+//! | `StoreWords` | words of the rows of calls on a store: its databases by number, and checks that rows share |
+//! | `DatabaseSteps` | the row of each call on databases as a whole |
+//! | `EntrySteps` | entries of a database of a store made, changed and dropped, and what a call leaves that does so |
+//! | `RecordSteps` | the row of each call on records |
+//! | `StoreSteps` | the row of each call on a store, the memory manager's calls among them, and its step |
 //! | `Counted` | what contracts see of a writer whose faults are counted |
 //!
 //! Offsets count bytes from the image's start, and numbers are big-endian. The fields of a chunk's
@@ -45,15 +49,17 @@ mod bytes;
 mod call;
 mod counted;
 mod database;
+mod entry;
 mod names;
 mod refusal;
 mod tally;
 
 pub use allowance::Allowance;
 pub use bytes::Bytes;
-pub use call::{Call, DatabaseCall, MemoryCall, Reply};
+pub use call::{Call, DatabaseCall, MemoryCall, RecordCall, Reply};
 pub use counted::Counted;
 pub use database::{DbInfo, DbName};
+pub use entry::{Entry, RecordInfo, ResourceInfo};
 pub use names::{Db, Name, Place};
 pub use refusal::Refusal;
 pub use tally::Tally;

@@ -39,7 +39,22 @@ pub enum Refusal {
     /// No database has this number, this name or this index.
     #[error("NoSuchDatabase")]
     NoSuchDatabase,
-    /// There are as many databases as there may be.
+    /// The database holds resources.
+    #[error("NotRecordDatabase")]
+    NotRecordDatabase,
+    /// The database may only be read.
+    #[error("ReadOnly")]
+    ReadOnly,
+    /// There are not so many entries.
+    #[error("IndexOutOfRange")]
+    IndexOutOfRange,
+    /// The record is deleted.
+    #[error("RecordDeleted")]
+    RecordDeleted,
+    /// The record is in use.
+    #[error("RecordBusy")]
+    RecordBusy,
+    /// There are as many databases, or entries of one, as there may be.
     #[error("TooManyEntries")]
     TooManyEntries,
     /// Another database has the name.
@@ -84,6 +99,11 @@ impl Refusal {
             Refusal::NotEnoughSpace => (8, "NotEnoughSpace"),
             Refusal::OutOfBounds => (9, "OutOfBounds"),
             Refusal::NoSuchDatabase => (10, "NoSuchDatabase"),
+            Refusal::NotRecordDatabase => (11, "NotRecordDatabase"),
+            Refusal::ReadOnly => (13, "ReadOnly"),
+            Refusal::IndexOutOfRange => (14, "IndexOutOfRange"),
+            Refusal::RecordDeleted => (15, "RecordDeleted"),
+            Refusal::RecordBusy => (16, "RecordBusy"),
             Refusal::TooManyEntries => (17, "TooManyEntries"),
             Refusal::AlreadyExists => (21, "AlreadyExists"),
             Refusal::InvalidName => (22, "InvalidName"),

@@ -3,23 +3,23 @@
 use crate::notation::{do_call, text_of};
 use heap_model::{MemoryCall, Reply};
 use mem_manager::Heap;
-use plain_model::{Image, PlainStore, broken_rule};
+use plain_model::{Image, PlainHeap, broken_rule};
 use raw_region::Region;
 use std::alloc::Global;
 use std::process::Abort;
 use std::test::*;
 
-/// An image, and beside it the store of all that it holds.
+/// An image, and beside it all chunks that it holds.
 #[derive(Drop)]
 pub(crate) struct Beside {
     pub(crate) image: Vec<u8>,
-    store: PlainStore,
+    chunks: PlainHeap,
 }
 
 impl Beside {
     pub(crate) fn new(alloc: Global, image: Vec<u8>) -> Result<Beside, Fail> {
-        let store = PlainStore::of(alloc, &Image::decode(alloc, &image)?)?;
-        Ok(Beside { image, store })
+        let chunks = PlainHeap::of(alloc, &Image::decode(alloc, &image)?)?;
+        Ok(Beside { image, chunks })
     }
 
     /// Does a call on both, and checks what came of it.
@@ -34,18 +34,26 @@ impl Beside {
         let reply = do_call(alloc, &mut heap, call)?;
         let region = heap.into_region();
         let after = Vec::from_slice(alloc, bytes_of(&region))?;
-        check(rt, spot, &mut self.store, call, &reply, &self.image, &after)?;
+        check(
+            rt,
+            spot,
+            &mut self.chunks,
+            call,
+            &reply,
+            &self.image,
+            &after,
+        )?;
         self.image = after;
         Ok(reply)
     }
 }
 
-/// Does a call on the model. The replies must be the same, the image must hold just what the store has,
+/// Does a call on the model. The replies must be the same, the image must hold just the chunks of the model,
 /// and the call must have kept to its rules.
 fn check(
     rt: &(impl Abort + AllocGlobal),
     spot: &str,
-    store: &mut PlainStore,
+    chunks: &mut PlainHeap,
     call: &MemoryCall,
     reply: &Reply,
     before: &[u8],
@@ -54,11 +62,11 @@ fn check(
     let alloc = rt.alloc();
     let before = Image::decode(alloc, before)?;
     let after = Image::decode(alloc, after)?;
-    let expected = store.call(alloc, call, &before, &after, reply);
+    let expected = chunks.call(alloc, call, &before, &after, reply);
     let (said, right) = (text_of(alloc, reply)?, text_of(alloc, &expected)?);
     assert_eq!(rt; said.as_str(), right.as_str(), "{spot}");
     let odd = (
-        store.difference(&after),
+        chunks.difference(&after),
         broken_rule(call, reply, &before, &after),
     );
     assert_eq!(rt; odd, (None, None), "{spot}");

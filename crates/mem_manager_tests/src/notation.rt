@@ -109,6 +109,11 @@ pub(crate) fn text_of(alloc: Global, reply: &Reply) -> Result<String, AllocError
         }
         Reply::Database(Db(db)) => format!(in alloc; "database {db}"),
         Reply::Info(info) => format!(in alloc; "{info:?}"),
+        Reply::Made {
+            index,
+            name: Name(name),
+        } => format!(in alloc; "made {index} named {name}"),
+        Reply::Record(info) => format!(in alloc; "{info:?}"),
     }
 }
 

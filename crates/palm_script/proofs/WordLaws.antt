@@ -1,10 +1,7 @@
 -- Words, and what stands behind the last of them.
 use Rattle.std.proofs.Common.{◌≡◌, ℕ, List, [], ◌∷◌, ◌++◌, refl, sym, ap, ◌∙◌, append_assoc}
-use Rattle.std.specs.Prelude.{codes, decimal}
-use Rattle.hex.specs.Hex.{encode_lower}
-use Rattle.heap_model.specs.Bytes.{u16_bytes, u32_bytes}
+use Rattle.std.specs.Prelude.{codes}
 use Rattle.heap_model.specs.declared.database.DbInfo.{DbInfo}
-use Rattle.palm_text.specs.Pieces.{spelled}
 use Rattle.palm_script.specs.Lines.{info_words, words_text}
 
 -- words with a space in front of each, and an end
@@ -27,19 +24,7 @@ words_between front words end = ap (λ (t : List ℕ). front ++ t) (words_ended 
 
 -- the words of it, with a name, a version and a number of entries of their own
 abbrev pub words_with : DbInfo → List ℕ → ℕ → ℕ → List (List ℕ)
-words_with info name version count =
-    spelled name
-    ∷ encode_lower (u16_bytes info.attributes)
-    ∷ decimal version
-    ∷ decimal info.creation_date
-    ∷ decimal info.modification_date
-    ∷ decimal info.backup_date
-    ∷ decimal info.modification_number
-    ∷ spelled (u32_bytes info.kind)
-    ∷ spelled (u32_bytes info.creator)
-    ∷ encode_lower (u32_bytes info.seed)
-    ∷ decimal count
-    ∷ []
+words_with info name version count = info_words (record info { name = name; version = version; entry_count = count })
 
 pub words_of_info : (info : DbInfo) (name : List ℕ) (version count : ℕ) → name ≡ info.name → version ≡ info.version → count ≡ info.entry_count
     → codes "ok" ++ words_before (words_with info name version count) (codes "\n") ≡ (codes "ok" ++ words_text (info_words info)) ++ codes "\n"

@@ -1,5 +1,5 @@
 -- What the lines of a script do, bind, print and export.
-use Rattle.std.specs.Prelude.{◌≡◌, ◌≢◌, ◌<◌, ◌++◌, ◌==◌, ℕ, Bool, List, [], ◌∷◌, Option, Some, take, get_or, slice_get, if◌then◌else◌, codes, decimal, true, false, ◌≤◌, length}
+use Rattle.std.specs.Prelude.{◌≡◌, ◌≢◌, ◌<◌, ◌++◌, ◌==◌, ℕ, Bool, List, [], ◌∷◌, Option, Some, None, take, get_or, slice_get, if◌then◌else◌, codes, decimal, true, false, ◌≤◌, length}
 use Rattle.std.specs.List.{flat_map}
 use Rattle.std.specs.Io.KnownBytes.{Appends}
 use Rattle.hex.specs.Hex.{encode_lower}
@@ -12,18 +12,21 @@ use Rattle.heap_model.specs.Numbers.{number_of, name_of}
 use Rattle.heap_model.specs.declared.names.Name.{Name}
 use Rattle.heap_model.specs.declared.names.Db.{Db}
 use Rattle.heap_model.specs.declared.database.DbInfo.{DbInfo}
+use Rattle.heap_model.specs.declared.entry.RecordInfo.{RecordInfo}
 use Rattle.heap_model.specs.declared.call.Call.{Call}
-use Rattle.heap_model.specs.declared.call.Call.TheVariants.{Memory, Database}
+use Rattle.heap_model.specs.declared.call.Call.TheVariants.{Memory, Database, Record}
 use Rattle.heap_model.specs.declared.call.MemoryCall.{MemoryCall}
 use Rattle.heap_model.specs.declared.call.MemoryCall.TheVariants as calls
 use Rattle.heap_model.specs.declared.call.DatabaseCall.{DatabaseCall}
 use Rattle.heap_model.specs.declared.call.DatabaseCall.TheVariants as database_calls
+use Rattle.heap_model.specs.declared.call.RecordCall.{RecordCall}
+use Rattle.heap_model.specs.declared.call.RecordCall.TheVariants as record_calls
 use Rattle.heap_model.specs.declared.call.Reply.{Reply}
 use Rattle.heap_model.specs.declared.call.Reply.TheVariants.{Refused, Number, Named, Locked, Data}
 use Rattle.heap_model.specs.declared.call.Reply.TheVariants as replies
 use Rattle.heap_model.specs.declared.refusal.Refusal.TheVariants.{OutOfMemory}
 use Rattle.script_lines.specs.declared.line.Line.{Line}
-use Rattle.script_lines.specs.declared.line.Line.TheVariants.{Bind, New, On, Whole, Create, Find, Nth, DatabaseCount, OnDatabase}
+use Rattle.script_lines.specs.declared.line.Line.TheVariants.{Bind, New, On, Whole, Create, Find, Nth, DatabaseCount, OnDatabase, OnRecords, TakeRecord}
 use Rattle.script_lines.specs.declared.line.NewCall.TheVariants.{Handle, Ptr}
 use Rattle.script_lines.specs.declared.line.ChunkCall.{ChunkCall}
 use Rattle.script_lines.specs.declared.line.ChunkCall.TheVariants.{Free, Resize, SetOwner, Lock, Unlock, Size, Owner, Locks, Read, Write, Set, StrCopy}
@@ -31,6 +34,10 @@ use Rattle.script_lines.specs.declared.line.HeapCall.{HeapCall}
 use Rattle.script_lines.specs.declared.line.HeapCall.TheVariants.{FreeByOwner, FreeBytes, LargestStretch, Compact}
 use Rattle.script_lines.specs.declared.line.DatabaseLineCall.{DatabaseLineCall}
 use Rattle.script_lines.specs.declared.line.DatabaseLineCall.TheVariants.{Delete, Info, SetInfo}
+use Rattle.script_lines.specs.declared.line.RecordLineCall.{RecordLineCall}
+use Rattle.script_lines.specs.declared.line.RecordLineCall.TheVariants as recorded
+use Rattle.script_lines.specs.declared.line.RecordDataCall.{RecordDataCall}
+use Rattle.script_lines.specs.declared.line.RecordDataCall.TheVariants as taken
 
 -- ---- what labels stand for
 
@@ -95,6 +102,23 @@ database_call_on db Delete = database_calls.Delete db
 database_call_on db Info = database_calls.Info db
 database_call_on db (SetInfo info) = database_calls.SetInfo db info
 
+-- a call on the records of a database of a number
+abbrev pub records_call_on : Db → RecordLineCall → RecordCall
+records_call_on db (recorded.Delete index) = record_calls.Delete db index
+records_call_on db (recorded.Archive index) = record_calls.Archive db index
+records_call_on db (recorded.Remove index) = record_calls.Remove db index
+records_call_on db (recorded.Move from to) = record_calls.Move db from to
+records_call_on db (recorded.Release index dirty) = record_calls.Release db index dirty
+records_call_on db (recorded.Info index) = record_calls.Info db index
+records_call_on db (recorded.Resize index size) = record_calls.Resize db index size
+records_call_on db recorded.Count = record_calls.Count db
+
+-- a call that answers the data of a record
+abbrev pub record_data_call : Db → RecordDataCall → RecordCall
+record_data_call db (taken.New at size) = record_calls.New db at size
+record_data_call db (taken.Get index) = record_calls.Get db index
+record_data_call db (taken.Query index) = record_calls.Query db index
+
 -- the call of a line; no line takes a file of the inputs
 abbrev pub call_of : List (List ℕ) → Bindings → Line → Call
 call_of inputs bound (Bind label name) = Memory (calls.Size (record { 0 = name }))
@@ -107,6 +131,8 @@ call_of inputs bound (Find label name) = Database (database_calls.Find name)
 call_of inputs bound (Nth label index) = Database (database_calls.Nth index)
 call_of inputs bound DatabaseCount = Database database_calls.Count
 call_of inputs bound (OnDatabase label call) = Database (database_call_on (bound.databases label.0) call)
+call_of inputs bound (OnRecords label call) = Record (records_call_on (bound.databases label.0) call)
+call_of inputs bound (TakeRecord db label call) = Record (record_data_call (bound.databases db.0) call)
 
 -- a call that asks for bytes, and a line that does
 abbrev pub is_read_call : ChunkCall → Bool
@@ -122,6 +148,7 @@ is_read line = false
 -- a label of a chunk is bound to the name that was answered
 abbrev pub bound_to : Bindings → ℕ → Reply → Bindings
 bound_to bound label (Named name) = record bound { chunks = bind bound.chunks label name }
+bound_to bound label (replies.Made index name) = record bound { chunks = bind bound.chunks label name }
 bound_to bound label reply = bound
 
 -- a label of a database is bound to the number that was answered
@@ -129,8 +156,8 @@ abbrev pub bound_to_database : Bindings → ℕ → Reply → Bindings
 bound_to_database bound label (replies.Database db) = record bound { databases = bind bound.databases label db }
 bound_to_database bound label reply = bound
 
--- A line that is accepted binds its label: to the name given, or to that of the new chunk, or to the
--- database. A refused one binds nothing.
+-- A line that is accepted binds its label: to the name given, or to that of the new chunk or of the data of
+-- a record, or to the database. A refused one binds nothing.
 abbrev pub bound_after : Bindings → Line → Reply → Bindings
 bound_after bound line (Refused refusal) = bound
 bound_after bound (Bind label name) reply = record bound { chunks = bind bound.chunks label.0 (record { 0 = name }) }
@@ -138,6 +165,7 @@ bound_after bound (New label call) reply = bound_to bound label.0 reply
 bound_after bound (Create label call) reply = bound_to_database bound label.0 reply
 bound_after bound (Find label name) reply = bound_to_database bound label.0 reply
 bound_after bound (Nth label index) reply = bound_to_database bound label.0 reply
+bound_after bound (TakeRecord db label call) reply = bound_to bound label.0 reply
 bound_after bound line reply = bound
 
 -- ---- what is printed
@@ -164,17 +192,28 @@ info_words info =
     ∷ decimal info.entry_count
     ∷ []
 
+-- whether there is data
+abbrev pub data_word : Option Name → List ℕ
+data_word (Some name) = codes "data"
+data_word None = codes "none"
+
+-- what the entry of a record says: the attributes in two hex digits, the ID, and whether there is data
+abbrev pub record_words : RecordInfo → List (List ℕ)
+record_words info = encode_lower (info.attributes ∷ []) ∷ decimal info.id ∷ data_word info.data ∷ []
+
 -- words with a space in front of each
 abbrev pub words_text : List (List ℕ) → List ℕ
 words_text words = flat_map (λ word. codes " " ++ word) words
 
--- The values behind `ok`: numbers, counts, bytes, and what a header says. Names, places and the numbers of
--- databases aren't printed.
+-- The values behind `ok`: numbers, counts, indexes, bytes, and what a header or an entry says. Names, places
+-- and the numbers of databases aren't printed.
 abbrev pub values_text : Reply → List ℕ
 values_text (Number number) = codes " " ++ decimal number
 values_text (Locked place count) = codes " " ++ decimal count
 values_text (Data bytes) = codes " " ++ hex_text bytes
 values_text (replies.Info info) = words_text (info_words info)
+values_text (replies.Made index name) = codes " " ++ decimal index
+values_text (replies.Record info) = words_text (record_words info)
 values_text reply = []
 
 -- `bind` asks for a size, and `compact` for how many bytes have moved, which aren't printed

@@ -36,7 +36,10 @@ pub(crate) fn bind_line(names: &mut [Name], databases: &mut [Db], line: &Line, r
     match (line, reply) {
         (_, Reply::Refused(_)) => {}
         (Line::Bind { label, name }, _) => bind_chunk(names, *label, Name(*name)),
-        (Line::New(label, _), Reply::Named(name)) => bind_chunk(names, *label, *name),
+        (
+            Line::New(label, _) | Line::TakeRecord(_, label, _),
+            Reply::Named(name) | Reply::Made { name, .. },
+        ) => bind_chunk(names, *label, *name),
         (
             Line::Create(label, _) | Line::Find(label, _) | Line::Nth(label, _),
             Reply::Database(db),

@@ -5,6 +5,7 @@ ghost use Rattle.heap_model.specs.StoreSteps.{DoesInStore};
 ghost use Rattle.heap_model.specs.declared.call.Call as calls;
 ghost use Rattle.heap_model.specs.declared.call.MemoryCall.{MemoryCall};
 
+use crate::records::do_record_call;
 use crate::replies::{database, done, info, locked, named, number, small_number};
 use heap_model::{Allowance, Bytes, Call, DatabaseCall, MemoryCall, Name, Refusal, Reply};
 use palm_store::Store;
@@ -25,6 +26,7 @@ pub fn do_call_from<A: Allowance>(memory: &A, store: &mut Store, call: &Call) ->
     match call {
         Call::Memory(call) => memory_call(memory, store, call),
         Call::Database(call) => database_call(store, call),
+        Call::Record(call) => do_record_call(store, call),
     }
 }
 

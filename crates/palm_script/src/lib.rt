@@ -7,6 +7,7 @@
 //! | module | does |
 //! |---|---|
 //! | `calls` | one call of each kind |
+//! | `records` | one call on records, and that of a line |
 //! | `bindings` | what labels stand for |
 //! | `lines` | one line: its call, what it binds, its reply line |
 //! | `replies` | what a manager answers, as a reply; and reply lines |
@@ -16,6 +17,7 @@
 mod bindings;
 mod calls;
 mod lines;
+mod records;
 mod replies;
 mod runs;
 
@@ -23,5 +25,5 @@ pub use calls::{do_call, do_call_from};
 pub use runs::{RunFault, run, run_from};
 pub use script_lines::{
     ChunkCall, ChunkLabel, CreateCall, DatabaseLabel, DatabaseLineCall, HeapCall, Line, LineFault,
-    NewCall, Script, ScriptFault, parse,
+    NewCall, RecordDataCall, RecordLineCall, Script, ScriptFault, parse,
 };

@@ -11,6 +11,7 @@ ghost use Rattle.script_lines.specs.declared.line.ChunkCall.{ChunkCall};
 ghost use Rattle.palm_script.specs.Lines.{call_on, database_call_on, is_read, is_read_call, tables, whole_call, DoesLine, LineStep};
 
 use crate::bindings::{bind_line, database_of, name_of};
+use crate::records::{data_call, do_record_call, records_call};
 use crate::replies::{
     database, done, info, locked, named, number, put_bytes, put_refusal, put_reply, small_number,
 };
@@ -71,6 +72,12 @@ fn reply_to(
         Line::DatabaseCount => Reply::Number(store.count()),
         Line::OnDatabase(label, call) => {
             reply_on_database(store, database_of(databases, *label), call)
+        }
+        Line::OnRecords(label, call) => {
+            do_record_call(store, &records_call(database_of(databases, *label), *call))
+        }
+        Line::TakeRecord(label, _, call) => {
+            do_record_call(store, &data_call(database_of(databases, *label), *call))
         }
     }
 }

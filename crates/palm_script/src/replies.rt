@@ -5,9 +5,11 @@ ghost use Rattle.heap_model.specs.Counted.{Writes};
 ghost use Rattle.heap_model.specs.MemorySteps.{reply_of};
 ghost use Rattle.heap_model.specs.Numbers.{number_of, name_of};
 ghost use Rattle.heap_model.specs.declared.call.Reply.{Reply};
-ghost use Rattle.palm_script.specs.Lines.{hex_text, info_words, is_silent, reply_line, reply_text, values_text, words_text};
+ghost use Rattle.palm_script.specs.Lines.{hex_text, info_words, is_silent, record_words, reply_line, reply_text, values_text, words_text};
+ghost use Rattle.palm_script.specs.Lines as words;
+ghost use Rattle.record_db.specs.Checks.{made_reply};
 
-use heap_model::{Counted, Db, DbInfo, Name, Refusal, Reply};
+use heap_model::{Counted, Db, DbInfo, Name, RecordInfo, Refusal, Reply};
 use palm_store::Locked;
 use palm_text::{Piece, WriteFault, put_pieces};
 use script_lines::{HeapCall, Line};
@@ -78,6 +80,24 @@ pub(crate) fn info(answer: Result<DbInfo, Refusal>) -> Reply
     }
 }
 
+pub(crate) fn made(answer: Result<(u32, Name), Refusal>) -> Reply
+    ensures { result ≡ reply_of made_reply answer }
+{
+    match answer {
+        Ok((index, name)) => Reply::Made { index, name },
+        Err(refusal) => Reply::Refused(refusal),
+    }
+}
+
+pub(crate) fn record(answer: Result<RecordInfo, Refusal>) -> Reply
+    ensures { result ≡ reply_of (λ info. Reply.Record info) answer }
+{
+    match answer {
+        Ok(info) => Reply::Record(info),
+        Err(refusal) => Reply::Refused(refusal),
+    }
+}
+
 // ---- reply lines
 
 /// Prints the reply line of a line.
@@ -131,6 +151,8 @@ fn put_values<W: Write>(out: &mut Counted<W>, reply: &Reply) -> Result<(), Write
         Reply::Locked { count, .. } => put_number(out, u32::from(*count)),
         Reply::Data(bytes) => put_bytes(out, bytes.as_slice()),
         Reply::Info(info) => put_info(out, info),
+        Reply::Made { index, .. } => put_number(out, *index),
+        Reply::Record(info) => put_record(out, info),
         Reply::Refused(_) | Reply::Done | Reply::Named(_) | Reply::Database(_) => {
             put_pieces(out, &[Piece::Text(b"ok\n")])
         }
@@ -198,4 +220,33 @@ fn put_info<W: Write>(out: &mut Counted<W>, info: &DbInfo) -> Result<(), WriteFa
             Piece::Text(b"\n"),
         ],
     )
+}
+
+/// Prints `ok` and what the entry of a record says.
+fn put_record<W: Write>(out: &mut Counted<W>, info: &RecordInfo) -> Result<(), WriteFault>
+    ensures { Writes W.contents out.old out.new
+        (codes "ok" ++ words_text (record_words info.now) ++ codes "\n") (is_ok result) }
+{
+    put_pieces(
+        out,
+        &[
+            Piece::Text(b"ok "),
+            Piece::Hex8(info.attributes),
+            Piece::Text(b" "),
+            Piece::Number(info.id),
+            Piece::Text(b" "),
+            Piece::Text(data_word(info.data)),
+            Piece::Text(b"\n"),
+        ],
+    )
+}
+
+/// Says whether there is data.
+fn data_word(name: Option<Name>) -> &'static [u8]
+    ensures { result.now ≡ words.data_word name }
+{
+    match name {
+        Some(_) => b"data",
+        None => b"none",
+    }
 }

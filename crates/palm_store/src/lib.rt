@@ -1,9 +1,9 @@
 //! The store of a Palm OS device: movable chunks reached through handles, and databases made of them.
 //!
-//! `Store` owns a region that is an accepted image. The contract of each of its methods is the step of
-//! the abstract store for that call: the reply is right, and what the image means afterwards is the
-//! store after the call. The image is still accepted, and no chunk that is locked or fixed, and still
-//! live, has moved.
+//! `Store` owns a region that is an accepted image. The contract of each of its methods, but those on
+//! entries, is the step of the abstract store for that call: the reply is right, and what the image means
+//! afterwards is the store after the call. The image is still accepted, and no chunk that is locked or
+//! fixed, and still live, has moved.
 #![tactic(auto)]
 
 mod store;
@@ -11,3 +11,4 @@ mod store;
 pub use mem_manager::Locked;
 pub use store::{NotAStore, Store};
 pub use store_check::{StoreFault, StoreSummary};
+pub use store_entries::{Label, NewEntry};

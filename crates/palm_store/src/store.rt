@@ -1,5 +1,6 @@
 //! The store. Its calls stand in the modules below: those of the memory manager, that ask, that change a
-//! chunk where it stands, and that make, free and move chunks.
+//! chunk where it stands, and that make, free and move chunks; those on databases; and those on entries, for
+//! the crates of records and resources.
 
 ghost use Rattle.std.specs.Prelude.{◌≡◌, ◌⊎◌, is_ok, IfOk, IfErr, OnOk};
 ghost use Rattle.heap_model.specs.Store.{Accepted};
@@ -9,6 +10,7 @@ ghost use Rattle.store_check.specs.Checks.{IsAnswered, Summarizes};
 mod asking;
 mod changing;
 mod databases;
+mod entries;
 mod making;
 
 use heap_model::{Allowance, Counted};
@@ -23,9 +25,9 @@ use store_check::{StoreFault, StoreSummary, check_store_from};
 use store_lookup::count_databases;
 use thiserror::Error;
 
-/// A region that is an accepted image. Contracts see the region's value alone, and no method asks for
-/// anything of its caller: what a call can't do it refuses. Neither its region nor its heap is lent, so
-/// no byte of it is written but by its calls.
+/// A region that is an accepted image. Contracts see the region's value alone, and no method but those on
+/// entries asks for anything of its caller: what a call can't do it refuses. Neither its region nor its
+/// heap is lent, so no byte of it is written but by its calls.
 #[derive(Drop)]
 pub struct Store {
     heap: Heap,

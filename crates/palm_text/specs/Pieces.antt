@@ -4,7 +4,7 @@ use Rattle.std.specs.List.{list_all}
 use Rattle.hex.specs.Hex.{encode_lower}
 use Rattle.heap_model.specs.Bytes.{u16_bytes, u32_bytes}
 use Rattle.palm_text.specs.declared.pieces.Piece.{Piece}
-use Rattle.palm_text.specs.declared.pieces.Piece.TheVariants.{Text, Spelled, FourBytes, Number, Hex, Hex16, Hex32}
+use Rattle.palm_text.specs.declared.pieces.Piece.TheVariants.{Text, Spelled, FourBytes, Number, Hex, Hex8, Hex16, Hex32}
 
 -- what may stand in quotes: all from a space to `~` but `"`
 abbrev pub is_printable : ℕ → Bool
@@ -31,6 +31,7 @@ piece_text (Spelled text) = spelled text.now
 piece_text (FourBytes number) = spelled (u32_bytes number)
 piece_text (Number number) = decimal number
 piece_text (Hex bytes) = encode_lower bytes.now
+piece_text (Hex8 number) = encode_lower (number ∷ [])
 piece_text (Hex16 number) = encode_lower (u16_bytes number)
 piece_text (Hex32 number) = encode_lower (u32_bytes number)
 

@@ -30,6 +30,8 @@ pub enum Piece<'a> {
     Number(u32),
     /// Two hex digits in lower case for each byte; nothing where there is none.
     Hex(&'a [u8]),
+    /// A number in two hex digits in lower case.
+    Hex8(u8),
     /// A number in four hex digits in lower case.
     Hex16(u16),
     /// A number in eight hex digits in lower case.
@@ -61,6 +63,7 @@ fn put_piece<W: Write>(out: &mut Counted<W>, piece: &Piece) -> Result<(), WriteF
             put_all(out, buffer.format(*number).as_bytes())
         }
         Piece::Hex(bytes) => put_hex(out, bytes),
+        Piece::Hex8(number) => put_hex_turn(out, &[*number]),
         Piece::Hex16(number) => put_hex_16(out, *number),
         Piece::Hex32(number) => put_hex_32(out, *number),
     }

@@ -12,7 +12,7 @@ use heap_model::Counted;
 use std::io::Write;
 
 /// Whether all of these may stand in quotes.
-fn are_printable(bytes: &[u8]) -> bool
+pub fn are_printable(bytes: &[u8]) -> bool
     ensures { result ≡ list_all pieces.is_printable bytes.now }
 {
     for byte in bytes {

@@ -174,6 +174,14 @@ impl<'a> Image<'a> {
         None
     }
 
+    /// The name of the directory, none where there is none.
+    pub fn directory(&self) -> Option<Name> {
+        match u32_at(self.bytes, 12)? {
+            0 => None,
+            slot => Some(Name(slot)),
+        }
+    }
+
     /// The sizes of the free chunks together.
     pub fn free_bytes(&self) -> u32 {
         let mut all = 0u32;
@@ -201,6 +209,32 @@ impl<'a> Image<'a> {
             largest = largest.max(room);
         }
         largest
+    }
+
+    /// The rooms of the stretches in order: what is free in front of each chunk that stays, since the one
+    /// before it, and behind the last. Between two neighbours that stay there is one of 0.
+    pub(crate) fn rooms(&self, alloc: Global) -> Result<Vec<u64>, AllocError> {
+        let mut rooms = Vec::new(alloc);
+        let mut room = 0u64;
+        for piece in &self.pieces {
+            if piece.stays() {
+                rooms.push(room)?;
+                room = 0;
+            } else if piece.live.is_none() {
+                room = room.saturating_add(u64::from(piece.size));
+            }
+        }
+        rooms.push(room)?;
+        Ok(rooms)
+    }
+
+    /// The index among these of the stretch that has the chunk of a name.
+    pub(crate) fn stretch_of(&self, name: Name) -> usize {
+        self.pieces
+            .iter()
+            .take_while(|piece| piece.live.is_none_or(|live| live.name != name))
+            .filter(|piece| piece.stays())
+            .count()
     }
 
     /// What the chunk of a name takes, 0 where there is none.
@@ -417,7 +451,11 @@ fn runs_of(alloc: Global, pieces: &[Piece]) -> Result<Vec<Run>, AllocError> {
     Ok(runs)
 }
 
-fn u16_at(bytes: &[u8], at: usize) -> Option<u16> {
+pub(crate) fn u8_at(bytes: &[u8], at: usize) -> Option<u8> {
+    bytes.get(at).copied()
+}
+
+pub(crate) fn u16_at(bytes: &[u8], at: usize) -> Option<u16> {
     let number = bytes.get(at..)?.first_chunk()?;
     Some(u16::from_be_bytes(*number))
 }

@@ -1,20 +1,31 @@
-//! A plain model of the store, for tests: what calls of the memory manager answer and do, as a map from
-//! names to chunks and plain code.
+//! A plain model of the store, for tests: what calls of the managers answer and do, as a map from names
+//! to chunks, a list of databases, and plain code.
 //!
-//! The manager's own calls are proved against tables of rows, and a row that says something odd would be
+//! The managers' own calls are proved against tables of rows, and a row that says something odd would be
 //! proved too. So this crate shares nothing with them but the types of calls and replies. It is written
 //! from the words of docs/FORMAT.md and docs/SCRIPTS.md, reads an image by its bytes, and promises
-//! nothing but to be safe. Where it and the manager differ, one of them has the words wrong.
+//! nothing but to be safe. Where it and the managers differ, one of them has the words wrong.
 //!
-//! `Image` takes the bytes of an image apart, `PlainStore` is the map and does the calls on it, and
-//! `broken_rule` says which bytes and chunks a call leaves alone.
+//! `Image` takes the bytes of an image apart. `PlainHeap` is the map of all its chunks and does the calls of
+//! the memory manager on it, without a word on databases. `PlainStore` is the map of the callers' chunks
+//! and the list of databases, refuses an image that isn't accepted with these, and does all calls.
+//! `broken_rule` and `broken_store_rule` say which bytes and chunks a call leaves alone.
 #![tactic(auto)]
 
-mod calls;
+mod accepted;
+mod database;
+mod database_calls;
+mod heap;
 mod image;
+mod memory_calls;
+mod parts;
+mod record_calls;
 mod rules;
 mod store;
 
+pub use accepted::Unaccepted;
+pub use database::{Database, Entries, Header, Record, Resource};
+pub use heap::{Chunk, PlainHeap};
 pub use image::{Image, Kind, Live, Piece, Unreadable};
-pub use rules::{Rule, broken_rule};
-pub use store::{Chunk, PlainStore};
+pub use rules::{Rule, broken_rule, broken_store_rule};
+pub use store::{Difference, PlainStore};

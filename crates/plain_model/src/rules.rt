@@ -1,8 +1,8 @@
 //! What a call leaves alone, whatever it answers.
 
-use crate::calls::need;
 use crate::image::{Image, Piece, u32_at};
-use heap_model::{MemoryCall, Name, Refusal, Reply};
+use crate::memory_calls::need;
+use heap_model::{Call, DatabaseCall, MemoryCall, Name, RecordCall, Refusal, Reply};
 
 /// What a call did that it may not do.
 #[derive(Clone, Copy, Debug, PartialEq, Eq)]
@@ -22,7 +22,7 @@ pub enum Rule {
     FreeHeader(u32),
 }
 
-/// The first rule that a call broke.
+/// The first rule that a call of the memory manager broke.
 pub fn broken_rule(
     call: &MemoryCall,
     reply: &Reply,
@@ -32,7 +32,60 @@ pub fn broken_rule(
     if before.bytes.len() != after.bytes.len() || before.bytes.get(..16) != after.bytes.get(..16) {
         return Some(Rule::Frame);
     }
-    if leaves_bytes(call, reply) && before.bytes != after.bytes {
+    if matches!(call, MemoryCall::Compact) && !after.is_packed() {
+        return Some(Rule::Packed);
+    }
+    broken_in_area(asks(call), movable_by(call, before), reply, before, after)
+}
+
+/// The first rule that a call on a store broke. One on databases or records may move all chunks that it
+/// may move at all, and the first database that is made makes the directory.
+pub fn broken_store_rule(
+    call: &Call,
+    reply: &Reply,
+    before: &Image,
+    after: &Image,
+) -> Option<Rule> {
+    if let Call::Memory(call) = call {
+        return broken_rule(call, reply, before, after);
+    }
+    let has_directed = before.directory().is_none() && is_created(call, reply);
+    let is_kept = before.bytes.get(..12) == after.bytes.get(..12)
+        && (before.directory() == after.directory() || has_directed);
+    if before.bytes.len() != after.bytes.len() || !is_kept {
+        return Some(Rule::Frame);
+    }
+    broken_in_area(asks_in_store(call), Moves::Anything, reply, before, after)
+}
+
+/// Whether a call has made a database.
+fn is_created(call: &Call, reply: &Reply) -> bool {
+    matches!(call, Call::Database(DatabaseCall::Create { .. }))
+        && matches!(reply, Reply::Database(_))
+}
+
+/// Whether a call on databases or records only asks.
+fn asks_in_store(call: &Call) -> bool {
+    matches!(
+        call,
+        Call::Database(
+            DatabaseCall::Find(_)
+                | DatabaseCall::Nth(_)
+                | DatabaseCall::Count
+                | DatabaseCall::Info(_)
+        ) | Call::Record(RecordCall::Query(..) | RecordCall::Info(..) | RecordCall::Count(_))
+    )
+}
+
+/// The first rule on bytes, room and places that a call broke.
+fn broken_in_area(
+    asks: bool,
+    moves: Moves,
+    reply: &Reply,
+    before: &Image,
+    after: &Image,
+) -> Option<Rule> {
+    if (asks || is_refused_at_once(reply)) && before.bytes != after.bytes {
         return Some(Rule::Bytes);
     }
     let has_same_room = before.free_bytes() == after.free_bytes()
@@ -40,18 +93,24 @@ pub fn broken_rule(
     if matches!(reply, Reply::Refused(_)) && !has_same_room {
         return Some(Rule::Room);
     }
-    if matches!(call, MemoryCall::Compact) && !after.is_packed() {
-        return Some(Rule::Packed);
-    }
-    match first_moved(movable_by(call, before), before, after) {
+    match first_moved(moves, before, after) {
         Some(name) => Some(Rule::Moved(name)),
         None => odd_free_header(before, after).map(Rule::FreeHeader),
     }
 }
 
-/// Whether a call may change no byte. Where room is short, free chunks may be joined.
-fn leaves_bytes(call: &MemoryCall, reply: &Reply) -> bool {
-    let asks = matches!(
+/// Whether a call was refused before anything was done: where room is short, free chunks may be joined,
+/// and others moved.
+fn is_refused_at_once(reply: &Reply) -> bool {
+    match reply {
+        Reply::Refused(refusal) => *refusal != Refusal::NotEnoughSpace,
+        _ => false,
+    }
+}
+
+/// Whether a call only asks.
+fn asks(call: &MemoryCall) -> bool {
+    matches!(
         call,
         MemoryCall::Size(_)
             | MemoryCall::Owner(_)
@@ -60,12 +119,7 @@ fn leaves_bytes(call: &MemoryCall, reply: &Reply) -> bool {
             | MemoryCall::Recover(_)
             | MemoryCall::FreeBytes
             | MemoryCall::LargestStretch
-    );
-    let refused = match reply {
-        Reply::Refused(refusal) => *refusal != Refusal::NotEnoughSpace,
-        _ => false,
-    };
-    asks || refused
+    )
 }
 
 /// Which chunks a call may move, of those that are neither locked nor fixed.

@@ -1,79 +1,98 @@
-//! The store: chunks by their names.
+//! The store: chunks by their names, and databases.
 
-use crate::image::{Image, Kind, Live};
-use heap_model::{Name, Refusal};
-use std::alloc::{AllocError, Global};
-use std::collections::BTreeMap;
+use crate::accepted::{Unaccepted, databases_of};
+use crate::database::Database;
+use crate::heap::PlainHeap;
+use crate::image::Image;
+use heap_model::{Call, Db, Name, Refusal, Reply};
+use std::alloc::Global;
 
-/// A live chunk.
-#[derive(Drop)]
-pub struct Chunk {
-    pub kind: Kind,
-    /// 0 is the manager, 1 to 14 are callers, 15 is a database.
-    pub owner: u8,
-    pub bytes: Vec<u8>,
-}
-
-/// All live chunks of a heap, each under its name.
+/// The chunks of callers and of databases, each under its name, and the databases in order. The directory
+/// and the headers of databases are no chunks here.
 #[derive(Drop)]
 pub struct PlainStore {
-    pub(crate) chunks: BTreeMap<u32, Chunk>,
+    pub(crate) heap: PlainHeap,
+    pub(crate) databases: Vec<Database>,
+}
+
+/// In what two stores differ.
+#[derive(Clone, Copy, Debug, PartialEq, Eq)]
+pub enum Difference {
+    /// The chunk of this name.
+    Chunk(Name),
+    /// The database of this number, which stands at this index of one of them.
+    Database(usize, Db),
 }
 
 impl PlainStore {
-    /// The store that an image holds.
-    pub fn of(alloc: Global, image: &Image) -> Result<PlainStore, AllocError> {
-        let mut chunks = BTreeMap::new(alloc);
-        for piece in &image.pieces {
-            if let Some(live) = piece.live {
-                let chunk = Chunk {
-                    kind: live.kind,
-                    owner: live.owner,
-                    bytes: Vec::from_slice(alloc, live.bytes)?,
-                };
-                chunks.insert(live.name.0, chunk).map_err(AllocError::from)?;
-            }
-        }
-        Ok(PlainStore { chunks })
+    /// The store that an image means. Refused where the image isn't accepted with its databases.
+    pub fn of(alloc: Global, image: &Image) -> Result<PlainStore, Unaccepted> {
+        let databases = databases_of(alloc, image)?;
+        let mut heap = PlainHeap::of(alloc, image)?;
+        heap.chunks.retain(|_, chunk| chunk.owner > 0);
+        Ok(PlainStore { heap, databases })
     }
 
-    /// A name under which the store and an image have different chunks, or only one of them has one.
-    pub fn difference(&self, image: &Image) -> Option<Name> {
-        for (name, chunk) in &self.chunks {
-            match image.live(Name(*name)) {
-                Some(live) if chunk.is(live) => {}
-                _ => return Some(Name(*name)),
-            }
+    /// The databases, in order.
+    pub fn databases(&self) -> &[Database] {
+        &self.databases
+    }
+
+    /// The first difference from another store.
+    pub fn difference(&self, other: &PlainStore) -> Option<Difference> {
+        if let Some(name) = self.heap.other_chunk(&other.heap) {
+            return Some(Difference::Chunk(name));
         }
-        for piece in &image.pieces {
-            if let Some(live) = piece.live
-                && !self.chunks.contains_key(&live.name.0)
-            {
-                return Some(live.name);
+        let longer = if self.databases.len() < other.databases.len() {
+            &other.databases
+        } else {
+            &self.databases
+        };
+        for (index, database) in longer.iter().enumerate() {
+            if self.databases.get(index) != other.databases.get(index) {
+                return Some(Difference::Database(index, database.db));
             }
         }
         None
     }
 
-    /// The chunk that callers have under a name: the manager's own have none for them.
-    pub(crate) fn chunk(&self, name: Name) -> Result<&Chunk, Refusal> {
-        match self.chunks.get(&name.0) {
-            Some(chunk) if chunk.owner > 0 => Ok(chunk),
-            _ => Err(Refusal::InvalidHandle),
+    /// Does a call, and answers what the reply to it must be.
+    ///
+    /// What the store doesn't say stands in the images before and after the call, and in the reply, as
+    /// with the calls of the memory manager. Where a call of several parts may run out of room, it is
+    /// refused exactly if the reply says so.
+    pub fn call(
+        &mut self,
+        alloc: Global,
+        call: &Call,
+        before: &Image,
+        after: &Image,
+        reply: &Reply,
+    ) -> Reply {
+        match call {
+            Call::Memory(call) => self.heap.call(alloc, call, before, after, reply),
+            Call::Database(call) => self
+                .database_call(alloc, call, before, reply)
+                .unwrap_or_else(Reply::Refused),
+            Call::Record(call) => self
+                .record_call(alloc, call, before, reply)
+                .unwrap_or_else(Reply::Refused),
         }
+    }
+
+    /// The database of a number.
+    pub(crate) fn database(&self, db: Db) -> Result<&Database, Refusal> {
+        self.databases
+            .iter()
+            .find(|database| database.db == db)
+            .ok_or(Refusal::NoSuchDatabase)
     }
 
     /// The same, to change it.
-    pub(crate) fn chunk_mut(&mut self, name: Name) -> Result<&mut Chunk, Refusal> {
-        match self.chunks.get_mut(&name.0) {
-            Some(chunk) if chunk.owner > 0 => Ok(chunk),
-            _ => Err(Refusal::InvalidHandle),
-        }
-    }
-}
-
-impl Chunk {
-    fn is(&self, live: Live) -> bool {
-        self.kind == live.kind && self.owner == live.owner && self.bytes.as_slice() == live.bytes
+    pub(crate) fn database_mut(&mut self, db: Db) -> Result<&mut Database, Refusal> {
+        self.databases
+            .iter_mut()
+            .find(|database| database.db == db)
+            .ok_or(Refusal::NoSuchDatabase)
     }
 }

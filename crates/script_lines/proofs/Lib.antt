@@ -5,3 +5,4 @@ pub mod NumberingLaws
 pub mod NumberLaws
 pub mod ReadingLaws
 pub mod CommandLaws
+pub mod ReadBack

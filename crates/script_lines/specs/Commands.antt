@@ -11,12 +11,16 @@ use Rattle.script_lines.specs.declared.line.NewCall.TheVariants as made
 use Rattle.script_lines.specs.declared.line.ChunkCall.TheVariants as chunk
 use Rattle.script_lines.specs.declared.line.HeapCall.TheVariants as heap
 use Rattle.script_lines.specs.declared.line.DatabaseLineCall.TheVariants as database
+use Rattle.script_lines.specs.declared.line.RecordLineCall.TheVariants as recorded
+use Rattle.script_lines.specs.declared.line.RecordDataCall.TheVariants as taken
 use Rattle.script_lines.specs.declared.command.Command.{Command}
-use Rattle.script_lines.specs.declared.command.Command.TheVariants.{Memory, Database}
+use Rattle.script_lines.specs.declared.command.Command.TheVariants.{Memory, Database, Record}
 use Rattle.script_lines.specs.declared.memory_command.MemoryCommand.{MemoryCommand}
 use Rattle.script_lines.specs.declared.memory_command.MemoryCommand.TheVariants.{Bind, New, PtrNew, Free, Resize, SetOwner, Lock, Unlock, Size, Owner, Locks, Read, Write, Set, StrCopy, FreeByOwner, FreeBytes, Largest, Compact}
 use Rattle.script_lines.specs.declared.database_command.DatabaseCommand.{DatabaseCommand}
 use Rattle.script_lines.specs.declared.database_command.DatabaseCommand.TheVariants.{Create, Find, Nth, Count, Delete, Info, SetInfo}
+use Rattle.script_lines.specs.declared.record_command.RecordCommand.{RecordCommand}
+use Rattle.script_lines.specs.declared.record_command.RecordCommand.TheVariants as records
 use Rattle.script_lines.specs.declared.value.Kind.{Kind}
 use Rattle.script_lines.specs.declared.value.Kind.TheVariants as kinds
 use Rattle.script_lines.specs.declared.value.Value.{Value}
@@ -126,9 +130,23 @@ database_row Delete = record { word = codes "dbdelete"; of = kinds.Database ∷ 
 database_row Info = record { word = codes "dbinfo"; of = kinds.Database ∷ []; make = λ label. lines.OnDatabase label database.Info }
 database_row SetInfo = record { word = codes "dbset"; of = info_kinds; make = info_set }
 
+abbrev pub record_row : RecordCommand → CommandRow
+record_row records.New = record { word = codes "recnew"; of = kinds.Database ∷ kinds.Number ∷ kinds.Number ∷ kinds.Chunk ∷ []; make = λ db at size label. lines.TakeRecord db label (taken.New at size) }
+record_row records.Delete = record { word = codes "recdelete"; of = kinds.Database ∷ kinds.Number ∷ []; make = λ label index. lines.OnRecords label (recorded.Delete index) }
+record_row records.Archive = record { word = codes "recarchive"; of = kinds.Database ∷ kinds.Number ∷ []; make = λ label index. lines.OnRecords label (recorded.Archive index) }
+record_row records.Remove = record { word = codes "recremove"; of = kinds.Database ∷ kinds.Number ∷ []; make = λ label index. lines.OnRecords label (recorded.Remove index) }
+record_row records.Move = record { word = codes "recmove"; of = kinds.Database ∷ kinds.Number ∷ kinds.Number ∷ []; make = λ label from to. lines.OnRecords label (recorded.Move from to) }
+record_row records.Get = record { word = codes "recget"; of = kinds.Database ∷ kinds.Number ∷ kinds.Chunk ∷ []; make = λ db index label. lines.TakeRecord db label (taken.Get index) }
+record_row records.Query = record { word = codes "recquery"; of = kinds.Database ∷ kinds.Number ∷ kinds.Chunk ∷ []; make = λ db index label. lines.TakeRecord db label (taken.Query index) }
+record_row records.Release = record { word = codes "recrelease"; of = kinds.Database ∷ kinds.Number ∷ kinds.Flag ∷ []; make = λ label index dirty. lines.OnRecords label (recorded.Release index dirty) }
+record_row records.Info = record { word = codes "recinfo"; of = kinds.Database ∷ kinds.Number ∷ []; make = λ label index. lines.OnRecords label (recorded.Info index) }
+record_row records.Resize = record { word = codes "recresize"; of = kinds.Database ∷ kinds.Number ∷ kinds.Number ∷ []; make = λ label index size. lines.OnRecords label (recorded.Resize index size) }
+record_row records.Count = record { word = codes "reccount"; of = kinds.Database ∷ []; make = λ label. lines.OnRecords label recorded.Count }
+
 abbrev pub row_of : Command → CommandRow
 row_of (Memory command) = memory_row command
 row_of (Database command) = database_row command
+row_of (Record command) = record_row command
 
 abbrev pub word_of : Command → List ℕ
 word_of command = (row_of command).word
@@ -150,8 +168,11 @@ memory_commands = Bind ∷ New ∷ PtrNew ∷ Free ∷ Resize ∷ SetOwner ∷ L
 abbrev pub database_commands : List DatabaseCommand
 database_commands = Create ∷ Find ∷ Nth ∷ Count ∷ Delete ∷ Info ∷ SetInfo ∷ []
 
+abbrev pub record_commands : List RecordCommand
+record_commands = records.New ∷ records.Delete ∷ records.Archive ∷ records.Remove ∷ records.Move ∷ records.Get ∷ records.Query ∷ records.Release ∷ records.Info ∷ records.Resize ∷ records.Count ∷ []
+
 abbrev pub commands : List Command
-commands = map Memory memory_commands ++ map Database database_commands
+commands = map Memory memory_commands ++ map Database database_commands ++ map Record record_commands
 
 -- the command of a word
 abbrev pub command_of : List ℕ → Option Command

@@ -1,7 +1,7 @@
 -- The labels of lines, by their numbers.
 use Rattle.std.specs.Prelude.{◌≤◌, ◌+◌, ℕ, List, [], ◌∷◌, All, max}
 use Rattle.script_lines.specs.declared.line.Line.{Line}
-use Rattle.script_lines.specs.declared.line.Line.TheVariants.{Bind, New, On, Whole, Create, Find, Nth, DatabaseCount, OnDatabase}
+use Rattle.script_lines.specs.declared.line.Line.TheVariants.{Bind, New, On, Whole, Create, Find, Nth, DatabaseCount, OnDatabase, OnRecords, TakeRecord}
 
 -- one more than the number of a line's label of a chunk, and 0 where it has none
 abbrev pub chunk_label_end : Line → ℕ
@@ -14,6 +14,8 @@ chunk_label_end (Find label name) = 0
 chunk_label_end (Nth label index) = 0
 chunk_label_end DatabaseCount = 0
 chunk_label_end (OnDatabase label call) = 0
+chunk_label_end (OnRecords label call) = 0
+chunk_label_end (TakeRecord db label call) = label.0 + 1
 
 -- the same of its label of a database
 abbrev pub database_label_end : Line → ℕ
@@ -26,6 +28,8 @@ database_label_end (Find label name) = label.0 + 1
 database_label_end (Nth label index) = label.0 + 1
 database_label_end DatabaseCount = 0
 database_label_end (OnDatabase label call) = label.0 + 1
+database_label_end (OnRecords label call) = label.0 + 1
+database_label_end (TakeRecord db label call) = db.0 + 1
 
 -- each label of the lines is below `count`; `end` is one of the two above
 abbrev pub HasLabelsBelow : (Line → ℕ) → ℕ → List Line → Type 0

@@ -7,3 +7,4 @@ pub mod Kinds
 pub mod Commands
 pub mod Views
 pub mod Reading
+pub mod Laws

@@ -1,5 +1,5 @@
 -- How the words of each kind are spelled, and what they stand for.
-use Rattle.std.specs.Prelude.{ℕ, ◌+◌, ◌-◌, ◌*◌, ◌==◌, ◌&&◌, ◌||◌, not, nat_lt, nat_le, Bool, true, false, if◌then◌else◌, List, [], ◌∷◌, length, take, drop, codes, slice_index, Option, Some, None}
+use Rattle.std.specs.Prelude.{ℕ, ◌+◌, ◌-◌, ◌*◌, ◌==◌, ◌&&◌, ◌||◌, nat_lt, nat_le, Bool, true, false, if◌then◌else◌, List, [], ◌∷◌, length, take, drop, codes, slice_index, Option, Some, None}
 use Rattle.std.specs.List.{list_all}
 use Rattle.std.specs.Option.{option_and_then}
 use Rattle.std.specs.Result.{result_ok}
@@ -7,6 +7,7 @@ use Rattle.std.specs.Char.{is_ascii_alphabetic, is_ascii_digit}
 use Rattle.std.specs.Str.{bytes_eq}
 use Rattle.hex.specs.Hex.{decode_of}
 use Rattle.heap_model.specs.Bytes.{u32_at}
+use Rattle.palm_text.specs.Pieces.{is_printable}
 
 -- a letter, a digit or `_`
 abbrev pub is_label_byte : ℕ → Bool
@@ -59,10 +60,6 @@ hex_bytes digits = result_ok (decode_of digits)
 -- bytes: hex digits, at least two, or `-` for none
 abbrev pub spelled_bytes : List ℕ → Option (List ℕ)
 spelled_bytes word = if bytes_eq word (codes "-") then Some [] else if length word == 0 then None else hex_bytes word
-
--- what may stand between quotes
-abbrev pub is_printable : ℕ → Bool
-is_printable b = nat_le 32 b && nat_le b 126 && not (b == 34)
 
 -- what stands between the first byte of a word and its last
 abbrev pub inside : List ℕ → List ℕ

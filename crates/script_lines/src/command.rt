@@ -10,18 +10,20 @@ ghost use Rattle.script_lines.specs.Commands.{line_of, command_of};
 use crate::database_command::{DatabaseCommand, database_row, make_database_line};
 use crate::line::Line;
 use crate::memory_command::{MemoryCommand, make_memory_line, memory_row};
+use crate::record_command::{RecordCommand, make_record_line, record_row};
 use crate::value::{Kind, Value};
 use heap_model::Bytes;
 
-/// A command, of the memory manager or of databases.
+/// A command, of the memory manager, of databases or of records.
 #[derive(Clone, Copy)]
 pub(crate) enum Command {
     Memory(MemoryCommand),
     Database(DatabaseCommand),
+    Record(RecordCommand),
 }
 
 /// Every command.
-pub(crate) const COMMANDS: [Command; 26] = [
+pub(crate) const COMMANDS: [Command; 37] = [
     Command::Memory(MemoryCommand::Bind),
     Command::Memory(MemoryCommand::New),
     Command::Memory(MemoryCommand::PtrNew),
@@ -48,6 +50,17 @@ pub(crate) const COMMANDS: [Command; 26] = [
     Command::Database(DatabaseCommand::Delete),
     Command::Database(DatabaseCommand::Info),
     Command::Database(DatabaseCommand::SetInfo),
+    Command::Record(RecordCommand::New),
+    Command::Record(RecordCommand::Delete),
+    Command::Record(RecordCommand::Archive),
+    Command::Record(RecordCommand::Remove),
+    Command::Record(RecordCommand::Move),
+    Command::Record(RecordCommand::Get),
+    Command::Record(RecordCommand::Query),
+    Command::Record(RecordCommand::Release),
+    Command::Record(RecordCommand::Info),
+    Command::Record(RecordCommand::Resize),
+    Command::Record(RecordCommand::Count),
 ];
 
 /// A command's row: its word, which no other command has, and the kinds of the words behind it.
@@ -74,6 +87,7 @@ pub(crate) fn row_of(command: Command) -> CommandRow
     match command {
         Command::Memory(command) => memory_row(command),
         Command::Database(command) => database_row(command),
+        Command::Record(command) => record_row(command),
     }
 }
 
@@ -115,5 +129,6 @@ pub(crate) fn make_line(command: Command, values: &[Value], bytes: Bytes) -> Opt
     match command {
         Command::Memory(command) => make_memory_line(command, values, bytes),
         Command::Database(command) => make_database_line(command, values, &bytes),
+        Command::Record(command) => make_record_line(command, values),
     }
 }

@@ -33,13 +33,17 @@ pub enum Line {
     Create(DatabaseLabel, CreateCall),
     /// Has the label stand for the database with a name.
     Find(DatabaseLabel, DbName),
-    /// Has the label stand for the database of an index, counted from 0 in the order in which they were
-    /// made.
+    /// Has the label stand for the database of an index, counted from 0 in the order of the
+    /// directory.
     Nth(DatabaseLabel, u32),
     /// How many databases there are.
     DatabaseCount,
     /// A call on the database that the label stands for.
     OnDatabase(DatabaseLabel, DatabaseLineCall),
+    /// A call on the records of the database that the label stands for.
+    OnRecords(DatabaseLabel, RecordLineCall),
+    /// Has the second label stand for the data of a record of the database that the first stands for.
+    TakeRecord(DatabaseLabel, ChunkLabel, RecordDataCall),
 }
 
 /// A call that makes a chunk.
@@ -98,21 +102,46 @@ pub enum DatabaseLineCall {
     SetInfo(DbInfo),
 }
 
+/// A call on the records of one database. Records are counted from 0.
+#[derive(Clone, Copy)]
+pub enum RecordLineCall {
+    Delete(u32),
+    Archive(u32),
+    Remove(u32),
+    /// `to` is the index in front of which the record goes.
+    Move { from: u32, to: u32 },
+    Release { index: u32, dirty: bool },
+    Info(u32),
+    Resize { index: u32, size: u32 },
+    Count,
+}
+
+/// A call that answers the data of a record.
+#[derive(Clone, Copy)]
+pub enum RecordDataCall {
+    /// `at` is the index of the new record.
+    New { at: u32, size: u32 },
+    Get(u32),
+    Query(u32),
+}
+
 impl Line {
     /// One more than the number of the line's label of a chunk, and 0 where it has none.
     fn chunk_label_end(&self) -> Option<usize>
         ensures { IfSome result (λ end. end ≡ labels.chunk_label_end self.now) }
     {
         match self {
-            Line::Bind { label, .. } | Line::New(label, _) | Line::On(label, _) => {
-                label.0.checked_add(1)
-            }
+            Line::Bind { label, .. }
+            | Line::New(label, _)
+            | Line::On(label, _)
+            | Line::TakeRecord(_, label, _) => label.0.checked_add(1),
             Line::Whole(_)
             | Line::Create(..)
             | Line::Find(..)
             | Line::Nth(..)
             | Line::DatabaseCount
-            | Line::OnDatabase(..) => Some(0),
+            | Line::OnDatabase(..)
+            | Line::OnRecords(..) => Some(0),
         }
     }
 
@@ -124,7 +153,9 @@ impl Line {
             Line::Create(label, _)
             | Line::Find(label, _)
             | Line::Nth(label, _)
-            | Line::OnDatabase(label, _) => label.0.checked_add(1),
+            | Line::OnDatabase(label, _)
+            | Line::OnRecords(label, _)
+            | Line::TakeRecord(label, ..) => label.0.checked_add(1),
             Line::Bind { .. }
             | Line::New(..)
             | Line::On(..)

@@ -10,6 +10,7 @@ ghost use Rattle.script_lines.specs.Spellings.{spelled_flag, spelled_four};
 
 use byteorder::{BigEndian, ByteOrder};
 use heap_model::{Allowance, Bytes};
+use palm_text::are_printable;
 use std::alloc::AllocError;
 
 /// The longest label.
@@ -141,25 +142,6 @@ pub(crate) fn bytes_of<A: Allowance>(memory: &A, word: &[u8]) -> Result<Option<B
         return Ok(None);
     }
     decode(memory, word)
-}
-
-/// Whether a byte may stand in quotes.
-fn is_printable(byte: u8) -> bool
-    ensures { result ≡ spellings.is_printable byte }
-{
-    byte >= b' ' && byte <= b'~' && byte != b'"'
-}
-
-/// Whether all of these may.
-fn are_printable(bytes: &[u8]) -> bool
-    ensures { result ≡ list_all spellings.is_printable bytes.now }
-{
-    for byte in bytes {
-        if !is_printable(*byte) {
-            return false;
-        }
-    }
-    true
 }
 
 /// A copy of some bytes.

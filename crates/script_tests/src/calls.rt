@@ -212,6 +212,14 @@ pub(crate) fn put_reply(text: &mut String, reply: &Reply) -> Result<(), AllocErr
             info.entry_count,
             info.name.as_slice().len()
         ),
+        Reply::Made { index, name } => write!(text, "made {index}, name {}; ", name.0),
+        Reply::Record(info) => write!(
+            text,
+            "{}, {}, {}; ",
+            info.attributes,
+            info.id,
+            info.data.is_some()
+        ),
     }
 }
 

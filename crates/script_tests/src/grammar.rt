@@ -5,8 +5,8 @@
 use crate::fakes::RefusesOne;
 use heap_model::DbInfo;
 use script_lines::{
-    ChunkCall, CreateCall, DatabaseLineCall, HeapCall, Line, LineFault, NewCall, ScriptFault,
-    parse, parse_from,
+    ChunkCall, CreateCall, DatabaseLineCall, HeapCall, Line, LineFault, NewCall, RecordDataCall,
+    RecordLineCall, ScriptFault, parse, parse_from,
 };
 use std::alloc::{AllocError, Global};
 use std::process::Abort;
@@ -46,6 +46,42 @@ fn put_line(text: &mut String, line: &Line) -> Result<(), AllocError> {
         Line::OnDatabase(label, DatabaseLineCall::Delete) => write!(text, "dbdelete {}", label.0),
         Line::OnDatabase(label, DatabaseLineCall::Info) => write!(text, "dbinfo {}", label.0),
         Line::OnDatabase(label, DatabaseLineCall::SetInfo(info)) => put_info(text, label.0, info),
+        Line::OnRecords(label, call) => put_records_call(text, label.0, *call),
+        Line::TakeRecord(db, label, call) => put_data_call(text, db.0, label.0, *call),
+    }
+}
+
+/// A call on records, as its command, its label's number and what else stands in its line.
+fn put_records_call(
+    text: &mut String,
+    label: usize,
+    call: RecordLineCall,
+) -> Result<(), AllocError> {
+    match call {
+        RecordLineCall::Delete(index) => write!(text, "recdelete {label} {index}"),
+        RecordLineCall::Archive(index) => write!(text, "recarchive {label} {index}"),
+        RecordLineCall::Remove(index) => write!(text, "recremove {label} {index}"),
+        RecordLineCall::Move { from, to } => write!(text, "recmove {label} {from} {to}"),
+        RecordLineCall::Release { index, dirty } => {
+            write!(text, "recrelease {label} {index} {dirty}")
+        }
+        RecordLineCall::Info(index) => write!(text, "recinfo {label} {index}"),
+        RecordLineCall::Resize { index, size } => write!(text, "recresize {label} {index} {size}"),
+        RecordLineCall::Count => write!(text, "reccount {label}"),
+    }
+}
+
+/// A call that answers the data of a record, likewise.
+fn put_data_call(
+    text: &mut String,
+    db: usize,
+    label: usize,
+    call: RecordDataCall,
+) -> Result<(), AllocError> {
+    match call {
+        RecordDataCall::New { at, size } => write!(text, "recnew {db} {at} {size} {label}"),
+        RecordDataCall::Get(index) => write!(text, "recget {db} {index} {label}"),
+        RecordDataCall::Query(index) => write!(text, "recquery {db} {index} {label}"),
     }
 }
 
@@ -272,6 +308,56 @@ const BYTES_CASES: [(&[u8], &str); 28] = [
 #[test]
 fn bytes_and_texts(rt: HostRuntime) -> Result<(), Fail> {
     check(&rt, &BYTES_CASES)
+}
+
+const RECORD_CASES: [(&[u8], &str); 36] = [
+    (b"recnew d 1 2 h", "recnew 0 1 2 0;"),
+    (b"recdelete d 4294967295", "recdelete 0 4294967295;"),
+    (b"recarchive d 0", "recarchive 0 0;"),
+    (b"recremove d 0xff", "recremove 0 255;"),
+    (b"recmove d 1 2", "recmove 0 1 2;"),
+    (b"recget d 3 h", "recget 0 3 0;"),
+    (b"recquery d 3 h", "recquery 0 3 0;"),
+    (b"recrelease d 3 0", "recrelease 0 3 false;"),
+    (b"recrelease d 3 1", "recrelease 0 3 true;"),
+    (b"recinfo d 3", "recinfo 0 3;"),
+    (b"recresize d 1 2", "recresize 0 1 2;"),
+    (b"reccount d", "reccount 0;"),
+    // the two tables of labels are apart
+    (
+        b"new h 0 1\nrecget d 0 r\nrecquery e 0 d\nsize r\nreccount e",
+        "new 0 0 1;recget 0 0 1;recquery 1 0 2;size 1;reccount 1;",
+    ),
+    // too few words, and too many
+    (b"recnew d 1 2", "line 1 WrongCount"),
+    (b"recnew d 1 2 h 0", "line 1 WrongCount"),
+    (b"recdelete d", "line 1 WrongCount"),
+    (b"recarchive d 0 0", "line 1 WrongCount"),
+    (b"recremove", "line 1 WrongCount"),
+    (b"recmove d 0", "line 1 WrongCount"),
+    (b"recget d 0", "line 1 WrongCount"),
+    (b"recquery d h", "line 1 WrongCount"),
+    (b"recrelease d 0", "line 1 WrongCount"),
+    (b"recinfo d 0 h", "line 1 WrongCount"),
+    (b"recresize d 0", "line 1 WrongCount"),
+    (b"reccount", "line 1 WrongCount"),
+    // words that aren't of their kinds
+    (b"recnew 0 1 2 h", "line 1 BadWord 2"),
+    (b"recnew d -1 2 h", "line 1 BadWord 3"),
+    (b"recnew d 1 4294967296 h", "line 1 BadWord 4"),
+    (b"recnew d 1 2 3", "line 1 BadWord 5"),
+    (b"recget d h 0", "line 1 BadWord 3"),
+    (b"recquery d 0 _h", "line 1 BadWord 4"),
+    (b"recmove d 0 x", "line 1 BadWord 4"),
+    (b"recrelease d 0 2", "line 1 BadWord 4"),
+    (b"recresize d \"0\" 0", "line 1 BadWord 3"),
+    (b"reccount 1d", "line 1 BadWord 2"),
+    (b"recfree d 0", "line 1 UnknownCommand"),
+];
+
+#[test]
+fn records(rt: HostRuntime) -> Result<(), Fail> {
+    check(&rt, &RECORD_CASES)
 }
 
 const DATABASE_CASES: [(&[u8], &str); 41] = [

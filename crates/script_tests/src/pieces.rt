@@ -13,7 +13,7 @@ const BYTES: [u8; 33] = [
 ];
 
 /// Every kind of piece, and the text of them.
-const PIECES: [Piece<'static>; 16] = [
+const PIECES: [Piece<'static>; 18] = [
     Piece::Text(b"ok "),
     Piece::Number(0),
     Piece::Text(b" "),
@@ -27,6 +27,8 @@ const PIECES: [Piece<'static>; 16] = [
     Piece::Spelled(b"\x1fa"),
     Piece::FourBytes(0x4441_5441),
     Piece::FourBytes(0x22),
+    Piece::Hex8(0xa),
+    Piece::Hex8(0xfe),
     Piece::Hex16(0xa),
     Piece::Hex32(0xbeef),
     Piece::Text(b"\n"),
@@ -34,7 +36,7 @@ const PIECES: [Piece<'static>; 16] = [
 
 const TEXT: &str =
     "ok 0 42949672950001090a0f101f207f80909fa0abcdeff0feff000000000000000000000000005a\
-    \" a~\"\"\"x:612262x:617fx:1f61\"DATA\"x:00000022000a0000beef\n";
+    \" a~\"\"\"x:612262x:617fx:1f61\"DATA\"x:000000220afe000a0000beef\n";
 
 /// What `put_pieces` answers, and what its writer came to.
 fn put_to(alloc: Global, room: usize, step: usize, way: WhenFull) -> (bool, Narrow) {

@@ -21,7 +21,8 @@ use Rattle.heap_model.specs.Rooms.{Stuck}
 use Rattle.heap_model.specs.Database.{Entry, Database, data_in, header_bytes, entry_bytes, spelled, has_resources, IsDatabaseName, EntryFits, DatabaseFits}
 use Rattle.heap_model.specs.Store.{StoredDatabase, owner_under, directory_bytes, listed, databases, names_of, most_databases, unique_id, unique_ids, HasUniqueIds, Accepted, store_of}
 use Rattle.heap_model.specs.Counts.{NamesData}
-use Rattle.heap_model.specs.StoreSteps.{IsTaken, empty_database, create_parts, create_slots, DoesInStore}
+use Rattle.heap_model.specs.DatabaseSteps.{IsTaken, empty_database, create_parts, create_slots}
+use Rattle.heap_model.specs.StoreSteps.{DoesInStore}
 use Rattle.heap_model.specs.declared.names.Db.{Db}
 use Rattle.heap_model.specs.declared.refusal.Refusal.{Refusal}
 use Rattle.heap_model.specs.declared.refusal.Refusal.TheVariants.{NotEnoughSpace}

@@ -14,7 +14,8 @@ use Rattle.heap_model.specs.Leaving.{Leaves}
 use Rattle.heap_model.specs.Database.{Database, data_in}
 use Rattle.heap_model.specs.MemorySteps.{Of, IsLocked}
 use Rattle.heap_model.specs.Store.{StoredDatabase, owner_under, directory_bytes, database_under, Accepted, store_of}
-use Rattle.heap_model.specs.StoreSteps.{OfDatabase, In, all_gone, with_number, DoesInStore}
+use Rattle.heap_model.specs.StoreWords.{OfDatabase, In, all_gone, with_number}
+use Rattle.heap_model.specs.StoreSteps.{DoesInStore}
 use Rattle.heap_model.specs.declared.names.Db.{Db}
 use Rattle.heap_model.specs.declared.refusal.Refusal.TheVariants.{ChunkLocked}
 use Rattle.heap_model.specs.declared.call.DatabaseCall.TheVariants.{Delete}
@@ -26,18 +27,18 @@ use Rattle.store_laws.proofs.Creating.{managers_loose}
 use Rattle.store_laws.proofs.Owners.{directory_owner}
 use Rattle.store_laws.proofs.Stepping.{drop_steps}
 use Rattle.store_lookup.specs.Databases.{HasNumber, IsListedAt}
-use Rattle.store_lookup.proofs.Numbers.{has_number_is, in_store, length-listed, number_slot, number_held, no_directory}
+use Rattle.store_lookup.proofs.Numbers.{stands, has_number_is, in_store, length-listed, number_slot, number_held, no_directory}
 use Rattle.store_change.specs.Named.{named_under}
 use Rattle.store_change.specs.Unlisting.{Unlists}
-use Rattle.store_change.proofs.Maps.{owned}
+use Rattle.store_change.proofs.Maps.{kept, is_gone, owned}
 use Rattle.store_change.proofs.Listing.{few_bytes, lock_of}
-use Rattle.store_change.proofs.Freeing.{stood, no_chunk, number_unnamed, gone_out, gone_in, freed_one, freed_more}
+use Rattle.store_change.proofs.Freeing.{no_chunk, number_unnamed, freed_one, freed_more}
 use Rattle.store_change.proofs.Deletion.{went, directory_kept, index_inside, drops, clears}
 
 -- ---- the header goes too
 
 pub header_stays : (old mid : List ℕ) (db : ℕ) → Accepted old → HasNumber old db → Leaves old mid (all_gone (held old) (named_under old db)) → held mid db ≡ held old db
-header_stays old mid db a has l = l.map db ∙ gone_out (held old) (named_under old db) db (number_unnamed old db a has)
+header_stays old mid db a has l = kept old mid (named_under old db) db l (number_unnamed old db a has)
 
 pub header_left : (old mid : List ℕ) (db : ℕ) → Accepted old → HasNumber old db → Leaves old mid (all_gone (held old) (named_under old db)) → IsSome (held mid db)
 header_left old mid db a has l = subst (λ (o : Option LiveChunk). IsSome o) (sym (header_stays old mid db a has l)) (number_held old db a has)
@@ -79,7 +80,7 @@ pub record Listing (image : List ℕ) (index : ℕ) : Type 0 where
 
 pub lists_still : (old mid : List ℕ) (db index : ℕ) → Accepted old → IsListedAt old db index → Leaves old mid (all_gone (held old) (went (database_under old db))) → Listing mid index
 lists_still old mid db index a at l =
-    let s = stood old db index at in
+    let s = stands old db index at in
     let bytes = ap length (directory_kept old mid index (database_under old db) a s l) in
     let word = l.frame.directory in
     let low = directory_some old db index a at in
@@ -101,9 +102,9 @@ still_left old mid new names index h l u name live e locked there = elim (cases_
       let stays : held new name ≡ held mid name = u.others name (λ f. apart (f ∙ l.frame.directory)) in
       elim (cases_eq (times name names) 0) [
         | inl out ↦
-            let is : held mid name ≡ Some live = l.map name ∙ gone_out (held old) names name out ∙ e in
+            let is : held mid name ≡ Some live = kept old mid names name l out ∙ e in
             u.still name live is locked there ∙ l.still name live e locked (ap is_some is)
-        | inr here ↦ absurd (no_chunk (held new name) (stays ∙ l.map name ∙ gone_in (held old) names name (omega arith)) there)
+        | inr here ↦ absurd (no_chunk (held new name) (stays ∙ is_gone old mid names name l (omega arith)) there)
       ]
 ] where
   held_some : (image : List ℕ) (name : ℕ) (live : LiveChunk) → HeapAccepted image → held image name ≡ Some live → 0 < name
@@ -129,7 +130,7 @@ pub deleted : (old mid new : Memory) (db : Db) (index : ℕ) → Accepted old.by
 unfolding store_of
 deleted old mid new db index a has at free l u =
     let one : StoredDatabase = database_under old.bytes db.0 in
-    let s = stood old.bytes db.0 index at in
+    let s = stands old.bytes db.0 index at in
     let left = drop_steps old.bytes new.bytes db index one a refl (drops old.bytes mid.bytes new.bytes index one a s l u) (clears old.bytes mid.bytes new.bytes index one a s l u) in
     record {
       before = a;

@@ -1,6 +1,6 @@
 -- A database that was deleted: its header and what it named are gone, and its slot is listed no longer.
-use Rattle.std.proofs.Common.{◌≡◌, ◌≢◌, ℕ, ◌+◌, ◌*◌, ◌<◌, ◌≤◌, Bool, true, false, List, ◌∷◌, ◌++◌, length, get_or, take, drop, None, refl, sym, ap, ◌∙◌, arith, length-append, length-take, length-drop, inl, inr}
-use Rattle.std.proofs.lemmas.Bool.{cases_eq, eq-eqb, ne_eqb}
+use Rattle.std.proofs.Common.{◌≡◌, ◌≢◌, ℕ, ◌+◌, ◌*◌, ◌<◌, ◌≤◌, Bool, true, false, List, ◌∷◌, ◌++◌, length, take, drop, None, refl, sym, ap, ◌∙◌, arith, length-append, length-take, length-drop, inl, inr}
+use Rattle.std.proofs.lemmas.Bool.{cases_eq}
 use Rattle.std.specs.Prelude.{◌==◌, if◌then◌else◌}
 use Rattle.heap_model.specs.Heap.{directory_of}
 use Rattle.heap_model.specs.Reading.{held}
@@ -8,8 +8,7 @@ use Rattle.heap_model.specs.Lists.{same, times, u32s_in}
 use Rattle.heap_model.specs.Leaving.{Leaves}
 use Rattle.heap_model.specs.Database.{data_in}
 use Rattle.heap_model.specs.Store.{StoredDatabase, owner_under, directory_bytes, listed, databases, Accepted}
-use Rattle.heap_model.specs.StoreSteps.{all_gone}
-use Rattle.heap_laws.proofs.Deciding.{cond-true, cond-false}
+use Rattle.heap_model.specs.StoreWords.{all_gone}
 use Rattle.heap_laws.proofs.Meanings.{held-zero}
 use Rattle.store_laws.specs.Changes.{Drops, Clears}
 use Rattle.store_laws.proofs.Listing.{same-yes, same-no, times-cons}
@@ -19,31 +18,18 @@ use Rattle.store_laws.proofs.Counting.{has_databases, same-is, header_slots, len
 use Rattle.store_laws.proofs.Rewriting.{number_at}
 use Rattle.store_laws.proofs.Keeping.{directory_like}
 use Rattle.store_laws.proofs.Deleting.{u32s_remove}
-use Rattle.store_lookup.proofs.Numbers.{length-listed, length-databases}
+use Rattle.store_lookup.proofs.Numbers.{Stands, length-listed, length-databases}
 use Rattle.store_change.specs.Unlisting.{Unlists}
-use Rattle.store_change.proofs.Maps.{owner_none, owner_alike}
-
--- ---- names that are gone
-
-pub kept : (old mid : List ℕ) (names : List ℕ) (name : ℕ) → Leaves old mid (all_gone (held old) names) → times name names ≡ 0 → held mid name ≡ held old name
-kept old mid names name l none = l.map name ∙ cond-true (times name names == 0) (held old name) None (eq-eqb (times name names) 0 none)
-
-pub is_gone : (old mid : List ℕ) (names : List ℕ) (name : ℕ) → Leaves old mid (all_gone (held old) names) → 0 < times name names → held mid name ≡ None
-is_gone old mid names name l some = l.map name ∙ cond-false (times name names == 0) (held old name) None (ne_eqb (times name names) 0 (λ e. omega arith))
+use Rattle.store_change.proofs.Maps.{kept, is_gone, owner_none, owner_alike}
 
 -- ---- what a database names, by the owners
-
--- one of the databases of an image
-pub record Stands (image : List ℕ) (index : ℕ) (one : StoredDatabase) : Type 0 where
-  pub inside : index < length (databases image)
-  pub is : one ≡ get_or (databases image) index one
 
 -- it names chunks for data alone, each once at most
 pub named_most : (image : List ℕ) (index : ℕ) (one : StoredDatabase) → Accepted image → Stands image index one → (name : ℕ) → 0 < name → times name (data_in one.database) ≤ same (owner_under image name) 15
 named_most image index one a s name some =
     let once = (has_databases image a).named_once name some in
     let out = named-remove name (databases image) index one s.inside in
-    let mine = ap (λ (x : StoredDatabase). times name (data_in x.database)) s.is in
+    let mine = ap (λ (x : StoredDatabase). times name (data_in x.database)) (s.is one) in
     omega arith
 
 pub header_owner : (image : List ℕ) (index : ℕ) (one : StoredDatabase) → Accepted image → Stands image index one → (owner_under image one.db ≡ 0) × (one.db ≢ directory_of image) × (0 < one.db)
@@ -51,7 +37,7 @@ header_owner image index one a s =
     let count = length-numbers (databases image) in
     let inside = s.inside in
     let header = header_slots image (databases image) (has_databases image a) index 0 (omega arith) in
-    let number = number_at (databases image) index one s.inside ∙ sym (ap (λ (x : StoredDatabase). x.db) s.is) in
+    let number = number_at (databases image) index one s.inside ∙ ap (λ (x : StoredDatabase). x.db) (s.is one) in
     let own : owner_under image one.db ≡ 0 = ap (owner_under image) (sym number) ∙ header.owner in
     (own, λ e. header.other (number ∙ e), owned_some image one.db 0 a.heap own (omega arith))
 
@@ -155,7 +141,7 @@ drops old mid new index one a s l u =
       whole = omega (arith, long, front, back, whole, within);
       listed_are = ap u32s_in left ∙ u32s_remove (directory_bytes old) index within;
       inside = s.inside;
-      is = s.is;
+      is = sym (s.is one);
       managers = λ name apart other own. u.others name (λ e. apart (e ∙ word)) ∙ kept old mid (went one) name l (managers_left old index one a s name other own);
       owners = λ name some. (counts old mid new index one a s l u name some).managers;
       balance = λ name some. (counts old mid new index one a s l u name some).«data»;

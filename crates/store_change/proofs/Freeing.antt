@@ -1,10 +1,10 @@
 -- The chunks that a database names: they are for data, each is named once, and all of them are freed.
 use Rattle.std.proofs.Common.{◌≡◌, ◌≢◌, ℕ, suc, ◌+◌, ◌-◌, ◌<◌, ◌≤◌, Bool, true, false, List, [], ◌∷◌, ◌++◌, length, get_or, take, drop, Option, Some, None, refl, sym, ap, subst, ◌∙◌, arith, inl, inr}
-use Rattle.std.proofs.lemmas.Bool.{cases_eq, eq-eqb, ne_eqb}
+use Rattle.std.proofs.lemmas.Bool.{cases_eq}
 use Rattle.std.proofs.lemmas.List.{take-append-drop, take_more, get_or-map, length-map}
 use Rattle.std.proofs.lemmas.List.FromFn.{length-map-range_with_len, get_or-map-range_with_len}
 use Rattle.std.proofs.lemmas.Grind.{get_or_default_zero}
-use Rattle.std.specs.Prelude.{◌==◌, IsSome, Any}
+use Rattle.std.specs.Prelude.{IsSome, Any}
 use Rattle.std.specs.Option.{is_some}
 use Rattle.heap_model.specs.Memory.{Memory}
 use Rattle.heap_model.specs.Bytes.{u32_at}
@@ -17,8 +17,7 @@ use Rattle.heap_model.specs.Lists.{same, times}
 use Rattle.heap_model.specs.Leaving.{Leaves}
 use Rattle.heap_model.specs.Database.{entry_data, data_in, database_in, entry_in, entry_count_in, resources_in, entry_offset, IsSpelled}
 use Rattle.heap_model.specs.Store.{bytes_under, owner_under, database_under, Accepted}
-use Rattle.heap_model.specs.StoreSteps.{all_gone}
-use Rattle.heap_laws.proofs.Deciding.{cond-true, cond-false}
+use Rattle.heap_model.specs.StoreWords.{all_gone}
 use Rattle.heap_laws.proofs.Finding.{callers_some}
 use Rattle.heap_laws.proofs.Meanings.{held-zero}
 use Rattle.store_laws.proofs.Listing.{same-yes, same-no, times-cons, times-append, times-some}
@@ -26,11 +25,11 @@ use Rattle.store_laws.proofs.Owners.{owned_some, directory_owner}
 use Rattle.store_laws.proofs.Keeping.{bytes_like}
 use Rattle.store_laws.proofs.Counting.{same-is, same-least}
 use Rattle.store_laws.proofs.Shapes.{spelled_shape}
-use Rattle.store_lookup.specs.Databases.{HasNumber, IsListedAt}
-use Rattle.store_lookup.proofs.Numbers.{listed_at, number_slot, number_held, length-databases, database_at}
+use Rattle.store_lookup.specs.Databases.{HasNumber}
+use Rattle.store_lookup.proofs.Numbers.{stands, listed_at, number_slot, number_held}
 use Rattle.store_change.specs.Named.{named_under}
-use Rattle.store_change.proofs.Deletion.{Stands, named_most}
-use Rattle.store_change.proofs.Maps.{updated_here, updated_apart, owned}
+use Rattle.store_change.proofs.Deletion.{named_most}
+use Rattle.store_change.proofs.Maps.{updated_here, updated_apart, gone_out, gone_in, kept, is_gone, owned}
 
 -- ---- the slots in the bytes of a database
 
@@ -78,15 +77,8 @@ later_named body index past below =
 
 -- ---- the chunks of a database
 
--- the database of an index
-pub stood : (image : List ℕ) (db index : ℕ) → IsListedAt image db index → Stands image index (database_under image db)
-stood image db index at =
-    let many = length-databases image in
-    let inside = at.inside in
-    record { inside = omega arith; is = sym (database_at image index (database_under image db) at.inside ∙ ap (database_under image) at.there) }
-
 pub named_times : (image : List ℕ) (db name : ℕ) → Accepted image → HasNumber image db → 0 < name → times name (named_under image db) ≤ same (owner_under image name) 15
-named_times image db name a has some = (let at = listed_at image db has in named_most image at.0 (database_under image db) a (stood image db at.0 at.1) name some)
+named_times image db name a has some = (let at = listed_at image db has in named_most image at.0 (database_under image db) a (stands image db at.0 at.1) name some)
 
 pub named_once : (image : List ℕ) (db name : ℕ) → Accepted image → HasNumber image db → 0 < name → times name (named_under image db) ≤ 1
 named_once image db name a has some =
@@ -107,12 +99,6 @@ not_named image db name a has some other =
     omega arith
 
 -- ---- maps without some names
-
-pub gone_out : (chunks : ChunkMap) (names : List ℕ) (name : ℕ) → times name names ≡ 0 → all_gone chunks names name ≡ chunks name
-gone_out chunks names name none = cond-true (times name names == 0) (chunks name) None (eq-eqb (times name names) 0 none)
-
-pub gone_in : (chunks : ChunkMap) (names : List ℕ) (name : ℕ) → 0 < times name names → all_gone chunks names name ≡ None
-gone_in chunks names name some = cond-false (times name names == 0) (chunks name) None (ne_eqb (times name names) 0 (λ e. omega arith))
 
 none_gone : (chunks : ChunkMap) (names : List ℕ) (name : ℕ) → chunks name ≡ None → all_gone chunks names name ≡ None
 none_gone chunks names name none = elim (cases_eq (times name names) 0) [
@@ -160,22 +146,22 @@ freed_more old mid new first second l m = record {
       let both = times-append name first second in
       elim (cases_eq (times name first) 0) [
         | inl out ↦
-            let stays : held mid name ≡ held old name = l.map name ∙ gone_out (held old) first name out in
+            let stays : held mid name ≡ held old name = kept old mid first name l out in
             m.map name ∙ elim (cases_eq (times name second) 0) [
               | inl again ↦ gone_out (held mid) second name again ∙ stays ∙ sym (gone_out (held old) (first ++ second) name (omega arith))
               | inr here ↦ gone_in (held mid) second name (omega arith) ∙ sym (gone_in (held old) (first ++ second) name (omega arith))
             ]
         | inr here ↦
-            let none : held mid name ≡ None = l.map name ∙ gone_in (held old) first name (omega arith) in
+            let none : held mid name ≡ None = is_gone old mid first name l (omega arith) in
             m.map name ∙ none_gone (held mid) second name none ∙ sym (gone_in (held old) (first ++ second) name (omega arith))
       ]);
   frame = record { accepted = m.frame.accepted; len = m.frame.len ∙ l.frame.len; count = m.frame.count ∙ l.frame.count; directory = m.frame.directory ∙ l.frame.directory };
   still = λ name live e locked there. elim (cases_eq (times name first) 0) [
     | inl out ↦
-        let stays : held mid name ≡ Some live = l.map name ∙ gone_out (held old) first name out ∙ e in
+        let stays : held mid name ≡ Some live = kept old mid first name l out ∙ e in
         m.still name live stays locked there ∙ l.still name live e locked (ap is_some stays)
     | inr here ↦
-        let none : held mid name ≡ None = l.map name ∙ gone_in (held old) first name (omega arith) in
+        let none : held mid name ≡ None = is_gone old mid first name l (omega arith) in
         absurd (no_chunk (held new name) (m.map name ∙ none_gone (held mid) second name none) there)
   ];
 }
@@ -203,7 +189,7 @@ pub header_held : (old mid : List ℕ) (db index : ℕ) → Accepted old → Has
 header_held old mid db index a has l =
     let none = number_unnamed old db a has in
     let part = times_take db index (named_under old db) in
-    l.map db ∙ gone_out (held old) (take index (named_under old db)) db (omega arith)
+    kept old mid (take index (named_under old db)) db l (omega arith)
 
 pub header_like : (old mid : List ℕ) (db index : ℕ) → Accepted old → HasNumber old db → Leaves old mid (all_gone (held old) (take index (named_under old db))) → bytes_under mid db ≡ bytes_under old db
 header_like old mid db index a has l = bytes_like old mid db (header_held old mid db index a has l)
@@ -241,7 +227,7 @@ slot_left old mid db index slot a has l at some =
     let both = times-append slot (take index names) (get_or names index 0 ∷ []) in
     let last = times-cons slot (get_or names index 0) [] in
     let yes = same-yes (get_or names index 0) slot (sym at.is) in
-    let stays : held mid slot ≡ held old slot = l.map slot ∙ gone_out (held old) (take index names) slot (omega arith) in
+    let stays : held mid slot ≡ held old slot = kept old mid (take index names) slot l (omega arith) in
     subst (λ (o : Option LiveChunk). IsSome o) (sym stays) (slot_there old db index slot a has at some)
 
 pub slot_other : (old mid : List ℕ) (db index slot : ℕ) → Accepted old → HasNumber old db → directory_of mid ≡ directory_of old → IsNamedAt old db index slot → 0 < slot → slot ≡ directory_of mid → ⊥

@@ -23,7 +23,7 @@ use Rattle.store_laws.proofs.Creating.{managers_loose, made_then_none, slots_mad
 use Rattle.store_laws.proofs.Keeping.{directory_like}
 use Rattle.heap_model.specs.Rooms.{Lowers, Part, makes, growth, Stuck}
 use Rattle.heap_model.specs.DatabaseFields.{header_size}
-use Rattle.heap_model.specs.StoreSteps.{create_parts, create_slots}
+use Rattle.heap_model.specs.DatabaseSteps.{create_parts, create_slots}
 use Rattle.heap_model.specs.Refusals.{FirstBrings}
 use Rattle.heap_model.specs.MemorySteps.{Of, IsLocked, growth_checks}
 use Rattle.heap_model.specs.declared.refusal.Refusal.{Refusal}

@@ -7,8 +7,11 @@ use Rattle.heap_model.specs.Heap.{HeapAccepted}
 use Rattle.heap_model.specs.Meaning.{LiveChunk, ChunkMap}
 use Rattle.heap_model.specs.Reading.{held}
 use Rattle.heap_model.specs.Space.{Still}
+use Rattle.heap_model.specs.Lists.{times}
+use Rattle.heap_model.specs.Leaving.{Leaves}
 use Rattle.heap_model.specs.Maps.{updated}
 use Rattle.heap_model.specs.Store.{bytes_of, owner_of, bytes_under, owner_under}
+use Rattle.heap_model.specs.StoreWords.{all_gone}
 use Rattle.heap_laws.proofs.Deciding.{cond-true, cond-false}
 use Rattle.store_laws.proofs.Owners.{owned_some}
 
@@ -17,6 +20,20 @@ updated_here map name now = cond-true (name == name) now (map name) (eq-eqb name
 
 pub updated_apart : (map : ChunkMap) (name other : ℕ) (now : Option LiveChunk) → other ≢ name → updated map name now other ≡ map other
 updated_apart map name other now ne = cond-false (other == name) now (map other) (ne_eqb other name ne)
+
+-- ---- a map without some names
+
+pub gone_out : (chunks : ChunkMap) (names : List ℕ) (name : ℕ) → times name names ≡ 0 → all_gone chunks names name ≡ chunks name
+gone_out chunks names name none = cond-true (times name names == 0) (chunks name) None (eq-eqb (times name names) 0 none)
+
+pub gone_in : (chunks : ChunkMap) (names : List ℕ) (name : ℕ) → 0 < times name names → all_gone chunks names name ≡ None
+gone_in chunks names name some = cond-false (times name names == 0) (chunks name) None (ne_eqb (times name names) 0 (λ e. omega arith))
+
+pub kept : (old mid : List ℕ) (names : List ℕ) (name : ℕ) → Leaves old mid (all_gone (held old) names) → times name names ≡ 0 → held mid name ≡ held old name
+kept old mid names name l none = l.map name ∙ gone_out (held old) names name none
+
+pub is_gone : (old mid : List ℕ) (names : List ℕ) (name : ℕ) → Leaves old mid (all_gone (held old) names) → 0 < times name names → held mid name ≡ None
+is_gone old mid names name l some = l.map name ∙ gone_in (held old) names name some
 
 -- ---- the chunk of a name
 

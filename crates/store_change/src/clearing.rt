@@ -8,7 +8,7 @@ ghost use Rattle.heap_model.specs.Leaving.{Leaves};
 ghost use Rattle.heap_model.specs.Database.{IsSpelled, database_in, data_in};
 ghost use Rattle.heap_model.specs.MemorySteps.{Of, IsLocked};
 ghost use Rattle.heap_model.specs.Store.{Accepted};
-ghost use Rattle.heap_model.specs.StoreSteps.{all_gone};
+ghost use Rattle.heap_model.specs.StoreWords.{all_gone};
 ghost use Rattle.store_lookup.specs.Databases.{HasNumber};
 ghost use Rattle.store_change.specs.Named.{named_under};
 

@@ -11,7 +11,8 @@ ghost use Rattle.heap_model.specs.Leaving.{Leaves};
 ghost use Rattle.heap_model.specs.MemorySteps.{reply_of};
 ghost use Rattle.heap_model.specs.Rooms.{Stuck};
 ghost use Rattle.heap_model.specs.Store.{Accepted, managers_owner, directory_bytes, owner_under};
-ghost use Rattle.heap_model.specs.StoreSteps.{empty_database, create_parts, create_slots, DoesInStore};
+ghost use Rattle.heap_model.specs.DatabaseSteps.{empty_database, create_parts, create_slots};
+ghost use Rattle.heap_model.specs.StoreSteps.{DoesInStore};
 ghost use Rattle.heap_model.specs.declared.call.Call.{Call};
 ghost use Rattle.heap_model.specs.declared.call.DatabaseCall.{DatabaseCall};
 ghost use Rattle.heap_model.specs.declared.call.Reply.{Reply};
@@ -23,13 +24,10 @@ use byteorder::{BigEndian, ByteOrder};
 use db_format::{DbHeader, HEADER_SIZE, NameField, RESOURCE_DATABASE};
 use heap_model::{Db, DbName, Name, Refusal};
 use mem_manager::Heap;
-use store_lookup::{count_databases, has_other_name};
+use store_lookup::{SLOT_SIZE, count_databases, has_other_name};
 
 /// The owner of the directory and the headers.
 const MANAGERS_OWNER: u8 = 0;
-
-/// What a slot takes in the directory.
-const SLOT_SIZE: u32 = 4;
 
 /// The most databases that there may be.
 const MOST_DATABASES: u32 = 1024;
@@ -38,7 +36,7 @@ const MOST_DATABASES: u32 = 1024;
 fn slot_bytes(slot: Name) -> [u8; 4]
     ensures { result ≡ u32_bytes slot.0 }
 {
-    let mut bytes = [0; SLOT_SIZE as usize];
+    let mut bytes = [0; SLOT_SIZE];
     BigEndian::write_u32(&mut bytes, slot.0);
     bytes
 }
@@ -53,7 +51,7 @@ fn begin_directory(heap: &mut Heap, slot: Name) -> Result<(), Refusal>
     ensures refused { OnErr result (heap.new ≡ heap.old) }
     ensures rest { heap.new ≡ record heap.old { bytes = heap.new.bytes; slid = heap.new.slid } }
 {
-    let directory = heap.sys_new(SLOT_SIZE, MANAGERS_OWNER)?;
+    let directory = heap.sys_new(SLOT_SIZE as u32, MANAGERS_OWNER)?;
     heap.sys_write(directory, 0, &slot_bytes(slot));
     heap.set_directory(directory);
     Ok(())
@@ -72,7 +70,7 @@ fn extend_directory(heap: &mut Heap, slot: Name) -> Result<(), Refusal>
 {
     let directory = heap.directory();
     let length = heap.sys_body(directory).len() as u32;
-    heap.sys_resize(directory, length + SLOT_SIZE)?;
+    heap.sys_resize(directory, length + SLOT_SIZE as u32)?;
     heap.sys_write(directory, length, &slot_bytes(slot));
     Ok(())
 }

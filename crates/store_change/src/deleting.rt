@@ -14,10 +14,7 @@ ghost use Rattle.store_change.specs.Unlisting.{Unlists};
 use crate::clearing::{free_data, has_locked};
 use heap_model::{Db, Name, Refusal};
 use mem_manager::Heap;
-use store_lookup::{check_database, index_of};
-
-/// What a slot takes in the directory.
-const SLOT_SIZE: u32 = 4;
+use store_lookup::{SLOT_SIZE, check_database, index_of};
 
 /// Takes the slot at an index out of the directory: those behind it move to the front.
 fn unlist(heap: &mut Heap, index: u32)
@@ -30,10 +27,10 @@ fn unlist(heap: &mut Heap, index: u32)
 {
     let directory = heap.directory();
     let length = heap.sys_body(directory).len() as u32;
-    let at = SLOT_SIZE * index;
-    let behind = at + SLOT_SIZE;
+    let at = SLOT_SIZE as u32 * index;
+    let behind = at + SLOT_SIZE as u32;
     heap.sys_slide(directory, behind, at, length - behind);
-    match heap.sys_resize(directory, length - SLOT_SIZE) {
+    match heap.sys_resize(directory, length - SLOT_SIZE as u32) {
         Ok(()) => {}
         Err(_) => unreachable!(),
     }

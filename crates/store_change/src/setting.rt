@@ -3,7 +3,8 @@
 ghost use Rattle.std.specs.Prelude.{◌≡◌, OnErr};
 ghost use Rattle.heap_model.specs.MemorySteps.{reply_of};
 ghost use Rattle.heap_model.specs.Store.{Accepted};
-ghost use Rattle.heap_model.specs.StoreSteps.{header_set, DoesInStore};
+ghost use Rattle.heap_model.specs.DatabaseSteps.{header_set};
+ghost use Rattle.heap_model.specs.StoreSteps.{DoesInStore};
 ghost use Rattle.heap_model.specs.declared.call.Call.{Call};
 ghost use Rattle.heap_model.specs.declared.call.DatabaseCall.{DatabaseCall};
 ghost use Rattle.heap_model.specs.declared.call.Reply.{Reply};

@@ -24,7 +24,8 @@ use Rattle.db_format.specs.Headers.{IsWhole}
 use Rattle.store_check.specs.Listing.{listed_at, listed_count, header_at}
 use Rattle.store_check.specs.Faults.{IsBadSlot, HasHeader, IsBadHeader, IsBadEntry, IsShared, IsStray, HasBadId, IsBadId, IsBadName, IsSameName, store_faults, NoneBrought}
 use Rattle.store_check.specs.Naming.{AreNamed}
-use Rattle.store_check.proofs.Indexing.{length-numbered, numbered_at, all_numbered, numbered_all, distinct_numbered, numbered_distinct, ids_index, ids_once, once_ids, index_ids}
+use Rattle.store_laws.proofs.RecordIds.{ids_index, ids_once, once_ids, index_ids}
+use Rattle.store_check.proofs.Indexing.{length-numbered, numbered_at, all_numbered, numbered_all, distinct_numbered, numbered_distinct}
 use Rattle.store_check.proofs.Counting.{data_once, all_listed, not_shared, not_stray}
 
 -- ---- no row, and no number of which its condition holds

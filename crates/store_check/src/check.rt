@@ -10,7 +10,8 @@ ghost use Rattle.master_table.specs.Table.{IsTable};
 ghost use Rattle.store_check.specs.Listing.{IsListing, HaveHeaders};
 ghost use Rattle.store_check.specs.Faults.{store_faults, NoneBrought};
 ghost use Rattle.store_check.specs.Naming.{AreNamed, accounted, AreMarks};
-ghost use Rattle.store_check.specs.Ids.{id_set_size, NoneSeen};
+ghost use Rattle.bit_sets.specs.Sets.{HasNone};
+ghost use Rattle.store_check.specs.Ids.{id_set_size};
 ghost use Rattle.store_check.specs.Checks.{IsFirstOr, IsRefusal, Summarizes, IsAnswered, listed_faults, chunk_faults, marked_faults, own_faults};
 
 use crate::chunks::{find_shared, find_stray};
@@ -203,7 +204,7 @@ fn check_ids_and_names<A: Allowance>(
 /// A set of so many bytes with no ID in it.
 fn set_for<A: Allowance>(memory: &A, size: usize) -> Result<Vec<u8>, AllocError>
     ensures len { IfOk result (λ seen. length seen.items ≡ size) }
-    ensures empty { IfOk result (λ seen. NoneSeen seen.items) }
+    ensures empty { IfOk result (λ seen. HasNone seen.items) }
 {
     empty_set(memory.grant()?, size)
 }
@@ -213,7 +214,7 @@ fn check_with_set(region: &Region, directory: &[u8], seen: &mut [u8]) -> Result<
     requires listing { IsListing region.now.bytes directory.now }
     requires headers { HaveHeaders region.now.bytes }
     requires room { length seen.old ≡ id_set_size }
-    requires empty { NoneSeen seen.old }
+    requires empty { HasNone seen.old }
     ensures fault { IfErr result (FirstBrought (own_faults region.now.bytes)) }
     ensures none { OnOk result (NoneBrought (own_faults region.now.bytes)) }
 {

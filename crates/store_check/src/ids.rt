@@ -1,17 +1,18 @@
 //! The unique IDs of records, each database for itself.
 
-ghost use Rattle.std.specs.Prelude.{◌≡◌, ◌≢◌, ◌<◌, ◌^◌, ◌↔◌, ℕ, Some, false, length, IsTrue, IfOk, IfSome, IfNone};
+ghost use Rattle.std.specs.Prelude.{◌≡◌, ◌<◌, ◌^◌, ℕ, Some, false, length, IfOk, IfSome, IfNone};
 ghost use Rattle.heap_model.specs.Lists.{Least};
 ghost use Rattle.heap_model.specs.Database.{resources_in, entry_count_in};
 ghost use Rattle.heap_check.specs.Faults.{FirstBrought};
+ghost use Rattle.bit_sets.specs.Sets.{HasNone};
 ghost use Rattle.db_format.specs.Headers.{IsWhole};
 ghost use Rattle.store_check.specs.Listing.{IsListing, HaveHeaders};
 ghost use Rattle.store_check.specs.Faults.{id_at, HasBadId, id_faults, NoneBrought};
-ghost use Rattle.store_check.specs.Ids.{id_set_size, HasId, NoneSeen, AddsId, HasIdsWithin};
+ghost use Rattle.store_check.specs.Ids.{id_set_size, HasIdsWithin};
 
 use crate::fault::StoreFault;
 use crate::lookup::header_of;
-use db_format::{RecordEntry, entry_count, has_resources};
+use db_format::{entry_count, has_resources};
 use raw_region::Region;
 use std::alloc::{AllocError, Global};
 
@@ -21,41 +22,10 @@ pub(crate) const ID_SET_SIZE: usize = 2_097_152;
 /// A set of so many bytes with no ID in it. The only error is that memory was refused.
 pub(crate) fn empty_set(alloc: Global, size: usize) -> Result<Vec<u8>, AllocError>
     ensures len { IfOk result (λ seen. length seen.items ≡ size) }
-    ensures empty { IfOk result (λ seen. NoneSeen seen.items) }
+    ensures empty { IfOk result (λ seen. HasNone seen.items) }
 {
     let seen = vec![in alloc; 0u8; size]?;
     Ok(seen)
-}
-
-/// Whether an ID is in the set.
-#[inline]
-fn has_id(seen: &[u8], id: u32) -> bool
-    requires room { length seen.now ≡ id_set_size }
-    requires small { id < 2 ^ 24 }
-    ensures { IsTrue result ↔ HasId seen.now id }
-{
-    seen[(id / 8) as usize] & (1u8 << (id % 8)) != 0
-}
-
-/// Puts an ID into the set.
-#[inline]
-fn add_id(seen: &mut [u8], id: u32)
-    requires room { length seen.old ≡ id_set_size }
-    requires small { id < 2 ^ 24 }
-    ensures { AddsId seen.old seen.new id }
-{
-    seen[(id / 8) as usize] |= 1u8 << (id % 8);
-}
-
-/// Takes an ID out of the set, and with it those that have their bits in the same byte.
-#[inline]
-fn forget_id(seen: &mut [u8], id: u32)
-    requires room { length seen.old ≡ id_set_size }
-    requires small { id < 2 ^ 24 }
-    ensures gone { HasId seen.new id → ⊥ }
-    ensures others { (other : ℕ) → HasId seen.new other → HasId seen.old other }
-{
-    seen[(id / 8) as usize] = 0;
 }
 
 /// The ID of a record.
@@ -67,7 +37,7 @@ fn record_id(header: &[u8], index: u16) -> u32
     ensures is { Some result ≡ id_at header.now index }
     ensures small { result < 2 ^ 24 }
 {
-    RecordEntry::read(header, index).id
+    db_format::record_id(header, index)
 }
 
 /// The first record of a database whose ID is 0 or an earlier one's. Where there is none, the set has
@@ -76,17 +46,17 @@ fn find_bad_id_among(header: &[u8], seen: &mut [u8]) -> Option<u16>
     requires whole { IsWhole header.now }
     requires records { resources_in header.now ≡ false }
     requires room { length seen.old ≡ id_set_size }
-    requires empty { NoneSeen seen.old }
+    requires empty { HasNone seen.old }
     ensures some { IfSome result (Least (HasBadId header.now)) }
     ensures none { IfNone result ((index : ℕ) → HasBadId header.now index → ⊥) }
     ensures within { IfNone result (HasIdsWithin header.now seen.new 0 (entry_count_in header.now)) }
 {
     for index in 0..entry_count(header) {
         let id = record_id(header, index);
-        if id == 0 || has_id(seen, id) {
+        if id == 0 || bit_sets::has(seen, id) {
             return Some(index);
         }
-        add_id(seen, id);
+        bit_sets::add(seen, id);
     }
     None
 }
@@ -97,10 +67,10 @@ fn forget_ids(header: &[u8], seen: &mut [u8])
     requires records { resources_in header.now ≡ false }
     requires room { length seen.old ≡ id_set_size }
     requires within { HasIdsWithin header.now seen.old 0 (entry_count_in header.now) }
-    ensures { NoneSeen seen.new }
+    ensures { HasNone seen.new }
 {
     for index in 0..entry_count(header) {
-        forget_id(seen, record_id(header, index));
+        bit_sets::remove_byte(seen, record_id(header, index));
     }
 }
 
@@ -109,10 +79,10 @@ fn forget_ids(header: &[u8], seen: &mut [u8])
 fn find_bad_id_in(header: &[u8], seen: &mut [u8]) -> Option<u16>
     requires whole { IsWhole header.now }
     requires room { length seen.old ≡ id_set_size }
-    requires empty { NoneSeen seen.old }
+    requires empty { HasNone seen.old }
     ensures some { IfSome result (Least (HasBadId header.now)) }
     ensures none { IfNone result ((index : ℕ) → HasBadId header.now index → ⊥) }
-    ensures empty { IfNone result (NoneSeen seen.new) }
+    ensures empty { IfNone result (HasNone seen.new) }
 {
     if has_resources(header) {
         return None;
@@ -129,7 +99,7 @@ pub(crate) fn find_bad_id(region: &Region, directory: &[u8], seen: &mut [u8]) ->
     requires listing { IsListing region.now.bytes directory.now }
     requires headers { HaveHeaders region.now.bytes }
     requires room { length seen.old ≡ id_set_size }
-    requires empty { NoneSeen seen.old }
+    requires empty { HasNone seen.old }
     ensures some { IfSome result (FirstBrought (id_faults region.now.bytes)) }
     ensures none { IfNone result (NoneBrought (id_faults region.now.bytes)) }
 {

@@ -4,8 +4,8 @@ use raw_region::Region;
 use std::alloc::Global;
 use std::process::Abort;
 use std::test::*;
-use store_check::{StoreFault, StoreSummary, check_store};
-use test_images::{DATABASE, bytes_of, image};
+use store_check::{StoreSummary, check_store};
+use test_images::{DATABASE, image};
 
 /// What the checker finds: the counts of an accepted store, or the text of its first fault.
 fn found(alloc: Global, region: &Region) -> Result<String, Fail> {
@@ -133,29 +133,4 @@ const OF_TWO: [(&str, &str); 10] = [
 #[test]
 fn two_databases_are_checked(rt: HostRuntime) -> Result<(), Fail> {
     check_changed(&rt, TWO_DATABASES, &OF_TWO)
-}
-
-/// Sets a byte, if it lies in the region.
-fn set_byte(region: &mut Region, at: usize, byte: u8) -> Result<(), Fail> {
-    if at >= region.len() {
-        return Err("a byte beyond the end")?;
-    }
-    region.write(at, &[byte]);
-    Ok(())
-}
-
-#[test]
-fn every_byte_is_changed(rt: HostRuntime) -> Result<(), Fail> {
-    let bytes = bytes_of(rt.alloc(), DATABASE)?;
-    let mut region = Region::from_bytes(rt.alloc(), bytes.as_slice())?;
-    for (at, old) in bytes.as_slice().iter().enumerate() {
-        for bits in [0x01u8, 0xFF] {
-            let byte = *old ^ bits;
-            set_byte(&mut region, at, byte)?;
-            let refused = check_store(rt.alloc(), &region).err();
-            assert!(rt; refused != Some(StoreFault::OutOfMemory), "{byte} at {at}");
-        }
-        set_byte(&mut region, at, *old)?;
-    }
-    Ok(())
 }

@@ -8,7 +8,7 @@ use Rattle.heap_model.specs.Heap.{directory_of}
 use Rattle.heap_model.specs.Lists.{same, times, Distinct}
 use Rattle.heap_model.specs.Database.{Database}
 use Rattle.heap_model.specs.Store.{StoredDatabase, owner_under, IsHeaderSlot, numbers_of}
-use Rattle.heap_model.specs.StoreSteps.{with_changed, without_database}
+use Rattle.heap_model.specs.StoreWords.{with_changed, without_database}
 use Rattle.heap_model.specs.Counts.{HasDatabases}
 use Rattle.heap_laws.proofs.Deciding.{cond-true, cond-false, same_some, none_some}
 use Rattle.store_laws.proofs.Listing.{same-yes, same-no, times-cons, times-some, all-times, distinct-times}

@@ -9,6 +9,7 @@ pub mod Edits
 pub mod Bodies
 pub mod Directories
 pub mod Naming
+pub mod RecordIds
 pub mod Owners
 pub mod Counting
 pub mod Deciding
@@ -17,8 +18,12 @@ pub mod Calling
 pub mod Lifting
 pub mod Rewriting
 pub mod Found
+pub mod Entries
+pub mod Numbered
 pub mod Listed
 pub mod Stepping
+pub mod Edited
+pub mod Editing
 pub mod Meaning
 pub mod Telling
 pub mod Parts

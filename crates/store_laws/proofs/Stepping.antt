@@ -1,6 +1,6 @@
 -- Changes of the databases of an image are steps of the store.
 use Rattle.std.proofs.Common.{◌≡◌, ℕ, ◌≤◌, Bool, true, false, Option, Some, None, List, [], ◌∷◌, ◌++◌, get_or, set, refl, sym, ap, subst, ◌∙◌, arith, inl, inr}
-use Rattle.std.proofs.lemmas.Bool.{cases_eq, eq-eqb}
+use Rattle.std.proofs.lemmas.Bool.{cases_eq}
 use Rattle.std.proofs.lemmas.Option.{slice_get_within, get_or_from_slice_get}
 use Rattle.std.specs.Prelude.{◌==◌, if◌then◌else◌, slice_get}
 use Rattle.std.specs.List.{remove}
@@ -12,11 +12,11 @@ use Rattle.heap_model.specs.Lists.{same, times}
 use Rattle.heap_model.specs.Placing.{SameFrame}
 use Rattle.heap_model.specs.Database.{Database, data_in}
 use Rattle.heap_model.specs.Store.{StoredDatabase, owner_of, owner_under, databases, numbers_of, Accepted, store_of}
-use Rattle.heap_model.specs.StoreSteps.{all_gone, with_changed, without_database, with_number, named_in}
-use Rattle.heap_model.specs.StoreSteps as steps
+use Rattle.heap_model.specs.StoreWords.{all_gone, with_changed, without_database, with_number}
+use Rattle.heap_model.specs.DatabaseSteps.{named_in}
+use Rattle.heap_model.specs.DatabaseSteps as steps
 use Rattle.heap_model.specs.declared.names.Db.{Db}
 use Rattle.heap_model.specs.Counts.{HasDatabases}
-use Rattle.heap_laws.proofs.Deciding.{cond-true}
 use Rattle.store_laws.specs.Changes.{Rewrites, Appends, Drops, Clears, HasStore}
 use Rattle.store_laws.proofs.Listing.{same-yes, same-no, distinct-times}
 use Rattle.store_laws.proofs.Owners.{owned_some}
@@ -24,6 +24,7 @@ use Rattle.store_laws.proofs.Counting.{same-is, has_databases, databases_are, nu
 use Rattle.store_laws.proofs.Keeping.{databases_kept}
 use Rattle.store_laws.proofs.Rewriting.{rewritten}
 use Rattle.store_laws.proofs.Listed as listed
+use Rattle.store_laws.proofs.Edited.{hidden}
 use Rattle.store_laws.proofs.Found.{found_here, changed_by_number, without_by_number}
 
 -- an image that has some databases means the store of these, and of what callers may name
@@ -37,17 +38,17 @@ number_once image db a = distinct-times (numbers_of (databases image)) (numbers_
 
 -- ---- one changed
 
-pub set_steps : (old new : List ℕ) (db index : ℕ) (was : StoredDatabase) (change : Database ℕ → Database ℕ) → Accepted old → slice_get (databases old) index ≡ Some was → was.db ≡ db
-    → Rewrites old new (databases old) index (record { db = db; database = change was.database }) → ((name : ℕ) → callers_map new name ≡ callers_map old name)
-    → HasStore new (record (store_of old) { databases = with_changed (store_of old).databases db change })
-unfolding store_of
-set_steps old new db index was change a at number r same =
+-- What callers may name can have changed too.
+pub set_steps : (old new : List ℕ) (db index : ℕ) (was : StoredDatabase) (change : Database ℕ → Database ℕ) (map : ChunkMap) → Accepted old → slice_get (databases old) index ≡ Some was → was.db ≡ db
+    → Rewrites old new (databases old) index (record { db = db; database = change was.database }) → ((name : ℕ) → callers_map new name ≡ map name)
+    → HasStore new (record { map = map; databases = with_changed (databases old) db change })
+set_steps old new db index was change map a at number r same =
     let here = get_or_from_slice_get (databases old) index was was at in
     let changed : with_changed (databases old) db change ≡ set (databases old) index (record { db = db; database = change was.database }) =
     changed_by_number db change (databases old) index was (number_once old db a) (slice_get_within (databases old) index was at) (ap (λ (s : StoredDatabase). s.db) here ∙ number)
     ∙ ap (λ (s : StoredDatabase). set (databases old) index (record { db = db; database = change s.database })) here in
     let has = rewritten old new (databases old) index (record { db = db; database = change was.database }) (has_databases old a) r in
-    has_store new (callers_map old) (with_changed (databases old) db change) (subst (λ (all : List StoredDatabase). HasDatabases new all) (sym changed) has) same
+    has_store new map (with_changed (databases old) db change) (subst (λ (all : List StoredDatabase). HasDatabases new all) (sym changed) has) same
 
 -- ---- one more
 
@@ -57,11 +58,6 @@ unfolding store_of
 create_steps old new one a p same = has_store new (callers_map old) (databases old ++ one ∷ []) (listed.appended old new (databases old) one (has_databases old a) p) same
 
 -- ---- one less
-
--- the manager's chunks are hidden
-hidden : (o : Option LiveChunk) → owner_of o ≡ 0 → not_owned 0 o ≡ None
-hidden None own = refl
-hidden (Some live) own = cond-true (live.owner == 0) None (Some live) (eq-eqb live.owner 0 own)
 
 abbrev if_left : Bool → Option LiveChunk → Option LiveChunk
 if_left left o = if left then o else None

@@ -11,7 +11,7 @@ use Rattle.heap_model.specs.Reading.{held}
 use Rattle.heap_model.specs.Maps.{not_owned, callers_map}
 use Rattle.heap_model.specs.Lists.{same, times}
 use Rattle.heap_model.specs.Store.{StoredDatabase, owner_of, bytes_of, bytes_under, owner_under, directory_bytes, listed, database_under, databases, numbers_of, Accepted, store_of}
-use Rattle.heap_model.specs.StoreSteps.{SameStore}
+use Rattle.heap_model.specs.StoreWords.{SameStore}
 use Rattle.heap_model.specs.Counts.{HasDatabases}
 use Rattle.heap_laws.proofs.Deciding.{cond-false}
 use Rattle.store_laws.proofs.Listing.{same-yes, same-no, contained-times}

@@ -1,14 +1,17 @@
 -- What a call leaves of an image with databases: which chunks of the manager's are as they were, and how
 -- many of the names for data are.
-use Rattle.std.specs.Prelude.{◌≡◌, ◌≢◌, ◌<◌, ◌+◌, ◌%◌, ◌++◌, ◌↔◌, ℕ, List, None, [], ◌∷◌, length, slice_index_or, slice_set}
+use Rattle.std.specs.Prelude.{◌≡◌, ◌≢◌, ◌<◌, ◌+◌, ◌%◌, ◌++◌, ◌↔◌, ℕ, List, Option, Some, None, [], ◌∷◌, length, slice_index_or, slice_set}
 use Rattle.std.specs.List.{remove}
 use Rattle.heap_model.specs.Heap.{HeapAccepted, directory_of}
+use Rattle.heap_model.specs.Meaning.{LiveChunk}
 use Rattle.heap_model.specs.Reading.{held}
+use Rattle.heap_model.specs.Maps.{updated}
 use Rattle.heap_model.specs.Lists.{same, times, Distinct}
-use Rattle.heap_model.specs.Database.{data_in}
-use Rattle.heap_model.specs.Store.{StoredDatabase, Store, managers_owner, data_owner, owner_under, directory_bytes, listed, most_databases, names_of, Accepted, store_of}
-use Rattle.heap_model.specs.StoreSteps.{SameStore, all_gone}
-use Rattle.heap_model.specs.Counts.{IsWhole}
+use Rattle.heap_model.specs.Database.{Database, data_in, spelled}
+use Rattle.heap_model.specs.Store.{StoredDatabase, Store, managers_owner, data_owner, owner_of, owner_under, directory_bytes, listed, most_databases, names_of, Accepted, store_of}
+use Rattle.heap_model.specs.StoreWords.{SameStore, all_gone}
+use Rattle.heap_model.specs.Counts.{IsWhole, IsSound}
+use Rattle.heap_model.specs.Leaving.{Leaves, rewritten, database_here}
 
 -- The new image is an accepted heap. Its directory is the old one's, the manager's chunks are as they
 -- were, and the same names have chunks of the manager's, and the same ones chunks for data. What these
@@ -75,3 +78,16 @@ pub record Clears (old new : List ℕ) (one : StoredDatabase) : Type 0 where
 pub record HasStore (image : List ℕ) (store : Store) : Type 0 where
   pub accepted : Accepted image
   pub same : SameStore (store_of image) store
+
+-- One database became another, of the same name, and one chunk that callers may name, or none where `name` is
+-- 0 and `now` is none, was made, changed or freed. All other chunks are as they were. A name is that of a chunk
+-- for data as often more as the database names it more often.
+pub record Edits (old new : List ℕ) (db : ℕ) (database : Database ℕ) (name : ℕ) (now : Option LiveChunk) : Type 0 where
+  pub leaves : Leaves old new (updated (rewritten (held old) db (spelled database)) name now)
+  pub sound : IsSound database
+  pub same_name : database.header.name ≡ (database_here old db).header.name
+  pub callers : owner_under old name ≢ managers_owner
+  pub callers_now : owner_of now ≢ managers_owner
+  pub locks : (before after : LiveChunk) → held old name ≡ Some before → now ≡ Some after → after.lock ≡ before.lock
+  pub balance : (other : ℕ) → 0 < other
+      → times other (data_in database) + same (owner_under old other) data_owner ≡ times other (data_in (database_here old db)) + same (owner_under new other) data_owner

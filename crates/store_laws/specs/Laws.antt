@@ -1,20 +1,21 @@
 -- What the definitions of databases and stores promise together: the statements of the laws.
-use Rattle.std.specs.Prelude.{◌≡◌, ◌<◌, ◌≤◌, ◌%◌, ◌^◌, ◌++◌, ◌↔◌, ℕ, true, List, [], ◌∷◌, length, slice_get, slice_set, All, Some, None, IsSome, suc, insert, drop, slice_range}
+use Rattle.std.specs.Prelude.{◌≡◌, ◌<◌, ◌≤◌, ◌+◌, ◌⊎◌, ◌%◌, Option, ◌^◌, ◌++◌, ◌↔◌, ℕ, true, List, [], ◌∷◌, length, slice_get, slice_set, All, Some, None, IsSome, suc, insert, drop, slice_range}
 use Rattle.std.specs.List.{flat_map, remove}
 use Rattle.heap_model.specs.Bytes.{u32_bytes, AreBytes, overwritten}
 use Rattle.heap_model.specs.Chunk.{need}
 use Rattle.heap_model.specs.Heap.{HeapAccepted, directory_of}
-use Rattle.heap_model.specs.Meaning.{LiveChunk}
+use Rattle.heap_model.specs.Meaning.{LiveChunk, ChunkMap}
 use Rattle.heap_model.specs.Reading.{held}
-use Rattle.heap_model.specs.Maps.{callers_map}
+use Rattle.heap_model.specs.Maps.{updated, changed_at, made, callers_map}
 use Rattle.heap_model.specs.Placing.{SameFrame}
 use Rattle.heap_model.specs.Space.{rooms, Short, ShortFor}
-use Rattle.heap_model.specs.Lists.{times, u32s_in, Distinct}
+use Rattle.heap_model.specs.Lists.{same, times, u32s_in, moved, Distinct}
 use Rattle.heap_model.specs.DatabaseFields.{header_size}
-use Rattle.heap_model.specs.Database.{Database, Entry, has_resources, header_bytes, entry_bytes, spelled, EntryFits, DatabaseFits, IsSpelled, entry_offset, database_in, HasShape}
+use Rattle.heap_model.specs.Database.{Database, Entry, entry_data, data_in, has_resources, header_bytes, entry_bytes, spelled, EntryFits, DatabaseFits, IsSpelled, entry_offset, database_in, HasShape}
 use Rattle.heap_model.specs.UniqueIds.{greatest_id, IsFresh}
-use Rattle.heap_model.specs.Store.{StoredDatabase, Store, databases, numbers_of, IsHeaderSlot, Accepted, Means, store_of, bytes_under}
-use Rattle.heap_model.specs.Counts.{HasDatabases}
+use Rattle.heap_model.specs.Store.{StoredDatabase, Store, data_owner, owner_of, owner_under, databases, numbers_of, unique_id, unique_ids, IsHeaderSlot, Accepted, Means, store_of, bytes_under}
+use Rattle.heap_model.specs.Counts.{NamesData, HasDatabases, IsSound}
+use Rattle.heap_model.specs.Leaving.{Leaves, rewritten, Respells, database_here, SpellsHere}
 use Rattle.heap_model.specs.Rooms.{Lowers, makes, growth, Stuck}
 use Rattle.heap_model.specs.Memory.{Memory}
 use Rattle.heap_model.specs.MemorySteps.{AsBefore, Does}
@@ -22,9 +23,13 @@ use Rattle.heap_model.specs.declared.names.Db.{Db}
 use Rattle.heap_model.specs.declared.call.MemoryCall.{MemoryCall}
 use Rattle.heap_model.specs.declared.call.Call.TheVariants as calls
 use Rattle.heap_model.specs.declared.call.Reply.{Reply}
-use Rattle.heap_model.specs.StoreSteps.{SameStore, with_number, with_changed, without_database, dropped, StoreAsBefore, DoesInStore}
+use Rattle.heap_model.specs.StoreWords.{SameStore, with_number, with_changed, without_database}
+use Rattle.heap_model.specs.DatabaseSteps.{dropped}
+use Rattle.heap_model.specs.EntrySteps.{most_entries, entry_made, replaced, with_entry_at, raised_header, with_chunks, LeavesStore}
+use Rattle.heap_model.specs.StoreSteps.{StoreAsBefore, DoesInStore}
+use Rattle.store_laws.specs.Entries.{HasNewId, HasOwnId}
 use Rattle.store_laws.specs.StoreTests.{is_store}
-use Rattle.store_laws.specs.Changes.{KeepsManagers, Rewrites, Appends, Drops, Clears, HasStore}
+use Rattle.store_laws.specs.Changes.{KeepsManagers, Rewrites, Appends, Drops, Clears, HasStore, Edits}
 
 -- ---- spellings
 
@@ -58,6 +63,28 @@ EntriesAreMoved =
 -- a header is replaced where its bytes are written over the old ones, and the entries stay
 abbrev pub HeadersAreWritten : Type 0
 HeadersAreWritten = (database other : Database ℕ) → DatabaseFits database → DatabaseFits other → other.entries ≡ database.entries → spelled other ≡ overwritten (spelled database) 0 (header_bytes other)
+
+-- ---- entries
+
+-- A sound database stays sound where an entry is put in that fits, or takes the place of another and keeps its
+-- ID or has one of its own; where an entry is taken out or moved; and where its modification number is raised.
+abbrev pub EditsAreSound : Type 0
+EditsAreSound =
+    ((d : Database ℕ) (index : ℕ) (e : Entry ℕ) → IsSound d → EntryFits (has_resources d.header.attributes) e → NamesData e → HasNewId (unique_ids d) e → index ≤ length d.entries → length d.entries < most_entries → IsSound (with_entry_at index e d))
+    × ((d : Database ℕ) (index : ℕ) (change : Entry ℕ → Entry ℕ) (e : Entry ℕ) → IsSound d → slice_get d.entries index ≡ Some e → EntryFits (has_resources d.header.attributes) (change e) → NamesData (change e)
+    → (unique_id (change e) ≡ unique_id e) ⊎ HasOwnId d.entries index (change e) → IsSound (record d { entries = replaced d.entries index change }))
+    × ((d : Database ℕ) (index : ℕ) → IsSound d → index < length d.entries → IsSound (record d { entries = remove d.entries index }))
+    × ((d : Database ℕ) (from to : ℕ) → IsSound d → from < length d.entries → to ≤ length d.entries → IsSound (record d { entries = moved d.entries from to }))
+    × ((d : Database ℕ) → IsSound d → IsSound (record d { header = raised_header d.header }))
+
+-- what a database names where its entries are so edited: the data of one entry more, another, or one less
+abbrev pub EditsAreCounted : Type 0
+EditsAreCounted =
+    ((q : ℕ) (d : Database ℕ) (index : ℕ) (e : Entry ℕ) → times q (data_in (with_entry_at index e d)) ≡ times q (data_in d) + same (entry_data e) q)
+    × ((q : ℕ) (d : Database ℕ) (index : ℕ) (change : Entry ℕ → Entry ℕ) (e : Entry ℕ) → slice_get d.entries index ≡ Some e
+    → times q (data_in (record d { entries = replaced d.entries index change })) + same (entry_data e) q ≡ times q (data_in d) + same (entry_data (change e)) q)
+    × ((q : ℕ) (d : Database ℕ) (index : ℕ) (e : Entry ℕ) → slice_get d.entries index ≡ Some e → times q (data_in (record d { entries = remove d.entries index })) + same (entry_data e) q ≡ times q (data_in d))
+    × ((q : ℕ) (d : Database ℕ) (from to : ℕ) → from < length d.entries → times q (data_in (record d { entries = moved d.entries from to })) ≡ times q (data_in d))
 
 -- ---- what an image has
 
@@ -158,19 +185,23 @@ NumbersAreKnown =
     → Distinct (numbers_of store.databases)
     × ((db : ℕ) → (IsHeaderSlot image db ↔ IsSome (with_number store db)) × ((IsHeaderSlot image db → ⊥) ↔ (with_number store db ≡ None)))
 
+-- a database of an accepted image is sound, and is spelled under its number
+abbrev pub DatabasesAreSound : Type 0
+DatabasesAreSound = (image : List ℕ) (db : ℕ) → Accepted image → IsSome (with_number (store_of image) db) → IsSound (database_here image db) × SpellsHere image db
+
 -- ---- steps of the store
 
 -- an image that has some databases means the store of these, and of what callers may name
 abbrev pub DatabasesAreStores : Type 0
 DatabasesAreStores = (image : List ℕ) (store : Store) → HasDatabases image store.databases → ((name : ℕ) → callers_map image name ≡ store.map name) → HasStore image store
 
--- an image in which one database was rewritten, and callers may name what they might, means the store with
--- that database changed
+-- an image in which one database was rewritten means the store with that database changed, and with what callers
+-- may name
 abbrev pub SetsAreSteps : Type 0
 SetsAreSteps =
-    (old new : List ℕ) (db index : ℕ) (was : StoredDatabase) (change : Database ℕ → Database ℕ) → Accepted old → slice_get (databases old) index ≡ Some was → was.db ≡ db
-    → Rewrites old new (databases old) index (record { db = db; database = change was.database }) → ((name : ℕ) → callers_map new name ≡ callers_map old name)
-    → HasStore new (record (store_of old) { databases = with_changed (store_of old).databases db change })
+    (old new : List ℕ) (db index : ℕ) (was : StoredDatabase) (change : Database ℕ → Database ℕ) (map : ChunkMap) → Accepted old → slice_get (databases old) index ≡ Some was → was.db ≡ db
+    → Rewrites old new (databases old) index (record { db = db; database = change was.database }) → ((name : ℕ) → callers_map new name ≡ map name)
+    → HasStore new (record { map = map; databases = with_changed (databases old) db change })
 
 -- an image to which a database came, and callers may name what they might, means the store with that one more
 abbrev pub CreatesAreSteps : Type 0
@@ -188,6 +219,40 @@ abbrev pub RefusalsAreSteps : Type 0
 RefusalsAreSteps =
     ((old new : List ℕ) → Accepted old → SameFrame old new → ((name : ℕ) → held new name ≡ held old name) → HasStore new (store_of old))
     × ((old new : Memory) → Accepted old.bytes → SameFrame old.bytes new.bytes → AsBefore old new → Accepted new.bytes × StoreAsBefore old new)
+
+-- an image in which one database and one chunk were edited means the store with these changed
+abbrev pub EditsAreSteps : Type 0
+EditsAreSteps =
+    (old new : List ℕ) (db : Db) (change : Database ℕ → Database ℕ) (name : ℕ) (now : Option LiveChunk) → Accepted old → IsSome (with_number (store_of old) db.0)
+    → Edits old new db.0 (change (database_here old db.0)) name now
+    → LeavesStore old new (record { map = updated (callers_map old) name now; databases = with_changed (databases old) db.0 change })
+
+-- an image to which an entry came that fits, with a new chunk for its data, means the store where it was made
+abbrev pub MakesAreSteps : Type 0
+MakesAreSteps =
+    (old new : List ℕ) (db : Db) (index : ℕ) (e : Entry ℕ) (size : ℕ) → Accepted old → IsSome (with_number (store_of old) db.0)
+    → Leaves old new (made (rewritten (held old) db.0 (spelled (with_entry_at index e (database_here old db.0)))) (entry_data e) size data_owner 0) → held old (entry_data e) ≡ None
+    → EntryFits (has_resources (database_here old db.0).header.attributes) e → NamesData e → HasNewId (unique_ids (database_here old db.0)) e → index ≤ length (database_here old db.0).entries → length (database_here old db.0).entries < most_entries
+    → LeavesStore old new (entry_made (store_of old) db index e size)
+
+-- an image in which one database became another, of the same name and with the same data, means the store with
+-- that one changed
+abbrev pub RespellsAreSteps : Type 0
+RespellsAreSteps =
+    (old new : List ℕ) (db : Db) (change : Database ℕ → Database ℕ) → Accepted old → IsSome (with_number (store_of old) db.0) → Respells old new db.0 (change (database_here old db.0))
+    → IsSound (change (database_here old db.0)) → (change (database_here old db.0)).header.name ≡ (database_here old db.0).header.name
+    → ((q : ℕ) → 0 < q → times q (data_in (change (database_here old db.0))) ≡ times q (data_in (database_here old db.0)))
+    → LeavesStore old new (record (store_of old) { databases = with_changed (store_of old).databases db.0 change })
+
+-- An image in which one chunk for data is other than it was means the store with that chunk, also where it was
+-- changed and keeps its owner and its locks; and one that holds what it held means the store that it meant.
+abbrev pub ChunksAreSteps : Type 0
+ChunksAreSteps =
+    ((old new : List ℕ) (name : ℕ) (now : Option LiveChunk) → Accepted old → Leaves old new (updated (held old) name now) → owner_under old name ≡ data_owner → owner_of now ≡ data_owner
+    → ((before after : LiveChunk) → held old name ≡ Some before → now ≡ Some after → after.lock ≡ before.lock) → LeavesStore old new (with_chunks (store_of old) (updated (callers_map old) name now)))
+    × ((old new : List ℕ) (name : ℕ) (change : LiveChunk → LiveChunk) → ((live : LiveChunk) → (change live).owner ≡ live.owner) → ((live : LiveChunk) → (change live).lock ≡ live.lock) → Accepted old
+    → Leaves old new (changed_at (held old) name change) → owner_under old name ≡ data_owner → LeavesStore old new (with_chunks (store_of old) (changed_at (callers_map old) name change)))
+    × ((old new : List ℕ) → Accepted old → Leaves old new (held old) → LeavesStore old new (store_of old))
 
 -- ---- rooms
 

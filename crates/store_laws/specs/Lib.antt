@@ -1,3 +1,4 @@
 pub mod StoreTests
 pub mod Changes
+pub mod Entries
 pub mod Laws

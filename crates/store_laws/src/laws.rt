@@ -1,6 +1,6 @@
 //! The laws, each as the promise of a function.
 
-ghost use Rattle.store_laws.specs.Laws.{SpellingsAreRead, ShapesAreSpellings, EntriesAreWritten, EntriesAreMoved, HeadersAreWritten, BodiesAreBytes, DirectoriesAreRead, FreshIdsExist, AcceptanceIsCounted, StoresAreDecided, MeansOneStore, StoresTell, StoresAreKept, MemoryCallsKeepStores, MemoryCallsAreStoreSteps, StoresAreRewritten, StoresAreAppended, StoresAreDropped, DatabasesAreFound, DatabasesAreChanged, DatabasesAreTakenOut, NumbersAreKnown, DatabasesAreStores, SetsAreSteps, CreatesAreSteps, DropsAreSteps, RefusalsAreSteps, OnePartIsShort, MadeThenShort};
+ghost use Rattle.store_laws.specs.Laws.{SpellingsAreRead, ShapesAreSpellings, EntriesAreWritten, EntriesAreMoved, HeadersAreWritten, EditsAreSound, EditsAreCounted, BodiesAreBytes, DirectoriesAreRead, FreshIdsExist, AcceptanceIsCounted, StoresAreDecided, MeansOneStore, StoresTell, StoresAreKept, MemoryCallsKeepStores, MemoryCallsAreStoreSteps, StoresAreRewritten, StoresAreAppended, StoresAreDropped, DatabasesAreFound, DatabasesAreChanged, DatabasesAreTakenOut, NumbersAreKnown, DatabasesAreSound, DatabasesAreStores, SetsAreSteps, CreatesAreSteps, DropsAreSteps, RefusalsAreSteps, EditsAreSteps, MakesAreSteps, RespellsAreSteps, ChunksAreSteps, OnePartIsShort, MadeThenShort};
 
 /// The database that is read off bytes is the one that they spell.
 pub fn spellings_are_read()
@@ -25,6 +25,16 @@ pub fn entries_are_moved()
 /// A header is replaced where its bytes are written over the old ones.
 pub fn headers_are_written()
     ensures { HeadersAreWritten }
+{}
+
+/// A database stays sound where its entries are edited by ones that fit.
+pub fn edits_are_sound()
+    ensures { EditsAreSound }
+{}
+
+/// Where entries are edited, a database names what it named but for one entry's data.
+pub fn edits_are_counted()
+    ensures { EditsAreCounted }
 {}
 
 /// What an image of bytes holds under a name are bytes.
@@ -112,6 +122,11 @@ pub fn numbers_are_known()
     ensures { NumbersAreKnown }
 {}
 
+/// A database of an accepted image is sound, and is spelled under its number.
+pub fn databases_are_sound()
+    ensures { DatabasesAreSound }
+{}
+
 /// An image that has some databases means the store of these.
 pub fn databases_are_stores()
     ensures { DatabasesAreStores }
@@ -135,6 +150,26 @@ pub fn drops_are_steps()
 /// An image that holds what it held means the store that it meant.
 pub fn refusals_are_steps()
     ensures { RefusalsAreSteps }
+{}
+
+/// An image in which one database and one chunk were edited means the store with these changed.
+pub fn edits_are_steps()
+    ensures { EditsAreSteps }
+{}
+
+/// An image to which an entry came, with its data, means the store where it was made.
+pub fn makes_are_steps()
+    ensures { MakesAreSteps }
+{}
+
+/// An image in which one database became another, with the same data, means the store with that one changed.
+pub fn respells_are_steps()
+    ensures { RespellsAreSteps }
+{}
+
+/// An image in which one chunk for data is other than it was means the store with that chunk.
+pub fn chunks_are_steps()
+    ensures { ChunksAreSteps }
 {}
 
 /// A call of one part runs out of room exactly where the image is short of that part.

@@ -11,7 +11,9 @@ use Rattle.heap_model.specs.Memory.{Memory}
 use Rattle.heap_model.specs.Database.{DatabaseHeader, Database, header_in, database_in}
 use Rattle.heap_model.specs.Store.{StoredDatabase, bytes_under, listed, database_under, databases, numbers_of, names_of, Accepted, store_of}
 use Rattle.heap_model.specs.Refusals.{FirstBrings}
-use Rattle.heap_model.specs.StoreSteps.{IsTaken, SameStore, StoreStep, may_slide, row_of, info_of, DoesInStore}
+use Rattle.heap_model.specs.StoreWords.{SameStore}
+use Rattle.heap_model.specs.DatabaseSteps.{IsTaken, info_of}
+use Rattle.heap_model.specs.StoreSteps.{StoreStep, may_slide, row_of, DoesInStore}
 use Rattle.heap_model.specs.declared.names.Db.{Db}
 use Rattle.heap_model.specs.declared.database.DbInfo.{DbInfo}
 use Rattle.heap_model.specs.declared.call.DatabaseCall.{DatabaseCall}

@@ -1,78 +1,25 @@
 -- The databases of an accepted image by their numbers: which names of chunks are numbers, and what stands
 -- under one.
-use Rattle.std.proofs.Common.{◌≡◌, ◌≢◌, ℕ, ◌*◌, ◌/◌, ◌<◌, List, [], ◌∷◌, length, map, get_or, Option, Some, None, refl, sym, ap, subst, ◌∙◌, arith, rules, inl, inr}
-use Rattle.std.proofs.lemmas.Bool.{cases_eq, cases_lt, eq-eqb, ne_eqb}
+use Rattle.std.proofs.Common.{◌≡◌, ◌≢◌, ℕ, ◌*◌, ◌/◌, ◌<◌, List, [], length, get_or, None, sym, ap, ◌∙◌, arith, inl, inr}
+use Rattle.std.proofs.lemmas.Bool.{cases_lt}
 use Rattle.std.proofs.lemmas.List.{get_or-map, length-map}
 use Rattle.std.proofs.lemmas.List.FromFn.{length-map-range_with_len, get_or-map-range_with_len}
 use Rattle.std.proofs.lemmas.Grind.{get_or_default_zero}
-use Rattle.std.specs.Prelude.{◌==◌, IsSome}
-use Rattle.std.specs.List.{find}
+use Rattle.std.specs.Prelude.{IsSome}
 use Rattle.heap_model.specs.Bytes.{u32_at}
 use Rattle.heap_model.specs.Heap.{HeapAccepted, directory_of}
-use Rattle.heap_model.specs.Meaning.{LiveChunk}
 use Rattle.heap_model.specs.Reading.{held}
 use Rattle.heap_model.specs.Lists.{times}
-use Rattle.heap_model.specs.Database.{Database, IsSpelled, database_in, HasShape}
-use Rattle.heap_model.specs.Store.{StoredDatabase, managers_owner, bytes_of, owner_of, bytes_under, owner_under, directory_bytes, listed, database_under, databases, IsHeaderSlot, IsDatabase, Accepted, store_of}
-use Rattle.heap_model.specs.StoreSteps.{OfDatabase, with_number, In}
-use Rattle.heap_model.specs.declared.names.Db.{Db}
-use Rattle.heap_laws.proofs.Deciding.{cond-true, cond-false}
+use Rattle.heap_model.specs.Database.{database_in, HasShape}
+use Rattle.heap_model.specs.Store.{StoredDatabase, managers_owner, bytes_of, owner_of, bytes_under, owner_under, directory_bytes, listed, database_under, databases, IsHeaderSlot, Accepted, store_of}
+use Rattle.heap_model.specs.StoreWords.{with_number}
 use Rattle.heap_laws.proofs.Meanings.{held-zero}
-use Rattle.store_laws.proofs.Listing.{times-cons, same-yes, same-no, times-some, times-contained, contained-times, all-times, map-All}
+use Rattle.store_laws.proofs.Listing.{times-some, times-contained, contained-times}
 use Rattle.store_laws.proofs.Shapes.{spelled_shape}
 use Rattle.store_laws.proofs.Owners.{directory_owner}
 use Rattle.store_lookup.specs.Databases.{HasNumber, IsListedAt}
-
--- ---- the database of a number
-
-found_under : (image : List ℕ) (slots : List ℕ) (db : ℕ) → 0 < times db slots → find (λ one. one.db == db) (map (database_under image) slots) ≡ Some (database_under image db)
-found_under image [] db some = absurd (omega arith)
-found_under image (slot ∷ slots) db some = elim (cases_eq slot db) [
-  | inl e ↦ cond-true (slot == db) (Some (database_under image slot)) (find (λ one. one.db == db) (map (database_under image) slots)) (eq-eqb slot db e) ∙ ap (λ (s : ℕ). Some (database_under image s)) e
-  | inr ne ↦
-      let cons = times-cons db slot slots in
-      let no = same-no slot db ne in
-      cond-false (slot == db) (Some (database_under image slot)) (find (λ one. one.db == db) (map (database_under image) slots)) (ne_eqb slot db ne) ∙ found_under image slots db (omega arith)
-]
-
-none_under : (image : List ℕ) (slots : List ℕ) (db : ℕ) → times db slots ≡ 0 → find (λ one. one.db == db) (map (database_under image) slots) ≡ None
-none_under image [] db none = refl
-none_under image (slot ∷ slots) db none =
-    let cons = times-cons db slot slots in
-    elim (cases_eq slot db) [
-      | inl e ↦ let yes = same-yes slot db e in absurd (omega arith)
-      | inr ne ↦
-          let no = same-no slot db ne in
-          cond-false (slot == db) (Some (database_under image slot)) (find (λ one. one.db == db) (map (database_under image) slots)) (ne_eqb slot db ne) ∙ none_under image slots db (omega arith)
-    ]
-
-pub with_number_is : (image : List ℕ) (db : ℕ) → 0 < times db (listed image) → with_number (store_of image) db ≡ Some (database_under image db)
-unfolding store_of databases
-with_number_is image db some = found_under image (listed image) db some
-
-pub with_number_none : (image : List ℕ) (db : ℕ) → times db (listed image) ≡ 0 → with_number (store_of image) db ≡ None
-unfolding store_of databases
-with_number_none image db none = none_under image (listed image) db none
-
-nothing : (x : Option StoredDatabase) → x ≡ None → IsSome x → ⊥
-nothing x e some = let no : IsSome {T = StoredDatabase} None = subst (λ (y : Option StoredDatabase). IsSome y) e some in absurd cc
-
--- a number is listed, and what is listed is a number
-pub number_listed : (image : List ℕ) (db : ℕ) → HasNumber image db → 0 < times db (listed image)
-number_listed image db has = elim (cases_lt 0 (times db (listed image))) [
-  | inl some ↦ some
-  | inr none ↦ absurd (nothing (with_number (store_of image) db) (with_number_none image db (omega arith)) has)
-]
-
-pub listed_number : (image : List ℕ) (db : ℕ) → 0 < times db (listed image) → HasNumber image db
-listed_number image db some = subst (λ (x : Option StoredDatabase). IsSome x) (sym (with_number_is image db some)) (search rules)
-
-pub has_number_is : (image : List ℕ) (db : ℕ) → HasNumber image db → with_number (store_of image) db ≡ Some (database_under image db)
-has_number_is image db has = with_number_is image db (number_listed image db has)
-
--- what holds of the database that is read under a number holds of that of the store
-pub in_store : (image : List ℕ) (db : Db) (P : Database ℕ → Type 0) → HasNumber image db.0 → P (database_in (bytes_under image db.0)) → In (store_of image) db P
-in_store image db P has p = subst (λ (x : Option StoredDatabase). OfDatabase x P) (sym (has_number_is image db.0 has)) p
+-- These laws are those of numbers in an accepted image.
+pub use Rattle.store_laws.proofs.Numbered.{with_number_is, with_number_none, number_listed, listed_number, number_here as has_number_is, in_store, number_slot, owned_there, number_held, number_spelled}
 
 -- what isn't a number is that of no database
 pub no_number : (image : List ℕ) (db : ℕ) → (HasNumber image db → ⊥) → with_number (store_of image) db ≡ None
@@ -83,10 +30,6 @@ no_number image db none = elim (cases_lt 0 (times db (listed image))) [
 
 -- ---- which names are numbers
 
--- the chunk under a number is the manager's, and isn't the directory
-pub number_slot : (image : List ℕ) (db : ℕ) → Accepted image → HasNumber image db → IsHeaderSlot image db
-number_slot image db a has = all-times (IsHeaderSlot image) (listed image) a.headers db (number_listed image db has)
-
 -- such a chunk's name is a number
 pub slot_number : (image : List ℕ) (db : ℕ) → Accepted image → IsHeaderSlot image db → HasNumber image db
 slot_number image db a slot = elim (a.all_listed db slot.owner) [
@@ -94,29 +37,12 @@ slot_number image db a slot = elim (a.all_listed db slot.owner) [
   | inr there ↦ listed_number image db (times-contained db (listed image) there)
 ]
 
-owned_there : (image : List ℕ) (name : ℕ) → owner_under image name ≡ managers_owner → IsSome (held image name)
-unfolding owner_under
-owned_there image name own = by (held image name) own where
-  by : (x : Option LiveChunk) → owner_of x ≡ 0 → IsSome x
-  by None e = absurd (omega arith)
-  by (Some live) e = search rules
-
 -- a name without a chunk has no owner
 pub none_owner : (image : List ℕ) (name : ℕ) → held image name ≡ None → owner_under image name ≢ managers_owner
 unfolding owner_under
 none_owner image name none e = let no = ap owner_of none in omega arith
 
-pub number_held : (image : List ℕ) (db : ℕ) → Accepted image → HasNumber image db → IsSome (held image db)
-number_held image db a has = let slot = number_slot image db a has in owned_there image db slot.owner
-
 -- ---- what stands under a number
-
-pub number_spelled : (image : List ℕ) (db : ℕ) → Accepted image → HasNumber image db → IsSpelled (database_in (bytes_under image db)) (bytes_under image db)
-unfolding databases
-number_spelled image db a has =
-    let each = map-All (IsDatabase image) (database_under image) (listed image) a.each in
-    let one = all-times (λ slot. IsDatabase image (database_under image slot)) (listed image) each db (number_listed image db has) in
-    one.spelled
 
 pub number_shape : (image : List ℕ) (db : ℕ) → Accepted image → HasNumber image db → HasShape (bytes_under image db)
 number_shape image db a has = spelled_shape (database_in (bytes_under image db)) (bytes_under image db) (number_spelled image db a has)
@@ -140,6 +66,17 @@ slot_at image index below =
 pub database_at : (image : List ℕ) (index : ℕ) (d : StoredDatabase) → index < length (listed image) → get_or (databases image) index d ≡ database_under image (get_or (listed image) index 0)
 unfolding databases
 database_at image index d below = get_or-map (database_under image) (listed image) index 0 d below
+
+-- this database is the one at an index
+pub record Stands (image : List ℕ) (index : ℕ) (one : StoredDatabase) : Type 0 where
+  pub inside : index < length (databases image)
+  pub is : (d : StoredDatabase) → get_or (databases image) index d ≡ one
+
+pub stands : (image : List ℕ) (db index : ℕ) → IsListedAt image db index → Stands image index (database_under image db)
+stands image db index at =
+    let many = length-databases image in
+    let inside = at.inside in
+    record { inside = omega arith; is = λ d. database_at image index d inside ∙ ap (database_under image) at.there }
 
 -- what stands at an index is a number
 pub number_at : (image : List ℕ) (index db : ℕ) → index < length (listed image) → db ≡ u32_at (directory_bytes image) (4 * index) → HasNumber image db

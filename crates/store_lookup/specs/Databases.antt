@@ -2,7 +2,7 @@
 use Rattle.std.specs.Prelude.{◌≡◌, ◌<◌, ℕ, List, length, slice_index, IsSome}
 use Rattle.heap_model.specs.Database.{name_in}
 use Rattle.heap_model.specs.Store.{bytes_under, listed, store_of}
-use Rattle.heap_model.specs.StoreSteps.{with_number}
+use Rattle.heap_model.specs.StoreWords.{with_number}
 
 -- a database of the store that the image means has this number
 abbrev pub HasNumber : List ℕ → ℕ → Type 0

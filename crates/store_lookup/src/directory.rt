@@ -1,4 +1,4 @@
-//! The directory: the numbers of the databases, in the order in which they were made.
+//! The directory: the numbers of the databases, in its order.
 
 ghost use Rattle.std.specs.Prelude.{◌≡◌, ◌<◌, ◌≤◌, ◌+◌, ◌*◌, ◌/◌, length};
 ghost use Rattle.heap_model.specs.Bytes.{u32_at};
@@ -15,8 +15,8 @@ use byteorder::{BigEndian, ByteOrder};
 use heap_model::{Db, Refusal};
 use mem_manager::Heap;
 
-/// What a number takes in the directory.
-pub(crate) const SLOT_SIZE: usize = 4;
+/// What a number, the slot of a header, takes in the directory.
+pub const SLOT_SIZE: usize = 4;
 
 /// The bytes of the directory, as they lie in the image. There are none where no database was made yet.
 pub fn directory_bytes(heap: &Heap) -> &[u8]
@@ -53,7 +53,7 @@ pub fn count_databases(heap: &Heap) -> u32
     (directory_bytes(heap).len() / SLOT_SIZE) as u32
 }
 
-/// The database of an index, in the order in which they were made.
+/// The database of an index, in the order of the directory.
 ///
 /// Refused: `NoSuchDatabase`, where there are not so many.
 pub fn nth_database(heap: &Heap, index: u32) -> Result<Db, Refusal>

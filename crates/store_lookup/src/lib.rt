@@ -10,6 +10,6 @@ mod directory;
 mod header;
 mod name;
 
-pub use directory::{count_databases, directory_bytes, index_of, nth_database};
+pub use directory::{SLOT_SIZE, count_databases, directory_bytes, index_of, nth_database};
 pub use header::{check_database, database_info, header_of};
 pub use name::{find_database, has_other_name};

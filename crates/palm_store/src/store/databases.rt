@@ -49,7 +49,7 @@ impl Store {
         find_database(&self.heap, name)
     }
 
-    /// The database of an index, counted from 0 in the order in which they were made.
+    /// The database of an index, counted from 0 in the order of the directory.
     ///
     /// Refused: `NoSuchDatabase`.
     pub fn nth(&self, index: u32) -> Result<Db, Refusal>

@@ -2,7 +2,7 @@
 use Rattle.std.proofs.Common.{◌≡◌, take}
 use Rattle.heap_model.specs.Leaving.{Leaves}
 use Rattle.heap_model.specs.Reading.{held}
-use Rattle.heap_model.specs.StoreSteps.{all_gone}
+use Rattle.heap_model.specs.StoreWords.{all_gone}
 use Rattle.store_change.specs.Named.{named_under}
 use Rattle.store_change.proofs.clearing.free_data.Given as goal
 

@@ -5,7 +5,7 @@ use Rattle.std.proofs.lemmas.List.{length-replicate}
 use Rattle.heap_model.specs.DatabaseFields.{header_size}
 use Rattle.heap_model.specs.Database.{Database, IsDatabaseName, DatabaseFits, header_bytes, spelled}
 use Rattle.heap_model.specs.Store.{listed, most_databases, store_of}
-use Rattle.heap_model.specs.StoreSteps.{IsTaken, empty_database}
+use Rattle.heap_model.specs.DatabaseSteps.{IsTaken, empty_database}
 use Rattle.heap_model.specs.declared.call.DatabaseCall.TheVariants.{Create}
 use Rattle.heap_model.specs.declared.call.Call.TheVariants as calls
 use Rattle.heap_model.specs.declared.call.Reply.TheVariants as replies

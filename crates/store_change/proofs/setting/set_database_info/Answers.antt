@@ -3,7 +3,7 @@ use Rattle.std.proofs.Common.{ℕ, List, sym, subst}
 use Rattle.heap_model.specs.Database.{IsDatabaseName, IsSpelled, database_in}
 use Rattle.heap_model.specs.Bytes.{overwritten}
 use Rattle.heap_model.specs.Store.{store_of}
-use Rattle.heap_model.specs.StoreSteps.{IsTaken}
+use Rattle.heap_model.specs.DatabaseSteps.{IsTaken}
 use Rattle.store_lookup.proofs.Numbers.{number_held}
 use Rattle.store_change.proofs.Infos.{with_info, set_spelled, set_step}
 use Rattle.store_change.proofs.setting.set_database_info.Goals as goal

@@ -1,6 +1,6 @@
 use Rattle.std.proofs.Common.{ℕ, List, ap, ◌∙◌}
 use Rattle.heap_model.specs.Database.{database_in}
-use Rattle.heap_model.specs.StoreSteps.{info_of}
+use Rattle.heap_model.specs.DatabaseSteps.{info_of}
 use Rattle.store_lookup.proofs.Asking.{told}
 use Rattle.store_lookup.proofs.header.database_info.Goals as goal
 

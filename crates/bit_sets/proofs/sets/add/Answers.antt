@@ -1,0 +1,6 @@
+use Rattle.std.proofs.Common.{refl, arith}
+use Rattle.bit_sets.proofs.SetLaws.{number_added}
+use Rattle.bit_sets.proofs.sets.add.Goals as goal
+
+pub returns : goal.returns
+returns c = number_added c.args.set.now _ c.args.number (omega arith) refl

@@ -1,0 +1,22 @@
+-- Sets of numbers, as the bits of a list of bytes: each has the bits of eight numbers, the least in its
+-- lowest bit.
+use Rattle.std.specs.Prelude.{◌≡◌, ◌≢◌, ◌/◌, ◌%◌, ◌↔◌, ℕ, List, slice_index}
+use Rattle.std.specs.Int.{bit_at}
+use Rattle.heap_model.specs.Lists.{Least}
+
+-- the number is in the set
+abbrev pub HasNumber : List ℕ → ℕ → Type 0
+HasNumber set number = bit_at (slice_index set (number / 8)) (number % 8) ≡ 1
+
+-- no number is in the set
+abbrev pub HasNone : List ℕ → Type 0
+HasNone set = (number : ℕ) → HasNumber set number → ⊥
+
+-- a number is put into a set, and each other is in it if it was before
+pub record AddsNumber (old new : List ℕ) (number : ℕ) : Type 0 where
+  pub here : HasNumber new number
+  pub others : (other : ℕ) → other ≢ number → (HasNumber new other ↔ HasNumber old other)
+
+-- this is the least number that isn't in the set
+abbrev pub IsFirstMissing : List ℕ → ℕ → Type 0
+IsFirstMissing set number = Least (λ other. HasNumber set other → ⊥) number

@@ -1,0 +1,46 @@
+//! Numbers put into a set, and asked of it.
+
+ghost use Rattle.std.specs.Prelude.{◌<◌, ◌/◌, ◌^◌, ◌↔◌, ℕ, length, IsTrue};
+ghost use Rattle.bit_sets.specs.Sets.{HasNumber, AddsNumber, IsFirstMissing};
+
+/// Whether a number is in the set.
+#[inline]
+pub fn has(set: &[u8], number: u32) -> bool
+    requires { number / 8 < length set.now }
+    ensures { IsTrue result ↔ HasNumber set.now number }
+{
+    set[(number / 8) as usize] & (1u8 << (number % 8)) != 0
+}
+
+/// Puts a number into the set.
+#[inline]
+pub fn add(set: &mut [u8], number: u32)
+    requires { number / 8 < length set.old }
+    ensures { AddsNumber set.old set.new number }
+{
+    set[(number / 8) as usize] |= 1u8 << (number % 8);
+}
+
+/// Takes a number out of the set, and with it those that have their bits in the same byte.
+#[inline]
+pub fn remove_byte(set: &mut [u8], number: u32)
+    requires { number / 8 < length set.old }
+    ensures gone { HasNumber set.new number → ⊥ }
+    ensures others { (other : ℕ) → HasNumber set.new other → HasNumber set.old other }
+{
+    set[(number / 8) as usize] = 0;
+}
+
+/// The least number that isn't in the set. Where it has all that it has room for, that is the one behind
+/// them.
+pub fn first_missing(set: &[u8]) -> u32
+    requires { length set.now < 2 ^ 28 }
+    ensures { IsFirstMissing set.now result }
+{
+    for index in 0..set.len() {
+        if set[index] != 0xFF {
+            return index as u32 * 8 + set[index].trailing_ones();
+        }
+    }
+    set.len() as u32 * 8
+}

@@ -1,0 +1,206 @@
+//! Each byte of an image with a database, set to each other value.
+
+use heap_model::Counted;
+use palm_script::{Script, parse, run};
+use palm_store::{Store, StoreFault};
+use raw_region::Region;
+use std::alloc::Global;
+use std::process::Abort;
+use std::test::Fail;
+use test_images::{DATABASE, bytes_of};
+
+/// Calls on chunks and databases, each with its reply on the image as it is. They ask of the database and of
+/// its data, change and delete it, and then make another, with chunks of callers beside it.
+const CALLS: [(&str, &str); 45] = [
+    ("find d \"R\"", "ok"),
+    ("nth d 0", "ok"),
+    ("dbcount", "ok 1"),
+    ("dbset d \"S\" 8 1 2 3 4 \"data\" \"Memo\"", "ok"),
+    (
+        "dbinfo d",
+        "ok \"S\" 0008 1 2 3 4 1 \"data\" \"Memo\" 00000002 2",
+    ),
+    ("bind r 24", "ok"),
+    ("size r", "ok 8"),
+    ("owner r", "ok 15"),
+    ("lock r", "ok 1"),
+    ("set r 6 2 7", "ok"),
+    ("read r 0 8", "ok 4141414141410707"),
+    ("unlock r", "ok 0"),
+    // what is left is room for a header of a chunk
+    ("new a 0 1", "ok"),
+    (
+        "create e \"T\" \"DATA\" \"Test\" 0 5",
+        "refused 8 NotEnoughSpace",
+    ),
+    ("free a", "ok"),
+    ("dbdelete d", "ok"),
+    ("largest", "ok 152"),
+    ("new a 3 1", "ok"),
+    ("create e \"T\" \"DATA\" \"Test\" 1 5", "ok"),
+    ("freebytes", "ok 40"),
+    ("new b 10 2", "ok"),
+    ("free a", "ok"),
+    ("compact", "ok"),
+    ("largest", "ok 32"),
+    ("resize b 20", "ok"),
+    ("ptrnew p 8 14", "ok"),
+    ("freebytes", "ok 8"),
+    ("lock b", "ok 1"),
+    ("write b 0 61626364", "ok"),
+    ("strcopy b 4 \"xy\"", "ok"),
+    ("set b 8 2 255", "ok"),
+    ("read b 0 10", "ok 6162636478790000ffff"),
+    ("unlock b", "ok 0"),
+    ("setowner b 3", "ok"),
+    ("owner b", "ok 3"),
+    ("size b", "ok 20"),
+    ("locks p", "ok 15"),
+    ("free p", "ok"),
+    ("freeowner 3", "ok 1"),
+    ("find x \"T\"", "ok"),
+    (
+        "dbinfo x",
+        "ok \"T\" 0001 0 5 5 0 0 \"DATA\" \"Test\" 00000000 0",
+    ),
+    ("dbcount", "ok 1"),
+    ("freebytes", "ok 56"),
+    ("compact", "ok"),
+    ("dbdelete x", "ok"),
+];
+
+/// The calls as a script.
+fn calls(alloc: Global) -> Result<Script, Fail> {
+    let mut text = String::new(alloc);
+    for (line, _) in &CALLS {
+        writeln!(text, "{line}")?;
+    }
+    Ok(parse(alloc, text.as_str().as_bytes())?)
+}
+
+/// The lines of their replies.
+fn replies(alloc: Global) -> Result<String, Fail> {
+    let mut text = String::new(alloc);
+    for (_, reply) in &CALLS {
+        writeln!(text, "{reply}")?;
+    }
+    Ok(text)
+}
+
+/// Runs calls on a store, and answers what they print. What they leave is a store.
+fn run_on(alloc: Global, mut store: Store, calls: &Script) -> Result<Vec<u8>, Fail> {
+    let mut out = Counted::new(Vec::new(alloc));
+    run(alloc, &mut store, calls, &[], &mut out)?;
+    Store::check(alloc, store.into_region())?;
+    Ok(out.into_inner())
+}
+
+/// Whether an image is accepted; calls are run on it then.
+fn takes(alloc: Global, image: &[u8], calls: &Script) -> Result<bool, Fail> {
+    match Store::check(alloc, Region::from_bytes(alloc, image)?) {
+        Ok(store) => {
+            run_on(alloc, store, calls)?;
+            Ok(true)
+        }
+        Err(refused) if refused.fault == StoreFault::OutOfMemory => Err("no memory")?,
+        Err(_refused) => Ok(false),
+    }
+}
+
+#[test]
+fn calls_are_answered_on_the_image_as_it_is(rt: HostRuntime) -> Result<(), Fail> {
+    let calls = calls(rt.alloc())?;
+    let image = bytes_of(rt.alloc(), DATABASE)?;
+    let store = Store::check(
+        rt.alloc(),
+        Region::from_bytes(rt.alloc(), image.as_slice())?,
+    )?;
+    let said = String::from_utf8(run_on(rt.alloc(), store, &calls)?)?;
+    assert_eq!(rt; said.as_str(), replies(rt.alloc())?.as_str());
+    Ok(())
+}
+
+/// Ranges of bytes, and with how many values of each byte of a range the image is accepted, by what
+/// docs/FORMAT.md says of these bytes. Every other byte has one.
+const VALUES: [(usize, usize, usize); 22] = [
+    // 8 slots or 7, where the place of the eighth has the zeros behind them
+    (9, 10, 2),
+    // what is behind the number in the directory
+    (60, 64, 256),
+    // the name, of one character or two
+    (72, 73, 255),
+    (73, 74, 256),
+    // attributes, but the bit of resources
+    (104, 105, 256),
+    (105, 106, 128),
+    // version, dates, modification number; type, creator, seed
+    (106, 124, 256),
+    (132, 144, 256),
+    // of each record the attributes and the ID, which is not 0 nor that of the other
+    (154, 157, 256),
+    (157, 158, 254),
+    (162, 165, 256),
+    (165, 166, 254),
+    // what is behind the last one
+    (166, 168, 256),
+    // of the chunks with their data the length, the locks and the bytes
+    (168, 169, 8),
+    (172, 173, 15),
+    (176, 184, 256),
+    (184, 185, 8),
+    // the second chunk goes up to the free one, or has it too
+    (187, 188, 2),
+    (188, 189, 15),
+    (192, 200, 256),
+    // of the free chunk all but that it is free, and its size
+    (200, 201, 128),
+    (204, 208, 256),
+];
+
+/// With how many values of this byte the image is to be accepted.
+fn wanted_at(at: usize) -> usize {
+    for (from, to, count) in &VALUES {
+        if *from <= at && at < *to {
+            return *count;
+        }
+    }
+    1
+}
+
+/// An image in which this byte has a value.
+fn with_byte(alloc: Global, image: &[u8], at: usize, value: u8) -> Result<Vec<u8>, Fail> {
+    let mut changed = Vec::from_slice(alloc, image)?;
+    match changed.get_mut(at) {
+        Some(byte) => *byte = value,
+        None => return Err("a byte beyond the end")?,
+    }
+    Ok(changed)
+}
+
+/// The values of this byte with which an image is accepted; calls are run on each.
+fn taken_at(alloc: Global, image: &[u8], at: usize, calls: &Script) -> Result<Vec<u8>, Fail> {
+    let mut taken = Vec::new(alloc);
+    for value in 0..=255 {
+        let changed = with_byte(alloc, image, at, value)?;
+        if takes(alloc, changed.as_slice(), calls)? {
+            taken.push(value)?;
+        }
+    }
+    Ok(taken)
+}
+
+/// Sets some bytes of the image to each value.
+fn check_bytes(rt: &(impl Abort + AllocGlobal), from: usize, to: usize) -> Result<(), Fail> {
+    let image = bytes_of(rt.alloc(), DATABASE)?;
+    let calls = calls(rt.alloc())?;
+    for at in from..to {
+        let taken = taken_at(rt.alloc(), image.as_slice(), at, &calls)?;
+        assert_eq!(rt; taken.len(), wanted_at(at), "byte {at}: {taken:?}");
+    }
+    Ok(())
+}
+
+#[test]
+fn every_byte_has_every_value(rt: HostRuntime) -> Result<(), Fail> {
+    check_bytes(&rt, 0, 208)
+}

@@ -1,0 +1,8 @@
+//! Tests of damaged images: each byte of an image set to each other value, and calls on those that are
+//! accepted still.
+//!
+//! This crate has no code but its tests.
+#![tactic(auto)]
+
+#[cfg(test)]
+mod bytes;

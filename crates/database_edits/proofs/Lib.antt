@@ -1,0 +1,9 @@
+pub mod Chunks
+pub mod Databases
+pub mod Entries
+pub mod Growing
+pub mod Closing
+pub mod Opening
+pub mod Crossing
+pub mod Crossed
+pub mod Pieces

@@ -1,0 +1,23 @@
+-- The range is that of the entries.
+use Rattle.std.proofs.Common.{◌+◌, ◌-◌}
+use Rattle.std.specs.Prelude.{slice_range}
+use Rattle.heap_model.specs.Database.{entry_offset}
+use Rattle.heap_model.specs.Store.{bytes_under}
+use Rattle.database_edits.proofs.Chunks.{is_there, written, length_kept}
+use Rattle.database_edits.proofs.Entries.{offset_order, slid_range, slice_most, slide_fits}
+use Rattle.database_edits.proofs.bodies.slide_entries.Goals as goal
+
+pub sys_slide-requires-clause-there : goal.sys_slide-requires-clause-there
+sys_slide-requires-clause-there c = is_there c.args.heap.now.bytes c.args.db.0 c.requires.managers
+
+pub returns-clause-slides : goal.returns-clause-slides
+returns-clause-slides c =
+    let order = offset_order c.args.resources c.args.first c.args.end c.requires.order in
+    slid_range c.args.heap.now.bytes c.sys_slide.new.self.bytes c.args.db.0 c.entry_offset-from.result (entry_offset c.args.resources c.args.first) c.entry_offset.result (entry_offset c.args.resources c.args.end) c.entry_offset-2.result (entry_offset c.args.resources c.args.to) order
+    c.entry_offset-from.ensures c.entry_offset.ensures c.entry_offset-2.ensures
+    (written c.args.heap.now.bytes c.sys_slide.new.self.bytes c.args.db.0 c.entry_offset-2.result (slice_range (bytes_under c.args.heap.now.bytes c.args.db.0) c.entry_offset-from.result (c.entry_offset-from.result + (c.entry_offset.result - c.entry_offset-from.result))) c.requires.managers c.sys_slide.ensures.leaves)
+
+pub returns-clause-len : goal.returns-clause-len
+returns-clause-len c = length_kept c.args.heap.now.bytes c.sys_slide.new.self.bytes c.args.db.0 (entry_offset c.args.resources c.args.to) (entry_offset c.args.resources c.args.end - entry_offset c.args.resources c.args.first)
+    (slice_range (bytes_under c.args.heap.now.bytes c.args.db.0) (entry_offset c.args.resources c.args.first) (entry_offset c.args.resources c.args.end)) (slice_most (bytes_under c.args.heap.now.bytes c.args.db.0) (entry_offset c.args.resources c.args.first) (entry_offset c.args.resources c.args.end))
+    (slide_fits c.args.resources c.args.first c.args.end c.args.to (bytes_under c.args.heap.now.bytes c.args.db.0) c.requires.order c.requires.to_inside) (returns-clause-slides c)

@@ -1,0 +1,20 @@
+//! The chunk of one database, whose bytes spell it: its entries changed, put in, taken out and moved, and
+//! its modification number raised.
+//!
+//! Each function takes a heap in which a chunk spells a database (`SpellsHere`), whatever else of the store
+//! is on its way, and promises which database it spells afterwards, and that all other chunks are as they
+//! were. What the entries name isn't looked at.
+#![tactic(auto)]
+
+mod bodies;
+mod inserting;
+mod moving;
+mod raising;
+mod removing;
+mod writing;
+
+pub use inserting::insert_entry;
+pub use moving::move_entry;
+pub use raising::raise_modification;
+pub use removing::remove_entry;
+pub use writing::write_entry;

@@ -1,0 +1,53 @@
+//! An entry moved.
+
+ghost use Rattle.std.specs.Prelude.{◌≡◌, ◌<◌, ◌≤◌, ◌+◌, length};
+ghost use Rattle.heap_model.specs.Lists.{moved};
+ghost use Rattle.heap_model.specs.Leaving.{SpellsHere, Respells, database_here};
+
+use crate::bodies::{entry_here, put_entry, resources_here, slide_entries};
+use heap_model::Db;
+use mem_manager::Heap;
+
+/// Moves the entry at an index in front of the one that stands at another, or behind the last: `to` counts
+/// the entries as they stand before.
+pub fn move_entry(heap: &mut Heap, db: Db, from: u16, to: u16)
+    requires spells { SpellsHere heap.old.bytes db.0 }
+    requires from_inside { from < length (database_here heap.old.bytes db.0).entries }
+    requires to_inside { to ≤ length (database_here heap.old.bytes db.0).entries }
+    ensures respells { Respells heap.old.bytes heap.new.bytes db.0 (record (database_here heap.old.bytes db.0) { entries = moved (database_here heap.old.bytes db.0).entries from to }) }
+    ensures rest { heap.new ≡ record heap.old { bytes = heap.new.bytes; slid = heap.new.slid } }
+{
+    if to < from {
+        move_to_front(heap, db, from, to);
+    } else if from + 1 < to {
+        move_to_back(heap, db, from, to);
+    }
+}
+
+/// Moves an entry to the front: those in front of it down to the index move up by one.
+fn move_to_front(heap: &mut Heap, db: Db, from: u16, to: u16)
+    requires spells { SpellsHere heap.old.bytes db.0 }
+    requires inside { from < length (database_here heap.old.bytes db.0).entries }
+    requires front { to < from }
+    ensures respells { Respells heap.old.bytes heap.new.bytes db.0 (record (database_here heap.old.bytes db.0) { entries = moved (database_here heap.old.bytes db.0).entries from to }) }
+    ensures rest { heap.new ≡ record heap.old { bytes = heap.new.bytes; slid = heap.new.slid } }
+{
+    let resources = resources_here(heap, db);
+    let entry = entry_here(heap, db, from);
+    slide_entries(heap, db, to, from, to + 1, resources);
+    put_entry(heap, db, to, entry, resources);
+}
+
+/// Moves an entry to the back, in front of the one at the index: those between them move down by one.
+fn move_to_back(heap: &mut Heap, db: Db, from: u16, to: u16)
+    requires spells { SpellsHere heap.old.bytes db.0 }
+    requires inside { to ≤ length (database_here heap.old.bytes db.0).entries }
+    requires back { from + 1 < to }
+    ensures respells { Respells heap.old.bytes heap.new.bytes db.0 (record (database_here heap.old.bytes db.0) { entries = moved (database_here heap.old.bytes db.0).entries from to }) }
+    ensures rest { heap.new ≡ record heap.old { bytes = heap.new.bytes; slid = heap.new.slid } }
+{
+    let resources = resources_here(heap, db);
+    let entry = entry_here(heap, db, from);
+    slide_entries(heap, db, from + 1, to, from, resources);
+    put_entry(heap, db, to - 1, entry, resources);
+}

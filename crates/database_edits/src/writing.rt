@@ -1,0 +1,25 @@
+//! An entry written in place of another.
+
+ghost use Rattle.std.specs.Prelude.{◌≡◌, ◌<◌, length};
+ghost use Rattle.heap_model.specs.Database.{has_resources};
+ghost use Rattle.heap_model.specs.Leaving.{SpellsHere, Respells, database_here};
+ghost use Rattle.db_format.specs.EitherEntry.{entry_of, is_resource, HasFittingId};
+ghost use Rattle.db_format.specs.Entries.{with_entry};
+
+use crate::bodies::{put_entry, resources_here};
+use db_format::DbEntry;
+use heap_model::Db;
+use mem_manager::Heap;
+
+/// Writes an entry in place of the one at an index.
+pub fn write_entry(heap: &mut Heap, db: Db, index: u16, entry: DbEntry)
+    requires spells { SpellsHere heap.old.bytes db.0 }
+    requires inside { index < length (database_here heap.old.bytes db.0).entries }
+    requires kind { is_resource entry ≡ has_resources (database_here heap.old.bytes db.0).header.attributes }
+    requires id { HasFittingId entry }
+    ensures respells { Respells heap.old.bytes heap.new.bytes db.0 (with_entry (database_here heap.old.bytes db.0) index (entry_of entry)) }
+    ensures rest { heap.new ≡ record heap.old { bytes = heap.new.bytes } }
+{
+    let resources = resources_here(heap, db);
+    put_entry(heap, db, index, entry, resources);
+}

@@ -1,0 +1,24 @@
+-- How far behind a seed the IDs of records are, and the first one that is free.
+use Rattle.std.specs.Prelude.{◌≡◌, ◌<◌, ◌*◌, ◌↔◌, ℕ, List, length, Some}
+use Rattle.heap_model.specs.Lists.{Least, times}
+use Rattle.heap_model.specs.Database.{entry_in, database_in}
+use Rattle.heap_model.specs.Store.{unique_id, unique_ids}
+use Rattle.heap_model.specs.UniqueIds.{id_behind}
+use Rattle.bit_sets.specs.Sets.{HasNumber}
+
+-- one of the records in front of an index has the ID so many steps behind the seed
+abbrev pub IsTakenBefore : List ℕ → ℕ → ℕ → ℕ → Type 0
+IsTakenBefore body seed index steps = (earlier : ℕ) × (earlier < index) × (unique_id (entry_in body earlier) ≡ Some (id_behind seed steps))
+
+-- The set has the steps from the seed to the IDs of the records in front of an index, where it has room
+-- for them, and no others.
+pub record HasTaken (body : List ℕ) (seed : ℕ) (taken : List ℕ) (index : ℕ) : Type 0 where
+  pub are : (steps : ℕ) → steps < 8 * length taken → (HasNumber taken steps ↔ IsTakenBefore body seed index steps)
+
+-- no record has the ID so many steps behind the seed
+abbrev pub IsFree : List ℕ → ℕ → ℕ → Type 0
+IsFree body seed steps = times (id_behind seed steps) (unique_ids (database_in body)) ≡ 0
+
+-- so many steps behind the seed is the first ID that no record has
+abbrev pub IsFirstFree : List ℕ → ℕ → ℕ → Type 0
+IsFirstFree body seed steps = Least (IsFree body seed) steps

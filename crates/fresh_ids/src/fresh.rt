@@ -1,0 +1,124 @@
+//! The first unique ID behind a seed that no record has.
+
+ghost use Rattle.std.specs.Prelude.{◌≡◌, ◌<◌, ◌≤◌, false, length, IfSome};
+ghost use Rattle.heap_model.specs.Database.{IsSpelled, database_in, resources_in, entry_count_in};
+ghost use Rattle.heap_model.specs.Store.{unique_ids};
+ghost use Rattle.heap_model.specs.UniqueIds.{IsFresh, greatest_id, seed_in};
+ghost use Rattle.heap_model.specs.UniqueIds as ids;
+ghost use Rattle.bit_sets.specs.Sets.{HasNone};
+ghost use Rattle.db_format.specs.Headers.{IsWhole};
+ghost use Rattle.fresh_ids.specs.Steps.{HasTaken, IsFirstFree};
+
+use db_format::{entry_count, record_id};
+
+/// The greatest unique ID, which 1 follows.
+const GREATEST_ID: u32 = 0xFF_FFFF;
+
+/// How many bytes have the bits of the IDs that are looked at first, those near the seed.
+const FEW: usize = 128;
+
+/// How many bytes have a bit for each record, and one more.
+const MANY: usize = 8192;
+
+/// How many IDs stand between a seed and an ID behind it, where 1 follows the greatest.
+#[inline]
+#[tactic(auto, using(store_laws::proofs::Fresh::id_behind_is))]
+fn steps_to(seed: u32, id: u32) -> u32
+    requires seed { seed ≤ greatest_id }
+    requires some { 0 < id }
+    requires most { id ≤ greatest_id }
+    ensures is { ids.id_behind seed result ≡ id }
+    ensures below { result < greatest_id }
+{
+    if id > seed {
+        id - seed - 1
+    } else {
+        GREATEST_ID - seed + id - 1
+    }
+}
+
+/// The ID behind a seed with so many others between them.
+#[tactic(auto, using(store_laws::proofs::Fresh::id_behind_is))]
+fn id_behind(seed: u32, steps: u32) -> u32
+    requires seed { seed ≤ greatest_id }
+    requires steps { steps < greatest_id }
+    ensures { result ≡ ids.id_behind seed steps }
+{
+    let last = seed + steps;
+    if last < GREATEST_ID {
+        last + 1
+    } else {
+        last - GREATEST_ID + 1
+    }
+}
+
+/// Puts the steps from the seed to the records' IDs into an empty set, as far as it has room.
+fn put_taken(body: &[u8], seed: u32, taken: &mut [u8])
+    requires whole { IsWhole body.now }
+    requires records { resources_in body.now ≡ false }
+    requires seed { seed ≤ greatest_id }
+    requires room { length taken.old ≤ 8192 }
+    requires empty { HasNone taken.old }
+    ensures { HasTaken body.now seed taken.new (entry_count_in body.now) }
+{
+    let room = 8 * taken.len() as u32;
+    for index in 0..entry_count(body) {
+        let id = record_id(body, index);
+        if id != 0 {
+            let steps = steps_to(seed, id);
+            if steps < room {
+                bit_sets::add(taken, steps);
+            }
+        }
+    }
+}
+
+/// The steps to the first free ID, if that is near the seed.
+fn first_near(body: &[u8], seed: u32) -> Option<u32>
+    requires whole { IsWhole body.now }
+    requires records { resources_in body.now ≡ false }
+    requires seed { seed ≤ greatest_id }
+    ensures below { IfSome result (λ steps. steps < greatest_id) }
+    ensures first { IfSome result (IsFirstFree body.now seed) }
+{
+    let mut taken = [0; FEW];
+    put_taken(body, seed, &mut taken);
+    let steps = bit_sets::first_missing(&taken);
+    if steps < 8 * FEW as u32 {
+        Some(steps)
+    } else {
+        None
+    }
+}
+
+/// The steps to the first free ID. One pass over the records, with a bit for each step that they can need.
+fn first_free(body: &[u8], seed: u32) -> u32
+    requires whole { IsWhole body.now }
+    requires records { resources_in body.now ≡ false }
+    requires seed { seed ≤ greatest_id }
+    requires few { entry_count_in body.now < 65535 }
+    ensures below { result < greatest_id }
+    ensures first { IsFirstFree body.now seed result }
+{
+    let mut taken = [0; MANY];
+    put_taken(body, seed, &mut taken);
+    bit_sets::first_missing(&taken)
+}
+
+/// The ID for a new record of the database that these bytes spell: the first behind its seed that none of
+/// its records has. One pass over the entries, or two where those near the seed are all taken.
+pub fn fresh_id(body: &[u8]) -> u32
+    requires spelled { IsSpelled (database_in body.now) body.now }
+    requires records { resources_in body.now ≡ false }
+    requires few { entry_count_in body.now < 65535 }
+    ensures fresh { IsFresh (unique_ids (database_in body.now)) (seed_in (database_in body.now).header.seed) result }
+    ensures some { 0 < result }
+    ensures most { result ≤ greatest_id }
+{
+    let seed = db_format::seed(body) & GREATEST_ID;
+    let steps = match first_near(body, seed) {
+        Some(steps) => steps,
+        None => first_free(body, seed),
+    };
+    id_behind(seed, steps)
+}

@@ -1,0 +1,9 @@
+//! The unique ID of a new record.
+//!
+//! IDs follow the seed of a database, and 1 follows the greatest one. A new record gets the first that no
+//! record of the database has (this project's own rule).
+#![tactic(auto)]
+
+mod fresh;
+
+pub use fresh::fresh_id;

@@ -1,0 +1,179 @@
+-- What each call on databases as a whole refuses, answers and does: one row a call.
+use Rattle.std.specs.Prelude.{◌≡◌, ◌≢◌, ◌≤◌, ◌+◌, ◌*◌, ◌/◌, ◌%◌, ◌++◌, ◌==◌, if◌then◌else◌, ℕ, Bool, true, false, List, [], ◌∷◌, length, slice_get, Option, Some, None, All}
+use Rattle.std.specs.List.{Any}
+use Rattle.heap_model.specs.Memory.{Memory}
+use Rattle.heap_model.specs.Heap.{directory_of}
+use Rattle.heap_model.specs.Reading.{held}
+use Rattle.heap_model.specs.DatabaseFields.{header_size}
+use Rattle.heap_model.specs.Database.{DatabaseHeader, Database, data_in, IsDatabaseName}
+use Rattle.heap_model.specs.Store.{StoredDatabase, Store, directory_bytes, numbers_of, names_of, most_databases}
+use Rattle.heap_model.specs.Rooms.{Part, making, growth}
+use Rattle.heap_model.specs.Refusals.{Check, ◌brings◌}
+use Rattle.heap_model.specs.Steps.{Row, done, number}
+use Rattle.heap_model.specs.MemorySteps.{Of, IsLocked}
+use Rattle.heap_model.specs.StoreWords.{with_changed, without_database, all_gone, with_number, In, no_database, may_run_out, becomes, becomes_with, stays, next_modification}
+use Rattle.heap_model.specs.declared.names.Db.{Db}
+use Rattle.heap_model.specs.declared.database.DbInfo.{DbInfo}
+use Rattle.heap_model.specs.declared.call.DatabaseCall.{DatabaseCall}
+use Rattle.heap_model.specs.declared.call.DatabaseCall.TheVariants.{Create, Delete, Find, Nth, Count, Info, SetInfo}
+use Rattle.heap_model.specs.declared.call.Reply.{Reply}
+use Rattle.heap_model.specs.declared.call.Reply.TheVariants as replies
+use Rattle.heap_model.specs.declared.refusal.Refusal.TheVariants.{ChunkLocked, NoSuchDatabase, TooManyEntries, AlreadyExists, InvalidName}
+
+-- ---- words of the rows
+
+-- a database of another number has this name; no database has the number 0
+abbrev pub IsTaken : Store → ℕ → List ℕ → Type 0
+IsTaken store db name = Any (λ one. (one.db ≢ db) × (one.database.header.name ≡ name)) store.databases
+
+-- a chunk that the database names has a lock
+abbrev pub locked_data : Store → Db → Check
+locked_data store db = In store db (λ database. Any (λ name. Of (store.map name) IsLocked) (data_in database)) brings ChunkLocked
+
+abbrev pub no_name : List ℕ → Check
+no_name name = (IsDatabaseName name → ⊥) brings InvalidName
+
+abbrev pub taken : Store → ℕ → List ℕ → Check
+taken store db name = IsTaken store db name brings AlreadyExists
+
+-- ---- words of the answers
+
+abbrev pub a_database : (Db → Type 0) → Reply → Memory → Type 0
+a_database P (replies.Database db) new = P db
+a_database P reply new = ⊥
+
+abbrev pub an_info : (DbInfo → Type 0) → Reply → Memory → Type 0
+an_info P (replies.Info info) new = P info
+an_info P reply new = ⊥
+
+-- what a header and the number of its entries say
+abbrev pub info_of : Database ℕ → DbInfo
+info_of database = record {
+  name = database.header.name;
+  attributes = database.header.attributes;
+  version = database.header.version;
+  creation_date = database.header.creation_date;
+  modification_date = database.header.modification_date;
+  backup_date = database.header.backup_date;
+  modification_number = database.header.modification_number;
+  kind = database.header.kind;
+  creator = database.header.creator;
+  seed = database.header.seed;
+  entry_count = length database.entries;
+}
+
+-- ---- databases made and changed
+
+-- a database without entries, of resources or of records
+abbrev pub empty_database : List ℕ → ℕ → ℕ → Bool → ℕ → Database ℕ
+empty_database name kind creator resources date = record {
+  header = record {
+    name = name;
+    attributes = if resources then 1 else 0;
+    version = 0;
+    creation_date = date;
+    modification_date = date;
+    backup_date = 0;
+    modification_number = 0;
+    kind = kind;
+    creator = creator;
+    seed = 0;
+  };
+  app_info = 0;
+  sort_info = 0;
+  entries = [];
+}
+
+-- what it takes: a header, and a directory with one slot more, which is made where there is none
+abbrev pub create_parts : List ℕ → List Part
+create_parts image =
+    if directory_of image == 0
+    then (making header_size ∷ making 4 ∷ [])
+    else (making header_size ∷ growth image (directory_of image) (length (directory_bytes image) + 4) ∷ [])
+
+-- how many slots it takes
+abbrev pub create_slots : List ℕ → ℕ
+create_slots image = if directory_of image == 0 then 2 else 1
+
+-- a header with what is given of another: its attributes but the lowest bit, which says whether there are
+-- resources, and not its modification number, which counts the call, nor its seed
+abbrev pub header_set : DbInfo → DatabaseHeader → DatabaseHeader
+header_set info header = record header {
+  name = info.name;
+  attributes = 2 * (info.attributes / 2) + header.attributes % 2;
+  version = info.version;
+  creation_date = info.creation_date;
+  modification_date = info.modification_date;
+  backup_date = info.backup_date;
+  modification_number = next_modification header.modification_number;
+  kind = info.kind;
+  creator = info.creator;
+}
+
+-- all that a database names, if there is one
+abbrev pub named_in : Option StoredDatabase → List ℕ
+named_in None = []
+named_in (Some one) = data_in one.database
+
+-- a store without a database and all that it names
+abbrev pub dropped : Store → Db → Store
+dropped store db = record {
+  map = all_gone store.map (named_in (with_number store db.0));
+  databases = without_database store.databases db.0;
+}
+
+-- ---- the rows
+
+-- the row of a call on a region that means a store
+abbrev pub database_row : Memory → Store → DatabaseCall → Row Store
+database_row old store (Create name kind creator resources date) = record {
+  only_asks = false;
+  refusals =
+      no_name name
+      ∷ taken store 0 name
+      ∷ ((most_databases ≤ length store.databases) brings TooManyEntries)
+      ∷ may_run_out old.bytes (create_slots old.bytes) (create_parts old.bytes)
+      ∷ [];
+  answers = a_database (λ db. held old.bytes db.0 ≡ None);
+  effect = becomes_with
+      (λ db before. record before { databases = before.databases ++ (record { db = db.0; database = empty_database name kind creator resources date } ∷ []) });
+}
+database_row old store (Delete db) = record {
+  only_asks = false;
+  refusals = no_database store db ∷ locked_data store db ∷ [];
+  answers = done;
+  effect = becomes (λ before. dropped before db);
+}
+database_row old store (Find name) = record {
+  only_asks = true;
+  refusals = (All (λ other. other ≢ name) (names_of store.databases) brings NoSuchDatabase) ∷ [];
+  answers = a_database (λ db. In store db (λ database. database.header.name ≡ name));
+  effect = stays;
+}
+database_row old store (Nth index) = record {
+  only_asks = true;
+  refusals = ((length store.databases ≤ index) brings NoSuchDatabase) ∷ [];
+  answers = a_database (λ db. slice_get (numbers_of store.databases) index ≡ Some db.0);
+  effect = stays;
+}
+database_row old store Count = record {
+  only_asks = true;
+  refusals = [];
+  answers = number (λ count. count ≡ length store.databases);
+  effect = stays;
+}
+database_row old store (Info db) = record {
+  only_asks = true;
+  refusals = no_database store db ∷ [];
+  answers = an_info (λ info. In store db (λ database. info ≡ info_of database));
+  effect = stays;
+}
+database_row old store (SetInfo db info) = record {
+  only_asks = false;
+  refusals = no_database store db ∷ no_name info.name ∷ taken store db.0 info.name ∷ [];
+  answers = done;
+  effect = becomes
+      (λ before. record before {
+        databases = with_changed before.databases db.0 (λ database. record database { header = header_set info database.header });
+      });
+}

@@ -1,0 +1,205 @@
+-- Entries of the databases of a store, with the chunks of their data: made, changed, moved and dropped. And
+-- what a call leaves that does such a change.
+use Rattle.std.specs.Prelude.{◌≡◌, ◌≤◌, ◌<◌, ◌+◌, nat_lt, if◌then◌else◌, bit_or, ℕ, Bool, false, List, [], ◌∷◌, length, slice_get, slice_set, Option, Some, None, IsSome}
+use Rattle.std.specs.List.{insert, remove}
+use Rattle.heap_model.specs.Slots.{slot_count}
+use Rattle.heap_model.specs.Heap.{directory_of}
+use Rattle.heap_model.specs.Meaning.{LiveChunk, ChunkMap}
+use Rattle.heap_model.specs.Reading.{held}
+use Rattle.heap_model.specs.Maps.{made, gone, reowned}
+use Rattle.heap_model.specs.Space.{Still}
+use Rattle.heap_model.specs.DatabaseFields.{entry_size}
+use Rattle.heap_model.specs.Database.{DatabaseHeader, Entry, a_record, a_resource, Database, entry_data, has_resources}
+use Rattle.heap_model.specs.UniqueIds.{IsFresh, seed_in, with_seed}
+use Rattle.heap_model.specs.Store.{StoredDatabase, Store, data_owner, bytes_under, unique_ids, Accepted, store_of}
+use Rattle.heap_model.specs.Rooms.{making, growth}
+use Rattle.heap_model.specs.Refusals.{Check, ◌brings◌}
+use Rattle.heap_model.specs.StoreWords.{SameStore, with_changed, with_number, In, may_run_out, next_modification}
+use Rattle.heap_model.specs.declared.names.Db.{Db}
+use Rattle.heap_model.specs.declared.names.Name.{Name}
+use Rattle.heap_model.specs.declared.entry.RecordInfo.{RecordInfo}
+use Rattle.heap_model.specs.declared.entry.ResourceInfo.{ResourceInfo}
+use Rattle.heap_model.specs.declared.entry.Entry as heard
+use Rattle.heap_model.specs.declared.entry.Entry.TheVariants as entries
+use Rattle.heap_model.specs.declared.refusal.Refusal.TheVariants.{TooManyEntries}
+
+-- ---- entries of a store
+
+abbrev pub entries_of : Option StoredDatabase → List (Entry ℕ)
+entries_of None = []
+entries_of (Some one) = one.database.entries
+
+-- the entries of a database; there are none where no database has the number
+abbrev pub entries_in : Store → Db → List (Entry ℕ)
+entries_in store db = entries_of (with_number store db.0)
+
+-- the entry of an index, if there is one
+abbrev pub entry_under : Store → Db → ℕ → Option (Entry ℕ)
+entry_under store db index = slice_get (entries_in store db) index
+
+-- a fact of an entry, if there is one
+abbrev pub OfEntry : Option (Entry ℕ) → (Entry ℕ → Type 0) → Type 0
+OfEntry None P = ⊥
+OfEntry (Some entry) P = P entry
+
+abbrev pub data_of_entry : Option (Entry ℕ) → ℕ
+data_of_entry None = 0
+data_of_entry (Some entry) = entry_data entry
+
+-- the name of an entry's data, and 0, which names nothing, where it has none
+abbrev pub data_under : Store → Db → ℕ → ℕ
+data_under store db index = data_of_entry (entry_under store db index)
+
+abbrev pub kind_of : Option StoredDatabase → Bool
+kind_of None = false
+kind_of (Some one) = has_resources one.database.header.attributes
+
+-- a database has resources, and else records
+abbrev pub resources_under : Store → Db → Bool
+resources_under store db = kind_of (with_number store db.0)
+
+-- the ID is the one for a new record of the database
+abbrev pub IsFreshIn : Store → Db → ℕ → Type 0
+IsFreshIn store db id = In store db (λ database. IsFresh (unique_ids database) (seed_in database.header.seed) id)
+
+-- ---- what callers hear of an entry
+
+-- a name, or none for 0
+abbrev pub IsNameOf : ℕ → Option Name → Type 0
+IsNameOf slot None = slot ≡ 0
+IsNameOf slot (Some name) = (0 < slot) × (name.0 ≡ slot)
+
+-- what the entry of a record says
+abbrev pub IsInfoOf : RecordInfo → Entry ℕ → Type 0
+IsInfoOf info (a_record attributes id slot) = (info.attributes ≡ attributes) × (info.id ≡ id) × IsNameOf slot info.«data»
+IsInfoOf info (a_resource kind id slot) = ⊥
+
+abbrev pub IsResourceInfoOf : ResourceInfo → Entry ℕ → Type 0
+IsResourceInfoOf info (a_record attributes id slot) = ⊥
+IsResourceInfoOf info (a_resource kind id slot) = (info.kind ≡ kind) × (info.id ≡ id) × (info.«data».0 ≡ slot)
+
+-- this is what an entry says
+abbrev pub Tells : heard.Entry → Entry ℕ → Type 0
+Tells (entries.Record info) entry = IsInfoOf info entry
+Tells (entries.Resource info) entry = IsResourceInfoOf info entry
+
+-- ---- entries changed
+
+-- the greatest number of entries
+abbrev pub most_entries : ℕ
+most_entries = 65535
+
+-- where an entry goes that is put in at an index: where there are not so many entries it comes last
+abbrev pub index_for : ℕ → List (Entry ℕ) → ℕ
+index_for at entries = if nat_lt at (length entries) then at else length entries
+
+abbrev pub replaced_if : List (Entry ℕ) → ℕ → (Entry ℕ → Entry ℕ) → Option (Entry ℕ) → List (Entry ℕ)
+replaced_if entries index change None = entries
+replaced_if entries index change (Some entry) = slice_set entries index (change entry)
+
+-- the entries with the one of an index changed, if there is one
+abbrev pub replaced : List (Entry ℕ) → ℕ → (Entry ℕ → Entry ℕ) → List (Entry ℕ)
+replaced entries index change = replaced_if entries index change (slice_get entries index)
+
+-- a record with other attributes
+abbrev pub with_attributes : (ℕ → ℕ) → Entry ℕ → Entry ℕ
+with_attributes change (a_record attributes id slot) = a_record (change attributes) id slot
+with_attributes change (a_resource kind id slot) = a_resource kind id slot
+
+-- the bit of a deleted record
+abbrev pub deleted_bit : ℕ
+deleted_bit = 0x80
+
+-- an entry without data: a record is deleted then
+abbrev pub without_data : Entry ℕ → Entry ℕ
+without_data (a_record attributes id slot) = a_record (bit_or attributes deleted_bit) id 0
+without_data (a_resource kind id slot) = a_resource kind id 0
+
+-- a header to whose database an entry came: the ID of a record is the new seed
+abbrev pub seeded_by : Entry ℕ → DatabaseHeader → DatabaseHeader
+seeded_by (a_record attributes id slot) header = record header { seed = with_seed header.seed id }
+seeded_by (a_resource kind id slot) header = header
+
+-- a database to which an entry came at an index
+abbrev pub with_entry_at : ℕ → Entry ℕ → Database ℕ → Database ℕ
+with_entry_at index entry database = record database { header = seeded_by entry database.header; entries = insert database.entries index entry }
+
+-- a header whose modification number counts a call more
+abbrev pub raised_header : DatabaseHeader → DatabaseHeader
+raised_header header = record header { modification_number = next_modification header.modification_number }
+
+-- ---- stores with them
+
+-- a store with other entries in one database
+abbrev pub with_entries : Store → Db → (List (Entry ℕ) → List (Entry ℕ)) → Store
+with_entries store db change = record store {
+  databases = with_changed store.databases db.0 (λ database. record database { entries = change database.entries });
+}
+
+-- a store with other chunks
+abbrev pub with_chunks : Store → ChunkMap → Store
+with_chunks store chunks = record store { map = chunks }
+
+-- a store where an entry came, whose data is a new chunk of zeros
+abbrev pub entry_made : Store → Db → ℕ → Entry ℕ → ℕ → Store
+entry_made store db index entry size = record {
+  map = made store.map (entry_data entry) size data_owner 0;
+  databases = with_changed store.databases db.0 (with_entry_at index entry);
+}
+
+-- a store where an entry is changed, and its data stays
+abbrev pub entry_changed : Store → Db → ℕ → (Entry ℕ → Entry ℕ) → Store
+entry_changed store db index change = with_entries store db (λ entries. replaced entries index change)
+
+-- a store where the data of an entry is freed
+abbrev pub data_freed : Store → Db → ℕ → Store
+data_freed store db index = with_chunks (entry_changed store db index without_data) (gone store.map (data_under store db index))
+
+-- a store where an entry is dropped, and its data freed, if it has any
+abbrev pub entry_dropped : Store → Db → ℕ → Store
+entry_dropped store db index = with_chunks (with_entries store db (λ entries. remove entries index)) (gone store.map (data_under store db index))
+
+-- a store where an entry is dropped, and its data gets an owner
+abbrev pub entry_handed_over : Store → Db → ℕ → ℕ → Store
+entry_handed_over store db index owner = with_chunks (with_entries store db (λ entries. remove entries index)) (reowned store.map (data_under store db index) owner)
+
+-- a store where the modification number of a database counts a call more
+abbrev pub raised : Store → Db → Store
+raised store db = record store {
+  databases = with_changed store.databases db.0 (λ database. record database { header = raised_header database.header });
+}
+
+-- ---- room for an entry
+
+-- there are as many entries as there may be
+abbrev pub full : Store → Db → Check
+full store db = (most_entries ≤ length (entries_in store db)) brings TooManyEntries
+
+-- Whether an entry can come whose data has so many bytes: it takes a chunk, and the header has to grow.
+abbrev pub making_checks : List ℕ → Store → Db → ℕ → List Check
+making_checks image store db size =
+    full store db
+    ∷ may_run_out image 1 (making size ∷ growth image db.0 (length (bytes_under image db.0) + entry_size (resources_under store db)) ∷ [])
+    ∷ []
+
+-- ---- what a call leaves
+
+-- each chunk that stays has as many locks as before
+abbrev pub KeepsLocks : List ℕ → List ℕ → Type 0
+KeepsLocks old new = (name : ℕ) (before after : LiveChunk) → held old name ≡ Some before → held new name ≡ Some after → after.lock ≡ before.lock
+
+-- no name is new
+abbrev pub MakesNone : List ℕ → List ℕ → Type 0
+MakesNone old new = (name : ℕ) → IsSome (held new name) → IsSome (held old name)
+
+-- The new image is accepted and means this store. It is as long as the old one, has as many slots, and the
+-- same directory word. Each chunk that stays has as many locks as before, and where it is locked or fixed
+-- it has not moved.
+pub record LeavesStore (old new : List ℕ) (store : Store) : Type 0 where
+  pub accepted : Accepted new
+  pub same : SameStore (store_of new) store
+  pub len : length new ≡ length old
+  pub count : slot_count new ≡ slot_count old
+  pub directory : directory_of new ≡ directory_of old
+  pub locks : KeepsLocks old new
+  pub still : Still old new

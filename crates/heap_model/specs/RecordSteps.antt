@@ -1,0 +1,204 @@
+-- What each call on records refuses, answers and does: one row a call.
+use Rattle.std.specs.Prelude.{◌≡◌, ◌≤◌, ◌<◌, ◌⊎◌, ◌==◌, if◌then◌else◌, bit_and, bit_or, ℕ, Bool, true, false, [], ◌∷◌, length, None}
+use Rattle.std.specs.Int.{bit_at}
+use Rattle.heap_model.specs.Memory.{Memory}
+use Rattle.heap_model.specs.Reading.{held}
+use Rattle.heap_model.specs.Maps.{sized}
+use Rattle.heap_model.specs.Lists.{moved}
+use Rattle.heap_model.specs.Database.{Entry, a_record, a_resource, has_resources, is_deleted}
+use Rattle.heap_model.specs.Store.{Store}
+use Rattle.heap_model.specs.Refusals.{Check, ◌brings◌}
+use Rattle.heap_model.specs.Steps.{Row, done, number, named}
+use Rattle.heap_model.specs.MemorySteps.{Of, IsLocked, growth_checks}
+use Rattle.heap_model.specs.StoreWords.{SameStore, In, no_database, becomes, stays}
+use Rattle.heap_model.specs.EntrySteps.{entries_in, entry_under, OfEntry, data_under, IsFreshIn, IsInfoOf, index_for, with_attributes, deleted_bit, with_entries, with_chunks, entry_made, entry_changed, data_freed, entry_dropped, raised, making_checks}
+use Rattle.heap_model.specs.declared.names.Db.{Db}
+use Rattle.heap_model.specs.declared.names.Name.{Name}
+use Rattle.heap_model.specs.declared.entry.RecordInfo.{RecordInfo}
+use Rattle.heap_model.specs.declared.call.RecordCall.{RecordCall}
+use Rattle.heap_model.specs.declared.call.RecordCall.TheVariants.{New, Delete, Archive, Remove, Move, Get, Query, Release, Info, Resize, Count}
+use Rattle.heap_model.specs.declared.call.Reply.{Reply}
+use Rattle.heap_model.specs.declared.call.Reply.TheVariants as replies
+use Rattle.heap_model.specs.declared.refusal.Refusal.TheVariants.{ChunkLocked, NotRecordDatabase, ReadOnly, IndexOutOfRange, RecordDeleted, RecordBusy}
+
+-- ---- attributes
+
+-- the bits of a dirty record, and of a busy one
+abbrev pub dirty_bit : ℕ
+dirty_bit = 0x40
+
+abbrev pub busy_bit : ℕ
+busy_bit = 0x20
+
+-- a record with these attributes is busy: 0x20 is set
+abbrev pub is_busy : ℕ → Bool
+is_busy attributes = bit_at attributes 5 == 1
+
+-- a database with these attributes may only be read: 0x0002 is set
+abbrev pub is_read_only : ℕ → Bool
+is_read_only attributes = bit_at attributes 1 == 1
+
+-- the attributes of a new record: dirty and busy, of category 0
+abbrev pub new_attributes : ℕ
+new_attributes = 0x60
+
+-- a record's attributes, no longer busy, and dirty where that is asked
+abbrev pub released : Bool → ℕ → ℕ
+released dirty attributes = if dirty then bit_or (bit_and attributes 0xDF) dirty_bit else bit_and attributes 0xDF
+
+-- ---- words of the checks
+
+abbrev pub HasAttributes : (ℕ → Bool) → Entry ℕ → Type 0
+HasAttributes test (a_record attributes id slot) = test attributes ≡ true
+HasAttributes test (a_resource kind id slot) = ⊥
+
+-- ---- checks that rows share
+
+abbrev pub no_records : Store → Db → Check
+no_records store db = In store db (λ database. has_resources database.header.attributes ≡ true) brings NotRecordDatabase
+
+abbrev pub read_only : Store → Db → Check
+read_only store db = In store db (λ database. is_read_only database.header.attributes ≡ true) brings ReadOnly
+
+abbrev pub no_entry : Store → Db → ℕ → Check
+no_entry store db index = (length (entries_in store db) ≤ index) brings IndexOutOfRange
+
+abbrev pub deleted : Store → Db → ℕ → Check
+deleted store db index = OfEntry (entry_under store db index) (HasAttributes is_deleted) brings RecordDeleted
+
+abbrev pub busy : Store → Db → ℕ → Check
+busy store db index = OfEntry (entry_under store db index) (HasAttributes is_busy) brings RecordBusy
+
+-- there is data, and it is locked
+abbrev pub locked_entry : Store → Db → ℕ → Check
+locked_entry store db index = Of (store.map (data_under store db index)) IsLocked brings ChunkLocked
+
+-- ---- words of the answers
+
+abbrev pub made_at : (ℕ → Name → Type 0) → Reply → Memory → Type 0
+made_at P (replies.Made index name) new = P index name
+made_at P reply new = ⊥
+
+abbrev pub a_record_info : (RecordInfo → Type 0) → Reply → Memory → Type 0
+a_record_info P (replies.Record info) new = P info
+a_record_info P reply new = ⊥
+
+-- ---- words of the effects
+
+-- the store afterwards, where it needs the index and the name that are answered
+abbrev pub becomes_made : (ℕ → Name → Store → Store → Type 0) → Reply → Store → Store → Type 0
+becomes_made P (replies.Made index name) old new = P index name old new
+becomes_made P reply old new = ⊥
+
+-- ---- the rows
+
+-- the row of a call on a region that means a store
+abbrev pub record_row : Memory → Store → RecordCall → Row Store
+record_row old store (New db at size) = record {
+  only_asks = false;
+  refusals = no_database store db ∷ no_records store db ∷ read_only store db ∷ making_checks old.bytes store db size;
+  answers = made_at (λ index name. (index ≡ index_for at (entries_in store db)) × (held old.bytes name.0 ≡ None));
+  effect = becomes_made
+      (λ index name before after. (id : ℕ) × IsFreshIn before db id × SameStore after (raised (entry_made before db index (a_record new_attributes id name.0) size) db));
+}
+record_row old store (Delete db index) = record {
+  only_asks = false;
+  refusals =
+      no_database store db
+      ∷ no_records store db
+      ∷ read_only store db
+      ∷ no_entry store db index
+      ∷ deleted store db index
+      ∷ locked_entry store db index
+      ∷ [];
+  answers = done;
+  effect = becomes (λ before. raised (data_freed before db index) db);
+}
+record_row old store (Archive db index) = record {
+  only_asks = false;
+  refusals =
+      no_database store db
+      ∷ no_records store db
+      ∷ read_only store db
+      ∷ no_entry store db index
+      ∷ deleted store db index
+      ∷ [];
+  answers = done;
+  effect = becomes (λ before. raised (entry_changed before db index (with_attributes (λ attributes. bit_or attributes deleted_bit))) db);
+}
+record_row old store (Remove db index) = record {
+  only_asks = false;
+  refusals =
+      no_database store db
+      ∷ no_records store db
+      ∷ read_only store db
+      ∷ no_entry store db index
+      ∷ locked_entry store db index
+      ∷ [];
+  answers = done;
+  effect = becomes (λ before. raised (entry_dropped before db index) db);
+}
+record_row old store (Move db from to) = record {
+  only_asks = false;
+  refusals =
+      no_database store db
+      ∷ no_records store db
+      ∷ read_only store db
+      ∷ (((length (entries_in store db) ≤ from) ⊎ (length (entries_in store db) < to)) brings IndexOutOfRange)
+      ∷ [];
+  answers = done;
+  effect = becomes (λ before. raised (with_entries before db (λ entries. moved entries from to)) db);
+}
+record_row old store (Get db index) = record {
+  only_asks = false;
+  refusals =
+      no_database store db
+      ∷ no_records store db
+      ∷ no_entry store db index
+      ∷ deleted store db index
+      ∷ busy store db index
+      ∷ [];
+  answers = named (λ name. name.0 ≡ data_under store db index);
+  effect = becomes (λ before. entry_changed before db index (with_attributes (λ attributes. bit_or attributes busy_bit)));
+}
+record_row old store (Query db index) = record {
+  only_asks = true;
+  refusals =
+      no_database store db
+      ∷ no_records store db
+      ∷ no_entry store db index
+      ∷ deleted store db index
+      ∷ [];
+  answers = named (λ name. name.0 ≡ data_under store db index);
+  effect = stays;
+}
+record_row old store (Release db index dirty) = record {
+  only_asks = false;
+  refusals = no_database store db ∷ no_records store db ∷ no_entry store db index ∷ [];
+  answers = done;
+  effect = becomes (λ before. entry_changed before db index (with_attributes (released dirty)));
+}
+record_row old store (Info db index) = record {
+  only_asks = true;
+  refusals = no_database store db ∷ no_records store db ∷ no_entry store db index ∷ [];
+  answers = a_record_info (λ info. OfEntry (entry_under store db index) (IsInfoOf info));
+  effect = stays;
+}
+record_row old store (Resize db index size) = record {
+  only_asks = false;
+  refusals =
+      no_database store db
+      ∷ no_records store db
+      ∷ read_only store db
+      ∷ no_entry store db index
+      ∷ deleted store db index
+      ∷ growth_checks old.bytes store.map (data_under store db index) size;
+  answers = done;
+  effect = becomes (λ before. raised (with_chunks before (sized before.map (data_under before db index) size)) db);
+}
+record_row old store (Count db) = record {
+  only_asks = true;
+  refusals = no_database store db ∷ no_records store db ∷ [];
+  answers = number (λ count. count ≡ length (entries_in store db));
+  effect = stays;
+}

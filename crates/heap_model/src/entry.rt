@@ -1,0 +1,32 @@
+//! What callers hear of the entries of databases.
+
+use crate::names::Name;
+
+/// What the entry of a record says (Palm OS Programmer's API Reference, `DmRecordInfo`). The attributes
+/// are those of the File Format Specification: 0x80 for a deleted record, 0x40 for a dirty one, 0x20 for a
+/// busy one, 0x10 for a secret one, and the category in the low four bits.
+#[derive(Clone, Copy, Debug, PartialEq, Eq)]
+pub struct RecordInfo {
+    pub attributes: u8,
+    /// The unique ID, 1 to 0xFFFFFF.
+    pub id: u32,
+    /// The chunk of its data. A deleted record may have none.
+    pub data: Option<Name>,
+}
+
+/// What the entry of a resource says (Palm OS Programmer's API Reference, `DmResourceInfo`).
+#[derive(Clone, Copy, Debug, PartialEq, Eq)]
+pub struct ResourceInfo {
+    /// The type, its four bytes as a number.
+    pub kind: u32,
+    pub id: u16,
+    /// The chunk of its data.
+    pub data: Name,
+}
+
+/// What an entry says.
+#[derive(Clone, Copy, Debug, PartialEq, Eq)]
+pub enum Entry {
+    Record(RecordInfo),
+    Resource(ResourceInfo),
+}

@@ -1,0 +1,139 @@
+//! How often each call was accepted, and refused for which reason.
+
+use heap_model::{Call, DatabaseCall, MemoryCall, RecordCall, Refusal, Reply};
+use std::alloc::Global;
+use std::process::Abort;
+use std::test::*;
+
+/// A call by its name, and why it was refused, if it was.
+#[derive(Clone, Copy, Debug, PartialEq, Eq)]
+pub(crate) struct Outcome {
+    call: &'static str,
+    refusal: Option<Refusal>,
+}
+
+/// Outcomes, and how often each came up.
+#[derive(Drop)]
+pub(crate) struct Counts {
+    counted: Vec<(Outcome, u32)>,
+}
+
+impl Counts {
+    pub(crate) fn new(alloc: Global) -> Counts {
+        Counts {
+            counted: Vec::new(alloc),
+        }
+    }
+
+    pub(crate) fn add(&mut self, call: &Call, reply: &Reply) -> Result<(), Fail> {
+        let refusal = match reply {
+            Reply::Refused(refusal) => Some(*refusal),
+            _ => None,
+        };
+        let outcome = Outcome {
+            call: name_of(call),
+            refusal,
+        };
+        for (known, times) in &mut self.counted {
+            if *known == outcome {
+                *times = times.saturating_add(1);
+                return Ok(());
+            }
+        }
+        self.counted.push((outcome, 1))?;
+        Ok(())
+    }
+
+    /// How often an outcome came up.
+    fn times(&self, outcome: Outcome) -> u32 {
+        for (known, times) in &self.counted {
+            if *known == outcome {
+                return *times;
+            }
+        }
+        0
+    }
+
+    /// Every outcome of a table must have come up: of each call that it was accepted, and each refusal.
+    pub(crate) fn check(
+        &self,
+        rt: &(impl Abort + AllocGlobal),
+        table: &[(&'static str, &[Refusal])],
+    ) {
+        for (call, refusals) in table {
+            let accepted = Outcome {
+                call,
+                refusal: None,
+            };
+            assert!(rt; self.times(accepted) > 0, "{call}");
+            for refusal in *refusals {
+                let refused = Outcome {
+                    call,
+                    refusal: Some(*refusal),
+                };
+                assert!(rt; self.times(refused) > 0, "{call} {refusal:?}");
+            }
+        }
+    }
+}
+
+/// The name of a call.
+fn name_of(call: &Call) -> &'static str {
+    match call {
+        Call::Memory(call) => memory_name(call),
+        Call::Database(call) => database_name(call),
+        Call::Record(call) => record_name(call),
+    }
+}
+
+fn database_name(call: &DatabaseCall) -> &'static str {
+    match call {
+        DatabaseCall::Create { .. } => "create",
+        DatabaseCall::Delete(_) => "delete",
+        DatabaseCall::Find(_) => "find",
+        DatabaseCall::Nth(_) => "nth",
+        DatabaseCall::Count => "count",
+        DatabaseCall::Info(_) => "info",
+        DatabaseCall::SetInfo(_, _) => "set_info",
+    }
+}
+
+fn record_name(call: &RecordCall) -> &'static str {
+    match call {
+        RecordCall::New { .. } => "new_record",
+        RecordCall::Delete(..) => "delete_record",
+        RecordCall::Archive(..) => "archive",
+        RecordCall::Remove(..) => "remove",
+        RecordCall::Move { .. } => "move_record",
+        RecordCall::Get(..) => "get",
+        RecordCall::Query(..) => "query",
+        RecordCall::Release { .. } => "release",
+        RecordCall::Info(..) => "record_info",
+        RecordCall::Resize { .. } => "resize_record",
+        RecordCall::Count(_) => "num_records",
+    }
+}
+
+fn memory_name(call: &MemoryCall) -> &'static str {
+    match call {
+        MemoryCall::HandleNew { .. } => "handle_new",
+        MemoryCall::PtrNew { .. } => "ptr_new",
+        MemoryCall::Free(_) => "free",
+        MemoryCall::Lock(_) => "lock",
+        MemoryCall::Unlock(_) => "unlock",
+        MemoryCall::Size(_) => "size",
+        MemoryCall::Owner(_) => "owner",
+        MemoryCall::Locks(_) => "locks",
+        MemoryCall::Read { .. } => "read",
+        MemoryCall::Write { .. } => "write",
+        MemoryCall::Set { .. } => "set",
+        MemoryCall::StrCopy { .. } => "str_copy",
+        MemoryCall::Resize { .. } => "resize",
+        MemoryCall::SetOwner { .. } => "set_owner",
+        MemoryCall::Recover(_) => "recover",
+        MemoryCall::FreeByOwner(_) => "free_by_owner",
+        MemoryCall::FreeBytes => "free_bytes",
+        MemoryCall::LargestStretch => "largest_stretch",
+        MemoryCall::Compact => "compact",
+    }
+}

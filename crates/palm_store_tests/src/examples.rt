@@ -1,0 +1,87 @@
+//! Calls with the replies that they must have, by hand: what lists seldom meet.
+
+use crate::beside::Beside;
+use crate::images::{MIXED, TWO_DATABASES};
+use heap_model::{Call, DatabaseCall, Db, DbName, MemoryCall, Name, Refusal, Reply};
+use std::process::Abort;
+use std::test::*;
+use test_images::bytes_of as listed;
+
+/// Does a call, which must be answered by this reply.
+fn check(
+    rt: &(impl Abort + AllocGlobal),
+    beside: &mut Beside,
+    call: Call,
+    reply: Reply,
+) -> Result<(), Fail> {
+    let said = beside.call(rt, "by hand", &call)?;
+    assert_eq!(rt; said, reply, "{call:?}");
+    Ok(())
+}
+
+/// Takes all locks off some chunks, whose lock counts are given too.
+fn unlock_all(
+    rt: &(impl Abort + AllocGlobal),
+    beside: &mut Beside,
+    locked: &[(Name, u32)],
+) -> Result<(), Fail> {
+    for (name, count) in locked {
+        for left in (0..*count).rev() {
+            let call = Call::Memory(MemoryCall::Unlock(*name));
+            check(rt, beside, call, Reply::Number(left))?;
+        }
+    }
+    Ok(())
+}
+
+/// Deletes a database, which is refused as long as this chunk of its own is locked.
+fn delete_with_locked(
+    rt: &(impl Abort + AllocGlobal),
+    beside: &mut Beside,
+    db: Db,
+    name: Name,
+) -> Result<(), Fail> {
+    let lock = Call::Memory(MemoryCall::Lock(name));
+    beside.call(rt, "by hand", &lock)?;
+    let locked = Reply::Refused(Refusal::ChunkLocked);
+    check(rt, beside, Call::Database(DatabaseCall::Delete(db)), locked)?;
+    unlock_all(rt, beside, &[(name, 1)])?;
+    check(
+        rt,
+        beside,
+        Call::Database(DatabaseCall::Delete(db)),
+        Reply::Done,
+    )
+}
+
+/// The info blocks of a database are locked, and of the entries none.
+#[test]
+fn locked_info_blocks_keep_a_database(rt: HostRuntime) -> Result<(), Fail> {
+    let mut beside = Beside::new(rt.alloc(), listed(rt.alloc(), MIXED)?)?;
+    delete_with_locked(&rt, &mut beside, Db(24), Name(56))?;
+    unlock_all(&rt, &mut beside, &[(Name(28), 2), (Name(64), 14)])?;
+    delete_with_locked(&rt, &mut beside, Db(36), Name(20))
+}
+
+/// The header of a database has room, and behind it the longer directory has none.
+#[test]
+fn a_header_that_is_not_listed_is_given_back(rt: HostRuntime) -> Result<(), Fail> {
+    let mut beside = Beside::new(rt.alloc(), listed(rt.alloc(), TWO_DATABASES)?)?;
+    let create = DatabaseCall::Create {
+        name: DbName::of(b"C"),
+        kind: 0,
+        creator: 0,
+        resources: false,
+        date: 0,
+    };
+    let no_room = Reply::Refused(Refusal::NotEnoughSpace);
+    check(&rt, &mut beside, Call::Database(create), no_room)?;
+    let free = Call::Memory(MemoryCall::FreeBytes);
+    check(&rt, &mut beside, free, Reply::Number(88))?;
+    check(
+        &rt,
+        &mut beside,
+        Call::Database(DatabaseCall::Count),
+        Reply::Number(2),
+    )
+}

@@ -1,0 +1,92 @@
+//! As many databases as there may be, and as many records.
+
+use crate::beside::{Beside, bytes_of, store_of};
+use crate::images::{blank_image, full_database};
+use heap_model::{Call, DatabaseCall, Db, DbName, RecordCall, Refusal, Reply};
+use std::alloc::Global;
+use std::process::Abort;
+use std::test::*;
+
+/// Makes a database whose name is a number.
+fn create(alloc: Global, number: u32) -> Result<DatabaseCall, Fail> {
+    let name = format!(in alloc; "{number}")?;
+    Ok(DatabaseCall::Create {
+        name: DbName::of(name.as_bytes()),
+        kind: 0,
+        creator: 0,
+        resources: false,
+        date: 0,
+    })
+}
+
+/// An image with so many databases, whose names are the numbers from 1 on.
+fn with_databases(alloc: Global, count: u32) -> Result<Vec<u8>, Fail> {
+    let mut store = store_of(alloc, &blank_image(alloc, 200_000, 1_100)?)?;
+    for number in 1..=count {
+        let name = format!(in alloc; "{number}")?;
+        store.create(&DbName::of(name.as_bytes()), 0, 0, false, 0)?;
+    }
+    Ok(Vec::from_slice(alloc, bytes_of(&store.into_region()))?)
+}
+
+/// Does a call on databases of a list, beside the plain model.
+fn call(
+    rt: &(impl Abort + AllocGlobal),
+    beside: &mut Beside,
+    call: DatabaseCall,
+) -> Result<Reply, Fail> {
+    beside.call(rt, "full", &Call::Database(call))
+}
+
+/// Makes an empty record in front, beside the plain model.
+fn new_in_front(rt: &(impl Abort + AllocGlobal), beside: &mut Beside) -> Result<Reply, Fail> {
+    let call = RecordCall::New {
+        db: Db(20),
+        at: 0,
+        size: 0,
+    };
+    beside.call(rt, "full", &Call::Record(call))
+}
+
+/// Of 1,024 databases one has to go before another is made.
+#[test]
+fn databases_are_at_most_1024(rt: HostRuntime) -> Result<(), Fail> {
+    let alloc = rt.alloc();
+    let mut beside = Beside::new(alloc, with_databases(alloc, 1_023)?)?;
+    let too_many = Reply::Refused(Refusal::TooManyEntries);
+    let Reply::Database(last) = call(&rt, &mut beside, create(alloc, 1_024)?)? else {
+        return Err("not made")?;
+    };
+    assert_eq!(rt; call(&rt, &mut beside, create(alloc, 1_025)?)?, too_many);
+    assert_eq!(rt;
+        call(&rt, &mut beside, DatabaseCall::Nth(1_023))?,
+        Reply::Database(last)
+    );
+    let Reply::Database(Db(first)) = call(&rt, &mut beside, DatabaseCall::Nth(0))? else {
+        return Err("none")?;
+    };
+    assert_eq!(rt;
+        call(&rt, &mut beside, DatabaseCall::Delete(Db(first)))?,
+        Reply::Done
+    );
+    assert_eq!(rt;
+        call(&rt, &mut beside, create(alloc, 1_025)?)?,
+        Reply::Database(Db(first))
+    );
+    assert_eq!(rt; call(&rt, &mut beside, create(alloc, 1)?)?, too_many);
+    Ok(())
+}
+
+/// Of 65,535 records one has to go before another is made.
+#[test]
+fn records_are_at_most_65535(rt: HostRuntime) -> Result<(), Fail> {
+    let mut beside = Beside::new(rt.alloc(), full_database(rt.alloc())?)?;
+    let too_many = Reply::Refused(Refusal::TooManyEntries);
+    assert_eq!(rt; new_in_front(&rt, &mut beside)?, too_many);
+    let last = Call::Record(RecordCall::Remove(Db(20), 65_534));
+    assert_eq!(rt; beside.call(&rt, "full", &last)?, Reply::Done);
+    let made = new_in_front(&rt, &mut beside)?;
+    assert!(rt; matches!(made, Reply::Made { index: 0, .. }), "{made:?}");
+    assert_eq!(rt; new_in_front(&rt, &mut beside)?, too_many);
+    Ok(())
+}

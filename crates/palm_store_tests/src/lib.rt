@@ -1,0 +1,22 @@
+//! Tests of the store: lists of calls that look random, done on a store and on the plain model beside it,
+//! and images that are taken as stores.
+//!
+//! This crate has no code but its tests.
+#![tactic(auto)]
+
+#[cfg(test)]
+mod beside;
+#[cfg(test)]
+mod calls;
+#[cfg(test)]
+mod counts;
+#[cfg(test)]
+mod examples;
+#[cfg(test)]
+mod full;
+#[cfg(test)]
+mod images;
+#[cfg(test)]
+mod lists;
+#[cfg(test)]
+mod taken;

@@ -1,0 +1,107 @@
+//! A heap: chunks by their names.
+
+use crate::image::{Image, Kind, Live};
+use heap_model::{Name, Refusal};
+use std::alloc::{AllocError, Global};
+use std::collections::BTreeMap;
+
+/// A live chunk.
+#[derive(Drop, PartialEq, Eq)]
+pub struct Chunk {
+    pub kind: Kind,
+    /// 0 is the manager, 1 to 14 are callers, 15 is a database.
+    pub owner: u8,
+    pub bytes: Vec<u8>,
+}
+
+/// The live chunks of a heap, each under its name.
+#[derive(Drop)]
+pub struct PlainHeap {
+    pub(crate) chunks: BTreeMap<u32, Chunk>,
+}
+
+impl PlainHeap {
+    /// All chunks that an image holds.
+    pub fn of(alloc: Global, image: &Image) -> Result<PlainHeap, AllocError> {
+        let mut chunks = BTreeMap::new(alloc);
+        for piece in &image.pieces {
+            if let Some(live) = piece.live {
+                let chunk = Chunk {
+                    kind: live.kind,
+                    owner: live.owner,
+                    bytes: Vec::from_slice(alloc, live.bytes)?,
+                };
+                chunks.insert(live.name.0, chunk).map_err(AllocError::from)?;
+            }
+        }
+        Ok(PlainHeap { chunks })
+    }
+
+    /// A name under which the heap and an image have different chunks, or only one of them has one.
+    pub fn difference(&self, image: &Image) -> Option<Name> {
+        for (name, chunk) in &self.chunks {
+            match image.live(Name(*name)) {
+                Some(live) if chunk.is(live) => {}
+                _ => return Some(Name(*name)),
+            }
+        }
+        for piece in &image.pieces {
+            if let Some(live) = piece.live
+                && !self.chunks.contains_key(&live.name.0)
+            {
+                return Some(live.name);
+            }
+        }
+        None
+    }
+
+    /// A name under which this heap and another have different chunks, or only one of them has one.
+    pub(crate) fn other_chunk(&self, other: &PlainHeap) -> Option<Name> {
+        for (name, chunk) in &self.chunks {
+            if other.chunks.get(name) != Some(chunk) {
+                return Some(Name(*name));
+            }
+        }
+        for (name, _) in &other.chunks {
+            if !self.chunks.contains_key(name) {
+                return Some(Name(*name));
+            }
+        }
+        None
+    }
+
+    /// Whether the chunk of a name has a lock count above 0.
+    pub(crate) fn is_locked(&self, name: Name) -> bool {
+        match self.chunks.get(&name.0) {
+            Some(
+                Chunk {
+                    kind: Kind::Movable { locks },
+                    ..
+                },
+            ) => *locks > 0,
+            _ => false,
+        }
+    }
+
+    /// The chunk that callers have under a name: the manager's own have none for them.
+    pub(crate) fn chunk(&self, name: Name) -> Result<&Chunk, Refusal> {
+        match self.chunks.get(&name.0) {
+            Some(chunk) if chunk.owner > 0 => Ok(chunk),
+            _ => Err(Refusal::InvalidHandle),
+        }
+    }
+
+    /// The same, to change it.
+    pub(crate) fn chunk_mut(&mut self, name: Name) -> Result<&mut Chunk, Refusal> {
+        match self.chunks.get_mut(&name.0) {
+            Some(chunk) if chunk.owner > 0 => Ok(chunk),
+            _ => Err(Refusal::InvalidHandle),
+        }
+    }
+}
+
+impl Chunk {
+    fn is(&self, live: Live) -> bool {
+        self.kind == live.kind && self.owner == live.owner && self.bytes.as_slice() == live.bytes
+    }
+}

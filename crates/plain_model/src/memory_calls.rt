@@ -1,0 +1,308 @@
+//! The calls of the memory manager, each by the words of docs/SCRIPTS.md: its refusals in their order,
+//! what it does and what it answers.
+
+use crate::heap::{Chunk, PlainHeap};
+use crate::image::{Image, Kind};
+use heap_model::{Bytes, MemoryCall, Name, Place, Refusal, Reply};
+use std::alloc::Global;
+
+/// The most locks that a chunk can have.
+const MOST_LOCKS: u8 = 14;
+
+impl PlainHeap {
+    /// Does a call, and answers what the reply to it must be.
+    ///
+    /// Most of that follows from the chunks. How much room there was and where chunks were stands in the
+    /// image before the call, where they are in the one after it, and which of the free names a new
+    /// chunk was given in the reply.
+    pub fn call(
+        &mut self,
+        alloc: Global,
+        call: &MemoryCall,
+        before: &Image,
+        after: &Image,
+        reply: &Reply,
+    ) -> Reply {
+        let answer = match call {
+            MemoryCall::HandleNew { size, owner } => self.handle_new(
+                alloc, *size, *owner, before, reply,
+            ),
+            MemoryCall::PtrNew { size, owner } => self.ptr_new(alloc, *size, *owner, before, reply),
+            MemoryCall::Resize { name, size } => self.resize(*name, *size, before),
+            MemoryCall::Free(name) => self.free(*name),
+            MemoryCall::Lock(name) => self.lock(*name, after),
+            MemoryCall::Unlock(name) => self.unlock(*name),
+            MemoryCall::Size(name) => self.size(*name),
+            MemoryCall::Owner(name) => self.owner(*name),
+            MemoryCall::Locks(name) => self.locks(*name),
+            MemoryCall::Read { name, at, count } => self.read(alloc, *name, *at, *count),
+            MemoryCall::Write { name, at, bytes } => self.write(*name, *at, bytes.as_slice()),
+            MemoryCall::Set {
+                name,
+                at,
+                count,
+                byte,
+            } => self.set(*name, *at, *count, *byte),
+            MemoryCall::StrCopy { name, at, text } => self.str_copy(*name, *at, text.as_slice()),
+            MemoryCall::SetOwner { name, owner } => self.set_owner(*name, *owner),
+            MemoryCall::Recover(place) => self.recover(*place, before),
+            MemoryCall::FreeByOwner(owner) => self.free_by_owner(*owner),
+            MemoryCall::FreeBytes => Ok(Reply::Number(before.free_bytes())),
+            MemoryCall::LargestStretch => Ok(Reply::Number(before.largest_room())),
+            MemoryCall::Compact => Ok(Reply::Number(before.moved_bytes(after))),
+        };
+        answer.unwrap_or_else(Reply::Refused)
+    }
+
+    /// A movable chunk of zeros under a free slot.
+    fn handle_new(
+        &mut self,
+        alloc: Global,
+        size: u32,
+        owner: u8,
+        before: &Image,
+        reply: &Reply,
+    ) -> Result<Reply, Refusal> {
+        check_owner(owner)?;
+        let first = before.first_free_slot().ok_or(Refusal::NotEnoughSpace)?;
+        check_room(need(size), before.largest_room())?;
+        let name = match reply {
+            Reply::Named(name) if before.is_free_slot(*name) => *name,
+            _ => first,
+        };
+        self.make(alloc, name, Kind::Movable { locks: 0 }, size, owner)
+    }
+
+    /// A fixed chunk of zeros, whose name is where it was made.
+    fn ptr_new(
+        &mut self,
+        alloc: Global,
+        size: u32,
+        owner: u8,
+        before: &Image,
+        reply: &Reply,
+    ) -> Result<Reply, Refusal> {
+        check_owner(owner)?;
+        check_room(need(size), before.largest_room())?;
+        let name = match reply {
+            Reply::Named(name) if !self.chunks.contains_key(&name.0) => *name,
+            _ => Name(0),
+        };
+        self.make(alloc, name, Kind::Fixed, size, owner)
+    }
+
+    /// A chunk of zeros.
+    pub(crate) fn make(
+        &mut self,
+        alloc: Global,
+        name: Name,
+        kind: Kind,
+        size: u32,
+        owner: u8,
+    ) -> Result<Reply, Refusal> {
+        let bytes = vec![in alloc; 0; size as usize].map_err(|_| Refusal::OutOfMemory)?;
+        let chunk = Chunk { kind, owner, bytes };
+        match self.chunks.insert(name.0, chunk) {
+            Ok(_) => Ok(Reply::Named(name)),
+            Err(_) => Err(Refusal::OutOfMemory),
+        }
+    }
+
+    fn resize(&mut self, name: Name, size: u32, before: &Image) -> Result<Reply, Refusal> {
+        self.chunk(name)?.check_callers()?;
+        self.set_length(name, size, before)
+    }
+
+    /// Another length: bytes at the end go, or zeros come. A locked chunk grows in its place alone, over
+    /// the free chunks directly behind it. One without a lock grows wherever a stretch has room, its own
+    /// size being room in its own stretch.
+    pub(crate) fn set_length(
+        &mut self,
+        name: Name,
+        size: u32,
+        before: &Image,
+    ) -> Result<Reply, Refusal> {
+        let chunk = self.chunk_mut(name)?;
+        let is_locked = *chunk.locks_mut()? > 0;
+        if need(size) > before.size_with_behind(name) && is_locked {
+            return Err(Refusal::ChunkLocked);
+        }
+        if need(size) > before.size_of(name) && !is_locked {
+            check_room(need(size), before.largest_room_without(name))?;
+        }
+        match chunk.bytes.resize(size as usize, 0) {
+            Ok(()) => Ok(Reply::Done),
+            Err(_) => Err(Refusal::OutOfMemory),
+        }
+    }
+
+    fn free(&mut self, name: Name) -> Result<Reply, Refusal> {
+        let chunk = self.chunk(name)?;
+        chunk.check_callers()?;
+        match chunk.kind {
+            Kind::Movable { locks } if locks > 0 => return Err(Refusal::ChunkLocked),
+            _ => {}
+        }
+        self.chunks.remove(&name.0);
+        Ok(Reply::Done)
+    }
+
+    fn lock(&mut self, name: Name, after: &Image) -> Result<Reply, Refusal> {
+        let chunk = self.chunk_mut(name)?;
+        let locks = chunk.locks_mut()?;
+        if *locks >= MOST_LOCKS {
+            return Err(Refusal::LockOverflow);
+        }
+        *locks += 1;
+        let count = *locks;
+        let place = match after.piece(name) {
+            Some(piece) => piece.place,
+            None => Place(0),
+        };
+        Ok(Reply::Locked { place, count })
+    }
+
+    fn unlock(&mut self, name: Name) -> Result<Reply, Refusal> {
+        let chunk = self.chunk_mut(name)?;
+        let locks = chunk.locks_mut()?;
+        if *locks == 0 {
+            return Err(Refusal::ChunkNotLocked);
+        }
+        *locks -= 1;
+        Ok(Reply::Number(u32::from(*locks)))
+    }
+
+    fn size(&self, name: Name) -> Result<Reply, Refusal> {
+        Ok(number(self.chunk(name)?.bytes.len()))
+    }
+
+    fn owner(&self, name: Name) -> Result<Reply, Refusal> {
+        Ok(Reply::Number(u32::from(self.chunk(name)?.owner)))
+    }
+
+    /// The lock count; that of a fixed chunk is 15.
+    fn locks(&self, name: Name) -> Result<Reply, Refusal> {
+        match self.chunk(name)?.kind {
+            Kind::Movable { locks } => Ok(Reply::Number(u32::from(locks))),
+            Kind::Fixed => Ok(Reply::Number(15)),
+        }
+    }
+
+    fn read(&self, alloc: Global, name: Name, at: u32, count: u32) -> Result<Reply, Refusal> {
+        let bytes = self.chunk(name)?.bytes.as_slice();
+        let part = bytes
+            .get(at as usize..)
+            .and_then(|behind| behind.get(..count as usize))
+            .ok_or(Refusal::OutOfBounds)?;
+        match Vec::from_slice(alloc, part) {
+            Ok(copy) => Ok(Reply::Data(Bytes::of(copy))),
+            Err(_) => Err(Refusal::OutOfMemory),
+        }
+    }
+
+    fn write(&mut self, name: Name, at: u32, bytes: &[u8]) -> Result<Reply, Refusal> {
+        let part = self.chunk_mut(name)?.part_mut(at, bytes.len())?;
+        for (to, from) in part.iter_mut().zip(bytes) {
+            *to = *from;
+        }
+        Ok(Reply::Done)
+    }
+
+    fn set(&mut self, name: Name, at: u32, count: u32, byte: u8) -> Result<Reply, Refusal> {
+        let part = self.chunk_mut(name)?.part_mut(at, count as usize)?;
+        part.fill(byte);
+        Ok(Reply::Done)
+    }
+
+    /// Writes the bytes in front of the first zero byte, all if there is none, and one zero byte.
+    fn str_copy(&mut self, name: Name, at: u32, text: &[u8]) -> Result<Reply, Refusal> {
+        let length = text.iter().take_while(|byte| **byte != 0).count();
+        let part = self
+            .chunk_mut(name)?
+            .part_mut(at, length.saturating_add(1))?;
+        part.fill(0);
+        for (to, from) in part.iter_mut().zip(text.iter().take(length)) {
+            *to = *from;
+        }
+        Ok(Reply::Done)
+    }
+
+    fn set_owner(&mut self, name: Name, owner: u8) -> Result<Reply, Refusal> {
+        let chunk = self.chunk_mut(name)?;
+        chunk.check_callers()?;
+        check_owner(owner)?;
+        chunk.owner = owner;
+        Ok(Reply::Done)
+    }
+
+    /// The name of the chunk whose body begins at a place.
+    fn recover(&self, place: Place, before: &Image) -> Result<Reply, Refusal> {
+        let name = before.name_at(place).ok_or(Refusal::InvalidHandle)?;
+        self.chunk(name)?;
+        Ok(Reply::Named(name))
+    }
+
+    /// Frees all chunks of an owner, locked and fixed ones too.
+    fn free_by_owner(&mut self, owner: u8) -> Result<Reply, Refusal> {
+        check_owner(owner)?;
+        let before = self.chunks.len();
+        self.chunks.retain(|_, chunk| chunk.owner != owner);
+        Ok(number(before.saturating_sub(self.chunks.len())))
+    }
+}
+
+impl Chunk {
+    /// Refuses a chunk of a database's.
+    fn check_callers(&self) -> Result<(), Refusal> {
+        if self.owner == 15 {
+            return Err(Refusal::OwnedByDatabase);
+        }
+        Ok(())
+    }
+
+    /// The lock count of a chunk that has one.
+    fn locks_mut(&mut self) -> Result<&mut u8, Refusal> {
+        match &mut self.kind {
+            Kind::Movable { locks } => Ok(locks),
+            Kind::Fixed => Err(Refusal::ChunkFixed),
+        }
+    }
+
+    /// So many bytes from an offset on, to be written over, which a chunk without a lock doesn't allow.
+    /// A fixed chunk counts as locked.
+    fn part_mut(&mut self, at: u32, count: usize) -> Result<&mut [u8], Refusal> {
+        if self.kind == (Kind::Movable { locks: 0 }) {
+            return Err(Refusal::ChunkNotLocked);
+        }
+        let behind = match self.bytes.as_mut_slice().get_mut(at as usize..) {
+            Some(behind) => behind,
+            None => return Err(Refusal::OutOfBounds),
+        };
+        behind.get_mut(..count).ok_or(Refusal::OutOfBounds)
+    }
+}
+
+/// Refuses an owner that callers may not give: theirs are 1 to 14.
+fn check_owner(owner: u8) -> Result<(), Refusal> {
+    if owner == 0 || owner > 14 {
+        return Err(Refusal::InvalidOwner);
+    }
+    Ok(())
+}
+
+/// Refuses a need of more bytes than the greatest room has.
+fn check_room(need: u64, room: u32) -> Result<(), Refusal> {
+    if need > u64::from(room) {
+        return Err(Refusal::NotEnoughSpace);
+    }
+    Ok(())
+}
+
+/// What a chunk of so many bytes takes: 8 for its header, and its bytes rounded up to a multiple of 8.
+pub(crate) fn need(size: u32) -> u64 {
+    8 + u64::from(size).next_multiple_of(8)
+}
+
+pub(crate) fn number(count: usize) -> Reply {
+    Reply::Number(u32::try_from(count).unwrap_or(u32::MAX))
+}

@@ -1,0 +1,284 @@
+//! The calls on records, each by what it is for: its refusals in their order, what it does and what it
+//! answers.
+
+use crate::database::{DELETED, Entries, Record};
+use crate::image::{Image, Kind};
+use crate::memory_calls::number;
+use crate::parts::{Part, can_run_out};
+use crate::store::PlainStore;
+use heap_model::{Db, Name, RecordCall, RecordInfo, Refusal, Reply};
+use std::alloc::Global;
+
+/// The most entries of a database.
+const MOST_ENTRIES: usize = 65_535;
+
+/// What the entry of a record takes, in bytes.
+const RECORD_LENGTH: u32 = 8;
+
+/// The bit of a database's attributes that says that it may only be read.
+const READ_ONLY: u16 = 0x0002;
+
+/// The bits of a record's attributes that say that it was changed, and that it is in use.
+const DIRTY: u8 = 0x40;
+
+const BUSY: u8 = 0x20;
+
+/// The greatest unique ID.
+const GREATEST_ID: u32 = 0xFF_FFFF;
+
+impl PlainStore {
+    /// Does a call on records.
+    pub(crate) fn record_call(
+        &mut self,
+        alloc: Global,
+        call: &RecordCall,
+        before: &Image,
+        reply: &Reply,
+    ) -> Result<Reply, Refusal> {
+        match call {
+            RecordCall::New { db, at, size } => {
+                let name = self.room_for_record(alloc, *db, *size, before, reply)?;
+                self.insert_record(alloc, *db, *at, name, *size)
+            }
+            RecordCall::Delete(db, index) => self.delete_record(*db, *index),
+            RecordCall::Archive(db, index) => self.archive_record(*db, *index),
+            RecordCall::Remove(db, index) => self.remove_record(*db, *index),
+            RecordCall::Move { db, from, to } => self.move_record(*db, *from, *to),
+            RecordCall::Get(db, index) => self.get_record(*db, *index),
+            RecordCall::Query(db, index) => data_of(self.kept_record(*db, *index)?),
+            RecordCall::Release { db, index, dirty } => self.release_record(*db, *index, *dirty),
+            RecordCall::Info(db, index) => Ok(info_of(self.record(*db, *index)?)),
+            RecordCall::Resize { db, index, size } => {
+                self.check_written(*db)?;
+                let record = self.kept_record(*db, *index)?;
+                let data = record.data.ok_or(Refusal::RecordDeleted)?;
+                self.heap.set_length(data, *size, before)?;
+                self.count_change(*db)
+            }
+            RecordCall::Count(db) => Ok(number(self.records(*db)?.len())),
+        }
+    }
+
+    /// The name for the data of a new record, a free slot. The data may find no room, or the header none for
+    /// one entry more.
+    fn room_for_record(
+        &self,
+        alloc: Global,
+        db: Db,
+        size: u32,
+        before: &Image,
+        reply: &Reply,
+    ) -> Result<Name, Refusal> {
+        self.check_written(db)?;
+        if self.records(db)?.len() >= MOST_ENTRIES {
+            return Err(Refusal::TooManyEntries);
+        }
+        let first = before.first_free_slot().ok_or(Refusal::NotEnoughSpace)?;
+        let parts = [
+            Part::making(size),
+            Part::growth(before, Name(db.0), RECORD_LENGTH),
+        ];
+        let may_lack_room = can_run_out(alloc, before, &parts).map_err(|_| Refusal::OutOfMemory)?;
+        match reply {
+            Reply::Refused(Refusal::NotEnoughSpace) if may_lack_room => {
+                Err(Refusal::NotEnoughSpace)
+            }
+            Reply::Made { name, .. } if before.is_free_slot(*name) => Ok(*name),
+            _ => Ok(first),
+        }
+    }
+
+    /// A record whose data is zeros, at an index or at the end: dirty and busy, with a fresh ID, which is
+    /// the seed from then on.
+    fn insert_record(
+        &mut self,
+        alloc: Global,
+        db: Db,
+        at: u32,
+        name: Name,
+        size: u32,
+    ) -> Result<Reply, Refusal> {
+        self.heap
+            .make(alloc, name, Kind::Movable { locks: 0 }, size, 15)?;
+        let seed = self.database(db)?.header.seed;
+        let records = self.records_mut(db)?;
+        let id = fresh_id(records, seed & GREATEST_ID);
+        let index = records.len().min(at as usize);
+        let record = Record {
+            data: Some(name),
+            attributes: DIRTY | BUSY,
+            id,
+        };
+        records
+            .insert(index, record)
+            .map_err(|_| Refusal::OutOfMemory)?;
+        self.database_mut(db)?.header.seed = seed & !GREATEST_ID | id;
+        self.count_change(db)?;
+        Ok(Reply::Made {
+            index: u32::try_from(index).unwrap_or(u32::MAX),
+            name,
+        })
+    }
+
+    /// Its data goes, and its entry stays.
+    fn delete_record(&mut self, db: Db, index: u32) -> Result<Reply, Refusal> {
+        self.check_written(db)?;
+        let data = self.kept_record(db, index)?.data;
+        self.free_data(data)?;
+        let record = self.record_mut(db, index)?;
+        record.data = None;
+        record.attributes |= DELETED;
+        self.count_change(db)
+    }
+
+    /// Its entry says that it is deleted, and its data stays.
+    fn archive_record(&mut self, db: Db, index: u32) -> Result<Reply, Refusal> {
+        self.check_written(db)?;
+        self.kept_record(db, index)?;
+        self.record_mut(db, index)?.attributes |= DELETED;
+        self.count_change(db)
+    }
+
+    /// Its data goes, if it has any, and its entry.
+    fn remove_record(&mut self, db: Db, index: u32) -> Result<Reply, Refusal> {
+        self.check_written(db)?;
+        let data = self.record(db, index)?.data;
+        self.free_data(data)?;
+        let records = self.records_mut(db)?;
+        if (index as usize) < records.len() {
+            records.remove(index as usize);
+        }
+        self.count_change(db)
+    }
+
+    /// It comes in front of the record that stands at `to`, or behind the last.
+    fn move_record(&mut self, db: Db, from: u32, to: u32) -> Result<Reply, Refusal> {
+        self.check_written(db)?;
+        let (from, to) = (from as usize, to as usize);
+        let records = self.records_mut(db)?;
+        if from >= records.len() || to > records.len() {
+            return Err(Refusal::IndexOutOfRange);
+        }
+        let record = records.remove(from);
+        let index = if to > from { to - 1 } else { to };
+        if index <= records.len() {
+            records
+                .insert(index, record)
+                .map_err(|_| Refusal::OutOfMemory)?;
+        }
+        self.count_change(db)
+    }
+
+    /// It is in use from then on.
+    fn get_record(&mut self, db: Db, index: u32) -> Result<Reply, Refusal> {
+        let record = self.kept_record(db, index)?;
+        if record.attributes & BUSY != 0 {
+            return Err(Refusal::RecordBusy);
+        }
+        self.record_mut(db, index)?.attributes |= BUSY;
+        data_of(record)
+    }
+
+    /// It is in use no longer.
+    fn release_record(&mut self, db: Db, index: u32, dirty: bool) -> Result<Reply, Refusal> {
+        self.record(db, index)?;
+        let record = self.record_mut(db, index)?;
+        record.attributes &= !BUSY;
+        if dirty {
+            record.attributes |= DIRTY;
+        }
+        Ok(Reply::Done)
+    }
+
+    /// The records of a database that has records.
+    fn records(&self, db: Db) -> Result<&[Record], Refusal> {
+        match &self.database(db)?.entries {
+            Entries::Records(records) => Ok(records),
+            Entries::Resources(_) => Err(Refusal::NotRecordDatabase),
+        }
+    }
+
+    fn records_mut(&mut self, db: Db) -> Result<&mut Vec<Record>, Refusal> {
+        match &mut self.database_mut(db)?.entries {
+            Entries::Records(records) => Ok(records),
+            Entries::Resources(_) => Err(Refusal::NotRecordDatabase),
+        }
+    }
+
+    /// Refuses a database that has no records, or that may only be read.
+    fn check_written(&self, db: Db) -> Result<(), Refusal> {
+        self.records(db)?;
+        if self.database(db)?.header.attributes & READ_ONLY != 0 {
+            return Err(Refusal::ReadOnly);
+        }
+        Ok(())
+    }
+
+    /// The record of an index.
+    fn record(&self, db: Db, index: u32) -> Result<Record, Refusal> {
+        match self.records(db)?.get(index as usize) {
+            Some(record) => Ok(*record),
+            None => Err(Refusal::IndexOutOfRange),
+        }
+    }
+
+    fn record_mut(&mut self, db: Db, index: u32) -> Result<&mut Record, Refusal> {
+        self.records_mut(db)?
+            .get_mut(index as usize)
+            .ok_or(Refusal::IndexOutOfRange)
+    }
+
+    /// The same of one that isn't deleted.
+    fn kept_record(&self, db: Db, index: u32) -> Result<Record, Refusal> {
+        let record = self.record(db, index)?;
+        if record.attributes & DELETED != 0 {
+            return Err(Refusal::RecordDeleted);
+        }
+        Ok(record)
+    }
+
+    /// Frees the data of a record, if there is some. Refused where it is locked.
+    fn free_data(&mut self, data: Option<Name>) -> Result<(), Refusal> {
+        if let Some(name) = data {
+            if self.heap.is_locked(name) {
+                return Err(Refusal::ChunkLocked);
+            }
+            self.heap.chunks.remove(&name.0);
+        }
+        Ok(())
+    }
+
+    /// The modification number of a database rises.
+    fn count_change(&mut self, db: Db) -> Result<Reply, Refusal> {
+        let header = &mut self.database_mut(db)?.header;
+        header.modification_number = header.modification_number.wrapping_add(1);
+        Ok(Reply::Done)
+    }
+}
+
+/// The first ID behind a seed that no record has; 1 follows on the greatest.
+fn fresh_id(records: &[Record], seed: u32) -> u32 {
+    let mut id = seed;
+    for _ in 0..=records.len() {
+        id = if id < GREATEST_ID { id + 1 } else { 1 };
+        if !records.iter().any(|record| record.id == id) {
+            return id;
+        }
+    }
+    id
+}
+
+fn data_of(record: Record) -> Result<Reply, Refusal> {
+    match record.data {
+        Some(name) => Ok(Reply::Named(name)),
+        None => Err(Refusal::RecordDeleted),
+    }
+}
+
+fn info_of(record: Record) -> Reply {
+    Reply::Record(RecordInfo {
+        attributes: record.attributes,
+        id: record.id,
+        data: record.data,
+    })
+}

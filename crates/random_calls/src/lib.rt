@@ -1,0 +1,12 @@
+//! Calls for tests, drawn so that calls of every kind come up, accepted and refused for every reason.
+//!
+//! What a call names is drawn from an image or a store: most often something that is there.
+#![tactic(auto)]
+
+mod database;
+mod memory;
+mod record;
+
+pub use database::database_call;
+pub use memory::memory_call;
+pub use record::record_call;

@@ -1,0 +1,66 @@
+-- A change of a store, and then the modification number raised.
+use Rattle.std.proofs.Common.{◌≡◌, ℕ, List, [], ◌∷◌, Option, Some, None, refl, sym, ap, subst, ◌∙◌, arith, inl, inr}
+use Rattle.std.proofs.lemmas.Bool.{cases_eq, eq-eqb, ne_eqb}
+use Rattle.std.specs.Prelude.{◌==◌, IsSome}
+use Rattle.std.specs.List.{find}
+use Rattle.std.specs.Option.{is_some}
+use Rattle.heap_model.specs.Reading.{held}
+use Rattle.heap_model.specs.Database.{Database}
+use Rattle.heap_model.specs.Store.{StoredDatabase, Store, store_of}
+use Rattle.heap_model.specs.StoreWords.{with_changed, with_number}
+use Rattle.heap_model.specs.EntrySteps.{raised, raised_header, LeavesStore, MakesNone}
+use Rattle.heap_model.specs.declared.names.Db.{Db}
+use Rattle.heap_laws.proofs.Deciding.{cond-true, cond-false}
+
+-- what is there
+pub is_there : {X : Type 0} (x : Option X) → IsSome x → (one : X) × (x ≡ Some one)
+is_there None some = absurd cc
+is_there (Some one) some = (one, refl)
+
+-- ---- the number stays
+
+abbrev found : ℕ → List StoredDatabase → Option StoredDatabase
+found db stored = find (λ (one : StoredDatabase). one.db == db) stored
+
+abbrev now_is : ℕ → (Database ℕ → Database ℕ) → StoredDatabase → StoredDatabase
+now_is db change one = record { db = db; database = change one.database }
+
+number_changed : (stored : List StoredDatabase) (db : ℕ) (change : Database ℕ → Database ℕ) → IsSome (found db stored) → IsSome (found db (with_changed stored db change))
+number_changed [] db change has = has
+number_changed (x ∷ xs) db change has =
+    let rest : List StoredDatabase = with_changed xs db change in
+    elim (cases_eq x.db db) [
+      | inl e ↦ ap is_some (ap (λ (y : StoredDatabase). found db (y ∷ rest)) (cond-true (x.db == db) (now_is db change x) x (eq-eqb x.db db e)) ∙ cond-true (db == db) (Some (now_is db change x)) (found db rest) (eq-eqb db db refl))
+      | inr ne ↦
+          let past : found db (x ∷ xs) ≡ found db xs = cond-false (x.db == db) (Some x) (found db xs) (ne_eqb x.db db ne) in
+          ap is_some (ap (λ (y : StoredDatabase). found db (y ∷ rest)) (cond-false (x.db == db) (now_is db change x) x (ne_eqb x.db db ne)) ∙ cond-false (x.db == db) (Some x) (found db rest) (ne_eqb x.db db ne))
+          ∙ number_changed xs db change (ap is_some (sym past) ∙ has)
+    ]
+
+-- a database that is changed has its number afterwards
+pub number_left : (old mid : List ℕ) (db : Db) (store : Store) (change : Database ℕ → Database ℕ) → LeavesStore old mid store → store.databases ≡ with_changed (store_of old).databases db.0 change → IsSome (with_number (store_of old) db.0)
+    → IsSome (with_number (store_of mid) db.0)
+number_left old mid db store change leaves is has =
+    subst (λ (stored : List StoredDatabase). IsSome (found db.0 stored)) (sym (leaves.same.databases ∙ is)) (number_changed (store_of old).databases db.0 change has)
+
+-- ---- both changes
+
+pub raised_after : (old mid new : List ℕ) (db : Db) (store : Store) → LeavesStore old mid store → LeavesStore mid new (raised (store_of mid) db) → MakesNone mid new → LeavesStore old new (raised store db)
+raised_after old mid new db store one two none = record {
+  accepted = two.accepted;
+  same = record {
+    map = λ name. two.same.map name ∙ one.same.map name;
+    databases = two.same.databases
+        ∙ ap (λ (stored : List StoredDatabase). with_changed stored db.0 (λ database. record database { header = raised_header database.header })) one.same.databases;
+  };
+  len = two.len ∙ one.len;
+  count = two.count ∙ one.count;
+  directory = two.directory ∙ one.directory;
+  locks = λ name before after was now.
+      (let between = is_there (held mid name) (none name (ap is_some now)) in
+      two.locks name between.0 after between.1 now ∙ one.locks name before between.0 was between.1);
+  still = λ name live was locked there.
+      (let between = is_there (held mid name) (none name there) in
+      let same = one.locks name live between.0 was between.1 in
+      two.still name between.0 between.1 (omega (arith, same, locked)) there ∙ one.still name live was locked (ap is_some between.1));
+}

@@ -1,0 +1,27 @@
+-- The checks with which the calls on records begin, and what they answer.
+use Rattle.std.specs.Prelude.{ℕ, List, [], ◌∷◌}
+use Rattle.heap_model.specs.Store.{store_of}
+use Rattle.heap_model.specs.Refusals.{Check}
+use Rattle.heap_model.specs.StoreWords.{no_database}
+use Rattle.heap_model.specs.RecordSteps.{no_records, read_only, no_entry, deleted}
+use Rattle.heap_model.specs.declared.names.Db.{Db}
+use Rattle.heap_model.specs.declared.names.Name.{Name}
+use Rattle.heap_model.specs.declared.call.Reply.{Reply}
+use Rattle.heap_model.specs.declared.call.Reply.TheVariants as replies
+
+abbrev pub reading_checks : List ℕ → Db → List Check
+reading_checks image db = no_database (store_of image) db ∷ no_records (store_of image) db ∷ []
+
+abbrev pub writing_checks : List ℕ → Db → List Check
+writing_checks image db = no_database (store_of image) db ∷ no_records (store_of image) db ∷ read_only (store_of image) db ∷ []
+
+-- those of an index, and of a record that is not to be deleted
+abbrev pub finding_checks : List ℕ → Db → ℕ → List Check
+finding_checks image db index = no_entry (store_of image) db index ∷ []
+
+abbrev pub living_checks : List ℕ → Db → ℕ → List Check
+living_checks image db index = no_entry (store_of image) db index ∷ deleted (store_of image) db index ∷ []
+
+-- what the call that makes a record answers, as a reply
+abbrev pub made_reply : ℕ × Name → Reply
+made_reply made = replies.Made made.0 made.1

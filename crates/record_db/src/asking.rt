@@ -1,0 +1,42 @@
+//! Records, asked for.
+
+ghost use Rattle.heap_model.specs.MemorySteps.{reply_of};
+ghost use Rattle.heap_model.specs.StoreSteps.{DoesInStore};
+ghost use Rattle.heap_model.specs.declared.call.Call.{Call};
+ghost use Rattle.heap_model.specs.declared.call.RecordCall.{RecordCall};
+ghost use Rattle.heap_model.specs.declared.call.Reply.{Reply};
+
+use crate::checks::check_readable;
+use crate::records::{find_live, find_record};
+use heap_model::{Db, Name, RecordInfo, Refusal};
+use palm_store::Store;
+
+/// How many records a database has, deleted ones among them.
+///
+/// Refused: `NoSuchDatabase`, `NotRecordDatabase`.
+pub fn num_records(store: &Store, db: Db) -> Result<u32, Refusal>
+    ensures { DoesInStore store.now (Call.Record (RecordCall.Count db)) (reply_of (λ count. Reply.Number count) result) store.now }
+{
+    check_readable(store, db)?;
+    Ok(store.entry_count(db))
+}
+
+/// The name of a record's data. The record isn't marked as busy by it, and may be busy already.
+///
+/// Refused: `NoSuchDatabase`, `NotRecordDatabase`, `IndexOutOfRange`, `RecordDeleted`.
+pub fn query(store: &Store, db: Db, index: u32) -> Result<Name, Refusal>
+    ensures { DoesInStore store.now (Call.Record (RecordCall.Query db index)) (reply_of (λ name. Reply.Named name) result) store.now }
+{
+    check_readable(store, db)?;
+    Ok(find_live(store, db, index)?.data)
+}
+
+/// What the entry of a record says, of a deleted one too.
+///
+/// Refused: `NoSuchDatabase`, `NotRecordDatabase`, `IndexOutOfRange`.
+pub fn record_info(store: &Store, db: Db, index: u32) -> Result<RecordInfo, Refusal>
+    ensures { DoesInStore store.now (Call.Record (RecordCall.Info db index)) (reply_of (λ info. Reply.Record info) result) store.now }
+{
+    check_readable(store, db)?;
+    find_record(store, db, index)
+}

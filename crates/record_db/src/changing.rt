@@ -1,0 +1,117 @@
+//! Records changed, moved and taken out.
+
+ghost use Rattle.heap_model.specs.MemorySteps.{reply_of};
+ghost use Rattle.heap_model.specs.StoreSteps.{DoesInStore};
+ghost use Rattle.heap_model.specs.declared.call.Call.{Call};
+ghost use Rattle.heap_model.specs.declared.call.RecordCall.{RecordCall};
+ghost use Rattle.heap_model.specs.declared.call.Reply.{Reply};
+
+use crate::attributes::{deleted, in_use, is_busy, released};
+use crate::checks::{check_readable, check_writable};
+use crate::records::{find_live, find_record, has_locked, is_locked};
+use heap_model::{Db, Name, Refusal};
+use palm_store::Store;
+use store_entries::Label;
+
+/// Frees the data of a record. Its entry stays as that of a deleted one, with its ID.
+///
+/// Refused: `NoSuchDatabase`, `NotRecordDatabase`, `ReadOnly`, `IndexOutOfRange`, `RecordDeleted`; `ChunkLocked`,
+/// where the data is locked.
+pub fn delete(store: &mut Store, db: Db, index: u32) -> Result<(), Refusal>
+    ensures { DoesInStore store.old (Call.Record (RecordCall.Delete db index)) (reply_of (λ done. Reply.Done) result) store.new }
+{
+    check_writable(store, db)?;
+    let live = find_live(store, db, index)?;
+    if is_locked(store, live.data) {
+        return Err(Refusal::ChunkLocked);
+    }
+    store.entry_free_data(db, index);
+    store.raise(db);
+    Ok(())
+}
+
+/// Marks a record as deleted. Its data stays.
+///
+/// Refused: `NoSuchDatabase`, `NotRecordDatabase`, `ReadOnly`, `IndexOutOfRange`, `RecordDeleted`.
+pub fn archive(store: &mut Store, db: Db, index: u32) -> Result<(), Refusal>
+    ensures { DoesInStore store.old (Call.Record (RecordCall.Archive db index)) (reply_of (λ done. Reply.Done) result) store.new }
+{
+    check_writable(store, db)?;
+    let live = find_live(store, db, index)?;
+    let label = Label::Record {
+        attributes: deleted(live.attributes),
+        id: live.id,
+    };
+    store.entry_set(db, index, label);
+    store.raise(db);
+    Ok(())
+}
+
+/// Takes a record out, deleted or not, and frees its data, if it has any.
+///
+/// Refused: `NoSuchDatabase`, `NotRecordDatabase`, `ReadOnly`, `IndexOutOfRange`; `ChunkLocked`, where the data is
+/// locked.
+pub fn remove(store: &mut Store, db: Db, index: u32) -> Result<(), Refusal>
+    ensures { DoesInStore store.old (Call.Record (RecordCall.Remove db index)) (reply_of (λ done. Reply.Done) result) store.new }
+{
+    check_writable(store, db)?;
+    let info = find_record(store, db, index)?;
+    if has_locked(store, info.data) {
+        return Err(Refusal::ChunkLocked);
+    }
+    store.entry_drop(db, index, None);
+    store.raise(db);
+    Ok(())
+}
+
+/// Moves a record in front of the one that stands at an index, or behind the last: `to` counts the records as
+/// they stand before the call.
+///
+/// Refused: `NoSuchDatabase`, `NotRecordDatabase`, `ReadOnly`, `IndexOutOfRange`.
+pub fn move_record(store: &mut Store, db: Db, from: u32, to: u32) -> Result<(), Refusal>
+    ensures { DoesInStore store.old (Call.Record (RecordCall.Move db from to)) (reply_of (λ done. Reply.Done) result) store.new }
+{
+    check_writable(store, db)?;
+    let count = store.entry_count(db);
+    if from >= count || to > count {
+        return Err(Refusal::IndexOutOfRange);
+    }
+    store.entry_move(db, from, to);
+    store.raise(db);
+    Ok(())
+}
+
+/// The name of a record's data, for use: the record is busy until it is released.
+///
+/// Refused: `NoSuchDatabase`, `NotRecordDatabase`, `IndexOutOfRange`, `RecordDeleted`, `RecordBusy`.
+pub fn get(store: &mut Store, db: Db, index: u32) -> Result<Name, Refusal>
+    ensures { DoesInStore store.old (Call.Record (RecordCall.Get db index)) (reply_of (λ name. Reply.Named name) result) store.new }
+{
+    check_readable(store, db)?;
+    let live = find_live(store, db, index)?;
+    if is_busy(live.attributes) {
+        return Err(Refusal::RecordBusy);
+    }
+    let label = Label::Record {
+        attributes: in_use(live.attributes),
+        id: live.id,
+    };
+    store.entry_set(db, index, label);
+    Ok(live.data)
+}
+
+/// Ends the use of a record, which is dirty then if `dirty` says so.
+///
+/// Refused: `NoSuchDatabase`, `NotRecordDatabase`, `IndexOutOfRange`.
+pub fn release(store: &mut Store, db: Db, index: u32, dirty: bool) -> Result<(), Refusal>
+    ensures { DoesInStore store.old (Call.Record (RecordCall.Release db index dirty)) (reply_of (λ done. Reply.Done) result) store.new }
+{
+    check_readable(store, db)?;
+    let info = find_record(store, db, index)?;
+    let label = Label::Record {
+        attributes: released(info.attributes, dirty),
+        id: info.id,
+    };
+    store.entry_set(db, index, label);
+    Ok(())
+}

@@ -1,0 +1,89 @@
+//! Records, by their indexes.
+
+ghost use Rattle.std.specs.Prelude.{◌≡◌, ◌<◌, ◌↔◌, false, Some, length, IsSome, IsTrue, IsSomeAnd, OnOk, IfOk, IfErr};
+ghost use Rattle.heap_model.specs.Database.{a_record};
+ghost use Rattle.heap_model.specs.MemorySteps.{Of, IsLocked};
+ghost use Rattle.heap_model.specs.Store.{Accepted, store_of};
+ghost use Rattle.heap_model.specs.Refusals.{NoneHolds, FirstBrings};
+ghost use Rattle.heap_model.specs.StoreWords.{with_number};
+ghost use Rattle.heap_model.specs.EntrySteps.{entries_in, entry_under, OfEntry, IsInfoOf, resources_under};
+ghost use Rattle.record_db.specs.Checks.{finding_checks, living_checks};
+
+use crate::attributes::is_deleted;
+use heap_model::{Db, Entry, Name, RecordInfo, Refusal};
+use palm_store::Store;
+
+/// The lock of a fixed chunk, which is no lock count.
+const FIXED_LOCK: u8 = 15;
+
+/// A record that is not deleted, and so has data.
+#[derive(Clone, Copy, Debug, PartialEq, Eq)]
+pub(crate) struct LiveRecord {
+    pub(crate) attributes: u8,
+    pub(crate) id: u32,
+    pub(crate) data: Name,
+}
+
+/// The record of an index, deleted or not.
+pub(crate) fn find_record(store: &Store, db: Db, index: u32) -> Result<RecordInfo, Refusal>
+    requires accepted { Accepted store.now.bytes }
+    requires number { IsSome (with_number (store_of store.now.bytes) db.0) }
+    requires records { resources_under (store_of store.now.bytes) db ≡ false }
+    ensures inside { OnOk result (index < length (entries_in (store_of store.now.bytes) db)) }
+    ensures is { IfOk result (λ info. OfEntry (entry_under (store_of store.now.bytes) db index) (IsInfoOf info)) }
+    ensures passes { OnOk result (NoneHolds (finding_checks store.now.bytes db index)) }
+    ensures refused { IfErr result (λ refusal. FirstBrings (finding_checks store.now.bytes db index) refusal) }
+{
+    if index >= store.entry_count(db) {
+        return Err(Refusal::IndexOutOfRange);
+    }
+    match store.entry(db, index) {
+        Entry::Record(info) => Ok(info),
+        Entry::Resource(_) => unreachable!(),
+    }
+}
+
+/// The record of an index that is not deleted.
+pub(crate) fn find_live(store: &Store, db: Db, index: u32) -> Result<LiveRecord, Refusal>
+    requires accepted { Accepted store.now.bytes }
+    requires number { IsSome (with_number (store_of store.now.bytes) db.0) }
+    requires records { resources_under (store_of store.now.bytes) db ≡ false }
+    ensures inside { OnOk result (index < length (entries_in (store_of store.now.bytes) db)) }
+    ensures is { IfOk result (λ live. entry_under (store_of store.now.bytes) db index ≡ Some (a_record live.attributes live.id live.«data».0)) }
+    ensures some { IfOk result (λ live. 0 < live.«data».0) }
+    ensures passes { OnOk result (NoneHolds (living_checks store.now.bytes db index)) }
+    ensures refused { IfErr result (λ refusal. FirstBrings (living_checks store.now.bytes db index) refusal) }
+{
+    let info = find_record(store, db, index)?;
+    if is_deleted(info.attributes) {
+        return Err(Refusal::RecordDeleted);
+    }
+    let Some(data) = info.data else {
+        unreachable!()
+    };
+    Ok(LiveRecord {
+        attributes: info.attributes,
+        id: info.id,
+        data,
+    })
+}
+
+/// Whether a chunk is locked: a fixed one is not.
+pub(crate) fn is_locked(store: &Store, name: Name) -> bool
+    ensures { IsTrue result ↔ Of ((store_of store.now.bytes).map name.0) IsLocked }
+{
+    match store.locks(name) {
+        Ok(count) => 0 < count && count < FIXED_LOCK,
+        Err(_) => false,
+    }
+}
+
+/// Whether a record has data, and it is locked.
+pub(crate) fn has_locked(store: &Store, data: Option<Name>) -> bool
+    ensures { IsTrue result ↔ IsSomeAnd «data» (λ name. Of ((store_of store.now.bytes).map name.0) IsLocked) }
+{
+    match data {
+        Some(name) => is_locked(store, name),
+        None => false,
+    }
+}

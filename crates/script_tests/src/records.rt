@@ -1,0 +1,349 @@
+//! Records: the lines that make, use, change, move and delete them.
+
+use crate::calls::put_reply;
+use crate::commands::check_said;
+use crate::databases::WIDE;
+use crate::runs::{check_runs, run_on};
+use heap_model::{Call, DatabaseCall, Db, DbName, RecordCall};
+use palm_script::do_call;
+use palm_store::Store;
+use std::alloc::Global;
+use std::test::Fail;
+use test_images::{DATABASE, bytes_of, image};
+
+/// A blank image of 168 bytes with 8 slots.
+const NARROW: &str = "50484931 000000A8 0008 0000 00000000 00*32 80000078 00*116";
+
+#[test]
+fn lines_on_records_print_their_replies(rt: HostRuntime) -> Result<(), Fail> {
+    check_runs(&rt, &RUNS)
+}
+
+/// Images, and the lines that are run on them, each with its reply.
+const RUNS: [(&str, &str); 11] = [
+    // a record is busy from its making on, until it is released
+    (
+        WIDE,
+        "create d \"Notes\" \"DATA\" \"Test\" 0 5 = ok
+        recnew d 0 6 r = ok 0
+        recget d 0 h = refused 16 RecordBusy
+        recrelease d 0 0 = ok
+        recget d 0 h = ok
+        recinfo d 0 = ok 60 1 data
+        recresize d 0 9 = ok
+        size h = ok 9
+        lock h = ok 1
+        recdelete d 0 = refused 3 ChunkLocked
+        recremove d 0 = refused 3 ChunkLocked
+        dbdelete d = refused 3 ChunkLocked
+        unlock h = ok 0
+        recdelete d 0 = ok
+        recinfo d 0 = ok e0 1 none",
+    ),
+    // an index beyond the end is the end; records move in front of others
+    (
+        WIDE,
+        "create d \"Notes\" \"DATA\" \"Test\" 0 5 = ok
+        recnew d 9 0 r = ok 0
+        recnew d 9 0 r = ok 1
+        recnew d 9 0 r = ok 2
+        recnew d 9 0 r = ok 3
+        recinfo d 0 = ok 60 1 data
+        recinfo d 1 = ok 60 2 data
+        recinfo d 2 = ok 60 3 data
+        recinfo d 3 = ok 60 4 data
+        recmove d 0 3 = ok
+        recinfo d 0 = ok 60 2 data
+        recinfo d 1 = ok 60 3 data
+        recinfo d 2 = ok 60 1 data
+        recinfo d 3 = ok 60 4 data
+        recmove d 3 0 = ok
+        recinfo d 0 = ok 60 4 data
+        recinfo d 1 = ok 60 2 data
+        recinfo d 2 = ok 60 3 data
+        recinfo d 3 = ok 60 1 data
+        recmove d 0 4 = ok
+        recinfo d 0 = ok 60 2 data
+        recinfo d 1 = ok 60 3 data
+        recinfo d 2 = ok 60 1 data
+        recinfo d 3 = ok 60 4 data
+        recmove d 0 5 = refused 14 IndexOutOfRange
+        recmove d 4 0 = refused 14 IndexOutOfRange",
+    ),
+    // deleted, archived and removed
+    (
+        WIDE,
+        "create d \"Notes\" \"DATA\" \"Test\" 0 5 = ok
+        recnew d 0 6 a = ok 0
+        recnew d 1 6 b = ok 1
+        recnew d 2 6 c = ok 2
+        recnew d 3 6 e = ok 3
+        recdelete d 0 = ok
+        recarchive d 1 = ok
+        recremove d 2 = ok
+        reccount d = ok 3
+        recinfo d 0 = ok e0 1 none
+        recinfo d 1 = ok e0 2 data
+        recinfo d 2 = ok 60 4 data
+        recquery d 0 x = refused 15 RecordDeleted
+        recget d 0 x = refused 15 RecordDeleted
+        recdelete d 0 = refused 15 RecordDeleted
+        recarchive d 1 = refused 15 RecordDeleted
+        recresize d 1 7 = refused 15 RecordDeleted
+        size x = refused 1 InvalidHandle
+        size a = refused 1 InvalidHandle
+        size b = ok 6
+        size c = refused 1 InvalidHandle
+        size e = ok 6
+        recrelease d 0 0 = ok
+        recinfo d 0 = ok c0 1 none
+        recremove d 0 = ok
+        reccount d = ok 2
+        recinfo d 0 = ok e0 2 data",
+    ),
+    // no room for the data and for the entry: all is left as it was
+    (
+        NARROW,
+        "create d \"Notes\" \"DATA\" \"Test\" 0 5 = ok
+        freebytes = ok 16
+        recnew d 0 8 r = refused 8 NotEnoughSpace
+        freebytes = ok 16
+        reccount d = ok 0
+        recinfo d 0 = refused 14 IndexOutOfRange
+        size r = refused 1 InvalidHandle
+        new a 8 1 = ok",
+    ),
+    // records are nobody's but the database's
+    (
+        WIDE,
+        "new a 8 3 = ok
+        lock a = ok 1
+        ptrnew p 8 3 = ok
+        new b 8 4 = ok
+        create d \"Notes\" \"DATA\" \"Test\" 0 5 = ok
+        recnew d 0 8 r = ok 0
+        freeowner 3 = ok 2
+        size a = refused 1 InvalidHandle
+        size p = refused 1 InvalidHandle
+        size b = ok 8
+        size r = ok 8
+        owner r = ok 15
+        free r = refused 2 OwnedByDatabase
+        setowner r 1 = refused 2 OwnedByDatabase
+        resize r 9 = refused 2 OwnedByDatabase",
+    ),
+    // databases that may only be read, and such as hold resources
+    (
+        WIDE,
+        "create d \"Notes\" \"DATA\" \"Test\" 0 5 = ok
+        dbset d \"Notes\" 2 0 5 5 0 \"DATA\" \"Test\" = ok
+        recnew d 0 0 r = refused 13 ReadOnly
+        create p \"Prog\" \"appl\" \"Test\" 1 0 = ok
+        recnew p 0 0 r = refused 11 NotRecordDatabase
+        recdelete p 0 = refused 11 NotRecordDatabase
+        recarchive p 0 = refused 11 NotRecordDatabase
+        recremove p 0 = refused 11 NotRecordDatabase
+        recmove p 0 0 = refused 11 NotRecordDatabase
+        recget p 0 r = refused 11 NotRecordDatabase
+        recquery p 0 r = refused 11 NotRecordDatabase
+        recrelease p 0 0 = refused 11 NotRecordDatabase
+        recinfo p 0 = refused 11 NotRecordDatabase
+        recresize p 0 0 = refused 11 NotRecordDatabase
+        reccount p = refused 11 NotRecordDatabase
+        dbdelete d = ok
+        nth x 0 = ok
+        dbcount = ok 1
+        nth x 1 = refused 10 NoSuchDatabase
+        reccount d = refused 10 NoSuchDatabase
+        recnew d 0 0 r = refused 10 NoSuchDatabase
+        recget e 0 r = refused 10 NoSuchDatabase
+        size r = refused 1 InvalidHandle",
+    ),
+    // what may be done with a database that may only be read
+    (
+        WIDE,
+        "create d \"Notes\" \"DATA\" \"Test\" 0 5 = ok
+        recnew d 0 4 r = ok 0
+        dbset d \"Notes\" 2 0 5 5 0 \"DATA\" \"Test\" = ok
+        recdelete d 0 = refused 13 ReadOnly
+        recarchive d 9 = refused 13 ReadOnly
+        recremove d 0 = refused 13 ReadOnly
+        recmove d 0 9 = refused 13 ReadOnly
+        recresize d 0 5 = refused 13 ReadOnly
+        recrelease d 0 1 = ok
+        recget d 0 h = ok
+        recquery d 0 q = ok
+        recinfo d 0 = ok 60 1 data
+        reccount d = ok 1
+        dbinfo d = ok \"Notes\" 0002 0 5 5 0 2 \"DATA\" \"Test\" 00000001 1",
+    ),
+    // calls that change records are counted, but for use and release
+    (
+        WIDE,
+        "create d \"Notes\" \"DATA\" \"Test\" 0 5 = ok
+        recnew d 0 4 r = ok 0
+        recnew d 1 4 s = ok 1
+        recmove d 0 2 = ok
+        recresize d 0 8 = ok
+        recrelease d 0 0 = ok
+        recget d 0 s = ok
+        recquery d 0 s = ok
+        recarchive d 1 = ok
+        recremove d 0 = ok
+        recinfo d 0 = ok e0 1 data
+        recnew d 0 0 s = ok 0
+        recdelete d 0 = ok
+        dbinfo d = ok \"Notes\" 0000 0 5 5 0 8 \"DATA\" \"Test\" 00000003 2",
+    ),
+    // the records that an image has; a refused line binds nothing
+    (
+        DATABASE,
+        "find d \"R\" = ok
+        reccount d = ok 2
+        recquery d 1 b = ok
+        recinfo d 1 = ok 00 2 data
+        recget d 0 a = ok
+        read a 0 2 = ok 4141
+        recinfo d 0 = ok 20 1 data
+        recget d 0 b = refused 16 RecordBusy
+        read b 0 2 = ok 4242
+        recrelease d 0 0 = ok
+        recinfo d 0 = ok 00 1 data
+        recget d 0 a = ok
+        recrelease d 0 1 = ok
+        recinfo d 0 = ok 40 1 data
+        recquery d 2 a = refused 14 IndexOutOfRange
+        recget d 2 a = refused 14 IndexOutOfRange
+        recrelease d 2 0 = refused 14 IndexOutOfRange
+        recdelete d 2 = refused 14 IndexOutOfRange
+        recarchive d 2 = refused 14 IndexOutOfRange
+        recremove d 2 = refused 14 IndexOutOfRange
+        recresize d 2 0 = refused 14 IndexOutOfRange
+        read a 0 2 = ok 4141
+        recmove d 0 2 = ok
+        recquery d 0 c = ok
+        read c 0 2 = ok 4242
+        recremove d 0 = ok
+        size b = refused 1 InvalidHandle
+        reccount d = ok 1
+        recinfo d 0 = ok 40 1 data",
+    ),
+    // the first bytes stay, and zeros come behind them
+    (
+        WIDE,
+        "create d \"Notes\" \"DATA\" \"Test\" 0 5 = ok
+        recnew d 0 2 r = ok 0
+        read r 0 2 = ok 0000
+        lock r = ok 1
+        write r 0 4142 = ok
+        recresize d 0 900 = refused 3 ChunkLocked
+        unlock r = ok 0
+        recresize d 0 900 = refused 8 NotEnoughSpace
+        read r 0 2 = ok 4142
+        recresize d 0 20 = ok
+        read r 0 20 = ok 4142000000000000000000000000000000000000
+        recresize d 0 1 = ok
+        read r 0 1 = ok 41
+        read r 0 2 = refused 9 OutOfBounds
+        recresize d 0 0 = ok
+        size r = ok 0",
+    ),
+    // labels of chunks and of databases are apart
+    (
+        WIDE,
+        "create d \"Notes\" \"DATA\" \"Test\" 0 5 = ok
+        recnew d 0 3 d = ok 0
+        size d = ok 3
+        reccount d = ok 1",
+    ),
+];
+
+/// A call on the records of a store, by its number, and one that makes a database.
+fn call(number: u32) -> Call {
+    let (db, index) = (Db(16), 0);
+    Call::Record(match number {
+        0 => {
+            return Call::Database(DatabaseCall::Create {
+                name: DbName::of(b"Notes"),
+                kind: 1,
+                creator: 2,
+                resources: false,
+                date: 3,
+            });
+        }
+        1 => RecordCall::New { db, at: 9, size: 4 },
+        2 => RecordCall::New { db, at: 0, size: 5 },
+        3 => RecordCall::Count(db),
+        4 => RecordCall::Get(db, index),
+        5 => RecordCall::Release {
+            db,
+            index,
+            dirty: true,
+        },
+        6 => RecordCall::Query(db, index),
+        7 => RecordCall::Move { db, from: 0, to: 2 },
+        8 => RecordCall::Info(db, index),
+        9 => RecordCall::Resize { db, index, size: 6 },
+        10 => RecordCall::Archive(db, index),
+        11 => RecordCall::Delete(db, 1),
+        12 => RecordCall::Info(db, 1),
+        13 => RecordCall::Remove(db, index),
+        _ => RecordCall::Info(Db(20), index),
+    })
+}
+
+/// The calls in their order, and what each is answered.
+#[test]
+fn calls_on_records_are_answered(rt: HostRuntime) -> Result<(), Fail> {
+    let region = image(rt.alloc(), WIDE, "")?;
+    let Ok(mut store) = Store::check(rt.alloc(), region) else {
+        return Err("no store")?;
+    };
+    let mut text = String::new(rt.alloc());
+    for number in 0..15 {
+        let reply = do_call(rt.alloc(), &mut store, &call(number));
+        put_reply(&mut text, &reply)?;
+    }
+    assert_eq!(rt;
+        text.as_str(),
+        "database 16; made 0, name 24; made 0, name 28; 2; refused 16; done; name 28; done; \
+        96, 1, true; done; done; done; 192, 2, false; done; refused 10; "
+    );
+    Ok(())
+}
+
+/// The front of an image of 524,424 bytes with 4 slots, whose one database has 65,535 records: up to its
+/// entries.
+const CROWDED: &str = "50484931 00080088 0004 0000 00000010 00000028 00000038 00*8 \
+    04000010 00FFFFF8 00000014 00*4 02080050 00FFFFF2 \
+    52 00*31 0000 0000 00*24 44415441 54657374 0000FFFF 00000000 FFFF";
+
+/// The image: its records are deleted, have no data and the IDs from 1 on.
+fn crowded(alloc: Global) -> Result<Vec<u8>, Fail> {
+    let mut bytes = bytes_of(alloc, CROWDED)?;
+    for id in 1..=u16::MAX {
+        bytes.extend_from_slice(&[0, 0, 0, 0, 0x80, 0])?;
+        bytes.extend_from_slice(&id.to_be_bytes())?;
+    }
+    bytes.extend_from_slice(bytes_of(alloc, "00*2 80000008 00*4")?.as_slice())?;
+    Ok(bytes)
+}
+
+/// A database has 65,535 records, and no other is made.
+#[test]
+fn a_database_has_65535_records_at_most(rt: HostRuntime) -> Result<(), Fail> {
+    let image = crowded(rt.alloc())?;
+    let said = check_said(rt.alloc(), image.as_slice())?;
+    assert_eq!(rt;
+        said.as_str(),
+        "Done ok size 524424 slots 4 movable 2 fixed 0 free 8\ndatabases 1\n"
+    );
+    let script = "find d \"R\"\nrecnew d 0 0 r\nreccount d\nrecinfo d 65534\n";
+    let ran = run_on(rt.alloc(), image.as_slice(), script);
+    let printed = String::from_utf8(ran.out).ok().ok_or("no text")?;
+    assert_eq!(rt;
+        printed.as_str(),
+        "ok\nrefused 17 TooManyEntries\nok 65535\nok 80 65535 none\n"
+    );
+    Ok(())
+}

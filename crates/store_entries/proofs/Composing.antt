@@ -1,0 +1,123 @@
+-- What two calls leave, one behind the other: one that writes a database anew, and one that changes what one
+-- other name stands for.
+use Rattle.std.proofs.Common.{◌≡◌, ◌≢◌, ℕ, ◌<◌, List, Option, Some, None, refl, sym, ap, subst, ◌∙◌, inl, inr}
+use Rattle.std.proofs.lemmas.Bool.{cases_eq}
+use Rattle.std.specs.Prelude.{IsSome}
+use Rattle.std.specs.Option.{is_some}
+use Rattle.heap_model.specs.Heap.{HeapAccepted}
+use Rattle.heap_model.specs.Meaning.{LiveChunk, ChunkMap}
+use Rattle.heap_model.specs.Placing.{SameFrame}
+use Rattle.heap_model.specs.Reading.{held}
+use Rattle.heap_model.specs.Space.{Still}
+use Rattle.heap_model.specs.Maps.{updated, changed, gone}
+use Rattle.heap_model.specs.Database.{Database, spelled, database_in}
+use Rattle.heap_model.specs.Store.{bytes_of, bytes_under}
+use Rattle.heap_model.specs.Leaving.{Leaves, Respells, rewritten, database_here}
+use Rattle.heap_model.specs.EntrySteps.{MakesNone}
+use Rattle.heap_laws.proofs.Deciding.{none_some}
+use Rattle.heap_laws.proofs.Meanings.{held-zero}
+use Rattle.store_laws.proofs.Edited.{edited, here as updated_here, apart as updated_apart}
+
+-- ---- what names stand for
+
+abbrev pub with_bytes : List ℕ → LiveChunk → LiveChunk
+with_bytes bytes live = record live { bytes = bytes }
+
+pub rewritten_here : (map : ChunkMap) (db : ℕ) (bytes : List ℕ) → rewritten map db bytes db ≡ changed (with_bytes bytes) (map db)
+rewritten_here map db bytes = updated_here map db (changed (with_bytes bytes) (map db)) db refl
+
+pub rewritten_apart : (map : ChunkMap) (db other : ℕ) (bytes : List ℕ) → other ≢ db → rewritten map db bytes other ≡ map other
+rewritten_apart map db other bytes ne = updated_apart map db (changed (with_bytes bytes) (map db)) other ne
+
+edited_db : (map : ChunkMap) (db name : ℕ) (bytes : List ℕ) (now : Option LiveChunk) → name ≢ db → edited map db bytes name now db ≡ changed (with_bytes bytes) (map db)
+edited_db map db name bytes now ne = updated_apart (rewritten map db bytes) name now db (λ e. ne (sym e)) ∙ rewritten_here map db bytes
+
+edited_apart : (map : ChunkMap) (db name other : ℕ) (bytes : List ℕ) (now : Option LiveChunk) → other ≢ name → other ≢ db → edited map db bytes name now other ≡ map other
+edited_apart map db name other bytes now ne away = updated_apart (rewritten map db bytes) name now other ne ∙ rewritten_apart map db other bytes away
+
+-- ---- the frame, and what stays
+
+frames : (old mid new : List ℕ) → SameFrame old mid → SameFrame mid new → SameFrame old new
+frames old mid new one two = record { accepted = two.accepted; len = two.len ∙ one.len; count = two.count ∙ one.count; directory = two.directory ∙ one.directory }
+
+-- what is locked is so in between, if it is there in the end
+abbrev pub KeptBetween : List ℕ → List ℕ → List ℕ → Type 0
+KeptBetween old mid new = (name : ℕ) (live : LiveChunk) → held old name ≡ Some live → 0 < live.lock → IsSome (held new name) → (after : LiveChunk) × (held mid name ≡ Some after) × (0 < after.lock)
+
+pub still_between : (old mid new : List ℕ) → Still old mid → Still mid new → KeptBetween old mid new → Still old new
+still_between old mid new first second kept name live e locked there =
+    let between = kept name live e locked there in
+    second name between.0 between.1 between.2 there ∙ first name live e locked (ap is_some between.1)
+
+pub no_chunk : (o : Option LiveChunk) → o ≡ None → IsSome o → ⊥
+no_chunk o none some = let no : IsSome {T = LiveChunk} None = subst (λ (x : Option LiveChunk). IsSome x) none some in absurd cc
+
+-- ---- a database written anew, and then a chunk
+
+pub respelled_then : (old mid new : List ℕ) (db name : ℕ) (d : Database ℕ) (now : Option LiveChunk) → name ≢ db → Respells old mid db d → Leaves mid new (updated (held mid) name now) → Leaves old new (edited (held old) db (spelled d) name now)
+respelled_then old mid new db name d now ne first second = record {
+  map = λ other. elim (cases_eq other name) [
+    | inl e ↦ second.map other ∙ updated_here (held mid) name now other e ∙ sym (updated_here (rewritten (held old) db (spelled d)) name now other e)
+    | inr apart ↦ second.map other ∙ updated_apart (held mid) name now other apart ∙ first.map other ∙ sym (updated_apart (rewritten (held old) db (spelled d)) name now other apart)
+  ];
+  frame = frames old mid new first.frame second.frame;
+  still = still_between old mid new first.still second.still (λ other live e locked there. elim (cases_eq other db) [
+    | inl is ↦
+        (with_bytes (spelled d) live, ap (held mid) is ∙ first.map db ∙ rewritten_here (held old) db (spelled d) ∙ ap (changed (with_bytes (spelled d))) (ap (held old) (sym is) ∙ e), locked)
+    | inr away ↦ (live, first.map other ∙ rewritten_apart (held old) db other (spelled d) away ∙ e, locked)
+  ]);
+}
+
+-- ---- a chunk made, and then a database written anew
+
+pub then_respelled : (old mid new : List ℕ) (db name : ℕ) (d : Database ℕ) (now : Option LiveChunk) → name ≢ db → held old name ≡ None → Leaves old mid (updated (held old) name now) → Respells mid new db d → Leaves old new (edited (held old) db (spelled d) name now)
+then_respelled old mid new db name d now ne fresh first second = record {
+  map = λ other. elim (cases_eq other db) [
+    | inl e ↦
+        ap (held new) e
+        ∙ second.map db ∙ rewritten_here (held mid) db (spelled d)
+        ∙ ap (changed (with_bytes (spelled d))) (first.map db ∙ updated_apart (held old) name now db (λ is. ne (sym is)))
+        ∙ sym (edited_db (held old) db name (spelled d) now ne) ∙ ap (edited (held old) db (spelled d) name now) (sym e)
+    | inr away ↦ second.map other ∙ rewritten_apart (held mid) db other (spelled d) away ∙ first.map other ∙ elim (cases_eq other name) [
+      | inl e ↦ updated_here (held old) name now other e ∙ sym (updated_here (rewritten (held old) db (spelled d)) name now other e)
+      | inr apart ↦ updated_apart (held old) name now other apart ∙ sym (edited_apart (held old) db name other (spelled d) now apart away)
+    ]
+  ];
+  frame = frames old mid new first.frame second.frame;
+  still = still_between old mid new first.still second.still (λ other live e locked there. elim (cases_eq other name) [
+    | inl is ↦ absurd (none_some (held old name) live fresh (ap (held old) (sym is) ∙ e))
+    | inr apart ↦ (live, first.map other ∙ updated_apart (held old) name now other apart ∙ e, locked)
+  ]);
+}
+
+-- ---- no name is new
+
+pub none_made : (old new : List ℕ) (db name : ℕ) (bytes : List ℕ) (now : Option LiveChunk) → Leaves old new (edited (held old) db bytes name now) → IsSome (held old db) → (IsSome now → IsSome (held old name)) → MakesNone old new
+none_made old new db name bytes now l there was other some = elim (cases_eq other name) [
+  | inl e ↦ subst (λ (n : ℕ). IsSome (held old n)) (sym e) (was (subst (λ (o : Option LiveChunk). IsSome o) (l.map other ∙ updated_here (rewritten (held old) db bytes) name now other e) some))
+  | inr ne ↦ elim (cases_eq other db) [
+    | inl e ↦ subst (λ (n : ℕ). IsSome (held old n)) (sym e) there
+    | inr away ↦ subst (λ (o : Option LiveChunk). IsSome o) (l.map other ∙ edited_apart (held old) db name other bytes now ne away) some
+  ]
+]
+
+-- ---- bytes that stay
+
+pub bytes_kept : (old new : List ℕ) (db : ℕ) → held new db ≡ held old db → bytes_under new db ≡ bytes_under old db
+unfolding bytes_under
+bytes_kept old new db e = ap bytes_of e
+
+pub database_kept : (old new : List ℕ) (db : ℕ) → held new db ≡ held old db → database_here new db ≡ database_here old db
+database_kept old new db e = ap database_in (bytes_kept old new db e)
+
+-- ---- nothing freed
+
+pub none_freed : (image : List ℕ) (name : ℕ) → HeapAccepted image → name ≡ 0 → Leaves image image (gone (held image) name)
+none_freed image name h zero_is = record {
+  map = λ other. elim (cases_eq other name) [
+    | inl e ↦ ap (held image) (e ∙ zero_is) ∙ held-zero image h ∙ sym (updated_here (held image) name None other e)
+    | inr ne ↦ sym (updated_apart (held image) name None other ne)
+  ];
+  frame = record { accepted = h; len = refl; count = refl; directory = refl };
+  still = λ other live e locked there. refl;
+}

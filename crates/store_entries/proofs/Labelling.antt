@@ -1,0 +1,74 @@
+-- An entry with another label: it names the same data, and what the label has to be makes it sound.
+use Rattle.std.proofs.Common.{◌≡◌, ℕ, Bool, true, false, List, Option, Some, refl, sym, ap, subst, ◌∙◌, arith}
+use Rattle.std.proofs.lemmas.Nat.Bits.{bit_at_or, bit_at-lt, bit_at-pow_same}
+use Rattle.std.specs.Prelude.{slice_get, ◌==◌, bit_or}
+use Rattle.std.specs.Int.{bit_at}
+use Rattle.heap_model.specs.Database.{Entry, a_record, a_resource, entry_data, is_deleted, has_resources, EntryFits}
+use Rattle.heap_model.specs.Store.{unique_id, Accepted, store_of}
+use Rattle.heap_model.specs.Counts.{NamesData}
+use Rattle.heap_model.specs.Leaving.{database_here}
+use Rattle.heap_model.specs.EntrySteps.{resources_under, OfEntry, deleted_bit, without_data}
+use Rattle.heap_model.specs.declared.names.Db.{Db}
+use Rattle.store_laws.specs.Entries.{HasOwnId}
+use Rattle.store_laws.proofs.Numbered.{accepted_sound, entry_here, kind_here, data_here, entry_fits, entry_names}
+use Rattle.store_lookup.specs.Databases.{HasNumber}
+use Rattle.store_entries.specs.declared.changing.Label.{Label}
+use Rattle.store_entries.specs.declared.changing.Label.TheVariants as labels
+use Rattle.store_entries.specs.Labels.{labelled, CanHave, HasFittingLabel}
+
+pub fitting_label : (image : List ℕ) (db : Db) (index : ℕ) (label : Label) → CanHave (store_of image) db (resources_under (store_of image) db) index label → HasFittingLabel label
+fitting_label image db index (labels.Record attributes id) can = can.2
+fitting_label image db index (labels.Resource kind id) can = tt
+
+pub labelled_data : (label : Label) (entry : Entry ℕ) → entry_data (labelled label entry) ≡ entry_data entry
+labelled_data (labels.Record attributes id) (a_record old_attributes old_id slot) = refl
+labelled_data (labels.Record attributes id) (a_resource kind old_id slot) = refl
+labelled_data (labels.Resource kind id) (a_record attributes old_id slot) = refl
+labelled_data (labels.Resource kind id) (a_resource old_kind old_id slot) = refl
+
+-- a record is no resource
+no_record : (kind : Bool) (attributes id slot : ℕ) → kind ≡ true → EntryFits kind (a_record attributes id slot) → ⊥
+no_record true attributes id slot e fits = fits
+no_record false attributes id slot e fits = absurd cc
+
+-- ---- it is sound
+
+pub labelled_names : (image : List ℕ) (db : Db) (index : ℕ) (label : Label) (entry : Entry ℕ) → Accepted image → HasNumber image db.0 → slice_get (database_here image db.0).entries index ≡ Some entry → CanHave (store_of image) db (resources_under (store_of image) db) index label
+    → NamesData (labelled label entry)
+labelled_names image db index (labels.Record attributes id) (a_record old_attributes old_id slot) a has at can = λ none. can.4 (data_here image db index (a_record old_attributes old_id slot) has at ∙ none)
+labelled_names image db index (labels.Record attributes id) (a_resource kind old_id slot) a has at can = entry_names (database_here image db.0) index (a_resource kind old_id slot) (accepted_sound image db.0 a has) at
+labelled_names image db index (labels.Resource kind id) (a_record attributes old_id slot) a has at can = entry_names (database_here image db.0) index (a_record attributes old_id slot) (accepted_sound image db.0 a has) at
+labelled_names image db index (labels.Resource kind id) (a_resource old_kind old_id slot) a has at can = entry_names (database_here image db.0) index (a_resource old_kind old_id slot) (accepted_sound image db.0 a has) at
+
+pub labelled_own : (image : List ℕ) (db : Db) (index : ℕ) (label : Label) (entry : Entry ℕ) → Accepted image → HasNumber image db.0 → slice_get (database_here image db.0).entries index ≡ Some entry → CanHave (store_of image) db (resources_under (store_of image) db) index label
+    → HasOwnId (database_here image db.0).entries index (labelled label entry)
+labelled_own image db index (labels.Record attributes id) (a_record old_attributes old_id slot) a has at can =
+    (can.1, λ other. can.3 (other.0, other.1, subst (λ (o : Option (Entry ℕ)). OfEntry o (λ entry. unique_id entry ≡ Some id)) (sym (entry_here image db other.0 has)) other.2))
+labelled_own image db index (labels.Record attributes id) (a_resource kind old_id slot) a has at can = tt
+labelled_own image db index (labels.Resource kind id) (a_record attributes old_id slot) a has at can =
+    absurd (no_record (has_resources (database_here image db.0).header.attributes) attributes old_id slot (sym (kind_here image db has) ∙ can) (entry_fits (database_here image db.0) index (a_record attributes old_id slot) (accepted_sound image db.0 a has) at))
+labelled_own image db index (labels.Resource kind id) (a_resource old_kind old_id slot) a has at can = tt
+
+-- ---- an entry without data
+
+emptied_bit : (attributes : ℕ) → is_deleted (bit_or attributes deleted_bit) ≡ true
+emptied_bit attributes =
+    let bit : bit_at (bit_or attributes 128) 7 ≡ 1 = (let both = bit_at_or attributes 128 7 in let here = bit_at-pow_same 7 in let low = bit_at-lt attributes 7 in omega arith) in
+    ap (λ (b : ℕ). b == 1) bit
+
+pub emptied_data : (entry : Entry ℕ) → entry_data (without_data entry) ≡ 0
+emptied_data (a_record attributes id slot) = refl
+emptied_data (a_resource kind id slot) = refl
+
+pub emptied_id : (entry : Entry ℕ) → unique_id (without_data entry) ≡ unique_id entry
+emptied_id (a_record attributes id slot) = refl
+emptied_id (a_resource kind id slot) = refl
+
+-- a resource is no record
+no_resource : (resources : Bool) (kind id slot : ℕ) → resources ≡ false → EntryFits resources (a_resource kind id slot) → ⊥
+no_resource true kind id slot e fits = absurd cc
+no_resource false kind id slot e fits = fits
+
+pub emptied_names : (image : List ℕ) (db : Db) (index : ℕ) (entry : Entry ℕ) → Accepted image → HasNumber image db.0 → slice_get (database_here image db.0).entries index ≡ Some entry → resources_under (store_of image) db ≡ false → NamesData (without_data entry)
+emptied_names image db index (a_record attributes id slot) a has at records = λ none. emptied_bit attributes
+emptied_names image db index (a_resource kind id slot) a has at records = absurd (no_resource (has_resources (database_here image db.0).header.attributes) kind id slot (sym (kind_here image db has) ∙ records) (entry_fits (database_here image db.0) index (a_resource kind id slot) (accepted_sound image db.0 a has) at))

@@ -1,0 +1,14 @@
+-- What is left of a heap where a new entry came to a database.
+use Rattle.std.specs.Prelude.{◌≡◌, ℕ, List, None}
+use Rattle.heap_model.specs.Reading.{held}
+use Rattle.heap_model.specs.Maps.{made}
+use Rattle.heap_model.specs.Database.{Entry, spelled}
+use Rattle.heap_model.specs.Store.{data_owner}
+use Rattle.heap_model.specs.Leaving.{Leaves, rewritten, database_here}
+use Rattle.heap_model.specs.EntrySteps.{with_entry_at}
+
+-- A chunk of so many zeros was made for data, under a name that stood for nothing, and the database has
+-- the entry at an index. All other chunks are as they were.
+pub record PutsIn (old new : List ℕ) (db at : ℕ) (entry : Entry ℕ) (name size : ℕ) : Type 0 where
+  pub fresh : held old name ≡ None
+  pub leaves : Leaves old new (made (rewritten (held old) db (spelled (with_entry_at at entry (database_here old db)))) name size data_owner 0)
