@@ -1,5 +1,6 @@
 -- What a part of a list reads as, and what a list begins with once a part of it is written.
-use Rattle.std.proofs.Common.{◌≡◌, ℕ, zero, suc, ◌+◌, ◌-◌, ◌^◌, ◌<◌, ◌≤◌, List, [], ◌∷◌, ◌++◌, slice_set, length, take, drop, refl, sym, ap, ◌∙◌, append_assoc, arith, length-take, length-drop, length-append}
+use Rattle.std.proofs.Common.{◌≡◌, ℕ, zero, suc, ◌+◌, ◌-◌, ◌^◌, ◌<◌, ◌≤◌, List, [], ◌∷◌, ◌++◌, slice_index, slice_set, bit_and, length, take, drop, refl, sym, ap, ◌∙◌, append_assoc, arith, length-take, length-drop, length-append}
+use Rattle.std.proofs.lemmas.Nat.{and_mask, mod-mul-add}
 use Rattle.std.proofs.lemmas.List.{append-nil, drop_all, take_at, take_all}
 use Rattle.std.proofs.lemmas.List.Folds.{concat-append}
 use Rattle.std.specs.List.{concat}
@@ -18,17 +19,19 @@ pub u16_at_part : (number at : ℕ) (bytes : List ℕ) → number ≡ big_number
 unfolding u16_at
 u16_at_part number at bytes read = read ∙ number_of_part 2 at bytes
 
-pub u24_at_part : (number at : ℕ) (bytes : List ℕ) → number ≡ big_number 3 (take (at + 3 - at) (drop at bytes)) → number ≡ u24_at bytes at
-unfolding u24_at
-u24_at_part number at bytes read = read ∙ number_of_part 3 at bytes
-
-pub u24_at_small : (bytes : List ℕ) (at : ℕ) → AreBytes bytes → u24_at bytes at < 2 ^ 24
-unfolding u24_at
-u24_at_small bytes at are = big_from-lt at 3 bytes are
-
 pub u32_at_part : (number at : ℕ) (bytes : List ℕ) → number ≡ big_number 4 (take (at + 4 - at) (drop at bytes)) → number ≡ u32_at bytes at
 unfolding u32_at
 u32_at_part number at bytes read = read ∙ number_of_part 4 at bytes
+
+-- the number in three bytes is what the number with the byte in front of them leaves
+pub u24_of_u32 : (bytes : List ℕ) (at : ℕ) → AreBytes bytes → 1 ≤ at
+    → bit_and (u32_at bytes (at - 1)) 0xFF_FFFF ≡ u24_at bytes at
+unfolding u24_at u32_at
+u24_of_u32 bytes at are behind =
+    let next : suc (at - 1) ≡ at = omega arith in
+    and_mask (big_from (at - 1) 4 bytes) 24
+    ∙ mod-mul-add (slice_index bytes (at - 1)) (2 ^ 24) (big_from (suc (at - 1)) 3 bytes) (big_from-lt (suc (at - 1)) 3 bytes are)
+    ∙ ap (λ (k : ℕ). big_from k 3 bytes) next
 
 -- a part that is written up to its end keeps nothing
 part_written : (old : List ℕ) (at n number : ℕ) → at + n ≤ length old → big_bytes n number ++ drop n (take (at + n - at) (drop at old)) ≡ big_bytes n number

@@ -12,6 +12,9 @@ use crate::fields::{
 };
 use crate::words::{u16_in, u32_in};
 
+/// The most databases that a store may have.
+pub const MOST_DATABASES: u32 = 1024;
+
 /// The attribute of a database of resources.
 pub const RESOURCE_DATABASE: u16 = 0x0001;
 

@@ -29,8 +29,8 @@ mod record_attributes;
 mod words;
 
 pub use body::{
-    READ_ONLY, RESOURCE_DATABASE, app_info, attributes, entry_count, has_resources, is_whole, seed,
-    sort_info,
+    MOST_DATABASES, READ_ONLY, RESOURCE_DATABASE, app_info, attributes, entry_count, has_resources,
+    is_whole, seed, sort_info,
 };
 pub use db_entry::DbEntry;
 pub use entries::{RecordEntry, ResourceEntry, entry_slot, record_id};

@@ -15,15 +15,17 @@ pub(crate) fn u16_in(bytes: &[u8], at: usize) -> u16
     BigEndian::read_u16(&bytes[at..at + 2])
 }
 
-/// The number in the three bytes at `at`.
+/// The number in the three bytes at `at`. The byte in front of them is read too, since one number of
+/// four bytes is read faster than three bytes.
 #[inline]
-#[tactic(auto, using(crate::proofs::WordLaws::u24_at_part, crate::proofs::WordLaws::u24_at_small))]
+#[tactic(auto, using(crate::proofs::WordLaws::u24_of_u32))]
 pub(crate) fn u24_in(bytes: &[u8], at: usize) -> u32
-    requires { at + 3 ≤ length bytes.now }
+    requires front { 1 ≤ at }
+    requires inside { at + 3 ≤ length bytes.now }
     ensures is { result ≡ u24_at bytes.now at }
     ensures small { result < 2 ^ 24 }
 {
-    BigEndian::read_u24(&bytes[at..at + 3])
+    u32_in(bytes, at - 1) & 0xFF_FFFF
 }
 
 /// The number in the four bytes at `at`.
