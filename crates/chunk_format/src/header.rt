@@ -20,6 +20,12 @@ const ABOVE_24_BITS: u32 = 0x100_0000;
 /// What stands above the 28 bits of owner and hOffset is a multiple of this.
 const ABOVE_28_BITS: u32 = 0x1000_0000;
 
+/// The owner of the manager's own chunks: the directory, and the headers of databases.
+pub const MANAGERS_OWNER: u8 = 0;
+
+/// The owner of the chunks that databases name.
+pub const DATA_OWNER: u8 = 15;
+
 /// The lock field of a fixed chunk. A movable chunk's counts its locks, up to 14.
 pub const FIXED_LOCK: u8 = 15;
 

@@ -24,6 +24,8 @@ pub use frame::{
     FRAME_SIZE, SLOT_SIZE, area_start, directory, has_magic, head_end, is_image_size,
     put_directory, reserved, size_field, slot_count,
 };
-pub use header::{FIXED_LOCK, Header, chunk_size, put_lock, put_owner, size_of_body};
+pub use header::{
+    DATA_OWNER, FIXED_LOCK, Header, MANAGERS_OWNER, chunk_size, put_lock, put_owner, size_of_body,
+};
 pub use image::{BlankFault, blank, blank_from};
 pub use walk::Walk;

@@ -1,5 +1,5 @@
 -- A name's chunk with another length: where it stands, elsewhere, and once a stretch has slid.
-use Rattle.std.proofs.Common.{◌≡◌, ℕ, ◌+◌, ◌-◌, ◌<◌, ◌≤◌, List, [], ◌∷◌, ◌++◌, length, Bool, Option, Some, refl, sym, ap, subst, ◌∙◌, arith, inl, inr}
+use Rattle.std.proofs.Common.{◌≡◌, ℕ, ◌+◌, ◌-◌, ◌<◌, ◌≤◌, List, ◌∷◌, ◌++◌, length, Bool, Option, Some, refl, sym, ap, subst, ◌∙◌, arith, inl, inr}
 use Rattle.std.proofs.lemmas.Bool.{cases_eq, OnTrue_at}
 use Rattle.std.specs.Prelude.{◌==◌, if◌then◌else◌, IsSome, IsTrue, ◌↔◌}
 use Rattle.std.specs.Bool.{OnTrue}
@@ -7,7 +7,7 @@ use Rattle.heap_model.specs.Bytes.{sized_to}
 use Rattle.heap_model.specs.Chunk.{Chunk, movable, need, size_of}
 use Rattle.heap_model.specs.Heap.{HeapAccepted}
 use Rattle.heap_model.specs.Meaning.{LiveChunk}
-use Rattle.heap_model.specs.Reading.{chunks_of, held}
+use Rattle.heap_model.specs.Reading.{held}
 use Rattle.heap_model.specs.Maps.{changed}
 use Rattle.heap_model.specs.Space.{ShortFor, Short, FitsInPlace, MovesAlone, MovesOneStretchAnd, free_front, room_of}
 use Rattle.heap_model.specs.Layout.{IsRoom}
@@ -102,13 +102,7 @@ slid_then old mid new name count h s r =
       some_held : (x : Option LiveChunk) (live : LiveChunk) → x ≡ Some live → IsSome x
       some_held x live e = subst (λ (y : Option LiveChunk). IsSome y) (sym e) refl
 
--- the chunk alone moves, or others of the stretch that slid before
-pub alone_one : (old new : List ℕ) (name : ℕ) → MovesAlone old new name → MovesOneStretchAnd old new name
-alone_one old new name alone = record { before = []; mid = []; after = chunks_of old; chunks = refl; none_stays = tt; others = λ other apart none was is. alone other apart was is }
-
-pub itself_alone : (image : List ℕ) (name : ℕ) → MovesOneStretchAnd image image name
-itself_alone image name = alone_one image image name (λ other apart was is. refl)
-
+-- the chunk alone moves, and others of the stretch that slid before
 pub slid_alone : (old mid new : List ℕ) (name : ℕ) → HeapAccepted old → SlidesOneStretch old mid → MovesAlone mid new name → MovesOneStretchAnd old new name
 slid_alone old mid new name h s alone =
     let alike = slides_alike old mid h s in

@@ -29,8 +29,10 @@ pub mod Compacting
 pub mod Holding
 pub mod Stretches
 pub mod Lowering
+pub mod Unmoved
 pub mod Resizings
 pub mod Relocating
 pub mod Updating
 pub mod Directory
 pub mod Fitting
+pub mod Results

@@ -1,6 +1,5 @@
 -- The passes together.
-use Rattle.std.proofs.Common.{◌≡◌, ℕ, List, [], ◌∷◌, ◌++◌, length, refl, sym, subst, ◌∙◌, inl, inr}
-use Rattle.std.specs.Prelude.{Result, Ok, Err, IsErr, IsErrAnd, IfErr}
+use Rattle.std.proofs.Common.{◌≡◌, ℕ, List, [], ◌∷◌, ◌++◌, length, refl, sym, ◌∙◌, inl, inr}
 use Rattle.heap_model.specs.Bytes.{AreBytes}
 use Rattle.heap_model.specs.Heap.{HeapAccepted}
 use Rattle.heap_model.specs.Store.{listed, Accepted}
@@ -45,11 +44,6 @@ pub listed_length : (image directory : List ℕ) (count : ℕ) → IsListing ima
 listed_length image directory count l e = e ∙ sym (length-listed image)
 
 -- ---- the whole
-
--- what an error that was handed up brings
-pub if_err : {A : Type 0} {brought : StoreFault} (P : StoreFault → Type 0) (result : Result A StoreFault) → IsErr result × IsErrAnd result (λ fault. fault ≡ brought) → P brought → IfErr result P
-if_err P (Ok answer) is p = tt
-if_err P (Err fault) is p = subst P (sym is.1) p
 
 pub marked_first : (image : List ℕ) (fault : StoreFault) → IsFirstOr (marked_faults image) fault → IsFirstOr (store_faults image) fault
 marked_first image fault f = elim f [ inl none ↦ inl none | inr first ↦ inr (first_before (marked_faults image) (own_faults image) fault first) ]

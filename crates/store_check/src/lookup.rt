@@ -8,16 +8,10 @@ ghost use Rattle.store_check.specs.Listing.{listed_count, header_at, IsListing};
 ghost use Rattle.store_check.specs.Lookup.{IsMovable, NotOurs, movable_by};
 
 use crate::words::u32_in;
-use chunk_format::{Header, directory};
+use chunk_format::{DATA_OWNER, Header, MANAGERS_OWNER, directory};
 use heap_model::{Name, Place};
 use master_table::resolve;
 use raw_region::Region;
-
-/// The owner of the manager's chunks.
-const MANAGERS_OWNER: u8 = 0;
-
-/// The owner of chunks for data.
-const DATA_OWNER: u8 = 15;
 
 /// A movable chunk: where its body is, how many bytes that has, and its owner.
 #[derive(Clone, Copy)]

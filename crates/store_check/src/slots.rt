@@ -14,11 +14,9 @@ use crate::fault::StoreFault;
 use crate::lookup::is_managers;
 use crate::marks::{is_marked, mark};
 use crate::words::u32_in;
+use db_format::MOST_DATABASES;
 use master_table::Table;
 use raw_region::Region;
-
-/// The most databases that a store may have.
-const MOST_DATABASES: usize = 1024;
 
 /// Whether the word of an index is bad, where the directory's own slot and the words in front are
 /// marked.
@@ -32,7 +30,7 @@ fn is_bad_slot(region: &Region, table: Table, directory: &[u8], index: usize, ma
     requires marks { AreMarks region.now.bytes (met region.now.bytes index) marks.now }
     ensures { IsTrue result ↔ IsBadSlot region.now.bytes index }
 {
-    if directory.len() < 4 * index + 4 || index >= MOST_DATABASES {
+    if directory.len() < 4 * index + 4 || index >= MOST_DATABASES as usize {
         return true;
     }
     let slot = u32_in(directory, 4 * index);

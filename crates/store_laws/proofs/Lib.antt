@@ -22,6 +22,7 @@ pub mod Entries
 pub mod Numbered
 pub mod Listed
 pub mod Stepping
+pub mod Doing
 pub mod Edited
 pub mod Editing
 pub mod Meaning

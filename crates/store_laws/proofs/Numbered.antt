@@ -17,6 +17,7 @@ use Rattle.heap_model.specs.Leaving.{database_here, SpellsHere}
 use Rattle.heap_laws.proofs.Deciding.{cond-true, cond-false}
 use Rattle.store_laws.proofs.Listing.{times-cons, same-yes, same-no, all-times}
 use Rattle.store_laws.proofs.Counting.{has_databases}
+use Rattle.store_laws.proofs.Owners.{owned_some}
 use Rattle.store_laws.proofs.Found.{found_stands}
 
 -- ---- the database of a number
@@ -77,6 +78,9 @@ number_stands image db has = (found_stands db (databases image) (database_under 
 -- the chunk under a number is the manager's, and isn't the directory
 pub number_slot : (image : List ℕ) (db : ℕ) → Accepted image → IsSome (with_number (store_of image) db) → IsHeaderSlot image db
 number_slot image db a has = all-times (IsHeaderSlot image) (listed image) a.headers db (number_listed image db has)
+
+pub number_some : (image : List ℕ) (db : ℕ) → Accepted image → IsSome (with_number (store_of image) db) → 0 < db
+number_some image db a has = let slot = number_slot image db a has in owned_some image db 0 a.heap slot.owner (omega arith)
 
 pub owned_there : (image : List ℕ) (name : ℕ) → owner_under image name ≡ managers_owner → IsSome (held image name)
 unfolding owner_under

@@ -15,6 +15,12 @@ use Rattle.store_laws.proofs.Numbers.{numbered_more, read_bytes, slices_join, nu
 use Rattle.store_laws.proofs.Names.{name_read}
 use Rattle.store_laws.proofs.Spellings.{spelled_name, next_list_read, resources_read, count_read, length-spelled, size-zero, size-suc}
 
+-- ---- where entries stand
+
+pub offset_below : (resources : Bool) (index count : ℕ) → index < count → entry_offset resources (index + 1) ≤ entry_offset resources count
+offset_below true index count below = omega arith
+offset_below false index count below = omega arith
+
 -- ---- a spelling is in shape
 
 at_least_header : (resources : Bool) (n : ℕ) → 78 ≤ entry_offset resources n

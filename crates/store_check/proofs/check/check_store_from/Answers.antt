@@ -1,5 +1,6 @@
 use Rattle.store_check.specs.Checks.{IsAnswered}
-use Rattle.store_check.proofs.CheckLaws.{if_err, store_first}
+use Rattle.heap_laws.proofs.Results.{if_err}
+use Rattle.store_check.proofs.CheckLaws.{store_first}
 use Rattle.store_check.proofs.check.check_store_from.Goals as goal
 
 pub returns-in_err-databases-clause-fault : goal.returns-in_err-databases-clause-fault

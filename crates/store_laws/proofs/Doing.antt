@@ -1,0 +1,69 @@
+-- Steps of calls on a store: what is left to show of one that asks, of one that is refused, and of one that
+-- changes the store.
+use Rattle.std.proofs.Common.{◌≡◌, Bool, true, false, cond, Result, Ok, Err, refl, sym, ap, subst, ◌∙◌, inl}
+use Rattle.std.specs.Prelude.{if◌then◌else◌, IsErr, IsErrAnd}
+use Rattle.std.specs.Bool.{OnTrue}
+use Rattle.heap_model.specs.Memory.{Memory}
+use Rattle.heap_model.specs.Store.{Store, Accepted, store_of}
+use Rattle.heap_model.specs.Refusals.{FirstBrings}
+use Rattle.heap_model.specs.MemorySteps.{reply_of}
+use Rattle.heap_model.specs.StoreWords.{SameStore}
+use Rattle.heap_model.specs.EntrySteps.{LeavesStore}
+use Rattle.heap_model.specs.StoreSteps.{StoreStep, may_slide, row_of, DoesInStore}
+use Rattle.heap_model.specs.declared.call.Call.{Call}
+use Rattle.heap_model.specs.declared.call.Reply.{Reply}
+use Rattle.heap_model.specs.declared.call.Reply.TheVariants as replies
+use Rattle.heap_model.specs.declared.refusal.Refusal.{Refusal}
+
+pub same_store : (region : Memory) → SameStore (store_of region.bytes) (store_of region.bytes)
+same_store region = record { map = λ name. refl; databases = refl }
+
+-- a call that leaves the region does its step where the reply is right
+pub asks : (region : Memory) (call : Call) (reply : Reply) → Accepted region.bytes → StoreStep region call reply region → DoesInStore region call reply region
+asks region call reply a step = record {
+  before = a;
+  step = step;
+  accepted = a;
+  len = refl;
+  count = refl;
+  directory = inl refl;
+  still = λ name live held locked there. refl;
+  asks = unchanged (row_of region call).only_asks;
+  rest = none_slid (may_slide call);
+} where
+  unchanged : (asks : Bool) → OnTrue asks (region ≡ region)
+  unchanged true = refl
+  unchanged false = tt
+
+  none_slid : (slides : Bool) → region ≡ record region { bytes = region.bytes; slid = cond slides region.slid region.slid }
+  none_slid true = refl
+  none_slid false = refl
+
+-- a refusal, which leaves the region whatever is called
+pub refused : (region : Memory) (call : Call) (refusal : Refusal) → Accepted region.bytes → FirstBrings (row_of region call).refusals refusal → DoesInStore region call (replies.Refused refusal) region
+refused region call refusal a brings = asks region call (replies.Refused refusal) a (brings, record { store = same_store region; free = refl; slots = refl })
+
+-- a refusal of a call below, handed on
+pub handed_on : {A : Type 0} {old new : Memory} (f : A → Reply) (call : Call) (result : Result A Refusal) {brought : Refusal} → IsErr result × IsErrAnd result (λ refusal. refusal ≡ brought) → DoesInStore old call (replies.Refused brought) new → DoesInStore old call (reply_of f result) new
+handed_on f call (Ok answer) is does = let no_error = is.0 in absurd cc
+handed_on {A} {old} {new} f call (Err refusal) is does = subst (λ (r : Refusal). DoesInStore old call (replies.Refused r) new) (sym is.1) does
+
+-- a call that leaves some store
+pub changes : (old new : Memory) (call : Call) (reply : Reply) (store : Store) → Accepted old.bytes → LeavesStore old.bytes new.bytes store → StoreStep old call reply new → OnTrue (row_of old call).only_asks (new ≡ old)
+    → new ≡ record old { bytes = new.bytes; slid = if may_slide call then new.slid else old.slid } → DoesInStore old call reply new
+changes old new call reply store a leaves step asks rest = record {
+  before = a;
+  step = step;
+  accepted = leaves.accepted;
+  len = leaves.len;
+  count = leaves.count;
+  directory = inl leaves.directory;
+  still = leaves.still;
+  asks = asks;
+  rest = rest;
+}
+
+-- ---- of the region's value the bytes alone change
+
+pub kept_then : (old mid new : Memory) → mid ≡ record old { bytes = mid.bytes } → new ≡ record mid { bytes = new.bytes } → new ≡ record old { bytes = new.bytes }
+kept_then old mid new one two = two ∙ ap (λ (m : Memory). record m { bytes = new.bytes }) one
