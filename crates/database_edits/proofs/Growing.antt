@@ -54,7 +54,3 @@ no_room old db size (Err refusal) m why = (refused old db size refusal m why).2
 pub by_space : {A : Type 0} (old : List ℕ) (db size : ℕ) (result : Result A Refusal) → IsManagers old db → IfErr result (λ refusal. FirstBrings (growth_checks old (held old) db size) refusal) → IfErr result (λ refusal. refusal ≡ NotEnoughSpace)
 by_space old db size (Ok done) m why = tt
 by_space old db size (Err refusal) m why = (refused old db size refusal m why).0
-
-pub on_err : {A : Type 0} (P : Type 0) (result : Result A Refusal) → P → OnErr result P
-on_err P (Ok done) p = tt
-on_err P (Err refusal) p = p

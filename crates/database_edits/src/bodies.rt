@@ -3,7 +3,7 @@
 ghost use Rattle.std.specs.Prelude.{◌≡◌, ◌+◌, ◌-◌, ◌<◌, ◌≤◌, ℕ, length, slice_range, OnOk, OnErr, IfErr};
 ghost use Rattle.heap_model.specs.Bytes.{overwritten, sized_to};
 ghost use Rattle.heap_model.specs.Chunk.{need};
-ghost use Rattle.heap_model.specs.Space.{ShortFor};
+ghost use Rattle.heap_model.specs.Space.{ShortFor, MovesNothing};
 ghost use Rattle.heap_model.specs.DatabaseFields.{header_size};
 ghost use Rattle.heap_model.specs.Database.{Database, header_bytes, entry_bytes};
 ghost use Rattle.heap_model.specs.Database as databases;
@@ -39,6 +39,7 @@ pub(crate) fn put_header(heap: &mut Heap, db: Db, header: &DbHeader)
     requires managers { IsManagers heap.old.bytes db.0 }
     requires inside { header_size ≤ length (bytes_under heap.old.bytes db.0) }
     ensures writes { (database : Database ℕ) → HasHeader database header.now → Rebodies heap.old.bytes heap.new.bytes db.0 (overwritten (bytes_under heap.old.bytes db.0) 0 (header_bytes database)) }
+    ensures unmoved { MovesNothing heap.old.bytes heap.new.bytes }
     ensures rest { heap.new ≡ record heap.old { bytes = heap.new.bytes } }
 {
     heap.sys_write(Name(db.0), 0, &header.to_bytes());

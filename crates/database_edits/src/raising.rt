@@ -1,6 +1,7 @@
 //! The modification number of a database, raised.
 
 ghost use Rattle.std.specs.Prelude.{◌≡◌};
+ghost use Rattle.heap_model.specs.Space.{MovesNothing};
 ghost use Rattle.heap_model.specs.Leaving.{SpellsHere, Respells, database_here};
 ghost use Rattle.heap_model.specs.EntrySteps.{raised_header};
 
@@ -13,6 +14,7 @@ use mem_manager::Heap;
 pub fn raise_modification(heap: &mut Heap, db: Db)
     requires spells { SpellsHere heap.old.bytes db.0 }
     ensures respells { Respells heap.old.bytes heap.new.bytes db.0 (record (database_here heap.old.bytes db.0) { header = raised_header (database_here heap.old.bytes db.0).header }) }
+    ensures unmoved { MovesNothing heap.old.bytes heap.new.bytes }
     ensures rest { heap.new ≡ record heap.old { bytes = heap.new.bytes } }
 {
     let header = header_here(heap, db);

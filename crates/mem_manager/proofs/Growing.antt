@@ -11,7 +11,7 @@ use Rattle.heap_model.specs.Heap.{HeapAccepted}
 use Rattle.heap_model.specs.Meaning.{LiveChunk}
 use Rattle.heap_model.specs.Reading.{held}
 use Rattle.heap_model.specs.Maps.{changed}
-use Rattle.heap_model.specs.Space.{ShortFor, FitsInPlace, MovesNothing, free_behind, free_front, MovesOneStretchAnd}
+use Rattle.heap_model.specs.Space.{ShortFor, FitsInPlace, MovesNothing, free_behind, free_front}
 use Rattle.heap_model.specs.Resizing.{GrowsInPlace}
 use Rattle.heap_model.specs.Refusals.{Check, NoneHolds, FirstBrings, ◌brings◌}
 use Rattle.heap_model.specs.MemorySteps.{Does, Of, IsLocked, reply_of, growth_checks}
@@ -22,20 +22,18 @@ use Rattle.heap_model.specs.declared.refusal.Refusal.{Refusal}
 use Rattle.heap_model.specs.declared.refusal.Refusal.TheVariants.{OwnedByDatabase, ChunkFixed, ChunkLocked, NotEnoughSpace}
 use Rattle.heap_laws.proofs.Deciding.{cond-true, cond-false}
 use Rattle.heap_laws.proofs.Slots.{same_slots}
-use Rattle.heap_laws.proofs.Altering.{finds_place}
 use Rattle.heap_laws.proofs.Exchanging.{ChangesName}
 use Rattle.heap_laws.proofs.Resizings.{live_sized, grow_changes, finds_behind}
-use Rattle.heap_laws.proofs.Compacting.{slot_unheld, changes_move_nothing}
+use Rattle.heap_laws.proofs.Compacting.{slot_unheld}
 use Rattle.heap_laws.proofs.Fitting.{fits_not_short_for}
 use Rattle.heap_place.proofs.FoundLaws.{name_held, one_held, when_movable}
 use Rattle.heap_place.specs.declared.found.Found.{Found}
 use Rattle.heap_place.specs.Found.{IsFound, IsOne}
 use Rattle.heap_place.specs.Resizes.{TellsWhetherInPlace}
 use Rattle.heap_compact.specs.Resized.{Resized}
-use Rattle.heap_compact.proofs.ResizedLaws.{alone_one}
 use Rattle.master_table.proofs.TableLaws.{used_still}
 use Rattle.mem_manager.specs.Lookup.{IsManaged}
-use Rattle.mem_manager.proofs.Stepping.{known, of_known, not_of_known, is_known, refused, altered, slot_as, OnlyBytes}
+use Rattle.mem_manager.proofs.Stepping.{known, of_known, not_of_known, is_known, refused, altered, stays_in_place, slot_as, OnlyBytes}
 use Rattle.mem_manager.proofs.Altering.{lock_small}
 use Rattle.mem_manager.proofs.Moving.{BytesAndSlid}
 
@@ -133,15 +131,7 @@ grown_leaves old new found size told h f tells told_true grows rest =
     (altered old new found.name.0 found (live_sized size) h f (grown_changes old.bytes new.bytes found.name.0 found size told h f tells told_true grows) rest).leaves
 
 pub grown_moves_nothing : (old new : List ℕ) (name : ℕ) (found : Found) (size : ℕ) (told : Bool) → HeapAccepted old → (f : IsFound old name found) → TellsWhetherInPlace old found (need size) told → told ≡ true → OnTrue told (GrowsInPlace old new (found.place.0 - 8) size) → MovesNothing old new
-grown_moves_nothing old new name found size told h f tells told_true grows =
-    let low = f.behind_header in
-    let there : found.place.0 - 8 + 8 ≡ found.place.0 = omega arith in
-    changes_move_nothing old new name _ _ (grown_changes old new name found size told h f tells told_true grows) (λ was is. sym (finds_place old name f.live f.chunk (found.place.0 - 8) h f.finds ∙ ap some_place there)) where
-      some_place : ℕ → Option ℕ
-      some_place n = Some n
-
-pub nothing_alone : (old new : List ℕ) (name : ℕ) → MovesNothing old new → MovesOneStretchAnd old new name
-nothing_alone old new name nothing = alone_one old new name (λ other apart was is. nothing other was is)
+grown_moves_nothing old new name found size told h f tells told_true grows = stays_in_place old new name found _ h f (grown_changes old new name found size told h f tells told_true grows)
 
 -- ---- elsewhere, or once others have made way
 

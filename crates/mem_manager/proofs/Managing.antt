@@ -1,5 +1,5 @@
 -- What the calls for the store leave behind.
-use Rattle.std.proofs.Common.{◌≡◌, ◌≢◌, ℕ, ◌+◌, ◌<◌, ◌≤◌, List, length, Some, None, refl, sym, ap, subst, ◌∙◌, arith, inr, length-take, length-drop}
+use Rattle.std.proofs.Common.{◌≡◌, ◌≢◌, ℕ, ◌+◌, ◌-◌, ◌<◌, ◌≤◌, List, length, Some, None, refl, sym, ap, subst, ◌∙◌, arith, inr, length-take, length-drop}
 use Rattle.std.specs.Prelude.{slice_range, IsSome}
 use Rattle.heap_model.specs.Memory.{Memory}
 use Rattle.heap_model.specs.Bytes.{overwritten}
@@ -8,6 +8,7 @@ use Rattle.heap_model.specs.Heap.{HeapAccepted, directory_of}
 use Rattle.heap_model.specs.Meaning.{LiveChunk}
 use Rattle.heap_model.specs.Reading.{held}
 use Rattle.heap_model.specs.Maps.{gone, put}
+use Rattle.heap_model.specs.Layout.{Alters, with_bytes}
 use Rattle.heap_model.specs.Store.{bytes_of, owner_of, bytes_under, owner_under}
 use Rattle.heap_model.specs.Leaving.{Leaves, NamesDirectory}
 use Rattle.heap_laws.proofs.Frames.{slice-of_slice}
@@ -38,11 +39,14 @@ within_found image name found end h f within = let len = ap length (bytes_found 
 pub within_viewed : (region value : Memory) (name : ℕ) (found : Found) (end : ℕ) → region ≡ value → HeapAccepted region.bytes → IsFound region.bytes name found → end ≤ length (bytes_under value.bytes name) → end ≤ found.length
 within_viewed region value name found end same h f within = within_found region.bytes name found end h f (subst (λ (m : Memory). end ≤ length (bytes_under m.bytes name)) (sym same) within)
 
+pub body_found : (image : List ℕ) (name : ℕ) (found : Found) → HeapAccepted image → IsFound image name found → slice_range image found.place.0 (found.place.0 + found.length) ≡ bytes_under image name
+body_found image name found h f = (body_there image name found h f).1 ∙ sym (bytes_found image name found h f)
+
 pub slice_found : (image : List ℕ) (name : ℕ) (found : Found) (at count : ℕ) → HeapAccepted image → IsFound image name found → at + count ≤ length (bytes_under image name)
     → slice_range image (found.place.0 + at) (found.place.0 + at + count) ≡ slice_range (bytes_under image name) at (at + count)
 slice_found image name found at count h f within =
     let fits = within_found image name found (at + count) h f within in
-    sym (slice-of_slice image found.place.0 found.length at count fits) ∙ ap (λ (x : List ℕ). slice_range x at (at + count)) ((body_there image name found h f).1 ∙ sym (bytes_found image name found h f))
+    sym (slice-of_slice image found.place.0 found.length at count fits) ∙ ap (λ (x : List ℕ). slice_range x at (at + count)) (body_found image name found h f)
 
 pub inside_found : (image : List ℕ) (name : ℕ) (found : Found) (at count : ℕ) → HeapAccepted image → IsFound image name found → at + count ≤ length (bytes_under image name) → (found.place.0 + at + count ≤ length image) × (length image ≤ 16777208)
 inside_found image name found at count h f within =
@@ -66,10 +70,10 @@ owner_viewed region value name found same h f = f.owner_is ∙ sym (ap owner_of 
 pub lock_viewed : (region value : Memory) (name : ℕ) (found : Found) (live : LiveChunk) → region ≡ value → HeapAccepted region.bytes → IsFound region.bytes name found → held value.bytes name ≡ Some live → found.lock ≡ live.lock
 lock_viewed region value name found live same h f is = f.lock_is ∙ ap (λ (x : LiveChunk). x.lock) (one_live (sym (there_viewed region value name found same h f) ∙ is))
 
-pub body_viewed : (region value : Memory) (name : ℕ) (found : Found) → region ≡ value → HeapAccepted region.bytes → IsFound region.bytes name found
-    → slice_range region.bytes found.place.0 (found.place.0 + found.length) ≡ bytes_under value.bytes name
-body_viewed region value name found same h f =
-    (body_there region.bytes name found h f).1 ∙ sym (bytes_found region.bytes name found h f) ∙ ap (λ (m : Memory). bytes_under m.bytes name) same
+-- bytes are written within it
+pub write_viewed : (region value : Memory) (new : List ℕ) (name : ℕ) (found : Found) (at : ℕ) (bytes : List ℕ) → region ≡ value → HeapAccepted region.bytes → (f : IsFound region.bytes name found) → at + length bytes ≤ length (bytes_under value.bytes name) → Alters region.bytes new (found.place.0 - 8) (with_bytes at bytes)
+    → ChangesName region.bytes new name (Some (record f.live { bytes = overwritten f.live.bytes at bytes })) (Some found.place.0)
+write_viewed region value new name found at bytes same h f within made = write_changes region.bytes new name found at bytes h f (within_viewed region value name found (at + length bytes) same h f within) made
 
 -- where the name is known to be a movable one's
 pub loose_found : (image : List ℕ) (name : ℕ) (found : Found) → HeapAccepted image → IsFound image name found → IsMovable image name → found.lock ≢ fixed_lock

@@ -23,7 +23,7 @@ use Rattle.heap_laws.proofs.Compacting.{packed_alike, slot_unheld, slides_alike,
 use Rattle.master_table.specs.Table.{IsFirstEmpty}
 use Rattle.master_table.proofs.TableLaws.{used_still}
 use Rattle.mem_manager.specs.Lookup.{IsManaged}
-use Rattle.mem_manager.proofs.Stepping.{slot_as, OnlyBytes}
+use Rattle.mem_manager.proofs.Stepping.{slot_as, OnlyBytes, none_there}
 
 -- of a region's value its bytes and the count of slid ones have changed
 abbrev pub BytesAndSlid : Memory → Memory → Type 0
@@ -83,9 +83,6 @@ held_then old mid new name now there alike ch n = held_updated mid new name now 
 
 some_there : {x : Option LiveChunk} {live : LiveChunk} → x ≡ Some live → IsSome x
 some_there e = subst (λ (y : Option LiveChunk). IsSome y) (sym e) refl
-
-none_there : {x : Option LiveChunk} → x ≡ None → IsSome x → ⊥
-none_there e some = let no : IsSome {T = LiveChunk} None = subst (λ (y : Option LiveChunk). IsSome y) e some in absurd cc
 
 pub still_then : (old mid new : List ℕ) → SlidAlike old mid → Still mid new → Still old new
 still_then old mid new alike s n live e locked is = s n live (alike.holds n ∙ e) locked is ∙ alike.stays n live e locked (some_there (alike.holds n ∙ e))

@@ -13,6 +13,7 @@ use Rattle.heap_laws.proofs.Deciding.{cond-true}
 use Rattle.heap_laws.proofs.Finding.{held_finds, finds_one, callers_managers}
 use Rattle.heap_laws.proofs.Altering.{finds_place}
 use Rattle.heap_place.proofs.FoundLaws.{name_held}
+use Rattle.heap_place.proofs.RelocateLaws.{one_placed}
 use Rattle.heap_place.specs.declared.found.Found.{Found}
 use Rattle.heap_place.specs.Found.{IsFound, IsOne, NothingAt}
 use Rattle.mem_manager.specs.Lookup.{IsThere}
@@ -20,12 +21,9 @@ use Rattle.mem_manager.proofs.Stepping.{known}
 
 -- the chunk that was found there is a caller's
 pub found_there : (image : List ℕ) (place : ℕ) (found : Found) → HeapAccepted image → (f : IsOne image found) → found.place.0 ≡ place → 1 ≤ found.owner → IsThere image place found.name.0
-found_there image place found h f there positive =
-    let low = f.behind_header in
-    let behind : found.place.0 - 8 + 8 ≡ place = omega arith in
-    record { live = f.live; known = known image found.name.0 found h f positive; there = finds_place image found.name.0 f.live f.chunk (found.place.0 - 8) h f.finds ∙ ap (λ (n : ℕ). some_place n) behind } where
-      some_place : ℕ → Option ℕ
-      some_place n = Some n
+found_there image place found h f there positive = record { live = f.live; known = known image found.name.0 found h f positive; there = one_placed image found h f ∙ ap (λ (n : ℕ). some_place n) there } where
+  some_place : ℕ → Option ℕ
+  some_place n = Some n
 
 -- a chunk of the manager's is no caller's
 pub managers_unknown : (image : List ℕ) (name : ℕ) (found : Found) → HeapAccepted image → IsFound image name found → found.owner ≡ 0 → callers_map image name ≡ None

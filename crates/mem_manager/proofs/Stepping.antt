@@ -1,6 +1,6 @@
 -- The words of the steps: what callers may name, calls that leave the region as it is, and what there is
 -- where one name is changed.
-use Rattle.std.proofs.Common.{◌≡◌, ℕ, ◌+◌, ◌-◌, ◌<◌, ◌≤◌, List, Bool, true, false, Option, Some, None, refl, sym, ap, subst, ◌∙◌, arith, inl, inr}
+use Rattle.std.proofs.Common.{◌≡◌, ℕ, ◌<◌, ◌≤◌, List, Bool, true, false, Option, Some, None, refl, sym, ap, subst, ◌∙◌, arith, inl, inr}
 use Rattle.std.proofs.lemmas.Bool.{cases_eq}
 use Rattle.std.specs.Prelude.{◌⊎◌, if◌then◌else◌, IsSome, Result, Ok, Err}
 use Rattle.std.specs.Result.{IsErr, IsErrAnd}
@@ -11,7 +11,7 @@ use Rattle.heap_model.specs.Heap.{HeapAccepted}
 use Rattle.heap_model.specs.Meaning.{LiveChunk}
 use Rattle.heap_model.specs.Reading.{chunks_of, held}
 use Rattle.heap_model.specs.Maps.{callers_map, updated, changed, changed_at}
-use Rattle.heap_model.specs.Space.{Still, place_of}
+use Rattle.heap_model.specs.Space.{Still, MovesNothing, place_of}
 use Rattle.heap_model.specs.Leaving.{Leaves}
 use Rattle.heap_model.specs.Refusals.{FirstBrings}
 use Rattle.heap_model.specs.MemorySteps.{Does, MemoryStep, Of, row_of, may_slide, reply_of}
@@ -23,12 +23,13 @@ use Rattle.heap_laws.proofs.Meanings.{held-is, empty_unheld}
 use Rattle.heap_laws.proofs.Slots.{same_slots}
 use Rattle.heap_laws.proofs.Accepted.{heap_of_read}
 use Rattle.heap_laws.proofs.Finding.{callers_some}
-use Rattle.heap_laws.proofs.Altering.{finds_place}
 use Rattle.heap_laws.proofs.Becoming.{same_frame}
 use Rattle.heap_laws.proofs.Exchanging.{ChangesName}
 use Rattle.heap_laws.proofs.Updating.{held_updated}
+use Rattle.heap_laws.proofs.Compacting.{changes_move_nothing}
 use Rattle.master_table.proofs.TableLaws.{used_still}
 use Rattle.heap_place.proofs.FoundLaws.{name_held}
+use Rattle.heap_place.proofs.RelocateLaws.{one_placed}
 use Rattle.heap_place.specs.declared.found.Found.{Found}
 use Rattle.heap_place.specs.Found.{IsFound, IsOne}
 use Rattle.mem_manager.specs.Lookup.{IsManaged}
@@ -92,22 +93,23 @@ handed_on {A} {inside} {value} {call} f result view is same does = subst (λ (m 
 
 -- ---- one name is changed
 
-pub still_others : (old new : List ℕ) (name : ℕ) (now : Option LiveChunk) (there : Option ℕ) → ChangesName old new name now there → (held old name ≡ None) ⊎ (now ≡ None) → Still old new
-still_others old new name now there ch gone_or_made n live held_there locked is_there = elim (cases_eq n name) [
-  | inl same ↦ elim gone_or_made [
-    | inl before ↦ let e = sym held_there ∙ ap (held old) same ∙ before in absurd cc
-    | inr after ↦ absurd (none_there (held new n) (ap (held new) same ∙ ch.here ∙ after) is_there)
-  ]
-  | inr apart ↦ ch.places n apart
-] where
-  none_there : (x : Option LiveChunk) → x ≡ None → IsSome x → ⊥
-  none_there x e some = let no : IsSome {T = LiveChunk} None = subst (λ (y : Option LiveChunk). IsSome y) e some in absurd cc
+pub none_there : {x : Option LiveChunk} → x ≡ None → IsSome x → ⊥
+none_there e some = let no : IsSome {T = LiveChunk} None = subst (λ (y : Option LiveChunk). IsSome y) e some in absurd cc
 
-still_altered : (old new : List ℕ) (name : ℕ) (now : LiveChunk) (place : ℕ) → ChangesName old new name (Some now) (Some place) → place_of old name ≡ Some place → Still old new
-still_altered old new name now place ch there n live held_there locked is_there = elim (cases_eq n name) [
-  | inl same ↦ ap (place_of new) same ∙ ch.place ∙ sym there ∙ ap (place_of old) (sym same)
-  | inr apart ↦ ch.places n apart
-]
+still_unmoved : (old new : List ℕ) → MovesNothing old new → Still old new
+still_unmoved old new nothing name live held_there locked there = nothing name (subst IsSome (sym held_there) refl) there
+
+pub still_others : (old new : List ℕ) (name : ℕ) (now : Option LiveChunk) (there : Option ℕ) → ChangesName old new name now there → (held old name ≡ None) ⊎ (now ≡ None) → Still old new
+still_others old new name now there ch gone_or_made = still_unmoved old new (changes_move_nothing old new name now there ch (λ was is. elim gone_or_made [
+  | inl before ↦ absurd (none_there before was)
+  | inr after ↦ absurd (none_there (ch.here ∙ after) is)
+]))
+
+-- a name's chunk that was found stays where it stands, and so does any other
+pub stays_in_place : (old new : List ℕ) (name : ℕ) (found : Found) (now : Option LiveChunk) → HeapAccepted old → IsFound old name found → ChangesName old new name now (Some found.place.0) → MovesNothing old new
+stays_in_place old new name found now h f ch =
+    let place = subst (λ (n : ℕ). place_of old n ≡ Some found.place.0) f.name_is (one_placed old found h (one_of f)) in
+    changes_move_nothing old new name now (Some found.place.0) ch (λ was is. sym place)
 
 -- a name's chunk is changed where it stands
 pub record Altered (old new : Memory) (name : ℕ) (change : LiveChunk → LiveChunk) : Type 0 where
@@ -115,21 +117,15 @@ pub record Altered (old new : Memory) (name : ℕ) (change : LiveChunk → LiveC
   pub rest : new ≡ record old { bytes = new.bytes }
 
 pub altered : (old new : Memory) (name : ℕ) (found : Found) (change : LiveChunk → LiveChunk) → HeapAccepted old.bytes → (f : IsFound old.bytes name found) → ChangesName old.bytes new.bytes name (Some (change f.live)) (Some found.place.0) → OnlyBytes old new → Altered old new name change
-altered old new name found change h f ch rest =
-    let low = f.behind_header in
-    let behind : found.place.0 - 8 + 8 ≡ found.place.0 = omega arith in
-    let place : place_of old.bytes name ≡ Some found.place.0 = finds_place old.bytes name f.live f.chunk (found.place.0 - 8) h f.finds ∙ ap some_place behind in
-    record {
-      leaves = record {
-        map = λ n. held_updated old.bytes new.bytes name (Some (change f.live)) (Some found.place.0) ch n
-            ∙ ap (λ (x : Option LiveChunk). updated (held old.bytes) name x n) (sym (ap (changed change) (name_held old.bytes name found h f)));
-        frame = ch.frame;
-        still = still_altered old.bytes new.bytes name (change f.live) found.place.0 ch place;
-      };
-      rest = rest;
-    } where
-      some_place : ℕ → Option ℕ
-      some_place n = Some n
+altered old new name found change h f ch rest = record {
+  leaves = record {
+    map = λ n. held_updated old.bytes new.bytes name (Some (change f.live)) (Some found.place.0) ch n
+        ∙ ap (λ (x : Option LiveChunk). updated (held old.bytes) name x n) (sym (ap (changed change) (name_held old.bytes name found h f)));
+    frame = ch.frame;
+    still = still_unmoved old.bytes new.bytes (stays_in_place old.bytes new.bytes name found (Some (change f.live)) h f ch);
+  };
+  rest = rest;
+}
 
 -- ---- the slots in use
 

@@ -10,4 +10,5 @@ mod bounds;
 mod heap;
 mod lookup;
 
+pub use chunk_format::{DATA_OWNER, FIXED_LOCK, MANAGERS_OWNER};
 pub use heap::{Heap, Locked, NotAHeap};

@@ -7,12 +7,9 @@ ghost use Rattle.heap_model.specs.MemorySteps.{IsNowhere};
 ghost use Rattle.heap_place.specs.Found.{IsFound};
 ghost use Rattle.mem_manager.specs.Lookup.{IsThere};
 
-use chunk_format::FIXED_LOCK;
+use chunk_format::{DATA_OWNER, FIXED_LOCK};
 use heap_model::{Name, Place, Refusal};
 use heap_place::{Found, Space};
-
-/// The owner of a database's chunks.
-const DATABASE: u8 = 15;
 
 /// The caller's chunk that a name stands for. The manager's own are no caller's.
 #[inline]
@@ -49,7 +46,7 @@ pub(crate) fn check_callers(found: Found) -> Result<(), Refusal>
     ensures err { OnErr result (found.owner ≡ 15) }
     ensures refusal { IfErr result (λ refusal. refusal ≡ Refusal.OwnedByDatabase) }
 {
-    if found.owner == DATABASE {
+    if found.owner == DATA_OWNER {
         return Err(Refusal::OwnedByDatabase);
     }
     Ok(())

@@ -8,7 +8,7 @@
 
 mod store;
 
-pub use mem_manager::Locked;
+pub use mem_manager::{FIXED_LOCK, Locked};
 pub use store::{NotAStore, Store};
 pub use store_check::{StoreFault, StoreSummary};
-pub use store_entries::{Label, NewEntry};
+pub use store_entries::{Label, NewEntry, Overview};

@@ -2,7 +2,7 @@
 use Rattle.std.proofs.Common.{◌≡◌, ◌≢◌, ℕ, zero, suc, ◌+◌, ◌<◌, ◌≤◌, true, false, List, [], ◌∷◌, set, Option, Some, refl, sym, ap, subst, ◌∙◌, arith}
 use Rattle.std.specs.Prelude.{IsSome, slice_get, slice_set}
 use Rattle.std.specs.List.{filter_map}
-use Rattle.heap_model.specs.Lists.{same, times}
+use Rattle.heap_model.specs.Lists.{times}
 use Rattle.heap_model.specs.Database.{Database, Entry, a_record, a_resource, is_deleted}
 use Rattle.heap_model.specs.Store.{StoredDatabase, databases, unique_id, unique_ids, Accepted, store_of}
 use Rattle.heap_model.specs.StoreWords.{with_changed, with_number}

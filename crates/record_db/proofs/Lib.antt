@@ -1,5 +1,5 @@
-mod Answering
 mod Bits
 mod Entries
 mod Labels
 mod Raising
+mod Resized

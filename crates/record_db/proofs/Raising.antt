@@ -5,6 +5,7 @@ use Rattle.std.specs.Prelude.{◌==◌, IsSome}
 use Rattle.std.specs.List.{find}
 use Rattle.std.specs.Option.{is_some}
 use Rattle.heap_model.specs.Reading.{held}
+use Rattle.heap_model.specs.Space.{MovesNothing, MovesOneStretchAnd}
 use Rattle.heap_model.specs.Database.{Database}
 use Rattle.heap_model.specs.Store.{StoredDatabase, Store, store_of}
 use Rattle.heap_model.specs.StoreWords.{with_changed, with_number}
@@ -63,4 +64,19 @@ raised_after old mid new db store one two none = record {
       (let between = is_there (held mid name) (none name there) in
       let same = one.locks name live between.0 was between.1 in
       two.still name between.0 between.1 (omega (arith, same, locked)) there ∙ one.still name live was locked (ap is_some between.1));
+}
+
+-- ---- what both move
+
+pub nothing_moved : (old mid new : List ℕ) → MovesNothing old mid → MovesNothing mid new → MakesNone mid new → MovesNothing old new
+nothing_moved old mid new one two none = λ name was is. two name (none name is) is ∙ one name was (none name is)
+
+pub one_stretch_moved : (old mid new : List ℕ) (name : ℕ) → MovesOneStretchAnd old mid name → MovesNothing mid new → MakesNone mid new → MovesOneStretchAnd old new name
+one_stretch_moved old mid new name one two none = record {
+  before = one.before;
+  mid = one.mid;
+  after = one.after;
+  chunks = one.chunks;
+  none_stays = one.none_stays;
+  others = λ other apart outside was is. two other (none other is) is ∙ one.others other apart outside was (none other is);
 }

@@ -17,8 +17,7 @@ use palm_store::Store;
 pub fn num_records(store: &Store, db: Db) -> Result<u32, Refusal>
     ensures { DoesInStore store.now (Call.Record (RecordCall.Count db)) (reply_of (λ count. Reply.Number count) result) store.now }
 {
-    check_readable(store, db)?;
-    Ok(store.entry_count(db))
+    check_readable(store, db)
 }
 
 /// The name of a record's data. The record isn't marked as busy by it, and may be busy already.
@@ -27,8 +26,8 @@ pub fn num_records(store: &Store, db: Db) -> Result<u32, Refusal>
 pub fn query(store: &Store, db: Db, index: u32) -> Result<Name, Refusal>
     ensures { DoesInStore store.now (Call.Record (RecordCall.Query db index)) (reply_of (λ name. Reply.Named name) result) store.now }
 {
-    check_readable(store, db)?;
-    Ok(find_live(store, db, index)?.data)
+    let count = check_readable(store, db)?;
+    Ok(find_live(store, db, index, count)?.data)
 }
 
 /// What the entry of a record says, of a deleted one too.
@@ -37,6 +36,6 @@ pub fn query(store: &Store, db: Db, index: u32) -> Result<Name, Refusal>
 pub fn record_info(store: &Store, db: Db, index: u32) -> Result<RecordInfo, Refusal>
     ensures { DoesInStore store.now (Call.Record (RecordCall.Info db index)) (reply_of (λ info. Reply.Record info) result) store.now }
 {
-    check_readable(store, db)?;
-    find_record(store, db, index)
+    let count = check_readable(store, db)?;
+    find_record(store, db, index, count)
 }

@@ -20,8 +20,8 @@ use store_entries::Label;
 pub fn delete(store: &mut Store, db: Db, index: u32) -> Result<(), Refusal>
     ensures { DoesInStore store.old (Call.Record (RecordCall.Delete db index)) (reply_of (λ done. Reply.Done) result) store.new }
 {
-    check_writable(store, db)?;
-    let live = find_live(store, db, index)?;
+    let count = check_writable(store, db)?;
+    let live = find_live(store, db, index, count)?;
     if is_locked(store, live.data) {
         return Err(Refusal::ChunkLocked);
     }
@@ -36,13 +36,13 @@ pub fn delete(store: &mut Store, db: Db, index: u32) -> Result<(), Refusal>
 pub fn archive(store: &mut Store, db: Db, index: u32) -> Result<(), Refusal>
     ensures { DoesInStore store.old (Call.Record (RecordCall.Archive db index)) (reply_of (λ done. Reply.Done) result) store.new }
 {
-    check_writable(store, db)?;
-    let live = find_live(store, db, index)?;
-    let label = Label::Record {
+    let count = check_writable(store, db)?;
+    let live = find_live(store, db, index, count)?;
+    let archived = Label::Record {
         attributes: deleted(live.attributes),
         id: live.id,
     };
-    store.entry_set(db, index, label);
+    store.entry_set(db, index, archived);
     store.raise(db);
     Ok(())
 }
@@ -54,8 +54,8 @@ pub fn archive(store: &mut Store, db: Db, index: u32) -> Result<(), Refusal>
 pub fn remove(store: &mut Store, db: Db, index: u32) -> Result<(), Refusal>
     ensures { DoesInStore store.old (Call.Record (RecordCall.Remove db index)) (reply_of (λ done. Reply.Done) result) store.new }
 {
-    check_writable(store, db)?;
-    let info = find_record(store, db, index)?;
+    let count = check_writable(store, db)?;
+    let info = find_record(store, db, index, count)?;
     if has_locked(store, info.data) {
         return Err(Refusal::ChunkLocked);
     }
@@ -71,8 +71,7 @@ pub fn remove(store: &mut Store, db: Db, index: u32) -> Result<(), Refusal>
 pub fn move_record(store: &mut Store, db: Db, from: u32, to: u32) -> Result<(), Refusal>
     ensures { DoesInStore store.old (Call.Record (RecordCall.Move db from to)) (reply_of (λ done. Reply.Done) result) store.new }
 {
-    check_writable(store, db)?;
-    let count = store.entry_count(db);
+    let count = check_writable(store, db)?;
     if from >= count || to > count {
         return Err(Refusal::IndexOutOfRange);
     }
@@ -87,8 +86,8 @@ pub fn move_record(store: &mut Store, db: Db, from: u32, to: u32) -> Result<(), 
 pub fn get(store: &mut Store, db: Db, index: u32) -> Result<Name, Refusal>
     ensures { DoesInStore store.old (Call.Record (RecordCall.Get db index)) (reply_of (λ name. Reply.Named name) result) store.new }
 {
-    check_readable(store, db)?;
-    let live = find_live(store, db, index)?;
+    let count = check_readable(store, db)?;
+    let live = find_live(store, db, index, count)?;
     if is_busy(live.attributes) {
         return Err(Refusal::RecordBusy);
     }
@@ -106,8 +105,8 @@ pub fn get(store: &mut Store, db: Db, index: u32) -> Result<Name, Refusal>
 pub fn release(store: &mut Store, db: Db, index: u32, dirty: bool) -> Result<(), Refusal>
     ensures { DoesInStore store.old (Call.Record (RecordCall.Release db index dirty)) (reply_of (λ done. Reply.Done) result) store.new }
 {
-    check_readable(store, db)?;
-    let info = find_record(store, db, index)?;
+    let count = check_readable(store, db)?;
+    let info = find_record(store, db, index, count)?;
     let label = Label::Record {
         attributes: released(info.attributes, dirty),
         id: info.id,

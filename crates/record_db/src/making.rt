@@ -1,11 +1,16 @@
 //! Records made and resized.
 
-ghost use Rattle.record_db.specs.Checks.{made_reply};
+ghost use Rattle.std.specs.Prelude.{◌≡◌, OnErr};
+ghost use Rattle.heap_model.specs.Chunk.{need};
+ghost use Rattle.heap_model.specs.Space.{FitsInPlace, MovesNothing, MovesOneStretchAnd};
+ghost use Rattle.heap_model.specs.Store.{store_of};
+ghost use Rattle.heap_model.specs.EntrySteps.{data_under};
 ghost use Rattle.heap_model.specs.MemorySteps.{reply_of};
 ghost use Rattle.heap_model.specs.StoreSteps.{DoesInStore};
 ghost use Rattle.heap_model.specs.declared.call.Call.{Call};
 ghost use Rattle.heap_model.specs.declared.call.RecordCall.{RecordCall};
 ghost use Rattle.heap_model.specs.declared.call.Reply.{Reply};
+ghost use Rattle.record_db.specs.Checks.{made_reply};
 
 use crate::attributes::made;
 use crate::checks::check_writable;
@@ -22,8 +27,8 @@ use store_entries::NewEntry;
 pub fn new_record(store: &mut Store, db: Db, at: u32, size: u32) -> Result<(u32, Name), Refusal>
     ensures { DoesInStore store.old (Call.Record (RecordCall.New db at size)) (reply_of made_reply result) store.new }
 {
-    check_writable(store, db)?;
-    let index = at.min(store.entry_count(db));
+    let count = check_writable(store, db)?;
+    let index = at.min(count);
     let entry = NewEntry::Record { attributes: made() };
     let name = store.entry_new(db, index, entry, size)?;
     store.raise(db);
@@ -33,12 +38,16 @@ pub fn new_record(store: &mut Store, db: Db, at: u32, size: u32) -> Result<(u32,
 /// Gives the data of a record so many bytes: its first ones, or all of them and zeros behind them.
 ///
 /// Refused: `NoSuchDatabase`, `NotRecordDatabase`, `ReadOnly`, `IndexOutOfRange`, `RecordDeleted`; where the data has
-/// to grow `ChunkLocked`, if it is locked and doesn't fit in its place, and `NotEnoughSpace`.
+/// to grow `ChunkLocked`, if it is locked and doesn't fit in its place, and `NotEnoughSpace`. Then nothing has
+/// changed.
 pub fn resize_record(store: &mut Store, db: Db, index: u32, size: u32) -> Result<(), Refusal>
-    ensures { DoesInStore store.old (Call.Record (RecordCall.Resize db index size)) (reply_of (λ done. Reply.Done) result) store.new }
+    ensures does { DoesInStore store.old (Call.Record (RecordCall.Resize db index size)) (reply_of (λ done. Reply.Done) result) store.new }
+    ensures unmoved { FitsInPlace store.old.bytes (data_under (store_of store.old.bytes) db index) (need size) → MovesNothing store.old.bytes store.new.bytes }
+    ensures one_stretch { MovesOneStretchAnd store.old.bytes store.new.bytes (data_under (store_of store.old.bytes) db index) }
+    ensures refused { OnErr result (store.new ≡ store.old) }
 {
-    check_writable(store, db)?;
-    find_live(store, db, index)?;
+    let count = check_writable(store, db)?;
+    find_live(store, db, index, count)?;
     store.entry_resize(db, index, size)?;
     store.raise(db);
     Ok(())

@@ -11,10 +11,7 @@ ghost use Rattle.record_db.specs.Checks.{finding_checks, living_checks};
 
 use crate::attributes::is_deleted;
 use heap_model::{Db, Entry, Name, RecordInfo, Refusal};
-use palm_store::Store;
-
-/// The lock of a fixed chunk, which is no lock count.
-const FIXED_LOCK: u8 = 15;
+use palm_store::{FIXED_LOCK, Store};
 
 /// A record that is not deleted, and so has data.
 #[derive(Clone, Copy, Debug, PartialEq, Eq)]
@@ -24,17 +21,23 @@ pub(crate) struct LiveRecord {
     pub(crate) data: Name,
 }
 
-/// The record of an index, deleted or not.
-pub(crate) fn find_record(store: &Store, db: Db, index: u32) -> Result<RecordInfo, Refusal>
+/// The record of an index, deleted or not, of the `count` that the database has.
+pub(crate) fn find_record(
+    store: &Store,
+    db: Db,
+    index: u32,
+    count: u32,
+) -> Result<RecordInfo, Refusal>
     requires accepted { Accepted store.now.bytes }
     requires number { IsSome (with_number (store_of store.now.bytes) db.0) }
     requires records { resources_under (store_of store.now.bytes) db ≡ false }
+    requires count { count ≡ length (entries_in (store_of store.now.bytes) db) }
     ensures inside { OnOk result (index < length (entries_in (store_of store.now.bytes) db)) }
     ensures is { IfOk result (λ info. OfEntry (entry_under (store_of store.now.bytes) db index) (IsInfoOf info)) }
     ensures passes { OnOk result (NoneHolds (finding_checks store.now.bytes db index)) }
     ensures refused { IfErr result (λ refusal. FirstBrings (finding_checks store.now.bytes db index) refusal) }
 {
-    if index >= store.entry_count(db) {
+    if index >= count {
         return Err(Refusal::IndexOutOfRange);
     }
     match store.entry(db, index) {
@@ -44,17 +47,23 @@ pub(crate) fn find_record(store: &Store, db: Db, index: u32) -> Result<RecordInf
 }
 
 /// The record of an index that is not deleted.
-pub(crate) fn find_live(store: &Store, db: Db, index: u32) -> Result<LiveRecord, Refusal>
+pub(crate) fn find_live(
+    store: &Store,
+    db: Db,
+    index: u32,
+    count: u32,
+) -> Result<LiveRecord, Refusal>
     requires accepted { Accepted store.now.bytes }
     requires number { IsSome (with_number (store_of store.now.bytes) db.0) }
     requires records { resources_under (store_of store.now.bytes) db ≡ false }
+    requires count { count ≡ length (entries_in (store_of store.now.bytes) db) }
     ensures inside { OnOk result (index < length (entries_in (store_of store.now.bytes) db)) }
     ensures is { IfOk result (λ live. entry_under (store_of store.now.bytes) db index ≡ Some (a_record live.attributes live.id live.«data».0)) }
     ensures some { IfOk result (λ live. 0 < live.«data».0) }
     ensures passes { OnOk result (NoneHolds (living_checks store.now.bytes db index)) }
     ensures refused { IfErr result (λ refusal. FirstBrings (living_checks store.now.bytes db index) refusal) }
 {
-    let info = find_record(store, db, index)?;
+    let info = find_record(store, db, index, count)?;
     if is_deleted(info.attributes) {
         return Err(Refusal::RecordDeleted);
     }

@@ -4,7 +4,7 @@ use Rattle.std.proofs.lemmas.Bool.{cases_eq}
 use Rattle.std.proofs.lemmas.List.{append-nil, map-append, get_or-map, length-map}
 use Rattle.std.proofs.lemmas.List.Elements.{All-nil}
 use Rattle.std.proofs.lemmas.List.Quantifiers.{all_pairs_push}
-use Rattle.std.specs.Prelude.{◌⊎◌, if◌then◌else◌, Result, Ok, Err, IsErr, IsErrAnd, All}
+use Rattle.std.specs.Prelude.{◌⊎◌, if◌then◌else◌, All}
 use Rattle.std.specs.List.{filter_map, flat_map}
 use Rattle.heap_model.specs.Memory.{Memory}
 use Rattle.heap_model.specs.Bytes.{u32_bytes}
@@ -27,11 +27,8 @@ use Rattle.heap_model.specs.declared.names.Db.{Db}
 use Rattle.heap_model.specs.declared.refusal.Refusal.{Refusal}
 use Rattle.heap_model.specs.declared.refusal.Refusal.TheVariants.{NotEnoughSpace}
 use Rattle.heap_model.specs.declared.call.DatabaseCall.TheVariants.{Create}
-use Rattle.heap_model.specs.declared.call.Call.{Call}
 use Rattle.heap_model.specs.declared.call.Call.TheVariants as calls
-use Rattle.heap_model.specs.declared.call.Reply.{Reply}
 use Rattle.heap_model.specs.declared.call.Reply.TheVariants as replies
-use Rattle.heap_model.specs.MemorySteps.{reply_of}
 use Rattle.heap_laws.proofs.Frames.{length-u32_bytes}
 use Rattle.heap_laws.proofs.Finding.{read_heap, callers_managers}
 use Rattle.heap_laws.proofs.Holding.{as_before}
@@ -316,11 +313,6 @@ unfolding spelled
 header_spells database empty = ap (λ (entries : List (Entry ℕ)). header_bytes database ++ flat_map entry_bytes entries) empty ∙ append-nil (header_bytes database)
 
 -- ---- what the call answers
-
--- a refusal that is handed on
-pub handed_on : {A : Type 0} {old new : Memory} (f : A → Reply) (call : Call) (result : Result A Refusal) {brought : Refusal} → IsErr result × IsErrAnd result (λ refusal. refusal ≡ brought) → DoesInStore old call (replies.Refused brought) new → DoesInStore old call (reply_of f result) new
-handed_on f call (Ok answer) is does = let no_error = is.0 in absurd cc
-handed_on {A} {old} {new} f call (Err refusal) is does = subst (λ (r : Refusal). DoesInStore old call (replies.Refused r) new) (sym is.1) does
 
 -- a write after calls that may have slid chunks
 pub then_written : (old mid new : Memory) → mid ≡ record old { bytes = mid.bytes; slid = mid.slid } → new ≡ record mid { bytes = new.bytes } → new ≡ record old { bytes = new.bytes; slid = new.slid }

@@ -1,12 +1,11 @@
 -- The chunks that a database names: they are for data, each is named once, and all of them are freed.
-use Rattle.std.proofs.Common.{◌≡◌, ◌≢◌, ℕ, suc, ◌+◌, ◌-◌, ◌<◌, ◌≤◌, Bool, true, false, List, [], ◌∷◌, ◌++◌, length, get_or, take, drop, Option, Some, None, refl, sym, ap, subst, ◌∙◌, arith, inl, inr}
+use Rattle.std.proofs.Common.{◌≡◌, ◌≢◌, ℕ, suc, ◌+◌, ◌-◌, ◌<◌, ◌≤◌, List, [], ◌∷◌, ◌++◌, length, get_or, take, drop, Option, Some, None, refl, sym, ap, subst, ◌∙◌, arith, inl, inr}
 use Rattle.std.proofs.lemmas.Bool.{cases_eq}
 use Rattle.std.proofs.lemmas.List.{take-append-drop, take_more, get_or-map, length-map}
 use Rattle.std.proofs.lemmas.List.FromFn.{length-map-range_with_len, get_or-map-range_with_len}
 use Rattle.std.proofs.lemmas.Grind.{get_or_default_zero}
 use Rattle.std.specs.Prelude.{IsSome, Any}
 use Rattle.std.specs.Option.{is_some}
-use Rattle.heap_model.specs.Memory.{Memory}
 use Rattle.heap_model.specs.Bytes.{u32_at}
 use Rattle.heap_model.specs.DatabaseFields.{header_size, app_info_at, sort_info_at}
 use Rattle.heap_model.specs.Heap.{HeapAccepted, directory_of}
@@ -21,15 +20,17 @@ use Rattle.heap_model.specs.StoreWords.{all_gone}
 use Rattle.heap_laws.proofs.Finding.{callers_some}
 use Rattle.heap_laws.proofs.Meanings.{held-zero}
 use Rattle.store_laws.proofs.Listing.{same-yes, same-no, times-cons, times-append, times-some}
-use Rattle.store_laws.proofs.Owners.{owned_some, directory_owner}
+use Rattle.store_laws.proofs.Owners.{directory_owner}
 use Rattle.store_laws.proofs.Keeping.{bytes_like}
 use Rattle.store_laws.proofs.Counting.{same-is, same-least}
-use Rattle.store_laws.proofs.Shapes.{spelled_shape}
+use Rattle.store_laws.proofs.Numbered.{number_some}
+use Rattle.store_laws.proofs.Shapes.{offset_below, spelled_shape}
 use Rattle.store_lookup.specs.Databases.{HasNumber}
 use Rattle.store_lookup.proofs.Numbers.{stands, listed_at, number_slot, number_held}
 use Rattle.store_change.specs.Named.{named_under}
 use Rattle.store_change.proofs.Deletion.{named_most}
-use Rattle.store_change.proofs.Maps.{updated_here, updated_apart, gone_out, gone_in, kept, is_gone, owned}
+use Rattle.store_laws.proofs.Edited.{here as updated_here, apart as updated_apart}
+use Rattle.store_change.proofs.Maps.{gone_out, gone_in, kept, is_gone, owned}
 
 -- ---- the slots in the bytes of a database
 
@@ -46,10 +47,6 @@ entry_named body index below =
     let long = length-map-range_with_len (entry_in body) 0 (entry_count_in body) in
     get_or-map entry_data (database_in body).entries index (entry_in body index) 0 (omega arith)
     ∙ ap entry_data (get_or-map-range_with_len (entry_in body) 0 (entry_count_in body) index index (entry_in body index) below (omega arith))
-
-offset_below : (resources : Bool) (index count : ℕ) → index < count → entry_offset resources (index + 1) ≤ entry_offset resources count
-offset_below true index count below = omega arith
-offset_below false index count below = omega arith
 
 pub entry_inside : (body : List ℕ) (index : ℕ) → IsSpelled (database_in body) body → index < entry_count_in body → entry_offset (resources_in body) (index + 1) ≤ length body
 entry_inside body index spelled below =
@@ -127,11 +124,11 @@ freed_one old new slot l = record {
     | inl e ↦
         let cons = times-cons name slot [] in
         let yes = same-yes slot name (sym e) in
-        ap (held new) e ∙ l.map slot ∙ updated_here (held old) slot None ∙ sym (gone_in (held old) (slot ∷ []) name (omega arith))
+        ap (held new) e ∙ l.map slot ∙ updated_here (held old) slot None slot refl ∙ sym (gone_in (held old) (slot ∷ []) name (omega arith))
     | inr ne ↦
         let cons = times-cons name slot [] in
         let no = same-no slot name (λ e. ne (sym e)) in
-        l.map name ∙ updated_apart (held old) slot name None ne ∙ sym (gone_out (held old) (slot ∷ []) name (omega arith))
+        l.map name ∙ updated_apart (held old) slot None name ne ∙ sym (gone_out (held old) (slot ∷ []) name (omega arith))
   ];
   frame = l.frame;
   still = l.still;
@@ -173,9 +170,6 @@ times_take name index names =
     let parts = ap (times name) (take-append-drop index names) in
     let both = times-append name (take index names) (drop index names) in
     omega arith
-
-number_some : (image : List ℕ) (db : ℕ) → Accepted image → HasNumber image db → 0 < db
-number_some image db a has = let slot = number_slot image db a has in owned_some image db 0 a.heap slot.owner (omega arith)
 
 -- the number itself is not named
 pub number_unnamed : (image : List ℕ) (db : ℕ) → Accepted image → HasNumber image db → times db (named_under image db) ≡ 0
@@ -250,10 +244,6 @@ pub freed_next : (old mid new : List ℕ) (db index slot : ℕ) → IsNamedAt ol
 freed_next old mid new db index slot at l m =
     subst (λ (some : List ℕ). Leaves old new (all_gone (held old) some)) (ap (λ (s : ℕ). take index (named_under old db) ++ s ∷ []) at.is ∙ sym (take_more (named_under old db) index 0 at.below))
     (freed_more old mid new (take index (named_under old db)) (slot ∷ []) l m)
-
--- no more than the bytes of a region have changed
-pub rest_on : (old mid new : Memory) → mid ≡ record old { bytes = mid.bytes } → new ≡ record mid { bytes = new.bytes } → new ≡ record old { bytes = new.bytes }
-rest_on old mid new first second = second ∙ ap (λ (m : Memory). record m { bytes = new.bytes }) first
 
 -- ---- of some names of a list
 

@@ -2,7 +2,7 @@
 use Rattle.std.proofs.Common.{◌≡◌, ◌≢◌, ℕ, ◌+◌, ◌-◌, ◌*◌, ◌/◌, ◌<◌, ◌≤◌, Bool, true, false, List, [], ◌∷◌, ◌++◌, length, take, drop, replicate, Option, Some, None, refl, sym, ap, subst, ◌∙◌, arith, length-append, inl, inr}
 use Rattle.std.proofs.lemmas.Bool.{cases_eq, eq-eqb, ne_eqb}
 use Rattle.std.proofs.lemmas.List.FromFn.{length-map-range_with_len}
-use Rattle.std.specs.Prelude.{◌⊎◌, ◌==◌, if◌then◌else◌, Result, Ok, Err, IsErr, IsErrAnd, IfErr, OnErr}
+use Rattle.std.specs.Prelude.{◌⊎◌, ◌==◌, if◌then◌else◌}
 use Rattle.std.proofs.lemmas.List.{append-nil, take_all, drop_all, length-replicate}
 use Rattle.std.proofs.Math.Seq.{take-append_seam}
 use Rattle.heap_model.specs.Bytes.{u32_at, u32_bytes, overwritten, sized_to}
@@ -13,10 +13,9 @@ use Rattle.heap_model.specs.Slots.{area_start}
 use Rattle.heap_model.specs.Chunk.{Chunk, need}
 use Rattle.heap_model.specs.Space.{Still, place_under, free_slots, free_behind, rooms, ShortFor}
 use Rattle.heap_model.specs.Maps.{changed, gone, put, sized}
-use Rattle.heap_model.specs.Store.{bytes_of, bytes_under, directory_bytes, owner_under, Accepted, listed}
+use Rattle.heap_model.specs.Store.{bytes_under, directory_bytes, owner_under, Accepted, listed}
 use Rattle.heap_model.specs.Leaving.{Leaves, NamesDirectory}
 use Rattle.heap_laws.proofs.Frames.{length-u32_bytes}
-use Rattle.heap_laws.proofs.Meanings.{held-zero}
 use Rattle.mem_manager.specs.Lookup.{MakesNew}
 use Rattle.store_laws.proofs.Owners.{directory_owner}
 use Rattle.store_laws.proofs.Creating.{managers_loose, made_then_none, slots_made}
@@ -31,7 +30,9 @@ use Rattle.heap_model.specs.declared.refusal.Refusal.TheVariants.{NotEnoughSpace
 use Rattle.store_laws.proofs.Parts.{made_then_short}
 use Rattle.mem_manager.specs.Lookup.{HasNoRoomFor, IsMovable}
 use Rattle.store_change.specs.Listing.{ListsLast, ListsNew, HasNoRoomToList}
-use Rattle.store_change.proofs.Maps.{updated_here, updated_apart, owner_none, bytes_held, Owned, owned, held_some, still_through, kept_apart, none_loose}
+use Rattle.store_laws.proofs.Edited.{here as updated_here, apart as updated_apart}
+use Rattle.store_lookup.proofs.Numbers.{no_directory}
+use Rattle.store_change.proofs.Maps.{owner_none, bytes_held, Owned, owned, held_some, still_through, kept_apart, none_loose}
 
 abbrev pub chunk_of : List ℕ → LiveChunk
 chunk_of bytes = record { bytes = bytes; lock = 0; owner = 0 }
@@ -39,10 +40,10 @@ chunk_of bytes = record { bytes = bytes; lock = 0; owner = 0 }
 -- ---- what was made
 
 pub made_here : (old new : List ℕ) (name size : ℕ) → MakesNew old new name size 0 → held new name ≡ Some (chunk_of (replicate size 0))
-made_here old new name size m = m.leaves.map name ∙ updated_here (held old) name (Some (chunk_of (replicate size 0)))
+made_here old new name size m = m.leaves.map name ∙ updated_here (held old) name (Some (chunk_of (replicate size 0))) name refl
 
 pub made_apart : (old new : List ℕ) (name size : ℕ) → MakesNew old new name size 0 → (other : ℕ) → other ≢ name → held new other ≡ held old other
-made_apart old new name size m other ne = m.leaves.map other ∙ updated_apart (held old) name other (Some (chunk_of (replicate size 0))) ne
+made_apart old new name size m other ne = m.leaves.map other ∙ updated_apart (held old) name (Some (chunk_of (replicate size 0))) other ne
 
 pub made_kept : (old new : List ℕ) (name size : ℕ) → MakesNew old new name size 0 → (other : ℕ) (live : LiveChunk) → held old other ≡ Some live → 0 < live.lock → held new other ≡ Some live
 made_kept old new name size m = kept_apart old new name (made_apart old new name size m) (none_loose (held old name) m.fresh)
@@ -54,17 +55,17 @@ written bytes at part live = record live { bytes = overwritten live.bytes at par
 
 pub put_here : (old new : List ℕ) (name at : ℕ) (part : List ℕ) (live : LiveChunk) → Leaves old new (put (held old) name at part) → held old name ≡ Some live → held new name ≡ Some (record live { bytes = overwritten live.bytes at part })
 put_here old new name at part live l e =
-    l.map name ∙ updated_here (held old) name (changed (λ (x : LiveChunk). record x { bytes = overwritten x.bytes at part }) (held old name)) ∙ ap (changed (λ (x : LiveChunk). record x { bytes = overwritten x.bytes at part })) e
+    l.map name ∙ updated_here (held old) name (changed (λ (x : LiveChunk). record x { bytes = overwritten x.bytes at part }) (held old name)) name refl ∙ ap (changed (λ (x : LiveChunk). record x { bytes = overwritten x.bytes at part })) e
 
 pub put_apart : (old new : List ℕ) (name at : ℕ) (part : List ℕ) → Leaves old new (put (held old) name at part) → (other : ℕ) → other ≢ name → held new other ≡ held old other
-put_apart old new name at part l other ne = l.map other ∙ updated_apart (held old) name other (changed (λ (x : LiveChunk). record x { bytes = overwritten x.bytes at part }) (held old name)) ne
+put_apart old new name at part l other ne = l.map other ∙ updated_apart (held old) name (changed (λ (x : LiveChunk). record x { bytes = overwritten x.bytes at part }) (held old name)) other ne
 
 pub sized_here : (old new : List ℕ) (name size : ℕ) (live : LiveChunk) → Leaves old new (sized (held old) name size) → held old name ≡ Some live → held new name ≡ Some (record live { bytes = sized_to live.bytes size })
 sized_here old new name size live l e =
-    l.map name ∙ updated_here (held old) name (changed (λ (x : LiveChunk). record x { bytes = sized_to x.bytes size }) (held old name)) ∙ ap (changed (λ (x : LiveChunk). record x { bytes = sized_to x.bytes size })) e
+    l.map name ∙ updated_here (held old) name (changed (λ (x : LiveChunk). record x { bytes = sized_to x.bytes size }) (held old name)) name refl ∙ ap (changed (λ (x : LiveChunk). record x { bytes = sized_to x.bytes size })) e
 
 pub sized_apart : (old new : List ℕ) (name size : ℕ) → Leaves old new (sized (held old) name size) → (other : ℕ) → other ≢ name → held new other ≡ held old other
-sized_apart old new name size l other ne = l.map other ∙ updated_apart (held old) name other (changed (λ (x : LiveChunk). record x { bytes = sized_to x.bytes size }) (held old name)) ne
+sized_apart old new name size l other ne = l.map other ∙ updated_apart (held old) name (changed (λ (x : LiveChunk). record x { bytes = sized_to x.bytes size }) (held old name)) other ne
 
 one_live : {x y : LiveChunk} → Some x ≡ Some y → x ≡ y
 one_live e = cc
@@ -99,10 +100,6 @@ named_still old new name n other live e locked there =
     let start : area_start new ≡ area_start old = (let count = n.count in omega arith) in
     ap (λ (at : ℕ). place_under at (chunks_of new) other) start ∙ ap (λ (cs : List Chunk). place_under (area_start old) cs other) n.chunks
 
-no_bytes : (image : List ℕ) → HeapAccepted image → directory_of image ≡ 0 → directory_bytes image ≡ []
-unfolding directory_bytes bytes_under
-no_bytes image h none = ap (bytes_under image) none ∙ ap bytes_of (held-zero image h)
-
 directory_held : (image : List ℕ) (name : ℕ) (live : LiveChunk) → directory_of image ≡ name → held image name ≡ Some live → directory_bytes image ≡ live.bytes
 unfolding directory_bytes
 directory_held image name live is e = ap (bytes_under image) is ∙ bytes_held image name live e
@@ -123,7 +120,7 @@ begun old first second new name slot word h none m l n is =
           (made_kept old first name 4 m);
       some = let low = held_some new name (chunk_of word) n.accepted now (omega arith) in let is_name = n.directory in omega arith;
       directory = inr (none, ap (held old) n.directory ∙ m.fresh);
-      last = directory_held new name (chunk_of word) n.directory now ∙ is ∙ ap (λ (xs : List ℕ). xs ++ u32_bytes slot) (sym (no_bytes old h none));
+      last = directory_held new name (chunk_of word) n.directory now ∙ is ∙ ap (λ (xs : List ℕ). xs ++ u32_bytes slot) (sym (no_directory old h none));
       others = λ other ne. same other (λ e. ne (e ∙ sym n.directory));
     }
 
@@ -216,8 +213,8 @@ left_alone old new h e = subst (λ (image : List ℕ). Leaves old image (held ol
 pub given_back : (old mid new : List ℕ) (slot size : ℕ) → MakesNew old mid slot size 0 → Leaves mid new (gone (held mid) slot) → Leaves old new (held old)
 given_back old mid new slot size m g = record {
   map = λ name. elim (cases_eq name slot) [
-    | inl e ↦ ap (held new) e ∙ g.map slot ∙ updated_here (held mid) slot None ∙ sym (ap (held old) e ∙ m.fresh)
-    | inr ne ↦ g.map name ∙ updated_apart (held mid) slot name None ne ∙ made_apart old mid slot size m name ne
+    | inl e ↦ ap (held new) e ∙ g.map slot ∙ updated_here (held mid) slot None slot refl ∙ sym (ap (held old) e ∙ m.fresh)
+    | inr ne ↦ g.map name ∙ updated_apart (held mid) slot None name ne ∙ made_apart old mid slot size m name ne
   ];
   frame = record { accepted = g.frame.accepted; len = g.frame.len ∙ m.leaves.frame.len; count = g.frame.count ∙ m.leaves.frame.count; directory = g.frame.directory ∙ m.leaves.frame.directory };
   still = still_through old mid new m.leaves.still g.still (made_kept old mid slot size m);
@@ -323,13 +320,3 @@ grown_room old new body word name size slot o l body_is size_is word_is =
     let both : length (sized_to o.live.bytes size) ≡ length (take size o.live.bytes) + length (replicate {A = ℕ} (size - length o.live.bytes) 0) = length-append (take size o.live.bytes) (replicate (size - length o.live.bytes) 0) in
     let front : length (take size o.live.bytes) ≡ length o.live.bytes = ap length (take_all size o.live.bytes (omega arith)) in
     omega (arith, four, same, now, zeros, both, front, size_is)
-
--- ---- results
-
-pub if_err : {A : Type 0} (P : Refusal → Type 0) (result : Result A Refusal) (brought : Refusal) → IsErr result × IsErrAnd result (λ refusal. refusal ≡ brought) → P brought → IfErr result P
-if_err P (Ok answer) brought is p = tt
-if_err P (Err refusal) brought is p = subst P (sym is.1) p
-
-pub on_err : {A : Type 0} (P : Type 0) (result : Result A Refusal) → P → OnErr result P
-on_err P (Ok answer) p = tt
-on_err P (Err refusal) p = p

@@ -9,17 +9,10 @@ use Rattle.heap_model.specs.Reading.{held}
 use Rattle.heap_model.specs.Space.{Still}
 use Rattle.heap_model.specs.Lists.{times}
 use Rattle.heap_model.specs.Leaving.{Leaves}
-use Rattle.heap_model.specs.Maps.{updated}
 use Rattle.heap_model.specs.Store.{bytes_of, owner_of, bytes_under, owner_under}
 use Rattle.heap_model.specs.StoreWords.{all_gone}
 use Rattle.heap_laws.proofs.Deciding.{cond-true, cond-false}
 use Rattle.store_laws.proofs.Owners.{owned_some}
-
-pub updated_here : (map : ChunkMap) (name : ℕ) (now : Option LiveChunk) → updated map name now name ≡ now
-updated_here map name now = cond-true (name == name) now (map name) (eq-eqb name name refl)
-
-pub updated_apart : (map : ChunkMap) (name other : ℕ) (now : Option LiveChunk) → other ≢ name → updated map name now other ≡ map other
-updated_apart map name other now ne = cond-false (other == name) now (map other) (ne_eqb other name ne)
 
 -- ---- a map without some names
 

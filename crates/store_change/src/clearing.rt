@@ -14,11 +14,8 @@ ghost use Rattle.store_change.specs.Named.{named_under};
 
 use db_format::{app_info, entry_count, entry_slot, has_resources, sort_info};
 use heap_model::{Db, Name};
-use mem_manager::Heap;
+use mem_manager::{FIXED_LOCK, Heap};
 use store_lookup::header_of;
-
-/// The lock of a fixed chunk, which is no lock count.
-const FIXED_LOCK: u8 = 15;
 
 /// How many slots a database has: those of its info blocks, and one for each entry.
 fn slot_count(body: &[u8]) -> u32

@@ -21,16 +21,10 @@ ghost use Rattle.db_format.specs.Headers.{HasHeader};
 ghost use Rattle.store_change.specs.Listing.{ListsLast, ListsNew, HasNoRoomToList};
 
 use byteorder::{BigEndian, ByteOrder};
-use db_format::{DbHeader, HEADER_SIZE, NameField, RESOURCE_DATABASE};
+use db_format::{DbHeader, HEADER_SIZE, MOST_DATABASES, NameField, RESOURCE_DATABASE};
 use heap_model::{Db, DbName, Name, Refusal};
-use mem_manager::Heap;
+use mem_manager::{Heap, MANAGERS_OWNER};
 use store_lookup::{SLOT_SIZE, count_databases, has_other_name};
-
-/// The owner of the directory and the headers.
-const MANAGERS_OWNER: u8 = 0;
-
-/// The most databases that there may be.
-const MOST_DATABASES: u32 = 1024;
 
 /// The bytes of a slot, as the directory has them.
 fn slot_bytes(slot: Name) -> [u8; 4]

@@ -18,7 +18,7 @@ use Rattle.heap_laws.proofs.Deciding.{same_some, none_some}
 use Rattle.store_laws.specs.Entries.{HasOwnId}
 use Rattle.store_laws.proofs.Listing.{same-no}
 use Rattle.store_laws.proofs.Owners.{owned_some}
-use Rattle.store_laws.proofs.Numbered.{accepted_sound, number_slot, number_held, data_here, entry_owner}
+use Rattle.store_laws.proofs.Numbered.{accepted_sound, number_slot, number_some, number_held, data_here, entry_owner}
 use Rattle.store_laws.proofs.Edited.{edited, gone_balance, respelled}
 use Rattle.store_laws.proofs.Editing.{edit_steps, respell_steps}
 use Rattle.store_laws.proofs.Entries.{raised_sound, replaced_is, replaced_kept, replaced_own, replaced_names, removed_sound, removed_names, moved_sound, moved_names}
@@ -28,9 +28,6 @@ use Rattle.store_entries.proofs.Named.{for_data, data_callers, data_movable, dat
 use Rattle.store_entries.proofs.Composing.{rewritten_apart, respelled_then, none_made, no_chunk}
 
 -- ---- the number
-
-pub number_some : (image : List ℕ) (db : ℕ) → Accepted image → HasNumber image db → 0 < db
-number_some image db a has = (let slot = number_slot image db a has in owned_some image db 0 a.heap slot.owner (omega arith))
 
 -- a name of data, or 0, is not the number
 pub name_apart : (image : List ℕ) (db name : ℕ) → Accepted image → HasNumber image db → (0 < name → owner_under image name ≡ data_owner) → name ≢ db

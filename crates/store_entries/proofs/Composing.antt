@@ -11,11 +11,11 @@ use Rattle.heap_model.specs.Reading.{held}
 use Rattle.heap_model.specs.Space.{Still}
 use Rattle.heap_model.specs.Maps.{updated, changed, gone}
 use Rattle.heap_model.specs.Database.{Database, spelled, database_in}
-use Rattle.heap_model.specs.Store.{bytes_of, bytes_under}
 use Rattle.heap_model.specs.Leaving.{Leaves, Respells, rewritten, database_here}
 use Rattle.heap_model.specs.EntrySteps.{MakesNone}
 use Rattle.heap_laws.proofs.Deciding.{none_some}
 use Rattle.heap_laws.proofs.Meanings.{held-zero}
+use Rattle.store_laws.proofs.Keeping.{bytes_like}
 use Rattle.store_laws.proofs.Edited.{edited, here as updated_here, apart as updated_apart}
 
 -- ---- what names stand for
@@ -103,12 +103,8 @@ none_made old new db name bytes now l there was other some = elim (cases_eq othe
 
 -- ---- bytes that stay
 
-pub bytes_kept : (old new : List ℕ) (db : ℕ) → held new db ≡ held old db → bytes_under new db ≡ bytes_under old db
-unfolding bytes_under
-bytes_kept old new db e = ap bytes_of e
-
 pub database_kept : (old new : List ℕ) (db : ℕ) → held new db ≡ held old db → database_here new db ≡ database_here old db
-database_kept old new db e = ap database_in (bytes_kept old new db e)
+database_kept old new db e = ap database_in (bytes_like old new db e)
 
 -- ---- nothing freed
 

@@ -1,7 +1,6 @@
 -- The data of an entry that takes another size: what refuses it, and whether it is there.
 use Rattle.std.proofs.Common.{◌≡◌, ℕ, ◌+◌, ◌<◌, List, ◌∷◌, [], length, Option, Some, None, refl, sym, subst, ◌∙◌, arith}
 use Rattle.std.proofs.lemmas.Option.{slice_get_within}
-use Rattle.std.specs.Prelude.{Result, Ok, Err, IsErr, IsErrAnd, IfErr}
 use Rattle.heap_model.specs.Meaning.{LiveChunk}
 use Rattle.heap_model.specs.Reading.{held}
 use Rattle.heap_model.specs.Chunk.{need}
@@ -43,9 +42,3 @@ none_for_callers image name size own none = subst (λ (o : Option LiveChunk). No
 pub first_for_callers : (image : List ℕ) (name size : ℕ) (refusal : Refusal) → owner_under image name ≡ data_owner → FirstBrings (growth_checks image (held image) name size) refusal → FirstBrings (growth_checks image (callers_map image) name size) refusal
 unfolding checks
 first_for_callers image name size refusal own first = subst (λ (o : Option LiveChunk). FirstBrings (checks image o name size) refusal) (same_chunk image name own) first
-
--- ---- results
-
-pub if_err : {A : Type 0} (P : Refusal → Type 0) (result : Result A Refusal) (brought : Refusal) → IsErr result × IsErrAnd result (λ refusal. refusal ≡ brought) → P brought → IfErr result P
-if_err P (Ok answer) brought is p = tt
-if_err P (Err refusal) brought is p = subst P (sym is.1) p

@@ -1,5 +1,5 @@
 -- The entries of the database of a number, as its header spells them.
-use Rattle.std.proofs.Common.{◌≡◌, ℕ, ◌+◌, ◌<◌, ◌≤◌, ◌^◌, Bool, true, false, List, length, Option, Some, refl, sym, ap, subst, ◌∙◌, arith}
+use Rattle.std.proofs.Common.{◌≡◌, ℕ, ◌+◌, ◌<◌, ◌≤◌, ◌^◌, Bool, false, List, length, Option, Some, refl, sym, ap, subst, ◌∙◌, arith}
 use Rattle.std.proofs.lemmas.List.FromFn.{length-map-range_with_len, get_or-map-range_with_len}
 use Rattle.std.proofs.lemmas.Option.{slice_get-get_or}
 use Rattle.std.specs.Prelude.{slice_get}
@@ -11,6 +11,7 @@ use Rattle.heap_model.specs.StoreWords.{In}
 use Rattle.heap_model.specs.Leaving.{database_here}
 use Rattle.heap_model.specs.EntrySteps.{entries_in, OfEntry, resources_under}
 use Rattle.heap_model.specs.declared.names.Db.{Db}
+use Rattle.store_laws.proofs.Shapes.{offset_below}
 use Rattle.store_laws.proofs.Numbered.{in_store, number_spelled, entries_here, kind_here, entry_fits, accepted_sound}
 use Rattle.store_lookup.specs.Databases.{HasNumber}
 use Rattle.store_lookup.proofs.Numbers.{number_shape}
@@ -45,10 +46,6 @@ count_fits image db a has =
     let few = spelled.fits.entry_count in
     let same = ap length (entries_here image db has) in
     omega arith
-
-offset_below : (resources : Bool) (index count : ℕ) → index < count → entry_offset resources (index + 1) ≤ entry_offset resources count
-offset_below true index count below = omega arith
-offset_below false index count below = omega arith
 
 pub header_inside : (image body : List ℕ) (db : Db) → Accepted image → HasNumber image db.0 → body ≡ bytes_under image db.0 → header_size ≤ length body
 header_inside image body db a has body_is = (let shape = number_shape image db.0 a has in subst (λ (xs : List ℕ). header_size ≤ length xs) (sym body_is) shape.header)

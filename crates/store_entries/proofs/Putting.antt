@@ -1,7 +1,7 @@
 -- A new entry that came to a database with a chunk for its data, or found no room.
 use Rattle.std.proofs.Common.{◌≡◌, ◌≢◌, ℕ, ◌+◌, ◌<◌, ◌≤◌, Bool, List, [], ◌∷◌, length, replicate, Option, Some, None, refl, sym, ap, subst, ◌∙◌, arith, rules, inl, inr}
 use Rattle.std.proofs.lemmas.Bool.{cases_eq}
-use Rattle.std.specs.Prelude.{◌⊎◌, IsSome, Result, Ok, Err, OnErr}
+use Rattle.std.specs.Prelude.{◌⊎◌, IsSome}
 use Rattle.heap_model.specs.Memory.{Memory}
 use Rattle.heap_model.specs.Chunk.{need}
 use Rattle.heap_model.specs.Heap.{HeapAccepted, directory_of}
@@ -19,7 +19,6 @@ use Rattle.heap_model.specs.Leaving.{Leaves, Respells, rewritten, SpellsHere, da
 use Rattle.heap_model.specs.EntrySteps.{entries_in, resources_under, with_entry_at, entry_made, LeavesStore}
 use Rattle.heap_model.specs.StoreSteps.{StoreAsBefore}
 use Rattle.heap_model.specs.declared.names.Db.{Db}
-use Rattle.heap_model.specs.declared.refusal.Refusal.{Refusal}
 use Rattle.heap_laws.proofs.Holding.{as_before}
 use Rattle.mem_manager.specs.Lookup.{MakesNew}
 use Rattle.store_laws.specs.Entries.{HasNewId}
@@ -35,7 +34,8 @@ use Rattle.store_entries.specs.declared.making.NewEntry.{NewEntry}
 use Rattle.store_entries.specs.declared.making.NewEntry.TheVariants as new
 use Rattle.store_entries.specs.Labels.{IsMadeOf}
 use Rattle.store_entries.specs.Putting.{PutsIn}
-use Rattle.store_entries.proofs.Composing.{then_respelled, bytes_kept, database_kept, still_between}
+use Rattle.store_laws.proofs.Keeping.{bytes_like}
+use Rattle.store_entries.proofs.Composing.{then_respelled, database_kept, still_between}
 
 -- ---- when the chunk was made
 
@@ -59,7 +59,7 @@ spells_still old mid db name size s m =
     record {
       heap = m.leaves.frame.accepted;
       owner = ap owner_of kept ∙ s.owner;
-      spelled = subst (λ (bytes : List ℕ). IsSpelled (database_in bytes) bytes) (sym (bytes_kept old mid db kept)) s.spelled;
+      spelled = subst (λ (bytes : List ℕ). IsSpelled (database_in bytes) bytes) (sym (bytes_like old mid db kept)) s.spelled;
     }
 
 pub database_still : (old mid : List ℕ) (db name size : ℕ) → SpellsHere old db → MakesNew old mid name size 15 → database_here mid db ≡ database_here old db
@@ -115,7 +115,7 @@ no_header_room old mid db name size has s m lowers short =
     let head = header old db.0 s in
     let kind : has_resources (database_here mid db.0).header.attributes ≡ resources_under (store_of old) db = ap (λ (d : Database ℕ). has_resources d.header.attributes) (database_kept old mid db.0 kept) ∙ sym (kind_here old db has) in
     let count : length (bytes_under mid db.0) + entry_size (has_resources (database_here mid db.0).header.attributes) ≡ length (bytes_under old db.0) + entry_size (resources_under (store_of old) db) =
-    ap (λ (bytes : List ℕ). length bytes + entry_size (has_resources (database_here mid db.0).header.attributes)) (bytes_kept old mid db.0 kept) ∙ ap (λ (k : Bool). length (bytes_under old db.0) + entry_size k) kind in
+    ap (λ (bytes : List ℕ). length bytes + entry_size (has_resources (database_here mid db.0).header.attributes)) (bytes_like old mid db.0 kept) ∙ ap (λ (k : Bool). length (bytes_under old db.0) + entry_size k) kind in
     inr (made_then_short old mid (need size) db.0 (length (bytes_under old db.0) + entry_size (resources_under (store_of old) db)) head.live m.leaves.frame.accepted lowers head.there (kept ∙ head.there) head.loose
     (subst (λ (n : ℕ). ShortFor mid db.0 (need n)) count short))
 
@@ -197,7 +197,3 @@ left_as_before old new a l =
     let same = same_steps old.bytes new.bytes a l in
     let free = as_before old.bytes new.bytes a.heap l.frame l.map in
     record { store = same.same; free = free.0; slots = free.1 }
-
-pub on_err : {A : Type 0} (P : Type 0) (result : Result A Refusal) → P → OnErr result P
-on_err P (Ok answer) p = tt
-on_err P (Err refusal) p = p

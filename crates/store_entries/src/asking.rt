@@ -9,25 +9,29 @@ ghost use Rattle.heap_model.specs.Leaving.{database_here};
 ghost use Rattle.db_format.specs.EitherEntry.{entry_of, is_resource, HasFittingId};
 ghost use Rattle.store_lookup.specs.Databases.{HasNumber};
 
+use crate::overviews::Overview;
 use bitflags::Flags;
 use db_format::DbEntry;
 use heap_model::{Db, Entry, Name, RecordInfo, Refusal, ResourceInfo};
 use mem_manager::Heap;
-use store_lookup::{check_database, header_of};
+use store_lookup::{find_header, header_of};
 
-/// The attributes of a database, of which 0x0001 says that it holds resources, and 0x0002 that it may only
-/// be read.
+/// The attributes of a database, and how many entries it has.
 ///
 /// Refused: `NoSuchDatabase`.
-pub fn attributes(heap: &Heap, db: Db) -> Result<u16, Refusal>
+pub fn overview(heap: &Heap, db: Db) -> Result<Overview, Refusal>
     requires accepted { Accepted heap.now.bytes }
     ensures known { OnOk result (HasNumber heap.now.bytes db.0) }
-    ensures attributes { IfOk result (λ attributes. In (store_of heap.now.bytes) db (λ database. database.header.attributes ≡ attributes)) }
+    ensures attributes { IfOk result (λ overview. In (store_of heap.now.bytes) db (λ database. database.header.attributes ≡ overview.attributes)) }
+    ensures count { IfOk result (λ overview. overview.entry_count ≡ length (entries_in (store_of heap.now.bytes) db)) }
     ensures unknown { OnErr result (with_number (store_of heap.now.bytes) db.0 ≡ None) }
     ensures refusal { IfErr result (λ refusal. refusal ≡ Refusal.NoSuchDatabase) }
 {
-    check_database(heap, db)?;
-    Ok(db_format::attributes(header_of(heap, db)))
+    let header = find_header(heap, db)?;
+    Ok(Overview {
+        attributes: db_format::attributes(header),
+        entry_count: db_format::entry_count(header) as u32,
+    })
 }
 
 /// How many entries a database has.

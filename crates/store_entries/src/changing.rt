@@ -2,6 +2,7 @@
 
 ghost use Rattle.std.specs.Prelude.{◌≡◌, ◌<◌, ◌≤◌, None, length, false, IsSome, IfSome, IfNone};
 ghost use Rattle.heap_model.specs.Heap.{HeapAccepted, directory_of};
+ghost use Rattle.heap_model.specs.Space.{MovesNothing};
 ghost use Rattle.heap_model.specs.Database.{EntryFits};
 ghost use Rattle.heap_model.specs.Lists.{moved};
 ghost use Rattle.heap_model.specs.Reading.{held};
@@ -116,7 +117,7 @@ fn emptied(entry: DbEntry) -> DbEntry
 {
     match entry {
         DbEntry::Record(record) => DbEntry::Record(RecordEntry {
-            attributes: RecordAttrs::from_bits_retain(record.attributes.bits() | DELETED),
+            attributes: record.attributes.union(RecordAttrs::DELETE),
             id: record.id,
             slot: 0,
         }),
@@ -127,9 +128,6 @@ fn emptied(entry: DbEntry) -> DbEntry
         }),
     }
 }
-
-/// The attribute of a deleted record.
-const DELETED: u8 = 0x80;
 
 /// Frees the chunk of a slot, if there is one.
 fn free_slot(heap: &mut Heap, slot: Name)
@@ -170,6 +168,7 @@ pub fn raise(heap: &mut Heap, db: Db)
     requires number { HasNumber heap.old.bytes db.0 }
     ensures raised { LeavesStore heap.old.bytes heap.new.bytes (raised (store_of heap.old.bytes) db) }
     ensures none_made { MakesNone heap.old.bytes heap.new.bytes }
+    ensures unmoved { MovesNothing heap.old.bytes heap.new.bytes }
     ensures rest { heap.new ≡ record heap.old { bytes = heap.new.bytes } }
 {
     raise_modification(heap, db);

@@ -9,9 +9,11 @@
 mod asking;
 mod changing;
 mod making;
+mod overviews;
 mod resizing;
 
-pub use asking::{attributes, entry, entry_count};
+pub use asking::{entry, entry_count, overview};
 pub use changing::{Label, entry_drop, entry_free_data, entry_move, entry_set, raise};
 pub use making::{NewEntry, entry_new};
+pub use overviews::Overview;
 pub use resizing::entry_resize;

@@ -22,7 +22,7 @@ use database_edits::insert_entry;
 use db_format::{DbEntry, RecordAttrs, RecordEntry, ResourceEntry};
 use fresh_ids::fresh_id;
 use heap_model::{Db, Name, Refusal};
-use mem_manager::Heap;
+use mem_manager::{DATA_OWNER, Heap};
 use store_lookup::header_of;
 
 /// What a caller says of a new entry. A record gets its ID from the seed of the database.
@@ -32,9 +32,6 @@ pub enum NewEntry {
     /// The type is its four bytes as a number.
     Resource { kind: u32, id: u16 },
 }
-
-/// The owner of the chunks that databases name.
-const DATA_OWNER: u8 = 15;
 
 /// The most entries that a database may have.
 const MOST_ENTRIES: u32 = 65535;

@@ -1,6 +1,8 @@
 //! The data of entries, resized.
 
 ghost use Rattle.std.specs.Prelude.{◌≡◌, ◌<◌, OnOk, OnErr, IfErr};
+ghost use Rattle.heap_model.specs.Chunk.{need};
+ghost use Rattle.heap_model.specs.Space.{FitsInPlace, MovesNothing, MovesOneStretchAnd};
 ghost use Rattle.heap_model.specs.Maps.{sized, callers_map};
 ghost use Rattle.heap_model.specs.MemorySteps.{growth_checks};
 ghost use Rattle.heap_model.specs.Store.{Accepted, store_of};
@@ -24,6 +26,8 @@ pub fn entry_resize(heap: &mut Heap, db: Db, index: u32, size: u32) -> Result<()
     ensures could { OnOk result (NoneHolds (growth_checks heap.old.bytes (callers_map heap.old.bytes) (data_under (store_of heap.old.bytes) db index) size)) }
     ensures why { IfErr result (λ refusal. FirstBrings (growth_checks heap.old.bytes (callers_map heap.old.bytes) (data_under (store_of heap.old.bytes) db index) size) refusal) }
     ensures refused { OnErr result (heap.new ≡ heap.old) }
+    ensures unmoved { FitsInPlace heap.old.bytes (data_under (store_of heap.old.bytes) db index) (need size) → MovesNothing heap.old.bytes heap.new.bytes }
+    ensures one_stretch { MovesOneStretchAnd heap.old.bytes heap.new.bytes (data_under (store_of heap.old.bytes) db index) }
     ensures rest { heap.new ≡ record heap.old { bytes = heap.new.bytes; slid = heap.new.slid } }
 {
     let slot = Name(read_entry(heap, db, index).slot());

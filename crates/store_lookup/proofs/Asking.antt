@@ -1,64 +1,29 @@
 -- Calls that ask of the databases of a store. They leave the region as it is, so of each its refusals and
 -- its answer are left to show.
-use Rattle.std.proofs.Common.{◌≡◌, ◌≢◌, ℕ, ◌<◌, ◌≤◌, Bool, true, false, cond, List, length, map, get_or, take, Some, refl, sym, ap, ◌∙◌, arith, inl}
+use Rattle.std.proofs.Common.{◌≡◌, ◌≢◌, ℕ, ◌<◌, ◌≤◌, List, length, map, get_or, take, Some, refl, sym, ap, ◌∙◌, arith, inl}
 use Rattle.std.proofs.lemmas.List.{take_all}
 use Rattle.std.proofs.lemmas.List.Elements.{All-map}
 use Rattle.std.proofs.lemmas.Grind.{get_or_default_zero}
 use Rattle.std.proofs.lemmas.Option.{slice_get-get_or}
 use Rattle.std.specs.Prelude.{All, slice_get}
-use Rattle.std.specs.Bool.{OnTrue}
 use Rattle.heap_model.specs.Memory.{Memory}
 use Rattle.heap_model.specs.Database.{DatabaseHeader, Database, header_in, database_in}
 use Rattle.heap_model.specs.Store.{StoredDatabase, bytes_under, listed, database_under, databases, numbers_of, names_of, Accepted, store_of}
-use Rattle.heap_model.specs.Refusals.{FirstBrings}
-use Rattle.heap_model.specs.StoreWords.{SameStore}
 use Rattle.heap_model.specs.DatabaseSteps.{IsTaken, info_of}
-use Rattle.heap_model.specs.StoreSteps.{StoreStep, may_slide, row_of, DoesInStore}
+use Rattle.heap_model.specs.StoreSteps.{DoesInStore}
 use Rattle.heap_model.specs.declared.names.Db.{Db}
 use Rattle.heap_model.specs.declared.database.DbInfo.{DbInfo}
-use Rattle.heap_model.specs.declared.call.DatabaseCall.{DatabaseCall}
 use Rattle.heap_model.specs.declared.call.DatabaseCall.TheVariants.{Find, Nth, Count, Info}
 use Rattle.heap_model.specs.declared.call.Call.TheVariants as calls
-use Rattle.heap_model.specs.declared.call.Reply.{Reply}
 use Rattle.heap_model.specs.declared.call.Reply.TheVariants as replies
-use Rattle.heap_model.specs.declared.refusal.Refusal.{Refusal}
 use Rattle.heap_model.specs.declared.refusal.Refusal.TheVariants.{NoSuchDatabase}
 use Rattle.store_laws.proofs.Listing.{all-times, map-All}
 use Rattle.store_laws.proofs.Counting.{listed_numbers}
+use Rattle.store_laws.proofs.Doing.{asks, same_store, refused}
 use Rattle.db_format.specs.declared.header.DbHeader.{DbHeader}
 use Rattle.db_format.specs.Headers.{header_of, HasHeader}
 use Rattle.store_lookup.specs.Databases.{HasNumber, name_under}
 use Rattle.store_lookup.proofs.Numbers.{number_listed, has_number_is, in_store, length-databases, database_at}
-
--- ---- any call that asks
-
--- a call that leaves the region does its step where the reply is right
-pub asks_in_store : (region : Memory) (call : DatabaseCall) (reply : Reply) → Accepted region.bytes → StoreStep region (calls.Database call) reply region → DoesInStore region (calls.Database call) reply region
-asks_in_store region call reply a step = record {
-  before = a;
-  step = step;
-  accepted = a;
-  len = refl;
-  count = refl;
-  directory = inl refl;
-  still = λ name live held locked there. refl;
-  asks = unchanged (row_of region (calls.Database call)).only_asks;
-  rest = none_slid (may_slide (calls.Database call));
-} where
-  unchanged : (asks : Bool) → OnTrue asks (region ≡ region)
-  unchanged true = refl
-  unchanged false = tt
-
-  none_slid : (slides : Bool) → region ≡ record region { bytes = region.bytes; slid = cond slides region.slid region.slid }
-  none_slid true = refl
-  none_slid false = refl
-
-same_store : (region : Memory) → SameStore (store_of region.bytes) (store_of region.bytes)
-same_store region = record { map = λ name. refl; databases = refl }
-
--- a refusal, which leaves the region whatever is called
-pub refused : (region : Memory) (call : DatabaseCall) (refusal : Refusal) → Accepted region.bytes → FirstBrings (row_of region (calls.Database call)).refusals refusal → DoesInStore region (calls.Database call) (replies.Refused refusal) region
-refused region call refusal a brings = asks_in_store region call (replies.Refused refusal) a (brings, record { store = same_store region; free = refl; slots = refl })
 
 -- ---- by name
 
@@ -86,13 +51,13 @@ name_there image name db has e all =
 pub found : (region : Memory) (name : List ℕ) (db : Db) → Accepted region.bytes → HasNumber region.bytes db.0 → name_under region.bytes db.0 ≡ name → DoesInStore region (calls.Database (Find name)) (replies.Database db) region
 unfolding store_of
 found region name db a has e =
-    asks_in_store region (Find name) (replies.Database db) a
+    asks region (calls.Database (Find name)) (replies.Database db) a
     ((name_there region.bytes name db.0 has e, tt), (in_store region.bytes db (λ (database : Database ℕ). database.header.name ≡ name) has (name_read region.bytes db.0 ∙ e), same_store region))
 
 pub not_found : (region : Memory) (name : List ℕ) → Accepted region.bytes → ((k : ℕ) → k < length (listed region.bytes) → name_under region.bytes (get_or (listed region.bytes) k 0) ≢ name)
     → DoesInStore region (calls.Database (Find name)) (replies.Refused NoSuchDatabase) region
 unfolding store_of
-not_found region name a none = refused region (Find name) NoSuchDatabase a (inl (all_other_names region.bytes name none, refl))
+not_found region name a none = refused region (calls.Database (Find name)) NoSuchDatabase a (inl (all_other_names region.bytes name none, refl))
 
 -- ---- names that are taken
 
@@ -123,15 +88,15 @@ at_index region index db a below is =
     let many = length-databases region.bytes in
     let there : slice_get (numbers_of (databases region.bytes)) index ≡ Some db.0 =
     ap (λ (slots : List ℕ). slice_get slots index) (sym (listed_numbers region.bytes)) ∙ slice_get-get_or (listed region.bytes) index 0 below ∙ ap (λ (slot : ℕ). Some slot) (sym is) in
-    asks_in_store region (Nth index) (replies.Database db) a ((λ behind. omega arith, tt), (there, same_store region))
+    asks region (calls.Database (Nth index)) (replies.Database db) a ((λ behind. omega arith, tt), (there, same_store region))
 
 pub no_index : (region : Memory) (index : ℕ) → Accepted region.bytes → length (listed region.bytes) ≤ index → DoesInStore region (calls.Database (Nth index)) (replies.Refused NoSuchDatabase) region
 unfolding store_of
-no_index region index a behind = let many = length-databases region.bytes in refused region (Nth index) NoSuchDatabase a (inl (omega arith, refl))
+no_index region index a behind = let many = length-databases region.bytes in refused region (calls.Database (Nth index)) NoSuchDatabase a (inl (omega arith, refl))
 
 pub counted : (region : Memory) (count : ℕ) → Accepted region.bytes → count ≡ length (listed region.bytes) → DoesInStore region (calls.Database Count) (replies.Number count) region
 unfolding store_of
-counted region count a is = let many = length-databases region.bytes in asks_in_store region Count (replies.Number count) a (tt, (omega arith, same_store region))
+counted region count a is = let many = length-databases region.bytes in asks region (calls.Database Count) (replies.Number count) a (tt, (omega arith, same_store region))
 
 -- ---- by number
 
@@ -160,4 +125,4 @@ info_read database header name has front room =
 pub told : (region : Memory) (db : Db) (info : DbInfo) → Accepted region.bytes → HasNumber region.bytes db.0 → info ≡ info_of (database_in (bytes_under region.bytes db.0)) → DoesInStore region (calls.Database (Info db)) (replies.Info info) region
 told region db info a has is =
     let found = has_number_is region.bytes db.0 has in
-    asks_in_store region (Info db) (replies.Info info) a ((λ none. (let apart = sym found ∙ none in absurd cc), tt), (in_store region.bytes db (λ (database : Database ℕ). info ≡ info_of database) has is, same_store region))
+    asks region (calls.Database (Info db)) (replies.Info info) a ((λ none. (let apart = sym found ∙ none in absurd cc), tt), (in_store region.bytes db (λ (database : Database ℕ). info ≡ info_of database) has is, same_store region))

@@ -1,6 +1,6 @@
 //! The header of a database, by its number.
 
-ghost use Rattle.std.specs.Prelude.{◌≡◌, None, IfErr, OnOk, OnErr};
+ghost use Rattle.std.specs.Prelude.{◌≡◌, None, IfOk, IfErr, OnOk, OnErr};
 ghost use Rattle.heap_model.specs.Database.{IsSpelled, HasShape, database_in};
 ghost use Rattle.heap_model.specs.MemorySteps.{reply_of};
 ghost use Rattle.heap_model.specs.Store.{Accepted, bytes_under, store_of};
@@ -14,13 +14,31 @@ ghost use Rattle.store_lookup.specs.Databases.{HasNumber};
 
 use db_format::DbHeader;
 use heap_model::{Db, DbInfo, DbName, Name, Refusal};
-use mem_manager::Heap;
+use mem_manager::{Heap, MANAGERS_OWNER};
 
-/// The owner of the manager's own chunks: the directory and the headers of databases.
-const MANAGERS_OWNER: u8 = 0;
+/// The bytes of the database that has a number, as `header_of` lends them. It costs the same however many
+/// there are: each chunk of the manager's is a header or the directory.
+///
+/// Refused: `NoSuchDatabase`.
+pub fn find_header(heap: &Heap, db: Db) -> Result<&[u8], Refusal>
+    requires { Accepted heap.now.bytes }
+    ensures known { OnOk result (HasNumber heap.now.bytes db.0) }
+    ensures is { IfOk result (λ header. header.now ≡ bytes_under heap.now.bytes db.0) }
+    ensures spelled { IfOk result (λ header. IsSpelled (database_in header.now) header.now) }
+    ensures shape { IfOk result (λ header. HasShape header.now) }
+    ensures unknown { OnErr result (with_number (store_of heap.now.bytes) db.0 ≡ None) }
+    ensures refusal { IfErr result (λ refusal. refusal ≡ Refusal.NoSuchDatabase) }
+{
+    let Some((owner, header)) = heap.sys_chunk(Name(db.0)) else {
+        return Err(Refusal::NoSuchDatabase);
+    };
+    if owner != MANAGERS_OWNER || db.0 == heap.directory().0 {
+        return Err(Refusal::NoSuchDatabase);
+    }
+    Ok(header)
+}
 
-/// Whether a database has this number. It costs the same however many there are: each chunk of the
-/// manager's is a header or the directory.
+/// Whether a database has this number.
 ///
 /// Refused: `NoSuchDatabase`.
 pub fn check_database(heap: &Heap, db: Db) -> Result<(), Refusal>
@@ -29,12 +47,7 @@ pub fn check_database(heap: &Heap, db: Db) -> Result<(), Refusal>
     ensures unknown { OnErr result (with_number (store_of heap.now.bytes) db.0 ≡ None) }
     ensures refusal { IfErr result (λ refusal. refusal ≡ Refusal.NoSuchDatabase) }
 {
-    let Some(owner) = heap.sys_owner(Name(db.0)) else {
-        return Err(Refusal::NoSuchDatabase);
-    };
-    if owner != MANAGERS_OWNER || db.0 == heap.directory().0 {
-        return Err(Refusal::NoSuchDatabase);
-    }
+    find_header(heap, db)?;
     Ok(())
 }
 
@@ -56,8 +69,7 @@ pub fn database_info(heap: &Heap, db: Db) -> Result<DbInfo, Refusal>
     requires { Accepted heap.now.bytes }
     ensures { DoesInStore heap.now (Call.Database (DatabaseCall.Info db)) (reply_of (λ info. Reply.Info info) result) heap.now }
 {
-    check_database(heap, db)?;
-    Ok(info_in(header_of(heap, db)))
+    Ok(info_in(find_header(heap, db)?))
 }
 
 /// What the header in these bytes says.

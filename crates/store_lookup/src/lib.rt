@@ -11,5 +11,5 @@ mod header;
 mod name;
 
 pub use directory::{SLOT_SIZE, count_databases, directory_bytes, index_of, nth_database};
-pub use header::{check_database, database_info, header_of};
+pub use header::{check_database, database_info, find_header, header_of};
 pub use name::{find_database, has_other_name};

@@ -6,11 +6,12 @@ ghost use Rattle.heap_model.specs.Meaning.{LiveChunk};
 ghost use Rattle.heap_model.specs.Reading.{held};
 ghost use Rattle.heap_model.specs.Store.{bytes_under, owner_under};
 ghost use Rattle.heap_check.specs.Summary.{Summarizes};
+ghost use Rattle.heap_place.specs.Found.{IsOne};
 
 use crate::heap::Heap;
 use heap_check::{Summary, check_heap};
 use heap_model::Name;
-use heap_place::Space;
+use heap_place::{Found, Space};
 use raw_region::Region;
 
 impl Heap {
@@ -43,15 +44,16 @@ impl Heap {
         region.slice(0, region.len())
     }
 
-    /// The owner of any chunk, or none where the name stands for nothing. That of a slot costs the same
-    /// however large the heap is.
-    pub fn sys_owner(&self, name: Name) -> Option<u8>
-        ensures owner { IfSome result (λ owner. owner ≡ owner_under self.now.bytes name.0) }
-        ensures there { IfSome result (λ owner. IsSome (held self.now.bytes name.0)) }
+    /// The owner of any chunk, and its bytes as they lie in the image; or none where the name stands for
+    /// nothing. That of a slot costs the same however large the heap is.
+    pub fn sys_chunk(&self, name: Name) -> Option<(u8, &[u8])>
+        ensures owner { IfSome result (λ chunk. chunk.0 ≡ owner_under self.now.bytes name.0) }
+        ensures body { IfSome result (λ chunk. chunk.1.now ≡ bytes_under self.now.bytes name.0) }
+        ensures there { IfSome result (λ chunk. IsSome (held self.now.bytes name.0)) }
         ensures none { IfNone result (held self.now.bytes name.0 ≡ None) }
     {
         let found = self.space.find(name)?;
-        Some(found.owner)
+        Some((found.owner, self.body_of(found)))
     }
 
     /// The lock count of any chunk, 15 of a fixed one.
@@ -71,11 +73,17 @@ impl Heap {
         ensures { result.now ≡ bytes_under self.now.bytes name.0 }
     {
         match self.space.find(name) {
-            Some(found) => self
-                .space
-                .region()
-                .slice(found.place.0 as usize, found.length as usize),
+            Some(found) => self.body_of(found),
             None => &[],
         }
+    }
+
+    /// The bytes of a chunk that was found.
+    fn body_of(&self, found: Found) -> &[u8]
+        requires { IsOne self.now.bytes found }
+        ensures { result.now ≡ bytes_under self.now.bytes found.name.0 }
+    {
+        let at = found.place.0 as usize;
+        self.space.region().slice(at, found.length as usize)
     }
 }

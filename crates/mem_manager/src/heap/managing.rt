@@ -61,6 +61,7 @@ impl Heap {
         requires there { IsSome (held self.old.bytes name.0) }
         requires within { at + length bytes.now ≤ length (bytes_under self.old.bytes name.0) }
         ensures leaves { Leaves self.old.bytes self.new.bytes (put (held self.old.bytes) name.0 at bytes.now) }
+        ensures unmoved { MovesNothing self.old.bytes self.new.bytes }
         ensures rest { self.new ≡ record self.old { bytes = self.new.bytes } }
     {
         if let Some(found) = self.space.find(name) {

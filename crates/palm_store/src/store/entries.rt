@@ -2,7 +2,9 @@
 //! name: all else their callers show.
 
 ghost use Rattle.std.specs.Prelude.{◌≡◌, ℕ, ◌<◌, ◌≤◌, None, IsSome, length, false, IfSome, IfNone, IfOk, OnOk, OnErr, IfErr};
+ghost use Rattle.heap_model.specs.Chunk.{need};
 ghost use Rattle.heap_model.specs.Reading.{held};
+ghost use Rattle.heap_model.specs.Space.{FitsInPlace, MovesNothing, MovesOneStretchAnd};
 ghost use Rattle.heap_model.specs.Maps.{sized, callers_map};
 ghost use Rattle.heap_model.specs.MemorySteps.{Of, IsLocked, growth_checks};
 ghost use Rattle.heap_model.specs.Lists.{moved};
@@ -16,21 +18,21 @@ ghost use Rattle.store_entries.specs.Labels.{makes_resource, IsMadeOf, labelled,
 
 use crate::store::Store;
 use heap_model::{Db, Entry, Name, Refusal};
-use store_entries::{Label, NewEntry};
+use store_entries::{Label, NewEntry, Overview};
 
 impl Store {
-    /// The attributes of a database, of which 0x0001 says that it holds resources, and 0x0002 that it may only
-    /// be read.
+    /// The attributes of a database, and how many entries it has.
     ///
     /// Refused: `NoSuchDatabase`.
-    pub fn attributes(&self, db: Db) -> Result<u16, Refusal>
+    pub fn overview(&self, db: Db) -> Result<Overview, Refusal>
         ensures accepted { Accepted self.now.bytes }
         ensures known { OnOk result (IsSome (with_number (store_of self.now.bytes) db.0)) }
-        ensures attributes { IfOk result (λ attributes. In (store_of self.now.bytes) db (λ database. database.header.attributes ≡ attributes)) }
+        ensures attributes { IfOk result (λ overview. In (store_of self.now.bytes) db (λ database. database.header.attributes ≡ overview.attributes)) }
+        ensures count { IfOk result (λ overview. overview.entry_count ≡ length (entries_in (store_of self.now.bytes) db)) }
         ensures unknown { OnErr result (with_number (store_of self.now.bytes) db.0 ≡ None) }
         ensures refusal { IfErr result (λ refusal. refusal ≡ Refusal.NoSuchDatabase) }
     {
-        store_entries::attributes(&self.heap, db)
+        store_entries::overview(&self.heap, db)
     }
 
     /// How many entries a database has.
@@ -86,6 +88,8 @@ impl Store {
         ensures could { OnOk result (NoneHolds (growth_checks self.old.bytes (callers_map self.old.bytes) (data_under (store_of self.old.bytes) db index) size)) }
         ensures why { IfErr result (λ refusal. FirstBrings (growth_checks self.old.bytes (callers_map self.old.bytes) (data_under (store_of self.old.bytes) db index) size) refusal) }
         ensures refused { OnErr result (self.new ≡ self.old) }
+        ensures unmoved { FitsInPlace self.old.bytes (data_under (store_of self.old.bytes) db index) (need size) → MovesNothing self.old.bytes self.new.bytes }
+        ensures one_stretch { MovesOneStretchAnd self.old.bytes self.new.bytes (data_under (store_of self.old.bytes) db index) }
         ensures rest { self.new ≡ record self.old { bytes = self.new.bytes; slid = self.new.slid } }
     {
         store_entries::entry_resize(&mut self.heap, db, index, size)
@@ -149,6 +153,7 @@ impl Store {
         requires number { IsSome (with_number (store_of self.old.bytes) db.0) }
         ensures raised { LeavesStore self.old.bytes self.new.bytes (raised (store_of self.old.bytes) db) }
         ensures none_made { MakesNone self.old.bytes self.new.bytes }
+        ensures unmoved { MovesNothing self.old.bytes self.new.bytes }
         ensures rest { self.new ≡ record self.old { bytes = self.new.bytes } }
     {
         store_entries::raise(&mut self.heap, db)

@@ -3,36 +3,37 @@ use Rattle.heap_model.specs.Database.{Entry}
 use Rattle.heap_model.specs.Store.{store_of}
 use Rattle.heap_model.specs.EntrySteps.{entry_under, OfEntry, data_of_entry}
 use Rattle.heap_model.specs.RecordSteps.{busy_bit, is_busy, HasAttributes}
+use Rattle.heap_model.specs.declared.call.Call.TheVariants as calls
 use Rattle.heap_model.specs.declared.call.RecordCall.TheVariants.{Get}
 use Rattle.heap_model.specs.declared.call.Reply.TheVariants.{Named}
 use Rattle.heap_model.specs.declared.refusal.Refusal.TheVariants.{RecordBusy}
-use Rattle.record_db.proofs.Answering.{refused, changes}
+use Rattle.store_laws.proofs.Doing.{refused, changes}
 use Rattle.record_db.proofs.Labels.{may_have, attributes_set}
 use Rattle.record_db.proofs.changing.get.Goals as goal
 
 pub returns-then-is_busy : goal.returns-then-is_busy
 returns-then-is_busy c =
-    let passed = c.in_ok-check_readable.ensures.passes in
+    let passed = c.in_ok-count.ensures.passes in
     let alive = c.in_ok-live.ensures.passes in
     let busy = subst (λ (x : Option (Entry ℕ)). OfEntry x (HasAttributes is_busy)) (sym c.in_ok-live.ensures.is) (sym c.is_busy.ensures ∙ c.if-is_busy.true) in
-    refused c.args.store.now (Get c.args.db c.args.index) RecordBusy c.in_ok-check_readable.ensures.accepted (inr (passed.0, inr (passed.1.0, inr (alive.0, inr (alive.1.0, inl (busy, refl))))))
+    refused c.args.store.now (calls.Record (Get c.args.db c.args.index)) RecordBusy c.in_ok-count.ensures.accepted (inr (passed.0, inr (passed.1.0, inr (alive.0, inr (alive.1.0, inl (busy, refl))))))
 
 pub entry_set-requires-clause-label : goal.entry_set-requires-clause-label
 entry_set-requires-clause-label c =
     let some = c.in_ok-live.ensures.some in
-    may_have c.args.store.now.bytes c.args.db c.args.index c.in_ok-live.live.attributes c.in_ok-live.live.id c.in_ok-live.live.«data».0 c.in_use.result c.in_ok-check_readable.ensures.accepted c.in_ok-check_readable.ensures.known c.in_ok-check_readable.ensures.records
+    may_have c.args.store.now.bytes c.args.db c.args.index c.in_ok-live.live.attributes c.in_ok-live.live.id c.in_ok-live.live.«data».0 c.in_use.result c.in_ok-count.ensures.accepted c.in_ok-count.ensures.known c.in_ok-count.ensures.records
     c.in_ok-live.ensures.is (λ none. absurd (omega (arith, none, some)))
 
 pub returns : goal.returns
 returns c =
-    let passed = c.in_ok-check_readable.ensures.passes in
+    let passed = c.in_ok-count.ensures.passes in
     let alive = c.in_ok-live.ensures.passes in
     let is = c.in_ok-live.ensures.is in
     let leaves = attributes_set c.args.store.now.bytes c.entry_set.new.self.bytes c.args.db c.args.index c.in_ok-live.live.attributes c.in_ok-live.live.id c.in_ok-live.live.«data».0 c.in_use.result (λ (attributes : ℕ). bit_or attributes busy_bit)
-    c.in_ok-check_readable.ensures.accepted c.in_ok-check_readable.ensures.known is c.in_use.ensures c.entry_set.ensures.set in
+    c.in_ok-count.ensures.accepted c.in_ok-count.ensures.known is c.in_use.ensures c.entry_set.ensures.set in
     let free : OfEntry (entry_under (store_of c.args.store.now.bytes) c.args.db c.args.index) (HasAttributes is_busy) → ⊥ = λ busy.
     (let yes : is_busy c.in_ok-live.live.attributes ≡ true = subst (λ (x : Option (Entry ℕ)). OfEntry x (HasAttributes is_busy)) is busy in
     let no : is_busy c.in_ok-live.live.attributes ≡ false = sym c.is_busy.ensures ∙ c.if-is_busy.false in
     absurd cc) in
-    changes c.args.store.now c.entry_set.new.self (Get c.args.db c.args.index) (Named c.in_ok-live.live.«data») _ c.in_ok-check_readable.ensures.accepted leaves
+    changes c.args.store.now c.entry_set.new.self (calls.Record (Get c.args.db c.args.index)) (Named c.in_ok-live.live.«data») _ c.in_ok-count.ensures.accepted leaves
     ((passed.0, (passed.1.0, (alive.0, (alive.1.0, (free, tt))))), (sym (ap data_of_entry is), leaves.same)) tt c.entry_set.ensures.rest

@@ -1,5 +1,6 @@
 use Rattle.std.proofs.Common.{refl, sym, subst, inr}
-use Rattle.record_db.proofs.Answering.{refused, handed_on, changes, leaves_resized, may_grow, no_growth}
+use Rattle.store_laws.proofs.Doing.{refused, handed_on, changes}
+use Rattle.record_db.proofs.Resized.{leaves_resized, may_grow, no_growth}
 use Rattle.heap_model.specs.Memory.{Memory}
 use Rattle.heap_model.specs.Store.{store_of}
 use Rattle.heap_model.specs.StoreSteps.{DoesInStore}
@@ -8,25 +9,40 @@ use Rattle.heap_model.specs.declared.refusal.Refusal.{Refusal}
 use Rattle.heap_model.specs.EntrySteps.{data_under}
 use Rattle.heap_model.specs.declared.call.RecordCall.TheVariants.{Resize}
 use Rattle.heap_model.specs.declared.call.Reply.TheVariants.{Done, Refused}
-use Rattle.record_db.proofs.Raising.{raised_after}
+use Rattle.heap_laws.proofs.Unmoved.{itself_alone}
+use Rattle.record_db.proofs.Raising.{raised_after, nothing_moved, one_stretch_moved}
 use Rattle.record_db.proofs.making.resize_record.Goals as goal
 
-pub returns-in_err-entry_resize : goal.returns-in_err-entry_resize
-returns-in_err-entry_resize c =
-    let passed = c.in_ok-check_writable.ensures.passes in
+pub returns-in_err-count-clause-one_stretch : goal.returns-in_err-count-clause-one_stretch
+returns-in_err-count-clause-one_stretch c = itself_alone c.args.store.now.bytes (data_under (store_of c.args.store.now.bytes) c.args.db c.args.index)
+
+pub returns-in_err-find_live-clause-one_stretch : goal.returns-in_err-find_live-clause-one_stretch
+returns-in_err-find_live-clause-one_stretch c = itself_alone c.args.store.now.bytes (data_under (store_of c.args.store.now.bytes) c.args.db c.args.index)
+
+pub returns-in_err-entry_resize-clause-does : goal.returns-in_err-entry_resize-clause-does
+returns-in_err-entry_resize-clause-does c =
+    let passed = c.in_ok-count.ensures.passes in
     let alive = c.in_ok-find_live.ensures.passes in
     let refusal : Refusal = c.in_err-entry_resize.field-0.0 in
     let brings = no_growth c.args.store.now.bytes (data_under (store_of c.args.store.now.bytes) c.args.db c.args.index) c.args.size refusal c.in_err-entry_resize.ensures.why in
     handed_on (λ done. Done) (calls.Record (Resize c.args.db c.args.index c.args.size)) c.from_residual-in_err-entry_resize.result (let e = c.from_residual-in_err-entry_resize.ensures in (e.0, e.1))
     (subst (λ (new : Memory). DoesInStore c.args.store.now (calls.Record (Resize c.args.db c.args.index c.args.size)) (Refused refusal) new) (sym c.in_err-entry_resize.ensures.refused)
-    (refused c.args.store.now (Resize c.args.db c.args.index c.args.size) refusal c.in_ok-check_writable.ensures.accepted (inr (passed.0, inr (passed.1.0, inr (passed.1.1.0, inr (alive.0, inr (alive.1.0, brings))))))))
+    (refused c.args.store.now (calls.Record (Resize c.args.db c.args.index c.args.size)) refusal c.in_ok-count.ensures.accepted (inr (passed.0, inr (passed.1.0, inr (passed.1.1.0, inr (alive.0, inr (alive.1.0, brings))))))))
 
-pub returns : goal.returns
-returns c =
-    let passed = c.in_ok-check_writable.ensures.passes in
+pub returns-clause-does : goal.returns-clause-does
+returns-clause-does c =
+    let passed = c.in_ok-count.ensures.passes in
     let alive = c.in_ok-find_live.ensures.passes in
     let grows = may_grow c.args.store.now.bytes (data_under (store_of c.args.store.now.bytes) c.args.db c.args.index) c.args.size c.in_ok-entry_resize.ensures.could in
     let leaves = raised_after c.args.store.now.bytes c.entry_resize.new.self.bytes c.raise.new.self.bytes c.args.db _
     (leaves_resized c.args.store.now.bytes c.entry_resize.new.self.bytes c.args.db c.args.index c.args.size c.in_ok-entry_resize.ensures.done) c.raise.ensures.raised c.raise.ensures.none_made in
-    changes c.args.store.now c.raise.new.self (Resize c.args.db c.args.index c.args.size) Done _ c.in_ok-check_writable.ensures.accepted leaves
+    changes c.args.store.now c.raise.new.self (calls.Record (Resize c.args.db c.args.index c.args.size)) Done _ c.in_ok-count.ensures.accepted leaves
     ((passed.0, (passed.1.0, (passed.1.1.0, (alive.0, (alive.1.0, grows))))), (tt, leaves.same)) tt refl
+
+pub returns-clause-unmoved : goal.returns-clause-unmoved
+returns-clause-unmoved c = λ fits.
+    nothing_moved c.args.store.now.bytes c.entry_resize.new.self.bytes c.raise.new.self.bytes (c.in_ok-entry_resize.ensures.unmoved fits) c.raise.ensures.unmoved c.raise.ensures.none_made
+
+pub returns-clause-one_stretch : goal.returns-clause-one_stretch
+returns-clause-one_stretch c =
+    one_stretch_moved c.args.store.now.bytes c.entry_resize.new.self.bytes c.raise.new.self.bytes (data_under (store_of c.args.store.now.bytes) c.args.db c.args.index) c.in_ok-entry_resize.ensures.one_stretch c.raise.ensures.unmoved c.raise.ensures.none_made

@@ -1,8 +1,9 @@
 -- The header is as it was, so the next slot is that of the database that was given; its chunk is still there.
 use Rattle.std.proofs.Common.{refl, sym, subst, ◌∙◌, ◌≡◌, ◌<◌, ℕ, List, length}
 use Rattle.heap_model.specs.Database.{IsSpelled, database_in, data_in}
+use Rattle.store_laws.proofs.Doing.{kept_then}
 use Rattle.store_lookup.proofs.Numbers.{number_spelled}
-use Rattle.store_change.proofs.Freeing.{freed_none, freed_next, named_at, header_there, header_like, slot_left, slot_other, rest_on}
+use Rattle.store_change.proofs.Freeing.{freed_none, freed_next, named_at, header_there, header_like, slot_left, slot_other}
 use Rattle.store_change.proofs.clearing.free_data.Goals as goal
 
 pub loop-index-init : goal.loop-index-init
@@ -41,5 +42,5 @@ loop-index-preserved c =
     (c.sys_body.ensures ∙ header_like c.args.heap.now.bytes c.loop-index.heap.bytes c.args.db.0 c.loop-index.index c.requires.accepted c.requires.number c.loop-index.invariant.leaves) c.slot_count-count.ensures c.loop-index-test.true c.slot_at-slot.ensures in
     record {
       leaves = freed_next c.args.heap.now.bytes c.loop-index.heap.bytes c.free_slot.new.heap.bytes c.args.db.0 c.loop-index.index c.slot_at-slot.result.0 at c.loop-index.invariant.leaves c.free_slot.ensures.leaves;
-      rest = rest_on c.args.heap.now c.loop-index.heap c.free_slot.new.heap c.loop-index.invariant.rest c.free_slot.ensures.rest;
+      rest = kept_then c.args.heap.now c.loop-index.heap c.free_slot.new.heap c.loop-index.invariant.rest c.free_slot.ensures.rest;
     }

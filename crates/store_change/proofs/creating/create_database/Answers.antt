@@ -9,11 +9,12 @@ use Rattle.heap_model.specs.DatabaseSteps.{IsTaken, empty_database}
 use Rattle.heap_model.specs.declared.call.DatabaseCall.TheVariants.{Create}
 use Rattle.heap_model.specs.declared.call.Call.TheVariants as calls
 use Rattle.heap_model.specs.declared.call.Reply.TheVariants as replies
+use Rattle.store_laws.proofs.Doing.{handed_on}
 use Rattle.store_laws.proofs.Spellings.{length-header_bytes}
 use Rattle.store_change.specs.Listing.{ListsNew}
 use Rattle.store_change.proofs.Maps.{bytes_held}
 use Rattle.store_change.proofs.Listing.{chunk_of}
-use Rattle.store_change.proofs.Creation.{header_put, created, not_created, empty_fits, header_spells, handed_on, then_written}
+use Rattle.store_change.proofs.Creation.{header_put, created, not_created, empty_fits, header_spells, then_written}
 use Rattle.store_change.proofs.creating.create_database.Goals as goal
 
 pub returns-in_err-slot-clause-does : goal.returns-in_err-slot-clause-does

@@ -8,7 +8,8 @@ use Rattle.heap_model.specs.Space.{ShortFor}
 use Rattle.heap_model.specs.Store.{directory_bytes}
 use Rattle.heap_model.specs.declared.refusal.Refusal.TheVariants.{NotEnoughSpace}
 use Rattle.store_laws.proofs.Creating.{managers_loose}
-use Rattle.store_change.proofs.Listing.{the_directory, directory_loose, directory_few, directory_short, grown_room, growth_short, sized_here, extended, if_err, on_err}
+use Rattle.heap_laws.proofs.Results.{if_err, on_err}
+use Rattle.store_change.proofs.Listing.{the_directory, directory_loose, directory_few, directory_short, grown_room, growth_short, sized_here, extended}
 use Rattle.store_change.proofs.creating.extend_directory.Goals as goal
 
 pub sys_body-requires : goal.sys_body-requires
@@ -37,7 +38,7 @@ pub returns-in_err-sys_resize-clause-refusal : goal.returns-in_err-sys_resize-cl
 returns-in_err-sys_resize-clause-refusal c =
     let o = the_directory c.args.heap.now.bytes c.directory-directory.result.0 c.requires.heap c.requires.some c.directory-directory.ensures in
     let loose = managers_loose c.args.heap.now.bytes c.directory-directory.result.0 o.live c.requires.heap o.there o.own in
-    if_err (λ refusal. refusal ≡ NotEnoughSpace) c.from_residual.result c.in_err-sys_resize.field-0.0 (let e = c.from_residual.ensures in (e.0, e.1))
+    if_err (λ refusal. refusal ≡ NotEnoughSpace) c.from_residual.result (let e = c.from_residual.ensures in (e.0, e.1))
     (growth_short c.args.heap.now.bytes c.directory-directory.result.0 (length c.sys_body.result.now + 4) o.live c.in_err-sys_resize.field-0.0 o.there loose c.in_err-sys_resize.ensures.why).0
 
 pub sys_write-requires-clause-there : goal.sys_write-requires-clause-there

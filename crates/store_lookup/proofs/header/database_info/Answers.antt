@@ -6,4 +6,4 @@ use Rattle.store_lookup.proofs.header.database_info.Goals as goal
 
 pub returns : goal.returns
 returns c =
-    told c.args.heap.now c.args.db c.info_in.result c.requires c.in_ok-check_database.ensures.known (c.info_in.ensures ∙ ap (λ (bytes : List ℕ). info_of (database_in bytes)) c.header_of.ensures.is)
+    told c.args.heap.now c.args.db c.info_in.result c.requires c.in_ok-find_header.ensures.known (c.info_in.ensures ∙ ap (λ (bytes : List ℕ). info_of (database_in bytes)) c.in_ok-find_header.ensures.is)

@@ -1,7 +1,7 @@
 use Rattle.std.proofs.Common.{sym, ◌∙◌}
-use Rattle.store_lookup.proofs.Numbers.{number_slot, slot_number, no_number, none_owner}
-use Rattle.store_lookup.proofs.header.check_database.Goals as goal
-use Rattle.store_lookup.proofs.header.check_database.Goals.{then-owner-ne-MANAGERS_OWNER-via-then-owner-ne-MANAGERS_OWNER, then-owner-ne-MANAGERS_OWNER-via-else-owner-ne-MANAGERS_OWNER+then-db-directory}
+use Rattle.store_lookup.proofs.Numbers.{number_slot, slot_number, no_number, none_owner, number_spelled, number_shape}
+use Rattle.store_lookup.proofs.header.find_header.Goals as goal
+use Rattle.store_lookup.proofs.header.find_header.Goals.{then-owner-ne-MANAGERS_OWNER-via-then-owner-ne-MANAGERS_OWNER, then-owner-ne-MANAGERS_OWNER-via-else-owner-ne-MANAGERS_OWNER+then-db-directory}
 
 pub returns-in_default-clause-unknown : goal.returns-in_default-clause-unknown
 returns-in_default-clause-unknown c = no_number c.args.heap.now.bytes c.args.db.0 (λ has.
@@ -21,3 +21,9 @@ returns-clause-known c = slot_number c.args.heap.now.bytes c.args.db.0 c.require
   owner = sym c.in-Some.ensures.owner ∙ c.if-owner-ne-MANAGERS_OWNER.false;
   other = λ directory. c.if-db-directory.false (directory ∙ sym c.directory.ensures);
 })
+
+pub returns-clause-spelled : goal.returns-clause-spelled
+returns-clause-spelled c = rw c.in-Some.ensures.body (number_spelled c.args.heap.now.bytes c.args.db.0 c.requires (returns-clause-known c))
+
+pub returns-clause-shape : goal.returns-clause-shape
+returns-clause-shape c = rw c.in-Some.ensures.body (number_shape c.args.heap.now.bytes c.args.db.0 c.requires (returns-clause-known c))

@@ -1,0 +1,15 @@
+use Rattle.std.proofs.Common.{sym, ◌∙◌}
+use Rattle.store_entries.proofs.Numbered.{header_inside, attributes_in_store, count_here}
+use Rattle.store_entries.proofs.asking.overview.Goals as goal
+
+pub attributes-requires : goal.attributes-requires
+attributes-requires c = header_inside c.args.heap.now.bytes c.in_ok-header.header.now c.args.db c.requires.accepted c.in_ok-header.ensures.known c.in_ok-header.ensures.is
+
+pub entry_count-requires : goal.entry_count-requires
+entry_count-requires c = header_inside c.args.heap.now.bytes c.in_ok-header.header.now c.args.db c.requires.accepted c.in_ok-header.ensures.known c.in_ok-header.ensures.is
+
+pub returns-clause-attributes : goal.returns-clause-attributes
+returns-clause-attributes c = attributes_in_store c.args.heap.now.bytes c.in_ok-header.header.now c.args.db c.attributes.result c.in_ok-header.ensures.known c.in_ok-header.ensures.is c.attributes.ensures
+
+pub returns-clause-count : goal.returns-clause-count
+returns-clause-count c = c.entry_count.ensures ∙ sym (count_here c.args.heap.now.bytes c.in_ok-header.header.now c.args.db c.in_ok-header.ensures.known c.in_ok-header.ensures.is)
