@@ -4,129 +4,21 @@
  * usage: memory_calls [SIZE SLOTS PASSES ROUNDS]
  *
  * It does the same calls in the same order as crates/bench_memory, on an image of the same format
- * (docs/FORMAT.md) and by the same algorithm, and prints the same lines. A movable chunk is found by
- * its slot. A new one goes to the front of the first run of neighbouring free chunks that has room,
- * which is looked for from the first chunk on. One that is freed is joined with the free chunk behind
- * it. Compaction is one walk, with one move for each chunk that goes down over the free one in front of
- * it. Where no free run has the room for a new chunk, the first stretch that has it is packed. A chunk
- * that is to be larger than it and the free chunks behind it goes to a free run that has the room; else
- * its stretch is packed, and what is behind it is lifted in one move; else another stretch is packed. No
- * chunk here is fixed, so that a name of no slot names nothing.
+ * (docs/FORMAT.md) and by the same algorithm (heap.h), and prints the same lines. Compaction is one walk,
+ * with one move for each chunk that goes down over the free one in front of it.
  */
-#include <endian.h>
-#include <stdbool.h>
-#include <stdint.h>
-#include <stdio.h>
-#include <stdlib.h>
-#include <string.h>
-#include <time.h>
+#include "heap.h"
+#include "times.h"
 
-enum { MAX_SIZE = 16777208, HEADER = 8, MOST_LOCKS = 14, DATABASE = 15 };
+enum { MOST_LOCKS = 14 };
 
 /* What the calls here are done with. */
 enum { OWNER = 1, MOST_BYTES = 64, WIDTH = 16, MOST_MOVED = 2000, STRETCHES = 64 };
 
-static const uint32_t MAGIC = 0x50484931;
-static const uint32_t FREE_BIT = 0x80000000;
-
-/* Why a call was refused, by the numbers of heap_model's Refusal. */
-enum refusal {
-    DONE,
-    INVALID_HANDLE,
-    OWNED_BY_DATABASE,
-    CHUNK_LOCKED,
-    CHUNK_NOT_LOCKED,
-    LOCK_OVERFLOW,
-    CHUNK_FIXED,
-    INVALID_OWNER,
-    NOT_ENOUGH_SPACE,
-    OUT_OF_BOUNDS,
-};
-
-/* An image that is an accepted heap. The slots of all numbers below `lowest` are in use. */
-struct heap {
-    uint8_t *image;
-    uint32_t len;
-    uint32_t lowest;
-};
-
-static uint32_t u16_at(const uint8_t *image, size_t at)
-{
-    uint16_t word;
-    memcpy(&word, image + at, sizeof word);
-    return be16toh(word);
-}
-
-static uint32_t u32_at(const uint8_t *image, size_t at)
-{
-    uint32_t word;
-    memcpy(&word, image + at, sizeof word);
-    return be32toh(word);
-}
-
-static void put_u16(uint8_t *image, size_t at, uint32_t number)
-{
-    uint16_t word = htobe16((uint16_t)number);
-    memcpy(image + at, &word, sizeof word);
-}
-
-static void put_u32(uint8_t *image, size_t at, uint32_t number)
-{
-    uint32_t word = htobe32(number);
-    memcpy(image + at, &word, sizeof word);
-}
-
-static uint32_t slot_count(const struct heap *heap)
-{
-    return u16_at(heap->image, 8);
-}
-
-static uint32_t area_start(uint32_t slots)
-{
-    return (16 + 4 * slots + 7) / 8 * 8;
-}
-
-/* What a chunk with a body of `length` bytes takes, or 0 where no image has so much. */
-static uint32_t chunk_size(uint32_t length)
-{
-    return length > MAX_SIZE - HEADER ? 0 : HEADER + (length + 7) / 8 * 8;
-}
-
-static uint32_t size_of_chunk(const struct heap *heap, uint32_t at)
-{
-    return u32_at(heap->image, at) & 0xFFFFFF;
-}
-
-static bool is_free(const struct heap *heap, uint32_t at)
-{
-    return u32_at(heap->image, at) >= FREE_BIT;
-}
-
-static void put_free(struct heap *heap, uint32_t at, uint32_t size)
-{
-    put_u32(heap->image, at, FREE_BIT | size);
-}
-
-/* A movable chunk: where its body is, and its numbers. */
-struct found {
-    uint32_t place, length, lock, owner;
-};
-
-/* The chunk that a name stands for: the name is the offset of a slot that isn't empty. */
+/* The caller's chunk that a name stands for. */
 static bool find(const struct heap *heap, uint32_t name, struct found *found)
 {
-    if (name < 16 || name >= 16 + 4 * slot_count(heap) || name % 4 != 0)
-        return false;
-    uint32_t place = u32_at(heap->image, name);
-    if (place < HEADER || place > heap->len)
-        return false;
-    uint32_t word1 = u32_at(heap->image, place - 8);
-    uint32_t word2 = u32_at(heap->image, place - 4);
-    found->place = place;
-    found->length = (word1 & 0xFFFFFF) - HEADER - (word1 >> 24);
-    found->lock = word2 >> 28;
-    found->owner = word2 >> 24 & 15;
-    return found->owner != 0;
+    return find_chunk(heap, name, found) && found->owner != 0;
 }
 
 static enum refusal heap_size(const struct heap *heap, uint32_t name, uint32_t *size)
@@ -218,135 +110,12 @@ static enum refusal heap_unlock(struct heap *heap, uint32_t name, uint32_t *coun
     return DONE;
 }
 
-/* Finds the first run of neighbouring free chunks that has `size` bytes. */
-static bool find_run(const struct heap *heap, uint32_t size, uint32_t *run_at, uint32_t *run_size)
-{
-    uint32_t run = 0;
-    uint32_t at = area_start(slot_count(heap));
-    while (at < heap->len) {
-        uint32_t word1 = u32_at(heap->image, at);
-        uint32_t chunk = word1 & 0xFFFFFF;
-        at += chunk;
-        run = word1 >= FREE_BIT ? run + chunk : 0;
-        if (run >= size) {
-            *run_at = at - run;
-            *run_size = run;
-            return true;
-        }
-    }
-    return false;
-}
-
-static bool stays(const struct heap *heap, uint32_t at)
-{
-    return !is_free(heap, at) && u32_at(heap->image, at + 4) >> 28 != 0;
-}
-
-/* Finds the first stretch whose room has `size` bytes. */
-static bool find_stretch(const struct heap *heap, uint32_t size, uint32_t *start, uint32_t *end)
-{
-    uint32_t at = area_start(slot_count(heap));
-    uint32_t room = 0;
-    for (*start = at; at < heap->len; at += size_of_chunk(heap, at)) {
-        if (stays(heap, at)) {
-            if (room >= size)
-                break;
-            *start = at + size_of_chunk(heap, at);
-            room = 0;
-        } else if (is_free(heap, at)) {
-            room += size_of_chunk(heap, at);
-        }
-    }
-    *end = at;
-    return room >= size;
-}
-
-/* Where the chunk at `at` is to name the slot that the word `word2` of a chunk at `from` names. */
-static uint32_t named_from(uint32_t word2, uint32_t from, uint32_t at, uint32_t *slot)
-{
-    *slot = from + 2 * (uint32_t)((int32_t)(word2 << 8) >> 8);
-    return (word2 & 0xFF000000) | ((uint32_t)(((int32_t)*slot - (int32_t)at) / 2) & 0xFFFFFF);
-}
-
-/* Mends the chunk that was moved from `from` to `at`: it names its slot again, and the slot holds its
- * place. */
-static void mend(struct heap *heap, uint32_t from, uint32_t at)
-{
-    uint32_t slot;
-    put_u32(heap->image, at + 4, named_from(u32_at(heap->image, at + 4), from, at, &slot));
-    put_u32(heap->image, slot, at + HEADER);
-}
-
-/* Packs the chunks from `start` up to `end`, and answers how many bytes were moved. `room` is how much is
- * free behind them then. */
-static uint32_t pack(struct heap *heap, uint32_t start, uint32_t end, uint32_t *room)
-{
-    uint32_t moved = 0;
-    *room = 0;
-    for (uint32_t at = start; at < end;) {
-        uint32_t size = size_of_chunk(heap, at);
-        if (is_free(heap, at)) {
-            put_free(heap, at - *room, *room + size);
-            *room += size;
-        } else if (stays(heap, at)) {
-            *room = 0;
-        } else if (*room > 0) {
-            memmove(heap->image + at - *room, heap->image + at, size);
-            mend(heap, at, at - *room);
-            put_free(heap, at - *room + size, *room);
-            moved += size;
-        }
-        at += size;
-    }
-    return moved;
-}
-
-/* Moves the chunks from `start` up to `end` behind the free chunk that follows them, whose size is `gap`. */
-static void lift(struct heap *heap, uint32_t start, uint32_t end, uint32_t gap)
-{
-    memmove(heap->image + start + gap, heap->image + start, end - start);
-    put_free(heap, start, gap);
-    for (uint32_t at = start + gap; at < end + gap; at += size_of_chunk(heap, at))
-        mend(heap, at - gap, at);
-}
-
-/* Finds a run of free chunks that has `size` bytes. Where there is none, the first stretch that has the
- * room is packed. */
-static bool make_room(struct heap *heap, uint32_t size, uint32_t *run_at, uint32_t *run_size)
-{
-    uint32_t start, end, room;
-    if (find_run(heap, size, run_at, run_size))
-        return true;
-    if (!find_stretch(heap, size, &start, &end))
-        return false;
-    pack(heap, start, end, &room);
-    return find_run(heap, size, run_at, run_size);
-}
-
 static enum refusal heap_handle_new(struct heap *heap, uint32_t length, uint32_t owner,
                                     uint32_t *name)
 {
     if (owner == 0 || owner > 14)
         return INVALID_OWNER;
-    uint32_t slots = slot_count(heap);
-    uint32_t number = heap->lowest;
-    while (number < slots && u32_at(heap->image, 16 + 4 * number) != 0)
-        number++;
-    uint32_t size = chunk_size(length);
-    uint32_t at, run;
-    if (number >= slots || size == 0 || !make_room(heap, size, &at, &run))
-        return NOT_ENOUGH_SPACE;
-    if (run > size)
-        put_free(heap, at + size, run - size);
-    uint32_t slot = 16 + 4 * number;
-    uint32_t h_offset = (uint32_t)(((int32_t)slot - (int32_t)at) / 2) & 0xFFFFFF;
-    put_u32(heap->image, at, (size - HEADER - length) << 24 | size);
-    put_u32(heap->image, at + 4, owner << 24 | h_offset);
-    memset(heap->image + at + HEADER, 0, length);
-    put_u32(heap->image, slot, at + HEADER);
-    heap->lowest = number;
-    *name = slot;
-    return DONE;
+    return make_chunk(heap, length, owner, name);
 }
 
 static enum refusal heap_free(struct heap *heap, uint32_t name)
@@ -358,15 +127,7 @@ static enum refusal heap_free(struct heap *heap, uint32_t name)
         return OWNED_BY_DATABASE;
     if (found.lock != 0)
         return CHUNK_LOCKED;
-    uint32_t number = (name - 16) / 4;
-    if (number < heap->lowest)
-        heap->lowest = number;
-    uint32_t at = found.place - HEADER;
-    uint32_t size = size_of_chunk(heap, at);
-    if (at + size < heap->len && is_free(heap, at + size))
-        size += size_of_chunk(heap, at + size);
-    put_free(heap, at, size);
-    put_u32(heap->image, name, 0);
+    free_chunk(heap, name, &found);
     return DONE;
 }
 
@@ -391,104 +152,6 @@ static uint32_t heap_compact(struct heap *heap)
     return pack(heap, area_start(slot_count(heap)), heap->len, &room);
 }
 
-/* The sizes together of the free chunks that stand at `at`. */
-static uint32_t free_run(const struct heap *heap, uint32_t at)
-{
-    uint32_t end = at;
-    while (end < heap->len && is_free(heap, end))
-        end += size_of_chunk(heap, end);
-    return end - at;
-}
-
-/* Gives a chunk another length where it stands, out of its own size and of `behind` free bytes. */
-static void resize_at(struct heap *heap, const struct found *found, uint32_t length, uint32_t behind)
-{
-    uint32_t at = found->place - HEADER;
-    uint32_t size = chunk_size(length);
-    uint32_t left = chunk_size(found->length) + behind - size;
-    if (length > found->length)
-        memset(heap->image + found->place + found->length, 0, length - found->length);
-    if (left > 0)
-        put_free(heap, at + size, left);
-    put_u32(heap->image, at, (size - HEADER - length) << 24 | size);
-}
-
-static bool resize_in_place(struct heap *heap, const struct found *found, uint32_t length)
-{
-    uint32_t own = chunk_size(found->length);
-    uint32_t behind = free_run(heap, found->place - HEADER + own);
-    uint32_t size = chunk_size(length);
-    if (size == 0 || size > own + behind)
-        return false;
-    resize_at(heap, found, length, behind);
-    return true;
-}
-
-/* Where the stretch of a chunk begins and ends, and its room. */
-static uint32_t stretch_around(const struct heap *heap, uint32_t place, uint32_t *start, uint32_t *end)
-{
-    uint32_t at = area_start(slot_count(heap));
-    for (*start = at; at < heap->len; at += size_of_chunk(heap, at)) {
-        if (!stays(heap, at))
-            continue;
-        if (at > place - HEADER)
-            break;
-        *start = at + size_of_chunk(heap, at);
-    }
-    *end = at;
-    uint32_t room = 0;
-    for (at = *start; at < *end; at += size_of_chunk(heap, at))
-        room += is_free(heap, at) ? size_of_chunk(heap, at) : 0;
-    return room;
-}
-
-/* Moves the chunk of a name to the front of a free run. */
-static void relocate(struct heap *heap, uint32_t name, uint32_t length, uint32_t at, uint32_t run)
-{
-    struct found found;
-    find(heap, name, &found);
-    uint32_t size = chunk_size(length);
-    uint32_t kept = length < found.length ? length : found.length;
-    if (run > size)
-        put_free(heap, at + size, run - size);
-    put_u32(heap->image, at, (size - HEADER - length) << 24 | size);
-    put_u32(heap->image, at + 4, u32_at(heap->image, found.place - 4));
-    memset(heap->image + at + HEADER, 0, length);
-    memmove(heap->image + at + HEADER, heap->image + found.place, kept);
-    uint32_t from = found.place - HEADER;
-    uint32_t freed = chunk_size(found.length);
-    if (from + freed < heap->len && is_free(heap, from + freed))
-        freed += size_of_chunk(heap, from + freed);
-    put_free(heap, from, freed);
-    mend(heap, from, at);
-}
-
-/* Gives a chunk a length that it can't have in its place. */
-static bool resize_by_moving(struct heap *heap, uint32_t name, const struct found *found,
-                             uint32_t length)
-{
-    uint32_t size = chunk_size(length);
-    uint32_t at, run, start, end;
-    if (size == 0)
-        return false;
-    if (find_run(heap, size, &at, &run)) {
-        relocate(heap, name, length, at, run);
-        return true;
-    }
-    if (chunk_size(found->length) + stretch_around(heap, found->place, &start, &end) >= size) {
-        struct found now;
-        pack(heap, start, end, &run);
-        find(heap, name, &now);
-        if (run > 0)
-            lift(heap, now.place - HEADER + chunk_size(now.length), end - run, run);
-        return resize_in_place(heap, &now, length);
-    }
-    if (!make_room(heap, size, &at, &run))
-        return false;
-    relocate(heap, name, length, at, run);
-    return true;
-}
-
 static enum refusal heap_resize(struct heap *heap, uint32_t name, uint32_t length)
 {
     struct found found;
@@ -496,28 +159,7 @@ static enum refusal heap_resize(struct heap *heap, uint32_t name, uint32_t lengt
         return INVALID_HANDLE;
     if (found.owner == DATABASE)
         return OWNED_BY_DATABASE;
-    if (resize_in_place(heap, &found, length))
-        return DONE;
-    if (found.lock != 0)
-        return CHUNK_LOCKED;
-    return resize_by_moving(heap, name, &found, length) ? DONE : NOT_ENOUGH_SPACE;
-}
-
-/* Makes an image with nothing in it. */
-static bool make_blank(struct heap *heap, uint32_t size, uint32_t slots)
-{
-    uint32_t start = area_start(slots);
-    if (size < 64 || size > MAX_SIZE || size % 8 != 0 || slots == 0 || slots > 65535 ||
-        size < start + 8)
-        return false;
-    *heap = (struct heap){.image = calloc(size, 1), .len = size};
-    if (heap->image == NULL)
-        return false;
-    put_u32(heap->image, 0, MAGIC);
-    put_u32(heap->image, 4, size);
-    put_u16(heap->image, 8, slots);
-    put_free(heap, start, size - start);
-    return true;
+    return resize_chunk(heap, name, &found, length);
 }
 
 /* A heap, the handles of its chunks and of those that have 16 bytes, and the sum of all replies. Chunks
@@ -529,11 +171,6 @@ struct load {
     size_t handle_count, wide_count;
     uint32_t random, replies;
 };
-
-static uint32_t sum_with(uint32_t sum, uint32_t number)
-{
-    return (sum << 5 | sum >> 27) + number;
-}
 
 static void add(struct load *load, uint32_t number)
 {
@@ -692,29 +329,6 @@ static size_t calls_of_pass(const struct load *load, enum call call)
     return call < READ ? load->handle_count : load->wide_count;
 }
 
-/* The processor time used so far. */
-static uint64_t nanoseconds(void)
-{
-    struct timespec now;
-    clock_gettime(CLOCK_THREAD_CPUTIME_ID, &now);
-    return (uint64_t)now.tv_sec * 1000000000 + (uint64_t)now.tv_nsec;
-}
-
-static int by_size(const void *a, const void *b)
-{
-    uint64_t x = *(const uint64_t *)a, y = *(const uint64_t *)b;
-    return (x > y) - (x < y);
-}
-
-static void print_times(const char *name, uint64_t calls, uint64_t *times, size_t rounds)
-{
-    if (rounds == 0)
-        return;
-    qsort(times, rounds, sizeof *times, by_size);
-    printf("%s calls %lu best %lu median %lu\n", name, (unsigned long)calls,
-           (unsigned long)times[0], (unsigned long)times[rounds / 2]);
-}
-
 /* What a run does. */
 struct work {
     uint32_t size, slots, passes;
@@ -771,15 +385,6 @@ static void time_calls(struct load *load, const struct work *work, uint64_t *tim
     }
 }
 
-/* The sum of the words of a heap. */
-static uint32_t words_of(const struct heap *heap)
-{
-    uint32_t words = 0;
-    for (uint32_t at = 0; at + 4 <= heap->len; at += 4)
-        words = sum_with(words, u32_at(heap->image, at));
-    return words;
-}
-
 /* A load on a blank heap. */
 static bool make_load(struct load *load, const struct work *work, uint32_t most)
 {
@@ -798,11 +403,6 @@ static uint32_t most_when_full(const struct work *work)
     uint32_t most = each > 12 ? 2 * (each - 12) : 0;
     return most < UINT16_MAX ? most : UINT16_MAX;
 }
-
-/* The sum of all replies, and that of the words of the heaps in the end. */
-struct sums {
-    uint32_t replies, words;
-};
 
 /* A heap of which every second chunk is free, its other chunks in order, and how many bytes these have. */
 struct scattered {

@@ -1,7 +1,7 @@
 //! A heap that is under load: its chunks are made, freed and asked for in a fixed order.
 
 use crate::numbers::Numbers;
-use crate::sum::{Sum, Sums};
+use bench_times::{Sum, Sums};
 use heap_model::Name;
 use mem_manager::Heap;
 use std::alloc::{AllocError, Global};

@@ -13,11 +13,10 @@
 mod load;
 mod numbers;
 mod scattered;
-mod sum;
 mod work;
 
 use anyhow::{Result, bail};
-use bench_times::Times;
+use bench_times::{Sums, Times, since};
 use chunk_format::blank;
 use load::{Call, Load};
 use mem_manager::Heap;
@@ -25,8 +24,6 @@ use raw_region::Region;
 use scattered::{Scattered, Walk};
 use std::env;
 use std::rt::CpuClock;
-use std::time::Duration;
-use sum::Sums;
 use work::{MOST_BYTES, Work};
 
 /// The calls whose time doesn't depend on the heap, by what is printed of them.
@@ -165,18 +162,9 @@ fn walk_through(
     print_times(rt, work, name, scattered.calls(walk), times)
 }
 
-/// The processor time that was used since it was so much.
-fn since(rt: &impl CpuClock, start: Duration) -> Result<Duration> {
-    Ok(rt.thread_cpu_time()?.saturating_sub(start))
-}
-
 fn print_times(rt: &impl Print, work: Work, name: &str, calls: u128, times: Times) -> Result<()> {
-    if let (true, Some(best), Some(median)) = (
-        work.prints_times,
-        times.best(),
-        times.into_median(),
-    ) {
-        println!(rt; "{name} calls {calls} best {best} median {median}")?;
+    if work.prints_times {
+        times.print(rt, name, calls)?;
     }
     Ok(())
 }

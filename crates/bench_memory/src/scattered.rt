@@ -1,7 +1,7 @@
 //! A heap whose room lies between its chunks, and calls that walk through it and move them.
 
 use crate::load::{Load, OWNER};
-use crate::sum::Sum;
+use bench_times::Sum;
 use heap_model::{Name, Refusal};
 use mem_manager::Heap;
 use raw_region::Region;

@@ -1,0 +1,506 @@
+/*
+ * Calls on records in plain C, and their times: what the Rattle calls are measured beside.
+ *
+ * usage: record_calls [SIZE SLOTS RECORDS CALLS PASSES ROUNDS]
+ *
+ * It does the same calls in the same order as crates/bench_records, on a database in an image of the same
+ * format (docs/FORMAT.md) and by the same algorithm, and prints the same lines. Each call looks first whether
+ * its database is there, holds records, and may be written where it is to be. Entries are moved by one memmove.
+ * A new record gets the first ID behind the seed that no record has: one pass over the entries marks those
+ * near the seed, and only where all of these are taken a second one has a bit for each record. The chunks are
+ * those of heap.h.
+ */
+#include "heap.h"
+#include "times.h"
+
+/* Where fields stand: of the image the directory; of a database its numbers and its entries; of an entry
+ * its attributes, with the ID behind them. */
+enum {
+    DIRECTORY_AT = 12,
+    ATTRIBUTES_AT = 32,
+    MODIFICATION_NUMBER_AT = 48,
+    KIND_AT = 60,
+    CREATOR_AT = 64,
+    SEED_AT = 68,
+    ENTRY_COUNT_AT = 76,
+    ENTRIES_AT = 78,
+    ENTRY_SIZE = 8,
+    LABEL_AT = 4,
+};
+
+enum { MANAGER = 0, RESOURCES = 0x0001, ONLY_READ = 0x0002, MOST_ENTRIES = 65535 };
+
+/* The attributes of a new record: dirty and busy. */
+enum { NEW_ATTRIBUTES = 0x60 };
+
+enum { GREATEST_ID = 0xFFFFFF };
+
+/* How many bytes have the bits of the IDs near the seed, and how many a bit for each record. */
+enum { FEW = 128, MANY = 8192 };
+
+/* What the calls here are done with: an index behind all records, and the most bytes of a record. */
+enum { END = 0xFFFF, MOST_BYTES = 64 };
+
+static const uint32_t KIND = 0x44415441, CREATOR = 0x54657374;
+
+/* What the entry of a record says. */
+struct record {
+    uint32_t attributes, id, slot;
+};
+
+static uint8_t *body_of(const struct heap *heap, const struct found *found)
+{
+    return heap->image + found->place;
+}
+
+static uint32_t entries_in(const uint8_t *body)
+{
+    return u16_at(body, ENTRY_COUNT_AT);
+}
+
+static uint8_t *entry_at(uint8_t *body, uint32_t index)
+{
+    return body + ENTRIES_AT + ENTRY_SIZE * index;
+}
+
+static uint32_t database_size(uint32_t entries)
+{
+    return ENTRIES_AT + ENTRY_SIZE * entries;
+}
+
+/* The chunk of a database of records: a chunk of the manager's that isn't the directory. */
+static enum refusal find_readable(const struct heap *heap, uint32_t db, struct found *found)
+{
+    if (!find_chunk(heap, db, found) || found->owner != MANAGER ||
+        db == u32_at(heap->image, DIRECTORY_AT))
+        return NO_SUCH_DATABASE;
+    if (u16_at(body_of(heap, found), ATTRIBUTES_AT) & RESOURCES)
+        return NOT_RECORD_DATABASE;
+    return DONE;
+}
+
+static enum refusal find_writable(const struct heap *heap, uint32_t db, struct found *found)
+{
+    enum refusal refusal = find_readable(heap, db, found);
+    if (refusal != DONE)
+        return refusal;
+    return u16_at(body_of(heap, found), ATTRIBUTES_AT) & ONLY_READ ? READ_ONLY : DONE;
+}
+
+static bool is_locked(const struct heap *heap, uint32_t slot)
+{
+    struct found found;
+    return slot != 0 && find_chunk(heap, slot, &found) && found.lock != 0;
+}
+
+static void free_slot(struct heap *heap, uint32_t slot)
+{
+    struct found found;
+    if (slot != 0 && find_chunk(heap, slot, &found))
+        free_chunk(heap, slot, &found);
+}
+
+static void raise_modification(uint8_t *body)
+{
+    put_u32(body, MODIFICATION_NUMBER_AT, u32_at(body, MODIFICATION_NUMBER_AT) + 1);
+}
+
+static uint32_t steps_to(uint32_t seed, uint32_t id)
+{
+    return id > seed ? id - seed - 1 : GREATEST_ID - seed + id - 1;
+}
+
+static uint32_t id_behind(uint32_t seed, uint32_t steps)
+{
+    uint32_t last = seed + steps;
+    return last < GREATEST_ID ? last + 1 : last - GREATEST_ID + 1;
+}
+
+/* Marks the IDs of the records by their steps behind the seed, as far as there are bits, and answers the
+ * first step without a mark. */
+static uint32_t first_step(const uint8_t *body, uint32_t seed, uint8_t *taken, uint32_t bytes)
+{
+    uint32_t count = entries_in(body);
+    memset(taken, 0, bytes);
+    for (uint32_t index = 0; index < count; index++) {
+        uint32_t id = u32_at(body, ENTRIES_AT + ENTRY_SIZE * index + LABEL_AT) & GREATEST_ID;
+        if (id == 0)
+            continue;
+        uint32_t steps = steps_to(seed, id);
+        if (steps < 8 * bytes)
+            taken[steps / 8] |= (uint8_t)(1 << steps % 8);
+    }
+    uint32_t step = 0;
+    while (step < 8 * bytes && taken[step / 8] >> step % 8 & 1)
+        step++;
+    return step;
+}
+
+/* The first ID behind the seed that no record has. */
+static uint32_t fresh_id(const uint8_t *body)
+{
+    uint8_t taken[MANY];
+    uint32_t seed = u32_at(body, SEED_AT) & GREATEST_ID;
+    uint32_t steps = first_step(body, seed, taken, FEW);
+    if (steps == 8 * FEW)
+        steps = first_step(body, seed, taken, MANY);
+    return id_behind(seed, steps);
+}
+
+/* Puts an entry in, for which the chunk of the database has grown already. */
+static void put_in(uint8_t *body, uint32_t at, const struct record *record)
+{
+    uint32_t count = entries_in(body);
+    uint8_t *entry = entry_at(body, at);
+    memmove(entry + ENTRY_SIZE, entry, ENTRY_SIZE * (count - at));
+    put_u32(entry, 0, record->slot);
+    put_u32(entry, LABEL_AT, record->attributes << 24 | record->id);
+    put_u32(body, SEED_AT, (u32_at(body, SEED_AT) & ~(uint32_t)GREATEST_ID) | record->id);
+    put_u16(body, ENTRY_COUNT_AT, count + 1);
+    raise_modification(body);
+}
+
+static enum refusal new_record(struct heap *heap, uint32_t db, uint32_t at, uint32_t size,
+                               uint32_t *index, uint32_t *name)
+{
+    struct found found;
+    enum refusal refusal = find_writable(heap, db, &found);
+    if (refusal != DONE)
+        return refusal;
+    uint32_t count = entries_in(body_of(heap, &found));
+    if (count >= MOST_ENTRIES)
+        return TOO_MANY_ENTRIES;
+    struct record record = {.attributes = NEW_ATTRIBUTES, .id = fresh_id(body_of(heap, &found))};
+    refusal = make_chunk(heap, size, DATABASE, &record.slot);
+    if (refusal != DONE)
+        return refusal;
+    if (!find_chunk(heap, db, &found))
+        return NO_SUCH_DATABASE;
+    refusal = resize_chunk(heap, db, &found, database_size(count + 1));
+    if (refusal != DONE) {
+        free_slot(heap, record.slot);
+        return refusal;
+    }
+    if (!find_chunk(heap, db, &found))
+        return NO_SUCH_DATABASE;
+    *index = at < count ? at : count;
+    *name = record.slot;
+    put_in(body_of(heap, &found), *index, &record);
+    return DONE;
+}
+
+static enum refusal num_records(const struct heap *heap, uint32_t db, uint32_t *count)
+{
+    struct found found;
+    enum refusal refusal = find_readable(heap, db, &found);
+    if (refusal != DONE)
+        return refusal;
+    *count = entries_in(body_of(heap, &found));
+    return DONE;
+}
+
+static enum refusal record_info(const struct heap *heap, uint32_t db, uint32_t index,
+                                struct record *record)
+{
+    struct found found;
+    enum refusal refusal = find_readable(heap, db, &found);
+    if (refusal != DONE)
+        return refusal;
+    uint8_t *body = body_of(heap, &found);
+    if (index >= entries_in(body))
+        return INDEX_OUT_OF_RANGE;
+    uint8_t *entry = entry_at(body, index);
+    uint32_t label = u32_at(entry, LABEL_AT);
+    record->slot = u32_at(entry, 0);
+    record->attributes = label >> 24;
+    record->id = label & GREATEST_ID;
+    return DONE;
+}
+
+static enum refusal remove_record(struct heap *heap, uint32_t db, uint32_t index)
+{
+    struct found found;
+    enum refusal refusal = find_writable(heap, db, &found);
+    if (refusal != DONE)
+        return refusal;
+    uint8_t *body = body_of(heap, &found);
+    uint32_t count = entries_in(body);
+    if (index >= count)
+        return INDEX_OUT_OF_RANGE;
+    uint8_t *entry = entry_at(body, index);
+    uint32_t slot = u32_at(entry, 0);
+    if (is_locked(heap, slot))
+        return CHUNK_LOCKED;
+    memmove(entry, entry + ENTRY_SIZE, ENTRY_SIZE * (count - index - 1));
+    resize_in_place(heap, &found, database_size(count - 1));
+    put_u16(body, ENTRY_COUNT_AT, count - 1);
+    free_slot(heap, slot);
+    raise_modification(body);
+    return DONE;
+}
+
+static enum refusal move_record(struct heap *heap, uint32_t db, uint32_t from, uint32_t to)
+{
+    struct found found;
+    enum refusal refusal = find_writable(heap, db, &found);
+    if (refusal != DONE)
+        return refusal;
+    uint8_t *body = body_of(heap, &found);
+    uint32_t count = entries_in(body);
+    if (from >= count || to > count)
+        return INDEX_OUT_OF_RANGE;
+    uint8_t entry[ENTRY_SIZE];
+    memcpy(entry, entry_at(body, from), ENTRY_SIZE);
+    if (to < from) {
+        memmove(entry_at(body, to + 1), entry_at(body, to), ENTRY_SIZE * (from - to));
+        memcpy(entry_at(body, to), entry, ENTRY_SIZE);
+    } else if (from + 1 < to) {
+        memmove(entry_at(body, from), entry_at(body, from + 1), ENTRY_SIZE * (to - from - 1));
+        memcpy(entry_at(body, to - 1), entry, ENTRY_SIZE);
+    }
+    raise_modification(body);
+    return DONE;
+}
+
+/* Makes the first database of a heap, and the directory. */
+static enum refusal create(struct heap *heap, const char *name, uint32_t *db)
+{
+    uint32_t directory;
+    struct found found;
+    enum refusal refusal = make_chunk(heap, ENTRIES_AT, MANAGER, db);
+    if (refusal == DONE)
+        refusal = make_chunk(heap, 4, MANAGER, &directory);
+    if (refusal != DONE)
+        return refusal;
+    if (!find_chunk(heap, directory, &found))
+        return INVALID_HANDLE;
+    put_u32(body_of(heap, &found), 0, *db);
+    put_u32(heap->image, DIRECTORY_AT, directory);
+    if (!find_chunk(heap, *db, &found))
+        return NO_SUCH_DATABASE;
+    uint8_t *body = body_of(heap, &found);
+    memcpy(body, name, strlen(name));
+    put_u32(body, KIND_AT, KIND);
+    put_u32(body, CREATOR_AT, CREATOR);
+    return DONE;
+}
+
+/* What a run does. */
+struct work {
+    uint32_t size, slots, records, calls, passes;
+    size_t rounds;
+    bool prints_times;
+};
+
+/* A heap with a database, and the sum of all replies to the calls so far. */
+struct load {
+    struct heap heap;
+    uint32_t db, made, replies;
+};
+
+static void add(struct load *load, uint32_t number)
+{
+    load->replies = sum_with(load->replies, number);
+}
+
+static uint32_t count_of(const struct load *load)
+{
+    uint32_t count;
+    return num_records(&load->heap, load->db, &count) == DONE ? count : 0;
+}
+
+/* Makes so many records behind the last, of 0 to 64 bytes. */
+static void make(struct load *load, uint32_t count)
+{
+    for (uint32_t i = 0; i < count; i++) {
+        uint32_t index, name;
+        uint32_t size = load->made++ % (MOST_BYTES + 1);
+        enum refusal refusal = new_record(&load->heap, load->db, END, size, &index, &name);
+        if (refusal == DONE) {
+            add(load, index);
+            add(load, name);
+        } else {
+            add(load, refusal);
+        }
+    }
+}
+
+static void remove_last(struct load *load, uint32_t count)
+{
+    uint32_t records = count_of(load);
+    for (uint32_t i = 0; i < count; i++)
+        add(load, remove_record(&load->heap, load->db, records > i ? records - i - 1 : 0));
+}
+
+static void remove_first(struct load *load, uint32_t count)
+{
+    for (uint32_t i = 0; i < count; i++)
+        add(load, remove_record(&load->heap, load->db, 0));
+}
+
+static void move_to_the_end(struct load *load, uint32_t count)
+{
+    uint32_t records = count_of(load);
+    for (uint32_t i = 0; i < count; i++)
+        add(load, move_record(&load->heap, load->db, 0, records));
+}
+
+static void move_to_the_front(struct load *load, uint32_t count)
+{
+    uint32_t records = count_of(load);
+    for (uint32_t i = 0; i < count; i++)
+        add(load, move_record(&load->heap, load->db, records > 0 ? records - 1 : 0, 0));
+}
+
+/* Asks for each record. */
+static void ask_each(struct load *load)
+{
+    uint32_t records = count_of(load);
+    for (uint32_t index = 0; index < records; index++) {
+        struct record record;
+        enum refusal refusal = record_info(&load->heap, load->db, index, &record);
+        if (refusal != DONE) {
+            add(load, refusal);
+            continue;
+        }
+        add(load, record.attributes);
+        add(load, record.id);
+        add(load, record.slot);
+    }
+}
+
+/* The index of the record with an ID, or the number of records where none of them has it. */
+static uint32_t index_of(const struct load *load, uint32_t id, uint32_t records)
+{
+    for (uint32_t index = 0; index < records; index++) {
+        struct record record;
+        if (record_info(&load->heap, load->db, index, &record) == DONE && record.id == id)
+            return index;
+    }
+    return records;
+}
+
+static void search(struct load *load, uint32_t passes)
+{
+    struct record last;
+    uint32_t records = count_of(load);
+    if (record_info(&load->heap, load->db, records > 0 ? records - 1 : 0, &last) != DONE)
+        return;
+    for (uint32_t pass = 0; pass < passes; pass++)
+        add(load, index_of(load, last.id, records));
+}
+
+enum call {
+    NEW_AT_THE_END,
+    REMOVE_THE_LAST,
+    REMOVE_THE_FIRST,
+    MOVE_TO_THE_END,
+    MOVE_TO_THE_FRONT,
+    INFO,
+    SEARCH_BY_ID,
+    CALLS
+};
+
+static const char *const CALL_NAMES[CALLS] = {
+    "new_record_at_the_end", "remove_the_last", "remove_the_first", "move_to_the_end",
+    "move_to_the_front",     "record_info",     "search_by_id",
+};
+
+/* How many calls of a kind `repeat` does. */
+static uint64_t calls_of(const struct load *load, enum call call, const struct work *work)
+{
+    if (call == INFO)
+        return (uint64_t)count_of(load) * work->passes;
+    return call == SEARCH_BY_ID ? work->passes : work->calls;
+}
+
+/* Does calls of a kind. */
+static void repeat(struct load *load, enum call call, const struct work *work)
+{
+    switch (call) {
+    case NEW_AT_THE_END: make(load, work->calls); break;
+    case REMOVE_THE_LAST: remove_last(load, work->calls); break;
+    case REMOVE_THE_FIRST: remove_first(load, work->calls); break;
+    case MOVE_TO_THE_END: move_to_the_end(load, work->calls); break;
+    case MOVE_TO_THE_FRONT: move_to_the_front(load, work->calls); break;
+    case INFO:
+        for (uint32_t pass = 0; pass < work->passes; pass++)
+            ask_each(load);
+        break;
+    default: search(load, work->passes); break;
+    }
+}
+
+/* Brings the database back to as many records as it had before calls of a kind. */
+static void even_out(struct load *load, enum call call, const struct work *work)
+{
+    if (call == NEW_AT_THE_END)
+        remove_last(load, work->calls);
+    if (call == REMOVE_THE_LAST || call == REMOVE_THE_FIRST)
+        make(load, work->calls);
+}
+
+/* Makes the records. */
+static void fill(struct load *load, const struct work *work, uint64_t *times)
+{
+    uint64_t start = nanoseconds();
+    make(load, work->records);
+    times[0] = nanoseconds() - start;
+    if (work->prints_times)
+        print_times("new_record_filling", work->records, times, 1);
+}
+
+static void time_calls(struct load *load, const struct work *work, uint64_t *times)
+{
+    for (enum call call = NEW_AT_THE_END; call < CALLS; call++) {
+        for (size_t i = 0; i < work->rounds; i++) {
+            uint64_t start = nanoseconds();
+            repeat(load, call, work);
+            times[i] = nanoseconds() - start;
+            even_out(load, call, work);
+        }
+        if (work->prints_times)
+            print_times(CALL_NAMES[call], calls_of(load, call, work), times, work->rounds);
+    }
+}
+
+static bool read_work(int argc, char **argv, struct work *work)
+{
+    if (argc == 1)
+        *work = (struct work){
+            .size = 16384,
+            .slots = 128,
+            .records = 100,
+            .calls = 8,
+            .passes = 2,
+            .rounds = 2,
+        };
+    if (argc == 7)
+        *work = (struct work){
+            .size = (uint32_t)strtoul(argv[1], NULL, 10),
+            .slots = (uint32_t)strtoul(argv[2], NULL, 10),
+            .records = (uint32_t)strtoul(argv[3], NULL, 10),
+            .calls = (uint32_t)strtoul(argv[4], NULL, 10),
+            .passes = (uint32_t)strtoul(argv[5], NULL, 10),
+            .rounds = strtoul(argv[6], NULL, 10),
+            .prints_times = true,
+        };
+    return argc == 1 || argc == 7;
+}
+
+int main(int argc, char **argv)
+{
+    struct work work;
+    struct load load = {.made = 0};
+    if (!read_work(argc, argv, &work) || !make_blank(&load.heap, work.size, work.slots)) {
+        fprintf(stderr, "usage: record_calls [SIZE SLOTS RECORDS CALLS PASSES ROUNDS]\n");
+        return 2;
+    }
+    uint64_t *times = calloc(work.rounds + 1, sizeof *times);
+    if (times == NULL || create(&load.heap, "Records", &load.db) != DONE)
+        return 2;
+    fill(&load, &work, times);
+    time_calls(&load, &work, times);
+    printf("replies %u words %u\n", load.replies, words_of(&load.heap));
+    return 0;
+}

@@ -1,0 +1,192 @@
+//! A database under load: its records are made, moved, taken out and asked for in a fixed order.
+
+use crate::work::Work;
+use bench_times::{Sum, Sums};
+use heap_model::{Db, Refusal};
+use palm_store::Store;
+use record_db::{move_record, new_record, num_records, record_info, remove};
+
+/// An index behind all records.
+const END: u32 = 0xFFFF;
+
+/// The most bytes of a record.
+const MOST_BYTES: u32 = 64;
+
+/// A kind of call on records.
+#[derive(Clone, Copy)]
+pub(crate) enum Call {
+    /// New records behind the last.
+    NewAtTheEnd,
+    RemoveTheLast,
+    RemoveTheFirst,
+    /// The first record is moved behind the last.
+    MoveToTheEnd,
+    /// The last record is moved in front of the first.
+    MoveToTheFront,
+    /// All records are asked for.
+    Info,
+    /// Records are asked for from the first on, until one has the ID of the last.
+    SearchById,
+}
+
+/// A store with a database, and the sum of all replies to the calls so far.
+#[derive(Drop)]
+pub(crate) struct Load {
+    store: Store,
+    db: Db,
+    /// How many records were asked for to be made.
+    made: u32,
+    replies: Sum,
+}
+
+impl Load {
+    /// A load on a database that has no records yet.
+    pub(crate) fn new(store: Store, db: Db) -> Load {
+        Load {
+            store,
+            db,
+            made: 0,
+            replies: Sum(0),
+        }
+    }
+
+    /// How many records there are.
+    fn count(&self) -> u32 {
+        num_records(&self.store, self.db).unwrap_or(0)
+    }
+
+    /// Makes so many records behind the last, of 0 to 64 bytes.
+    pub(crate) fn make(&mut self, count: u32) {
+        for _ in 0..count {
+            let size = self.made % (MOST_BYTES + 1);
+            self.made = self.made.wrapping_add(1);
+            match new_record(&mut self.store, self.db, END, size) {
+                Ok((index, name)) => {
+                    self.replies.add(index);
+                    self.replies.add(name.0);
+                }
+                Err(refusal) => self.replies.add(refusal.number() as u32),
+            }
+        }
+    }
+
+    /// How many calls of a kind `repeat` does.
+    pub(crate) fn calls(&self, call: Call, work: Work) -> u128 {
+        match call {
+            Call::Info => (self.count() as u128).saturating_mul(work.passes as u128),
+            Call::SearchById => work.passes as u128,
+            _ => work.calls as u128,
+        }
+    }
+
+    /// Does calls of a kind.
+    pub(crate) fn repeat(&mut self, call: Call, work: Work) {
+        match call {
+            Call::NewAtTheEnd => self.make(work.calls),
+            Call::RemoveTheLast => self.remove_last(work.calls),
+            Call::RemoveTheFirst => self.remove_first(work.calls),
+            Call::MoveToTheEnd => self.move_to_the_end(work.calls),
+            Call::MoveToTheFront => self.move_to_the_front(work.calls),
+            Call::Info => self.ask(work.passes),
+            Call::SearchById => self.search(work.passes),
+        }
+    }
+
+    /// Brings the database back to as many records as it had before calls of a kind.
+    pub(crate) fn even_out(&mut self, call: Call, work: Work) {
+        match call {
+            Call::NewAtTheEnd => self.remove_last(work.calls),
+            Call::RemoveTheLast | Call::RemoveTheFirst => self.make(work.calls),
+            _ => {}
+        }
+    }
+
+    fn remove_last(&mut self, count: u32) {
+        let records = self.count();
+        for removed in 0..count {
+            let last = records.saturating_sub(removed).saturating_sub(1);
+            let done = remove(&mut self.store, self.db, last);
+            add_done(&mut self.replies, done);
+        }
+    }
+
+    fn remove_first(&mut self, count: u32) {
+        for _ in 0..count {
+            let done = remove(&mut self.store, self.db, 0);
+            add_done(&mut self.replies, done);
+        }
+    }
+
+    fn move_to_the_end(&mut self, count: u32) {
+        let records = self.count();
+        for _ in 0..count {
+            let done = move_record(&mut self.store, self.db, 0, records);
+            add_done(&mut self.replies, done);
+        }
+    }
+
+    fn move_to_the_front(&mut self, count: u32) {
+        let last = self.count().saturating_sub(1);
+        for _ in 0..count {
+            let done = move_record(&mut self.store, self.db, last, 0);
+            add_done(&mut self.replies, done);
+        }
+    }
+
+    fn ask(&mut self, passes: u32) {
+        for _ in 0..passes {
+            self.ask_each();
+        }
+    }
+
+    /// Asks for each record.
+    fn ask_each(&mut self) {
+        for index in 0..self.count() {
+            match record_info(&self.store, self.db, index) {
+                Ok(info) => {
+                    self.replies.add(info.attributes as u32);
+                    self.replies.add(info.id);
+                    self.replies.add(info.data.map_or(0, |name| name.0));
+                }
+                Err(refusal) => self.replies.add(refusal.number() as u32),
+            }
+        }
+    }
+
+    fn search(&mut self, passes: u32) {
+        let records = self.count();
+        let last = record_info(&self.store, self.db, records.saturating_sub(1));
+        if let Ok(info) = last {
+            for _ in 0..passes {
+                let index = self.index_of(info.id, records);
+                self.replies.add(index);
+            }
+        }
+    }
+
+    /// The index of the record with an ID, or the number of records where none of them has it.
+    fn index_of(&self, id: u32, records: u32) -> u32 {
+        for index in 0..records {
+            if record_info(&self.store, self.db, index).is_ok_and(|info| info.id == id) {
+                return index;
+            }
+        }
+        records
+    }
+
+    /// The sum of all replies, and that of the words of the image.
+    pub(crate) fn into_sums(self) -> Sums {
+        Sums {
+            replies: self.replies,
+            words: Sum::of_words(&self.store.into_region()),
+        }
+    }
+}
+
+/// Adds the number of a refusal, and 0 where there is none.
+fn add_done(replies: &mut Sum, done: Result<(), Refusal>) {
+    match done {
+        Ok(()) => replies.add(0),
+        Err(refusal) => replies.add(refusal.number() as u32),
+    }
+}

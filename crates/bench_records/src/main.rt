@@ -1,0 +1,99 @@
+//! Times the calls on records. `bench_records SIZE SLOTS RECORDS CALLS PASSES ROUNDS` makes a store in an
+//! image of SIZE bytes with SLOTS slots, and a database of RECORDS records in it. In each round of a kind
+//! CALLS records are made, moved or taken out, or all of them asked for PASSES times. For each kind of call it
+//! prints the calls of a round, and the best and the median processor time of a round in nanoseconds.
+//!
+//! The last line has the sum of all replies, and that of the words of the image at the end. With no words it
+//! alone is printed, of a small database. bench/record_calls.c does the same calls in plain C, and
+//! docs/MEASUREMENTS.md has what was measured.
+#![tactic(auto)]
+
+mod load;
+mod work;
+
+use anyhow::{Result, bail};
+use bench_times::{Times, since};
+use chunk_format::blank;
+use heap_model::DbName;
+use load::{Call, Load};
+use palm_store::Store;
+use std::env;
+use std::rt::CpuClock;
+use work::Work;
+
+/// The kinds of call, by what is printed of them.
+const CALLS: [(&str, Call); 7] = [
+    ("new_record_at_the_end", Call::NewAtTheEnd),
+    ("remove_the_last", Call::RemoveTheLast),
+    ("remove_the_first", Call::RemoveTheFirst),
+    ("move_to_the_end", Call::MoveToTheEnd),
+    ("move_to_the_front", Call::MoveToTheFront),
+    ("record_info", Call::Info),
+    ("search_by_id", Call::SearchById),
+];
+
+/// The type of the database, `DATA`.
+const KIND: u32 = 0x4441_5441;
+
+/// The creator of the database, `Test`.
+const CREATOR: u32 = 0x5465_7374;
+
+fn main(rt: HostRuntime) -> Result<()> {
+    let words = env::args(&rt)?.skip(1).collect::<Vec<_>>(rt.alloc())?;
+    let Some(work) = Work::of_words(&words) else {
+        bail!("usage: bench_records [SIZE SLOTS RECORDS CALLS PASSES ROUNDS]");
+    };
+    let mut load = blank_load(&rt, work)?;
+    fill(&rt, &mut load, work)?;
+    for (name, call) in CALLS {
+        time_calls(&rt, &mut load, work, name, call)?;
+    }
+    let sums = load.into_sums();
+    println!(rt; "replies {} words {}", sums.replies.0, sums.words.0)?;
+    Ok(())
+}
+
+/// A load on a database without records, in an image with nothing else.
+fn blank_load(rt: &impl AllocGlobal, work: Work) -> Result<Load> {
+    let region = blank(rt.alloc(), work.size, work.slots)?;
+    let mut store = match Store::check(rt.alloc(), region) {
+        Ok(store) => store,
+        Err(error) => bail!("{}", error.fault),
+    };
+    let db = store.create(&DbName::of(b"Records"), KIND, CREATOR, false, 0)?;
+    Ok(Load::new(store, db))
+}
+
+/// Makes the records.
+fn fill(rt: &(impl CpuClock + Print + AllocGlobal), load: &mut Load, work: Work) -> Result<()> {
+    let mut times = Times::new(rt.alloc());
+    let start = rt.thread_cpu_time()?;
+    load.make(work.records);
+    times.add(since(rt, start)?)?;
+    print_times(rt, work, "new_record_filling", work.records as u128, times)
+}
+
+/// Does calls of one kind in each round.
+fn time_calls(
+    rt: &(impl CpuClock + Print + AllocGlobal),
+    load: &mut Load,
+    work: Work,
+    name: &str,
+    call: Call,
+) -> Result<()> {
+    let mut times = Times::new(rt.alloc());
+    for _ in 0..work.rounds {
+        let start = rt.thread_cpu_time()?;
+        load.repeat(call, work);
+        times.add(since(rt, start)?)?;
+        load.even_out(call, work);
+    }
+    print_times(rt, work, name, load.calls(call, work), times)
+}
+
+fn print_times(rt: &impl Print, work: Work, name: &str, calls: u128, times: Times) -> Result<()> {
+    if work.prints_times {
+        times.print(rt, name, calls)?;
+    }
+    Ok(())
+}
