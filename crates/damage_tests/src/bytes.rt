@@ -9,9 +9,10 @@ use std::process::Abort;
 use std::test::Fail;
 use test_images::{DATABASE, bytes_of};
 
-/// Calls on chunks and databases, each with its reply on the image as it is. They ask of the database and of
-/// its data, change and delete it, and then make another, with chunks of callers beside it.
-const CALLS: [(&str, &str); 45] = [
+/// Calls on chunks, databases and records, each with its reply on the image as it is. They ask of the
+/// database, its records and their data, change them and delete it, and then make another, with chunks of
+/// callers beside it.
+const CALLS: [(&str, &str); 52] = [
     ("find d \"R\"", "ok"),
     ("nth d 0", "ok"),
     ("dbcount", "ok 1"),
@@ -34,6 +35,13 @@ const CALLS: [(&str, &str); 45] = [
         "refused 8 NotEnoughSpace",
     ),
     ("free a", "ok"),
+    ("recinfo d 0", "ok 00 1 data"),
+    ("recget d 1 s", "ok"),
+    ("recrelease d 1 1", "ok"),
+    ("recmove d 1 0", "ok"),
+    ("recdelete d 0", "ok"),
+    ("recinfo d 0", "ok c0 2 none"),
+    ("reccount d", "ok 2"),
     ("dbdelete d", "ok"),
     ("largest", "ok 152"),
     ("new a 3 1", "ok"),
