@@ -24,8 +24,8 @@ pub(crate) fn is_busy(attributes: u8) -> bool
     RecordAttrs::from_bits_retain(attributes).contains(RecordAttrs::BUSY)
 }
 
-/// Those of a record that is deleted from now on.
-pub(crate) fn deleted(attributes: u8) -> u8
+/// The attributes of a record that is deleted from now on.
+pub(crate) fn marked_deleted(attributes: u8) -> u8
     ensures { result ≡ bit_or attributes deleted_bit }
 {
     RecordAttrs::from_bits_retain(attributes)
@@ -33,8 +33,8 @@ pub(crate) fn deleted(attributes: u8) -> u8
         .bits()
 }
 
-/// Those of a record that is in use.
-pub(crate) fn in_use(attributes: u8) -> u8
+/// The attributes of a record that is in use from now on.
+pub(crate) fn marked_busy(attributes: u8) -> u8
     ensures { result ≡ bit_or attributes busy_bit }
 {
     RecordAttrs::from_bits_retain(attributes)
@@ -42,7 +42,7 @@ pub(crate) fn in_use(attributes: u8) -> u8
         .bits()
 }
 
-/// Those of a record that is no longer in use.
+/// The attributes of a record that is no longer in use, and dirty then if `dirty` says so.
 pub(crate) fn released(attributes: u8, dirty: bool) -> u8
     ensures { result ≡ steps.released dirty attributes }
 {
@@ -54,8 +54,8 @@ pub(crate) fn released(attributes: u8, dirty: bool) -> u8
     attributes.bits()
 }
 
-/// Those of a new record.
-pub(crate) fn made() -> u8
+/// The attributes of a new record.
+pub(crate) fn of_new_record() -> u8
     ensures { result ≡ new_attributes }
 {
     RecordAttrs::DIRTY.union(RecordAttrs::BUSY).bits()

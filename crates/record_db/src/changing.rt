@@ -6,7 +6,7 @@ ghost use Rattle.heap_model.specs.declared.call.Call.{Call};
 ghost use Rattle.heap_model.specs.declared.call.RecordCall.{RecordCall};
 ghost use Rattle.heap_model.specs.declared.call.Reply.{Reply};
 
-use crate::attributes::{deleted, in_use, is_busy, released};
+use crate::attributes::{is_busy, marked_busy, marked_deleted, released};
 use crate::checks::{check_readable, check_writable};
 use crate::records::{find_live, find_record, has_locked, is_locked};
 use heap_model::{Db, Name, Refusal};
@@ -39,7 +39,7 @@ pub fn archive(store: &mut Store, db: Db, index: u32) -> Result<(), Refusal>
     let count = check_writable(store, db)?;
     let live = find_live(store, db, index, count)?;
     let archived = Label::Record {
-        attributes: deleted(live.attributes),
+        attributes: marked_deleted(live.attributes),
         id: live.id,
     };
     store.entry_set(db, index, archived);
@@ -92,7 +92,7 @@ pub fn get(store: &mut Store, db: Db, index: u32) -> Result<Name, Refusal>
         return Err(Refusal::RecordBusy);
     }
     let label = Label::Record {
-        attributes: in_use(live.attributes),
+        attributes: marked_busy(live.attributes),
         id: live.id,
     };
     store.entry_set(db, index, label);

@@ -12,7 +12,7 @@ ghost use Rattle.heap_model.specs.declared.call.RecordCall.{RecordCall};
 ghost use Rattle.heap_model.specs.declared.call.Reply.{Reply};
 ghost use Rattle.record_db.specs.Checks.{made_reply};
 
-use crate::attributes::made;
+use crate::attributes::of_new_record;
 use crate::checks::check_writable;
 use crate::records::find_live;
 use heap_model::{Db, Name, Refusal};
@@ -29,7 +29,9 @@ pub fn new_record(store: &mut Store, db: Db, at: u32, size: u32) -> Result<(u32,
 {
     let count = check_writable(store, db)?;
     let index = at.min(count);
-    let entry = NewEntry::Record { attributes: made() };
+    let entry = NewEntry::Record {
+        attributes: of_new_record(),
+    };
     let name = store.entry_new(db, index, entry, size)?;
     store.raise(db);
     Ok((index, name))

@@ -21,7 +21,7 @@ returns-then-is_busy c =
 pub entry_set-requires-clause-label : goal.entry_set-requires-clause-label
 entry_set-requires-clause-label c =
     let some = c.in_ok-live.ensures.some in
-    may_have c.args.store.now.bytes c.args.db c.args.index c.in_ok-live.live.attributes c.in_ok-live.live.id c.in_ok-live.live.«data».0 c.in_use.result c.in_ok-count.ensures.accepted c.in_ok-count.ensures.known c.in_ok-count.ensures.records
+    may_have c.args.store.now.bytes c.args.db c.args.index c.in_ok-live.live.attributes c.in_ok-live.live.id c.in_ok-live.live.«data».0 c.marked_busy.result c.in_ok-count.ensures.accepted c.in_ok-count.ensures.known c.in_ok-count.ensures.records
     c.in_ok-live.ensures.is (λ none. absurd (omega (arith, none, some)))
 
 pub returns : goal.returns
@@ -29,8 +29,8 @@ returns c =
     let passed = c.in_ok-count.ensures.passes in
     let alive = c.in_ok-live.ensures.passes in
     let is = c.in_ok-live.ensures.is in
-    let leaves = attributes_set c.args.store.now.bytes c.entry_set.new.self.bytes c.args.db c.args.index c.in_ok-live.live.attributes c.in_ok-live.live.id c.in_ok-live.live.«data».0 c.in_use.result (λ (attributes : ℕ). bit_or attributes busy_bit)
-    c.in_ok-count.ensures.accepted c.in_ok-count.ensures.known is c.in_use.ensures c.entry_set.ensures.set in
+    let leaves = attributes_set c.args.store.now.bytes c.entry_set.new.self.bytes c.args.db c.args.index c.in_ok-live.live.attributes c.in_ok-live.live.id c.in_ok-live.live.«data».0 c.marked_busy.result (λ (attributes : ℕ). bit_or attributes busy_bit)
+    c.in_ok-count.ensures.accepted c.in_ok-count.ensures.known is c.marked_busy.ensures c.entry_set.ensures.set in
     let free : OfEntry (entry_under (store_of c.args.store.now.bytes) c.args.db c.args.index) (HasAttributes is_busy) → ⊥ = λ busy.
     (let yes : is_busy c.in_ok-live.live.attributes ≡ true = subst (λ (x : Option (Entry ℕ)). OfEntry x (HasAttributes is_busy)) is busy in
     let no : is_busy c.in_ok-live.live.attributes ≡ false = sym c.is_busy.ensures ∙ c.if-is_busy.false in
