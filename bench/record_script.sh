@@ -5,7 +5,7 @@
 #
 # usage: bench/record_script.sh [RECORDS [TURNS]]
 #
-# The two take turns. C reads no script, and neither reads, checks nor writes an image. The script stops if a
+# The two take turns. C reads no script, and doesn't read, check or write an image. The script stops if a
 # line was refused, or if the two end with different sums over the words of their images. It needs rt, gcc, awk
 # and od. The first run in a clone proves the program.
 set -eu
