@@ -7,9 +7,9 @@ use Rattle.heap_model.specs.Chunk.{free, IsFree}
 use Rattle.heap_model.specs.Slots.{slot_count, table_end, head_end, area_start, start_behind}
 use Rattle.heap_model.specs.Frame.{magic}
 use Rattle.heap_model.specs.Heap.{IsHead, IsHeap, IsBody}
-use Rattle.heap_laws.proofs.Plain.{plain_word}
-use Rattle.heap_laws.proofs.Frames.{SameBetween, SameBetween-within, SameBetween-then, u32_at-same, u16_at-same, length-overwritten, overwritten-below, overwritten-above, u32_at-written, u16_at-written, length-u32_bytes, length-u16_bytes, u32_at-below, u32_at-zeros, u16_at-zeros, slice_index-zeros, u16_at-below}
-use Rattle.heap_laws.proofs.Meanings.{held-is}
+use Rattle.laws_heap.proofs.Plain.{plain_word}
+use Rattle.laws_heap.proofs.Frames.{SameBetween, SameBetween-within, SameBetween-then, u32_at-same, u16_at-same, length-overwritten, overwritten-below, overwritten-above, u32_at-written, u16_at-written, length-u32_bytes, length-u16_bytes, u32_at-below, u32_at-zeros, u16_at-zeros, slice_index-zeros, u16_at-below}
+use Rattle.laws_heap.proofs.Meanings.{held-is}
 use Rattle.chunk_format.specs.Blank.{framed, IsPlanned, IsBlank}
 
 -- zeros, and over them the frame and the first word of a chunk

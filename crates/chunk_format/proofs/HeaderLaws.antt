@@ -3,7 +3,7 @@ use Rattle.std.proofs.Common.{◌≡◌, ℕ, ◌+◌, ◌≤◌, List, length, 
 use Rattle.std.specs.Prelude.{option_map, IfSome, IfNone, slice_range}
 use Rattle.heap_model.specs.Chunk.{Chunk, free, movable, fixed, size_of, Spelled}
 use Rattle.heap_model.specs.Reading.{chunk_at}
-use Rattle.heap_laws.proofs.Shapes.{chunk_at-spelled, chunk_at-none}
+use Rattle.laws_heap.proofs.Shapes.{chunk_at-spelled, chunk_at-none}
 use Rattle.chunk_format.specs.declared.header.Header.{Header}
 use Rattle.chunk_format.specs.declared.header.Header.TheVariants as headers
 use Rattle.chunk_format.specs.Header.{header_of, size_by, chunk_with, HasHeader}

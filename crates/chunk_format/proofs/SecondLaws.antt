@@ -3,7 +3,7 @@ use Rattle.std.proofs.Common.{◌≡◌, ℕ, ◌+◌, ◌*◌, ◌^◌, ◌<◌
 use Rattle.heap_model.specs.Memory.{Memory}
 use Rattle.heap_model.specs.Bytes.{u32_at, u32_bytes, overwritten}
 use Rattle.heap_model.specs.Chunk.{need, IsLive}
-use Rattle.heap_laws.proofs.Frames.{SameBetween, length-u32_bytes, length-overwritten, overwritten-above, slice-same, u32_at-written, u32_at-below}
+use Rattle.laws_heap.proofs.Frames.{SameBetween, length-u32_bytes, length-overwritten, overwritten-above, slice-same, u32_at-written, u32_at-below}
 use Rattle.chunk_format.specs.Header.{with_lock_field, with_owner_field, Relocks, Reowns}
 
 -- a live chunk whose second word says another lock and owner

@@ -3,8 +3,8 @@ use Rattle.std.proofs.Common.{◌≡◌, ℕ, ◌+◌, List, [], ◌∷◌, sym,
 use Rattle.heap_model.specs.Chunk.{Chunk, size_of, Spelled}
 use Rattle.heap_model.specs.Reading.{chunks_from}
 use Rattle.heap_model.specs.declared.names.Place.{Place}
-use Rattle.heap_laws.proofs.Shapes.{chunk_at-spelled, chunk_at-none}
-use Rattle.heap_laws.proofs.Runs.{chunks_from-none, chunks_from-some}
+use Rattle.laws_heap.proofs.Shapes.{chunk_at-spelled, chunk_at-none}
+use Rattle.laws_heap.proofs.Runs.{chunks_from-none, chunks_from-some}
 use Rattle.chunk_format.specs.declared.header.Header.{Header}
 use Rattle.chunk_format.specs.Header.{size_by, HasHeader, headers_of}
 use Rattle.chunk_format.proofs.HeaderLaws.{size_by-header_of}

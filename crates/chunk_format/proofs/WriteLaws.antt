@@ -4,7 +4,7 @@ use Rattle.std.specs.Prelude.{slice_range}
 use Rattle.heap_model.specs.Memory.{Memory}
 use Rattle.heap_model.specs.Bytes.{u32_at, u32_bytes, overwritten}
 use Rattle.heap_model.specs.Chunk.{free, movable, fixed, need, slot_named, IsFree, IsLive}
-use Rattle.heap_laws.proofs.Frames.{length-u32_bytes, length-overwritten, overwritten-behind, u32_at-written, u32_at-below}
+use Rattle.laws_heap.proofs.Frames.{length-u32_bytes, length-overwritten, overwritten-behind, u32_at-written, u32_at-below}
 use Rattle.chunk_format.specs.declared.header.Header.{Header}
 use Rattle.chunk_format.specs.declared.header.Header.TheVariants as headers
 use Rattle.chunk_format.specs.Header.{size_by, HasHeader, IsWritable, live_words, h_offset_to, header_bytes}

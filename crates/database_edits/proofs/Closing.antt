@@ -9,8 +9,8 @@ use Rattle.heap_model.specs.Database.{Database, has_resources, header_bytes, spe
 use Rattle.heap_model.specs.Leaving.{SpellsHere, Leaves, rewritten, database_here}
 use Rattle.heap_model.specs.Store.{bytes_under}
 use Rattle.heap_model.specs.Reading.{held}
-use Rattle.store_laws.proofs.Edits.{spelled_remove}
-use Rattle.store_laws.proofs.Spellings.{length-header_bytes}
+use Rattle.laws_store.proofs.Edits.{spelled_remove}
+use Rattle.laws_store.proofs.Spellings.{length-header_bytes}
 use Rattle.db_format.specs.declared.header.DbHeader.{DbHeader}
 use Rattle.db_format.specs.Headers.{HasHeader}
 use Rattle.database_edits.specs.Managers.{Rebodies}

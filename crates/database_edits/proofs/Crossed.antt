@@ -9,8 +9,8 @@ use Rattle.heap_model.specs.Database.{Entry, a_record, Database, has_resources, 
 use Rattle.heap_model.specs.Leaving.{SpellsHere, Leaves, rewritten, database_here}
 use Rattle.heap_model.specs.Store.{bytes_under}
 use Rattle.heap_model.specs.Reading.{held}
-use Rattle.store_laws.proofs.Moving.{length-moved}
-use Rattle.store_laws.proofs.Spellings.{length-header_bytes, entry_read}
+use Rattle.laws_store.proofs.Moving.{length-moved}
+use Rattle.laws_store.proofs.Spellings.{length-header_bytes, entry_read}
 use Rattle.database_edits.specs.Managers.{Rebodies}
 use Rattle.database_edits.proofs.Chunks.{leaves_as, through, unchanged}
 use Rattle.database_edits.proofs.Databases.{managers}

@@ -11,8 +11,8 @@ use Rattle.heap_model.specs.Bytes.{overwritten}
 use Rattle.heap_model.specs.DatabaseFields.{entry_size}
 use Rattle.heap_model.specs.Database.{Entry, entry_bytes, EntryFits, entry_offset}
 use Rattle.heap_model.specs.Lists.{insertion_index, moved}
-use Rattle.store_laws.proofs.Moving.{insertion_behind, insertion_before, moved_is}
-use Rattle.store_laws.proofs.Spellings.{length-entry_bytes, length-entries}
+use Rattle.laws_store.proofs.Moving.{insertion_behind, insertion_before, moved_is}
+use Rattle.laws_store.proofs.Spellings.{length-entry_bytes, length-entries}
 use Rattle.database_edits.proofs.Pieces.{piece_of, closes, opens}
 
 -- ---- lists

@@ -8,9 +8,9 @@ use Rattle.heap_model.specs.StoreWords.{next_modification}
 use Rattle.heap_model.specs.Leaving.{SpellsHere, Leaves, rewritten, database_here}
 use Rattle.heap_model.specs.Store.{bytes_under}
 use Rattle.heap_model.specs.Reading.{held}
-use Rattle.store_laws.proofs.Edits.{spelled_header}
-use Rattle.store_laws.proofs.Shapes.{spelled_shape}
-use Rattle.store_laws.proofs.Spellings.{length-spelled, resources_read}
+use Rattle.laws_store.proofs.Edits.{spelled_header}
+use Rattle.laws_store.proofs.Shapes.{spelled_shape}
+use Rattle.laws_store.proofs.Spellings.{length-spelled, resources_read}
 use Rattle.db_format.specs.declared.header.DbHeader.{DbHeader}
 use Rattle.db_format.specs.Headers.{HasHeader}
 use Rattle.database_edits.specs.Managers.{IsManagers, Rebodies}

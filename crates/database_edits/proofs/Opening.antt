@@ -10,8 +10,8 @@ use Rattle.heap_model.specs.Space.{ShortFor}
 use Rattle.heap_model.specs.Store.{bytes_under}
 use Rattle.heap_model.specs.Reading.{held}
 use Rattle.heap_model.specs.EntrySteps.{with_entry_at}
-use Rattle.store_laws.proofs.Edits.{spelled_insert}
-use Rattle.store_laws.proofs.Spellings.{length-header_bytes}
+use Rattle.laws_store.proofs.Edits.{spelled_insert}
+use Rattle.laws_store.proofs.Spellings.{length-header_bytes}
 use Rattle.db_format.specs.declared.db_entry.DbEntry.{DbEntry}
 use Rattle.db_format.specs.EitherEntry.{entry_of, is_resource}
 use Rattle.database_edits.specs.Managers.{Rebodies}

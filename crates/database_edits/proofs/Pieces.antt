@@ -4,8 +4,8 @@ use Rattle.std.proofs.Math.Seq.{take-append_seam, drop-append-add}
 use Rattle.std.proofs.lemmas.List.{append-nil, take-append-drop, take_all, drop_at, length-replicate}
 use Rattle.std.specs.Prelude.{slice_range}
 use Rattle.heap_model.specs.Bytes.{overwritten, sized_to}
-use Rattle.store_laws.proofs.Numbers.{take_both}
-use Rattle.store_laws.proofs.Deleting.{closed_up}
+use Rattle.laws_store.proofs.Numbers.{take_both}
+use Rattle.laws_store.proofs.Deleting.{closed_up}
 
 -- a piece is written over another of its length
 pub over_piece : (front piece back new : List ℕ) (at : ℕ) → at ≡ length front → length piece ≡ length new → overwritten (front ++ (piece ++ back)) at new ≡ front ++ (new ++ back)

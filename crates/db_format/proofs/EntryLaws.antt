@@ -4,7 +4,7 @@ use Rattle.std.proofs.lemmas.List.{length-set}
 use Rattle.std.proofs.lemmas.List.Elements.{All-set}
 use Rattle.heap_model.specs.Bytes.{overwritten}
 use Rattle.heap_model.specs.Database.{Entry, Database, entry_bytes, EntryFits, DatabaseFits, entry_offset, has_resources}
-use Rattle.store_laws.proofs.Edits.{spelled_set}
+use Rattle.laws_store.proofs.Edits.{spelled_set}
 use Rattle.db_format.specs.Entries.{with_entry, WritesEntry}
 
 with_fits : (resources : Bool) (database : Database ℕ) (index : ℕ) (entry : Entry ℕ) → DatabaseFits database → has_resources database.header.attributes ≡ resources → EntryFits resources entry → DatabaseFits (with_entry database index entry)

@@ -5,8 +5,8 @@ use Rattle.std.proofs.lemmas.List.FromFn.{length-map-range_with_len}
 use Rattle.std.specs.List.{concat}
 use Rattle.heap_model.specs.Bytes.{u16_at, u32_at, u16_bytes, u32_bytes, overwritten}
 use Rattle.heap_model.specs.Database.{DatabaseHeader, Database, name_field, header_bytes, has_resources, DatabaseFits, HeaderFits, IsDatabaseName, entry_in, entry_count_in, name_in, header_in, database_in}
-use Rattle.store_laws.proofs.Names.{length-name_field}
-use Rattle.store_laws.proofs.Edits.{spelled_header}
+use Rattle.laws_store.proofs.Names.{length-name_field}
+use Rattle.laws_store.proofs.Edits.{spelled_header}
 use Rattle.db_format.specs.declared.header.DbHeader.{DbHeader}
 use Rattle.db_format.specs.Headers.{header_of, HasHeader, with_header, WritesHeader}
 

@@ -6,7 +6,7 @@ use Rattle.std.proofs.lemmas.List.Sums.{take_while-cons}
 use Rattle.std.specs.Prelude.{◌==◌, not}
 use Rattle.std.specs.List.{take_while}
 use Rattle.heap_model.specs.Database.{name_field, IsDatabaseName, name_in}
-use Rattle.store_laws.proofs.Names.{length-name_field, name_read}
+use Rattle.laws_store.proofs.Names.{length-name_field, name_read}
 use Rattle.db_format.specs.Names.{IsNameField}
 
 no_zero : ℕ → Bool

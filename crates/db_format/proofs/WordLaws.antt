@@ -7,7 +7,7 @@ use Rattle.std.specs.List.{concat}
 use Rattle.heap_model.specs.Bytes.{AreBytes, u16_at, u24_at, u32_at, u16_bytes, u24_bytes, u32_bytes}
 use Rattle.byteorder.specs.Endian.{big_number, big_from, big_bytes}
 use Rattle.byteorder.specs.Numbers.{big_from-take, big_from-lt, length-bytes_high_first}
-use Rattle.store_laws.proofs.Numbers.{big_from-drop}
+use Rattle.laws_store.proofs.Numbers.{big_from-drop}
 
 -- the number that the first n bytes of that part spell
 number_of_part : (n at : ℕ) (bytes : List ℕ) → big_number n (take (at + n - at) (drop at bytes)) ≡ big_from at n bytes

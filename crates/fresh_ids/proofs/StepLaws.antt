@@ -10,9 +10,9 @@ use Rattle.heap_model.specs.Lists.{times, numbered}
 use Rattle.heap_model.specs.Database.{Entry, a_record, a_resource, IsSpelled, header_in, entry_in, entry_count_in, database_in}
 use Rattle.heap_model.specs.Store.{unique_id, unique_ids}
 use Rattle.heap_model.specs.UniqueIds.{id_behind, IsFresh, seed_in}
-use Rattle.store_laws.proofs.Fresh.{id_behind_is, id_behind_fits, fresh_exists}
-use Rattle.store_laws.proofs.RecordIds.{ids_upto, ids_index, index_ids}
-use Rattle.store_laws.proofs.Shapes.{spelled_shape}
+use Rattle.laws_store.proofs.Fresh.{id_behind_is, id_behind_fits, fresh_exists}
+use Rattle.laws_store.proofs.RecordIds.{ids_upto, ids_index, index_ids}
+use Rattle.laws_store.proofs.Shapes.{spelled_shape}
 use Rattle.db_format.specs.Headers.{IsWhole}
 use Rattle.bit_sets.specs.Sets.{HasNumber, AddsNumber, IsFirstMissing, HasNone}
 use Rattle.fresh_ids.specs.Steps.{IsTakenBefore, HasTaken, IsFree, IsFirstFree}

@@ -22,7 +22,7 @@ const MANY: usize = 8192;
 
 /// How many IDs stand between a seed and an ID behind it, where 1 follows the greatest.
 #[inline]
-#[tactic(auto, using(store_laws::proofs::Fresh::id_behind_is))]
+#[tactic(auto, using(laws_store::proofs::Fresh::id_behind_is))]
 fn steps_to(seed: u32, id: u32) -> u32
     requires seed { seed ≤ greatest_id }
     requires some { 0 < id }
@@ -38,7 +38,7 @@ fn steps_to(seed: u32, id: u32) -> u32
 }
 
 /// The ID behind a seed with so many others between them.
-#[tactic(auto, using(store_laws::proofs::Fresh::id_behind_is))]
+#[tactic(auto, using(laws_store::proofs::Fresh::id_behind_is))]
 fn id_behind(seed: u32, steps: u32) -> u32
     requires seed { seed ≤ greatest_id }
     requires steps { steps < greatest_id }

@@ -7,10 +7,10 @@ use Rattle.heap_model.specs.Heap.{IsHead, Tiles, IsCallersIfFixed, HasDirectory,
 use Rattle.heap_model.specs.Placed.{EveryPlaced, FirstWithout, EveryOne, FirstOne}
 use Rattle.heap_model.specs.Pairing.{HoldsBody, NamesItsSlot}
 use Rattle.heap_model.specs.Reading.{chunks_of}
-use Rattle.heap_laws.proofs.Placed.{FirstWithout-not, FirstOne-not}
-use Rattle.heap_laws.proofs.Runs.{stuck_run}
-use Rattle.heap_laws.proofs.Bodies.{tied_halves, halves_tied}
-use Rattle.heap_laws.proofs.Accepted.{heap_of_read}
+use Rattle.laws_heap.proofs.Placed.{FirstWithout-not, FirstOne-not}
+use Rattle.laws_heap.proofs.Runs.{stuck_run}
+use Rattle.laws_heap.proofs.Bodies.{tied_halves, halves_tied}
+use Rattle.laws_heap.proofs.Accepted.{heap_of_read}
 use Rattle.heap_check.specs.declared.fault.HeapFault.{HeapFault}
 use Rattle.heap_check.specs.declared.fault.HeapFault.TheVariants.{BadChunk, SlotMismatch, ChunkWithoutSlot, BadFixedOwner, BadDirectory}
 use Rattle.heap_check.specs.declared.survey.Survey.{Survey}

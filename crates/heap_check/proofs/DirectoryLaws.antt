@@ -8,10 +8,10 @@ use Rattle.heap_model.specs.Heap.{BodyHere, ManagersHere, directory_of, HasDirec
 use Rattle.heap_model.specs.Placed.{AnyPlaced}
 use Rattle.heap_model.specs.Pairing.{HoldsBody, NamesItsSlot}
 use Rattle.heap_model.specs.Reading.{chunk_at, chunks_of}
-use Rattle.heap_laws.proofs.Chunks.{SpelledAll-split}
-use Rattle.heap_laws.proofs.Shapes.{chunk_at-spelled}
-use Rattle.heap_laws.proofs.Slots.{each_slot}
-use Rattle.heap_laws.proofs.Placed.{PlacedParts, AnyPlaced-parts, AnyPlaced-mid, every_any}
+use Rattle.laws_heap.proofs.Chunks.{SpelledAll-split}
+use Rattle.laws_heap.proofs.Shapes.{chunk_at-spelled}
+use Rattle.laws_heap.proofs.Slots.{each_slot}
+use Rattle.laws_heap.proofs.Placed.{PlacedParts, AnyPlaced-parts, AnyPlaced-mid, every_any}
 use Rattle.heap_check.specs.Survey.{IsPaired, ManagersAt}
 
 -- the chunk of which something holds is the one that is read where it stands

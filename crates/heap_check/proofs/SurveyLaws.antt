@@ -10,10 +10,10 @@ use Rattle.heap_model.specs.Slots.{area_start}
 use Rattle.heap_model.specs.Heap.{BodyHere, IsCallersIfFixed}
 use Rattle.heap_model.specs.Pairing.{NamesItsSlot}
 use Rattle.heap_model.specs.Reading.{chunks_of, names_its_slot, is_callers_if_fixed}
-use Rattle.heap_laws.proofs.Chunks.{Spelled-size, SpelledAll-end, SpelledAll-push}
-use Rattle.heap_laws.proofs.Runs.{chunks_from-tiled}
-use Rattle.heap_laws.proofs.Accepted.{Decides-names, Decides-callers}
-use Rattle.heap_laws.proofs.Placed.{AnyPlaced-left, AnyPlaced-right, AnyPlaced-split, EveryPlaced-push, FirstWithout-first, FirstWithout-kept}
+use Rattle.laws_heap.proofs.Chunks.{Spelled-size, SpelledAll-end, SpelledAll-push}
+use Rattle.laws_heap.proofs.Runs.{chunks_from-tiled}
+use Rattle.laws_heap.proofs.Accepted.{Decides-names, Decides-callers}
+use Rattle.laws_heap.proofs.Placed.{AnyPlaced-left, AnyPlaced-right, AnyPlaced-split, EveryPlaced-push, FirstWithout-first, FirstWithout-kept}
 use Rattle.chunk_format.specs.declared.header.Header.{Header}
 use Rattle.chunk_format.specs.Header.{header_of, size_by, HasHeader}
 use Rattle.chunk_format.proofs.HeaderLaws.{size_by-header_of}

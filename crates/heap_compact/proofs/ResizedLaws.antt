@@ -13,13 +13,13 @@ use Rattle.heap_model.specs.Space.{ShortFor, Short, FitsInPlace, MovesAlone, Mov
 use Rattle.heap_model.specs.Layout.{IsRoom}
 use Rattle.heap_model.specs.Packing.{SlidesOneStretch, OpensBehind}
 use Rattle.heap_model.specs.Resizing.{with_length, GrowsInPlace, Relocates}
-use Rattle.heap_laws.proofs.Becoming.{frame_then}
-use Rattle.heap_laws.proofs.Exchanging.{ChangesName}
-use Rattle.heap_laws.proofs.Resizings.{live_sized, grow_changes, finds_behind, opened_behind}
-use Rattle.heap_laws.proofs.Relocating.{relocate_changes}
-use Rattle.heap_laws.proofs.Compacting.{slides_alike, slides_move_one, opens_one}
-use Rattle.heap_laws.proofs.Stretches.{short_for_parts, room_of-middle}
-use Rattle.heap_laws.proofs.Updating.{held_updated}
+use Rattle.laws_heap.proofs.Becoming.{frame_then}
+use Rattle.laws_heap.proofs.Exchanging.{ChangesName}
+use Rattle.laws_heap.proofs.Resizings.{live_sized, grow_changes, finds_behind, opened_behind}
+use Rattle.laws_heap.proofs.Relocating.{relocate_changes}
+use Rattle.laws_heap.proofs.Compacting.{slides_alike, slides_move_one, opens_one}
+use Rattle.laws_heap.proofs.Stretches.{short_for_parts, room_of-middle}
+use Rattle.laws_heap.proofs.Updating.{held_updated}
 use Rattle.heap_place.proofs.FoundLaws.{name_held, found_inside, middle_of, heap_in_parts, one_held, when_movable}
 use Rattle.heap_place.proofs.WalkLaws.{free_within}
 use Rattle.heap_place.specs.declared.found.Found.{Found}

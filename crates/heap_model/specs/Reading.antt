@@ -1,7 +1,7 @@
 -- The chunks and the map of an image, and whether it is accepted, by functions that read them off
 -- it. They answer for every list of bytes, and what they answer means something where the image is
 -- accepted. Contracts are written with these functions; the relations of `Chunk`, `Heap` and
--- `Meaning` say what they are to be, and `heap_laws` proves that the two agree.
+-- `Meaning` say what they are to be, and `laws_heap` proves that the two agree.
 use Rattle.std.specs.Prelude.{◌+◌, ◌-◌, ◌/◌, ◌%◌, ◌^◌, ◌==◌, ◌&&◌, ◌||◌, ◌++◌, not, nat_le, nat_lt, if◌then◌else◌, ℕ, zero, suc, Bool, true, false, List, [], ◌∷◌, length, slice_range, Option, Some, None}
 use Rattle.std.specs.List.{list_all}
 use Rattle.heap_model.specs.Bytes.{u16_at, u32_at}

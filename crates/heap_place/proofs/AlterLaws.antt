@@ -9,12 +9,12 @@ use Rattle.heap_model.specs.Heap.{HeapAccepted}
 use Rattle.heap_model.specs.Meaning.{LiveChunk}
 use Rattle.heap_model.specs.Placing.{Finds}
 use Rattle.heap_model.specs.Layout.{Becomes, Alters, with_lock, with_owner, with_bytes, WritesPlain}
-use Rattle.heap_laws.proofs.Frames.{overwritten-behind}
-use Rattle.heap_laws.proofs.Writing.{WroteWithin, wrote_word, wrote_wider}
-use Rattle.heap_laws.proofs.Finding.{finds_spelled}
-use Rattle.heap_laws.proofs.Exchanging.{exchanges_parts}
-use Rattle.heap_laws.proofs.Changing.{named_live_chunk}
-use Rattle.heap_laws.proofs.Altering.{body_written, movable_relabelled, fixed_relabelled}
+use Rattle.laws_heap.proofs.Frames.{overwritten-behind}
+use Rattle.laws_heap.proofs.Writing.{WroteWithin, wrote_word, wrote_wider}
+use Rattle.laws_heap.proofs.Finding.{finds_spelled}
+use Rattle.laws_heap.proofs.Exchanging.{exchanges_parts}
+use Rattle.laws_heap.proofs.Changing.{named_live_chunk}
+use Rattle.laws_heap.proofs.Altering.{body_written, movable_relabelled, fixed_relabelled}
 use Rattle.chunk_format.specs.Header.{Relocks, Reowns}
 use Rattle.heap_place.specs.declared.found.Found.{Found}
 use Rattle.heap_place.specs.Found.{IsOne, CanGoTo, SlidesWithin}

@@ -1,8 +1,8 @@
 -- Chunks whose bytes are carried up.
 use Rattle.std.proofs.Common.{◌≡◌, ℕ, ◌+◌, ◌≤◌, List, [], ◌∷◌, length, refl, ap, subst, arith}
 use Rattle.heap_model.specs.Chunk.{Chunk, free, movable, fixed, size_of, total, slot_named, Spelled, SpelledAll}
-use Rattle.heap_laws.proofs.Carrying.{Carries, Carries-within, IsFree-carried, IsLive-carried}
-use Rattle.heap_laws.proofs.Chunks.{SpelledAll-end}
+use Rattle.laws_heap.proofs.Carrying.{Carries, Carries-within, IsFree-carried, IsLive-carried}
+use Rattle.laws_heap.proofs.Chunks.{SpelledAll-end}
 use Rattle.heap_place.specs.Lifting.{carried, all_carried}
 
 pub carried_size : (by : ℕ) (c : Chunk) → size_of (carried by c) ≡ size_of c

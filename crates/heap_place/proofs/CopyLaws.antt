@@ -5,14 +5,14 @@ use Rattle.heap_model.specs.Bytes.{u32_at, u32_bytes, overwritten}
 use Rattle.heap_model.specs.Chunk.{Chunk, free, total, IsFree, SpelledAll}
 use Rattle.heap_model.specs.Slots.{table_end, area_start}
 use Rattle.heap_model.specs.Heap.{IsHeap, HeapAccepted}
-use Rattle.heap_laws.proofs.Frames.{SameBetween, SameBetween-within, u32_at-same, u32_at-written}
-use Rattle.heap_laws.proofs.Chunks.{total-append, SpelledAll-split}
-use Rattle.heap_laws.proofs.Replacing.{same_count, same_directory, replaced_tiles}
-use Rattle.heap_laws.proofs.Writing.{WroteWithin, wrote_part, wrote_word, wrote_wider, WroteArea, area_replaces, area_slots}
+use Rattle.laws_heap.proofs.Frames.{SameBetween, SameBetween-within, u32_at-same, u32_at-written}
+use Rattle.laws_heap.proofs.Chunks.{total-append, SpelledAll-split}
+use Rattle.laws_heap.proofs.Replacing.{same_count, same_directory, replaced_tiles}
+use Rattle.laws_heap.proofs.Writing.{WroteWithin, wrote_part, wrote_word, wrote_wider, WroteArea, area_replaces, area_slots}
 use Rattle.chunk_format.specs.Header.{HasHeader}
 use Rattle.chunk_format.specs.declared.header.Header.TheVariants as headers
 use Rattle.heap_place.specs.Lifting.{all_carried, Lifting, FreeBehind, HasFreeBehind}
-use Rattle.heap_laws.proofs.Carrying.{Carries, Carries-then, slid_up}
+use Rattle.laws_heap.proofs.Carrying.{Carries, Carries-then, slid_up}
 use Rattle.heap_place.proofs.FoundLaws.{heap_in_parts, Middle, middle_of}
 use Rattle.heap_place.proofs.CutLaws.{has_free}
 use Rattle.heap_place.proofs.CarriedLaws.{SpelledAll-carried}

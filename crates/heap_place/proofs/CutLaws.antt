@@ -9,17 +9,17 @@ use Rattle.heap_model.specs.Heap.{HeapAccepted}
 use Rattle.heap_model.specs.Reading.{chunks_of}
 use Rattle.heap_model.specs.Placed.{AnyPlaced}
 use Rattle.heap_model.specs.Layout.{merged, Becomes, Exchanges, gap, in_front, IsRoom, IsPlain, IsFreeAt, WritesPlain}
-use Rattle.heap_laws.proofs.Frames.{u32_at-written, slice-same, slice-overwritten, length-u32_bytes}
-use Rattle.heap_laws.proofs.Chunks.{Spelled-same}
-use Rattle.heap_laws.proofs.Runs.{chunks_of-tiled}
-use Rattle.heap_laws.proofs.Replacing.{SameHead, same_count, slot_there, Replaces, replaced_total, same_start, SameSlots}
-use Rattle.heap_laws.proofs.Writing.{WroteWithin, wrote_none, wrote_part, wrote_word, wrote_wider, wrote_then, wrote_apart, wrote_word_apart, WroteArea, area_replaces, area_slots}
-use Rattle.heap_laws.proofs.Freeing.{free_replaced, OtherSlots, claimed}
-use Rattle.heap_laws.proofs.Layouts.{merged-left, merged-right, runs-merged}
-use Rattle.heap_laws.proofs.Becoming.{becomes_heap, becomes_alike}
-use Rattle.heap_laws.proofs.Exchanging.{gap_free, claims_parts}
-use Rattle.heap_laws.proofs.Plain.{free_plain, lives_plain, replaced_plain}
-use Rattle.heap_laws.proofs.Altering.{overwritten_body, claimed_fixed}
+use Rattle.laws_heap.proofs.Frames.{u32_at-written, slice-same, slice-overwritten, length-u32_bytes}
+use Rattle.laws_heap.proofs.Chunks.{Spelled-same}
+use Rattle.laws_heap.proofs.Runs.{chunks_of-tiled}
+use Rattle.laws_heap.proofs.Replacing.{SameHead, same_count, slot_there, Replaces, replaced_total, same_start, SameSlots}
+use Rattle.laws_heap.proofs.Writing.{WroteWithin, wrote_none, wrote_part, wrote_word, wrote_wider, wrote_then, wrote_apart, wrote_word_apart, WroteArea, area_replaces, area_slots}
+use Rattle.laws_heap.proofs.Freeing.{free_replaced, OtherSlots, claimed}
+use Rattle.laws_heap.proofs.Layouts.{merged-left, merged-right, runs-merged}
+use Rattle.laws_heap.proofs.Becoming.{becomes_heap, becomes_alike}
+use Rattle.laws_heap.proofs.Exchanging.{gap_free, claims_parts}
+use Rattle.laws_heap.proofs.Plain.{free_plain, lives_plain, replaced_plain}
+use Rattle.laws_heap.proofs.Altering.{overwritten_body, claimed_fixed}
 use Rattle.chunk_format.specs.declared.header.Header.TheVariants as headers
 use Rattle.chunk_format.specs.Header.{header_of, HasHeader, header_bytes, live_words, h_offset_to}
 use Rattle.heap_place.specs.Search.{IsCut, WroteRest}

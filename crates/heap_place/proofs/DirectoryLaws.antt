@@ -7,9 +7,9 @@ use Rattle.heap_model.specs.Layout.{IsRoom}
 use Rattle.heap_model.specs.Resizing.{with_length, Relocates}
 use Rattle.heap_model.specs.Store.{managers_owner, owner_of, owner_under}
 use Rattle.heap_model.specs.Leaving.{NamesDirectory}
-use Rattle.heap_laws.proofs.Meanings.{held-zero}
-use Rattle.heap_laws.proofs.Directory.{named_finds, directory_owned}
-use Rattle.heap_laws.proofs.Relocating.{relocate_changes}
+use Rattle.laws_heap.proofs.Meanings.{held-zero}
+use Rattle.laws_heap.proofs.Directory.{named_finds, directory_owned}
+use Rattle.laws_heap.proofs.Relocating.{relocate_changes}
 use Rattle.heap_place.specs.declared.found.Found.{Found}
 use Rattle.heap_place.specs.Found.{IsOne}
 use Rattle.heap_place.specs.Relocation.{RelocatesFound}

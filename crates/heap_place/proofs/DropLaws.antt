@@ -8,21 +8,21 @@ use Rattle.heap_model.specs.Slots.{IsSlot, table_end, area_start}
 use Rattle.heap_model.specs.Heap.{BodyHere, IsBody, IsHeap, HeapAccepted}
 use Rattle.heap_model.specs.Reading.{chunks_of}
 use Rattle.heap_model.specs.Layout.{gap}
-use Rattle.heap_laws.proofs.Frames.{slice-same, u32_at-written}
-use Rattle.heap_laws.proofs.Chunks.{total-append, Spelled-same, SpelledAll-split}
-use Rattle.heap_laws.proofs.Bodies.{IsBody-low, IsBody-high}
-use Rattle.heap_laws.proofs.Placed.{AnyPlaced-mid, AnyPlaced-split, AnyPlaced-left, AnyPlaced-right}
-use Rattle.heap_laws.proofs.Replacing.{replaced_heap, SameSlots, kept_directory}
-use Rattle.heap_laws.proofs.Writing.{WroteWithin, wrote_part, wrote_word, wrote_wider, wrote_then, wrote_none, wrote_apart, wrote_word_apart, WroteArea, area_replaces, area_slots}
-use Rattle.heap_laws.proofs.Runs.{chunks_of-tiled}
-use Rattle.heap_laws.proofs.Plain.{free_plain, replaced_plain}
-use Rattle.heap_laws.proofs.Freeing.{free_replaced}
+use Rattle.laws_heap.proofs.Frames.{slice-same, u32_at-written}
+use Rattle.laws_heap.proofs.Chunks.{total-append, Spelled-same, SpelledAll-split}
+use Rattle.laws_heap.proofs.Bodies.{IsBody-low, IsBody-high}
+use Rattle.laws_heap.proofs.Placed.{AnyPlaced-mid, AnyPlaced-split, AnyPlaced-left, AnyPlaced-right}
+use Rattle.laws_heap.proofs.Replacing.{replaced_heap, SameSlots, kept_directory}
+use Rattle.laws_heap.proofs.Writing.{WroteWithin, wrote_part, wrote_word, wrote_wider, wrote_then, wrote_none, wrote_apart, wrote_word_apart, WroteArea, area_replaces, area_slots}
+use Rattle.laws_heap.proofs.Runs.{chunks_of-tiled}
+use Rattle.laws_heap.proofs.Plain.{free_plain, replaced_plain}
+use Rattle.laws_heap.proofs.Freeing.{free_replaced}
 use Rattle.chunk_format.specs.Header.{HasHeader, live_words, h_offset_to}
 use Rattle.chunk_format.specs.declared.header.Header.TheVariants as headers
-use Rattle.heap_laws.proofs.Carrying.{Carries, slice-carried, slid_down}
+use Rattle.laws_heap.proofs.Carrying.{Carries, slice-carried, slid_down}
 use Rattle.heap_place.specs.Packs.{BecomesExactly, Droppable}
 use Rattle.heap_place.proofs.FoundLaws.{heap_in_parts, Middle, middle_of}
-use Rattle.heap_laws.proofs.Exchanging.{gap_free, gap_total}
+use Rattle.laws_heap.proofs.Exchanging.{gap_free, gap_total}
 use Rattle.heap_place.proofs.RoomLaws.{free_push}
 use Rattle.heap_place.proofs.CutLaws.{has_free, header_movable, wrote_words}
 use Rattle.heap_place.proofs.ExactLaws.{exactly_heap}

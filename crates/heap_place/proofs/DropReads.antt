@@ -4,8 +4,8 @@ use Rattle.heap_model.specs.Bytes.{u32_bytes, overwritten}
 use Rattle.heap_model.specs.Chunk.{Chunk, free, movable, need}
 use Rattle.heap_model.specs.Slots.{IsSlot, table_end}
 use Rattle.heap_model.specs.Heap.{HeapAccepted}
-use Rattle.heap_laws.proofs.Replacing.{same_count, slot_there}
-use Rattle.heap_laws.proofs.Writing.{WroteWithin, wrote_part, wrote_word, wrote_wider, wrote_then}
+use Rattle.laws_heap.proofs.Replacing.{same_count, slot_there}
+use Rattle.laws_heap.proofs.Writing.{WroteWithin, wrote_part, wrote_word, wrote_wider, wrote_then}
 use Rattle.chunk_format.specs.Header.{size_by, HasHeader, IsWritable, live_words, h_offset_to, header_bytes}
 use Rattle.chunk_format.specs.declared.header.Header.{Header}
 use Rattle.chunk_format.specs.declared.header.Header.TheVariants as headers

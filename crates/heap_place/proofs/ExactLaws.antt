@@ -5,10 +5,10 @@ use Rattle.heap_model.specs.Slots.{area_start}
 use Rattle.heap_model.specs.Heap.{IsHeap, HeapAccepted}
 use Rattle.heap_model.specs.Reading.{chunks_of}
 use Rattle.heap_model.specs.Layout.{merged, Becomes, WritesPlain}
-use Rattle.heap_laws.proofs.Runs.{chunks_of-tiled}
-use Rattle.heap_laws.proofs.Replacing.{SameHead}
-use Rattle.heap_laws.proofs.Becoming.{frame_of, same_frame, frame_then, becomes_start}
-use Rattle.heap_laws.proofs.Plain.{plain_same, plain_then}
+use Rattle.laws_heap.proofs.Runs.{chunks_of-tiled}
+use Rattle.laws_heap.proofs.Replacing.{SameHead}
+use Rattle.laws_heap.proofs.Becoming.{frame_of, same_frame, frame_then, becomes_start}
+use Rattle.laws_heap.proofs.Plain.{plain_same, plain_then}
 use Rattle.heap_place.specs.Packs.{BecomesExactly}
 
 pub exactly_heap : (old new : List ℕ) (cs : List Chunk) → SameHead old new → IsHeap new cs → WritesPlain old new → BecomesExactly old new cs

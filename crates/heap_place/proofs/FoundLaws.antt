@@ -6,10 +6,10 @@ use Rattle.heap_model.specs.Heap.{BodyHere, IsHeap, HeapAccepted}
 use Rattle.heap_model.specs.Meaning.{LiveChunk, NamedHere}
 use Rattle.heap_model.specs.Reading.{chunks_of, held}
 use Rattle.heap_model.specs.Placing.{Finds}
-use Rattle.heap_laws.proofs.Chunks.{Spelled-size, SpelledAll-split, SpelledAll-end}
-use Rattle.heap_laws.proofs.Placed.{AnyPlaced-mid}
-use Rattle.heap_laws.proofs.Accepted.{heap_of_read}
-use Rattle.heap_laws.proofs.Finding.{finds_held, finds_spelled}
+use Rattle.laws_heap.proofs.Chunks.{Spelled-size, SpelledAll-split, SpelledAll-end}
+use Rattle.laws_heap.proofs.Placed.{AnyPlaced-mid}
+use Rattle.laws_heap.proofs.Accepted.{heap_of_read}
+use Rattle.laws_heap.proofs.Finding.{finds_held, finds_spelled}
 use Rattle.heap_place.specs.declared.found.Found.{Found}
 use Rattle.heap_place.specs.Found.{IsFound, IsOne}
 

@@ -7,7 +7,7 @@ use Rattle.heap_model.specs.Slots.{area_start}
 use Rattle.heap_model.specs.Heap.{HeapAccepted}
 use Rattle.heap_model.specs.Reading.{chunks_of}
 use Rattle.heap_model.specs.Space.{onto_first, runs_between, has_chunk, stretches, room_of, rooms_of, rooms, greatest}
-use Rattle.heap_laws.proofs.Chunks.{total-append}
+use Rattle.laws_heap.proofs.Chunks.{total-append}
 use Rattle.chunk_format.specs.declared.header.Header.{Header}
 use Rattle.chunk_format.specs.Header.{header_of, size_by, HasHeader}
 use Rattle.heap_place.specs.Search.{Passed, free_by}

@@ -10,11 +10,11 @@ use Rattle.heap_model.specs.Placed.{EveryPlaced, AnyPlaced}
 use Rattle.heap_model.specs.Reading.{chunks_of}
 use Rattle.heap_model.specs.Layout.{merged, Becomes, WritesPlain}
 use Rattle.heap_model.specs.Packing.{lives}
-use Rattle.heap_laws.proofs.Bodies.{IsBody-low, IsBody-high}
-use Rattle.heap_laws.proofs.Placed.{EveryPlaced-append, EveryPlaced-split, AnyPlaced-left, AnyPlaced-right, AnyPlaced-split}
-use Rattle.heap_laws.proofs.Chunks.{total-append}
-use Rattle.heap_laws.proofs.Plain.{free_plain, lives_plain, middle_plain}
-use Rattle.heap_laws.proofs.Runs.{chunks_of-tiled}
+use Rattle.laws_heap.proofs.Bodies.{IsBody-low, IsBody-high}
+use Rattle.laws_heap.proofs.Placed.{EveryPlaced-append, EveryPlaced-split, AnyPlaced-left, AnyPlaced-right, AnyPlaced-split}
+use Rattle.laws_heap.proofs.Chunks.{total-append}
+use Rattle.laws_heap.proofs.Plain.{free_plain, lives_plain, middle_plain}
+use Rattle.laws_heap.proofs.Runs.{chunks_of-tiled}
 use Rattle.heap_place.specs.Lifting.{Lifting}
 
 -- ---- what does not depend on where a chunk stands

@@ -14,12 +14,12 @@ use Rattle.heap_model.specs.Space.{place_of}
 use Rattle.heap_model.specs.Placing.{Finds, NotFixedAs}
 use Rattle.heap_model.specs.declared.names.Name.{Name}
 use Rattle.heap_model.specs.declared.names.Place.{Place}
-use Rattle.heap_laws.proofs.Deciding.{cond-true, cond-false}
-use Rattle.heap_laws.proofs.Placed.{EveryPlaced-push, EveryPlaced-split, AnyPlaced-mid}
-use Rattle.heap_laws.proofs.Finding.{finds_spelled, InSlot, in_slot, finds_read, held_finds, none_held, read_heap}
-use Rattle.heap_laws.proofs.Shapes.{chunk_at-spelled}
-use Rattle.heap_laws.proofs.Lives.{live_placed}
-use Rattle.heap_laws.proofs.Altering.{finds_place}
+use Rattle.laws_heap.proofs.Deciding.{cond-true, cond-false}
+use Rattle.laws_heap.proofs.Placed.{EveryPlaced-push, EveryPlaced-split, AnyPlaced-mid}
+use Rattle.laws_heap.proofs.Finding.{finds_spelled, InSlot, in_slot, finds_read, held_finds, none_held, read_heap}
+use Rattle.laws_heap.proofs.Shapes.{chunk_at-spelled}
+use Rattle.laws_heap.proofs.Lives.{live_placed}
+use Rattle.laws_heap.proofs.Altering.{finds_place}
 use Rattle.master_table.specs.Table.{HoldsPlace, HoldsNothing}
 use Rattle.chunk_format.specs.declared.header.Header.{Header}
 use Rattle.chunk_format.specs.declared.header.Header.TheVariants as headers

@@ -5,17 +5,17 @@ use Rattle.heap_model.specs.Bytes.{u32_at, u32_bytes, overwritten}
 use Rattle.heap_model.specs.Chunk.{Chunk, free, movable, fixed, need, size_of, total, Spelled, SpelledAll}
 use Rattle.heap_model.specs.Slots.{IsSlot, slot_count, table_end, area_start}
 use Rattle.heap_model.specs.Heap.{Tiles, BodyHere, IsBody, IsHeap}
-use Rattle.heap_laws.proofs.Frames.{u32_at-same, u32_at-written}
-use Rattle.heap_laws.proofs.Chunks.{total-append, Spelled-size, Spelled-same, Spelled-unique, SpelledAll-split}
-use Rattle.heap_laws.proofs.Bodies.{IsBody-low, IsBody-high}
-use Rattle.heap_laws.proofs.Placed.{AnyPlaced-mid, AnyPlaced-split}
-use Rattle.heap_laws.proofs.Replacing.{same_count, same_directory, slot_there, Replaces, replaced_tiles}
-use Rattle.heap_laws.proofs.Writing.{WroteWithin, wrote_word, wrote_wider, wrote_apart, WroteArea, area_replaces, area_slots}
+use Rattle.laws_heap.proofs.Frames.{u32_at-same, u32_at-written}
+use Rattle.laws_heap.proofs.Chunks.{total-append, Spelled-size, Spelled-same, Spelled-unique, SpelledAll-split}
+use Rattle.laws_heap.proofs.Bodies.{IsBody-low, IsBody-high}
+use Rattle.laws_heap.proofs.Placed.{AnyPlaced-mid, AnyPlaced-split}
+use Rattle.laws_heap.proofs.Replacing.{same_count, same_directory, slot_there, Replaces, replaced_tiles}
+use Rattle.laws_heap.proofs.Writing.{WroteWithin, wrote_word, wrote_wider, wrote_apart, WroteArea, area_replaces, area_slots}
 use Rattle.chunk_format.specs.Header.{header_of, size_by, HasHeader, IsWritable, live_words, h_offset_to}
 use Rattle.chunk_format.specs.declared.header.Header.{Header}
 use Rattle.chunk_format.specs.declared.header.Header.TheVariants as headers
 use Rattle.heap_place.specs.Lifting.{carried, all_carried, Lifting}
-use Rattle.heap_laws.proofs.Altering.{body_stays}
+use Rattle.laws_heap.proofs.Altering.{body_stays}
 use Rattle.heap_place.proofs.FoundLaws.{total_whole}
 use Rattle.heap_place.proofs.CutLaws.{header_movable, wrote_words, wrote_head}
 

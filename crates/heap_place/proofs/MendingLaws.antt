@@ -2,7 +2,7 @@
 use Rattle.std.proofs.Common.{◌≡◌, ℕ, ◌+◌, ◌<◌, ◌≤◌, List, [], ◌∷◌, ◌++◌, refl, sym, subst, ◌∙◌, append_assoc, arith}
 use Rattle.std.proofs.lemmas.List.{append-nil}
 use Rattle.heap_model.specs.Chunk.{Chunk, size_of, total}
-use Rattle.heap_laws.proofs.Chunks.{total-append, Spelled-size}
+use Rattle.laws_heap.proofs.Chunks.{total-append, Spelled-size}
 use Rattle.heap_place.specs.Lifting.{carried, Lifting, IsCarried, MendsOne, AreCarried, MendsAll, Walked, Walks}
 use Rattle.heap_place.proofs.CarriedLaws.{carried_size}
 use Rattle.heap_place.proofs.MendLaws.{next_of}

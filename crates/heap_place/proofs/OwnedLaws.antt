@@ -12,16 +12,16 @@ use Rattle.heap_model.specs.Reading.{chunks_of}
 use Rattle.heap_model.specs.Space.{AllFree}
 use Rattle.heap_model.specs.Placing.{Finds}
 use Rattle.heap_model.specs.Layout.{merged, layout_of, Becomes, Alters, FreeUpTo, freed, owned_freed, WritesPlain}
-use Rattle.heap_laws.proofs.Deciding.{cond-true, cond-false, true_or_false}
-use Rattle.heap_laws.proofs.Chunks.{total-append, SpelledAll-split, SpelledAll-end}
-use Rattle.heap_laws.proofs.Plain.{plain_same, plain_then}
-use Rattle.heap_laws.proofs.Placed.{TakesBytes, SpelledAll-takes, AnyPlaced-left, AnyPlaced-split, EveryPlaced-split}
-use Rattle.heap_laws.proofs.Finding.{read_heap, finds_held}
-use Rattle.heap_laws.proofs.Layouts.{any-merged}
-use Rattle.heap_laws.proofs.Becoming.{same_frame, frame_then, becomes_start}
-use Rattle.heap_laws.proofs.Exchanging.{exchanges_parts}
-use Rattle.heap_laws.proofs.Changing.{named_live_chunk}
-use Rattle.heap_laws.proofs.Owning.{owned, counted_one, owned-merged, freed_if, owned_freed-append, owned_freed-merged, owned_freed-layout, owned_freed-none, not_directory}
+use Rattle.laws_heap.proofs.Deciding.{cond-true, cond-false, true_or_false}
+use Rattle.laws_heap.proofs.Chunks.{total-append, SpelledAll-split, SpelledAll-end}
+use Rattle.laws_heap.proofs.Plain.{plain_same, plain_then}
+use Rattle.laws_heap.proofs.Placed.{TakesBytes, SpelledAll-takes, AnyPlaced-left, AnyPlaced-split, EveryPlaced-split}
+use Rattle.laws_heap.proofs.Finding.{read_heap, finds_held}
+use Rattle.laws_heap.proofs.Layouts.{any-merged}
+use Rattle.laws_heap.proofs.Becoming.{same_frame, frame_then, becomes_start}
+use Rattle.laws_heap.proofs.Exchanging.{exchanges_parts}
+use Rattle.laws_heap.proofs.Changing.{named_live_chunk}
+use Rattle.laws_heap.proofs.Owning.{owned, counted_one, owned-merged, freed_if, owned_freed-append, owned_freed-merged, owned_freed-layout, owned_freed-none, not_directory}
 use Rattle.chunk_format.specs.declared.header.Header.{Header}
 use Rattle.chunk_format.specs.declared.header.Header.TheVariants as headers
 use Rattle.chunk_format.specs.Header.{header_of, size_by, HasHeader}

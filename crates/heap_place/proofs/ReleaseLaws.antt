@@ -9,18 +9,18 @@ use Rattle.heap_model.specs.Reading.{chunks_of}
 use Rattle.heap_model.specs.Space.{AllFree}
 use Rattle.heap_model.specs.Layout.{merged, Alters, FreeUpTo, freed, WritesPlain}
 use Rattle.heap_model.specs.Placing.{Finds}
-use Rattle.heap_laws.proofs.Frames.{u32_at-written}
-use Rattle.heap_laws.proofs.Chunks.{Spelled-size, Spelled-same}
-use Rattle.heap_laws.proofs.Shapes.{chunk_at-spelled, chunk_at-none}
-use Rattle.heap_laws.proofs.Runs.{chunks_of-tiled}
-use Rattle.heap_laws.proofs.Replacing.{Replaces, same_start}
-use Rattle.heap_laws.proofs.Layouts.{merged-middle, runs-merged}
-use Rattle.heap_laws.proofs.Becoming.{becomes_heap, becomes_alike}
-use Rattle.heap_laws.proofs.Exchanging.{exchanges_parts}
-use Rattle.heap_laws.proofs.Changing.{named_live_chunk}
-use Rattle.heap_laws.proofs.Writing.{WroteWithin, wrote_none, wrote_word, wrote_wider, wrote_apart, wrote_word_apart, WroteArea, area_replaces, area_slots}
-use Rattle.heap_laws.proofs.Plain.{free_plain, replaced_plain}
-use Rattle.heap_laws.proofs.Freeing.{OtherSlots, ClearsSlot, released}
+use Rattle.laws_heap.proofs.Frames.{u32_at-written}
+use Rattle.laws_heap.proofs.Chunks.{Spelled-size, Spelled-same}
+use Rattle.laws_heap.proofs.Shapes.{chunk_at-spelled, chunk_at-none}
+use Rattle.laws_heap.proofs.Runs.{chunks_of-tiled}
+use Rattle.laws_heap.proofs.Replacing.{Replaces, same_start}
+use Rattle.laws_heap.proofs.Layouts.{merged-middle, runs-merged}
+use Rattle.laws_heap.proofs.Becoming.{becomes_heap, becomes_alike}
+use Rattle.laws_heap.proofs.Exchanging.{exchanges_parts}
+use Rattle.laws_heap.proofs.Changing.{named_live_chunk}
+use Rattle.laws_heap.proofs.Writing.{WroteWithin, wrote_none, wrote_word, wrote_wider, wrote_apart, wrote_word_apart, WroteArea, area_replaces, area_slots}
+use Rattle.laws_heap.proofs.Plain.{free_plain, replaced_plain}
+use Rattle.laws_heap.proofs.Freeing.{OtherSlots, ClearsSlot, released}
 use Rattle.chunk_format.specs.declared.header.Header.TheVariants as headers
 use Rattle.chunk_format.specs.Header.{HasHeader}
 use Rattle.heap_place.specs.declared.found.Found.{Found}

@@ -13,19 +13,19 @@ use Rattle.heap_model.specs.Space.{place_of}
 use Rattle.heap_model.specs.Placing.{Finds}
 use Rattle.heap_model.specs.Layout.{Becomes, Exchanges, Alters, in_front, freed, with_bytes, IsRoom, WritesPlain}
 use Rattle.heap_model.specs.Resizing.{with_length, Relocates}
-use Rattle.heap_laws.proofs.Finding.{held_finds, finds_spelled}
-use Rattle.heap_laws.proofs.Altering.{finds_place, body_stays}
-use Rattle.heap_laws.proofs.Exchanging.{ChangesName}
-use Rattle.heap_laws.proofs.Changing.{claim_changes, room_unheld, bytes_changes, freed_changes}
-use Rattle.heap_laws.proofs.Resizings.{length-sized_to}
-use Rattle.heap_laws.proofs.Relocating.{relocates}
-use Rattle.heap_laws.proofs.Compacting.{slot_unheld}
-use Rattle.heap_laws.proofs.Chunks.{Spelled-same}
-use Rattle.heap_laws.proofs.Frames.{u32_at-written, length-overwritten}
-use Rattle.heap_laws.proofs.Writing.{WroteWithin, wrote_wider, wrote_word, wrote_apart, WroteArea, area_replaces, area_slots}
-use Rattle.heap_laws.proofs.Freeing.{OtherSlots, claimed}
-use Rattle.heap_laws.proofs.Becoming.{becomes_heap, slot_kept}
-use Rattle.heap_laws.proofs.Plain.{lives_plain, replaced_plain}
+use Rattle.laws_heap.proofs.Finding.{held_finds, finds_spelled}
+use Rattle.laws_heap.proofs.Altering.{finds_place, body_stays}
+use Rattle.laws_heap.proofs.Exchanging.{ChangesName}
+use Rattle.laws_heap.proofs.Changing.{claim_changes, room_unheld, bytes_changes, freed_changes}
+use Rattle.laws_heap.proofs.Resizings.{length-sized_to}
+use Rattle.laws_heap.proofs.Relocating.{relocates}
+use Rattle.laws_heap.proofs.Compacting.{slot_unheld}
+use Rattle.laws_heap.proofs.Chunks.{Spelled-same}
+use Rattle.laws_heap.proofs.Frames.{u32_at-written, length-overwritten}
+use Rattle.laws_heap.proofs.Writing.{WroteWithin, wrote_wider, wrote_word, wrote_apart, WroteArea, area_replaces, area_slots}
+use Rattle.laws_heap.proofs.Freeing.{OtherSlots, claimed}
+use Rattle.laws_heap.proofs.Becoming.{becomes_heap, slot_kept}
+use Rattle.laws_heap.proofs.Plain.{lives_plain, replaced_plain}
 use Rattle.chunk_format.specs.declared.header.Header.TheVariants as headers
 use Rattle.chunk_format.specs.Header.{HasHeader, live_words, h_offset_to}
 use Rattle.heap_model.specs.declared.names.Name.{Name}

@@ -13,17 +13,17 @@ use Rattle.heap_model.specs.Placing.{Finds}
 use Rattle.heap_model.specs.Packing.{lives}
 use Rattle.heap_model.specs.Layout.{Becomes, gap, IsFreeAt, WritesPlain}
 use Rattle.heap_model.specs.Resizing.{with_length, shrunk, Shrinks}
-use Rattle.heap_laws.proofs.Deciding.{cond-true, cond-false}
-use Rattle.heap_laws.proofs.Frames.{SameBetween, SameBetween-then, slice-same, slice-overwritten-within}
-use Rattle.heap_laws.proofs.Layouts.{IsNotFree}
-use Rattle.heap_laws.proofs.Finding.{finds_spelled}
-use Rattle.heap_laws.proofs.Changing.{named_live_chunk}
-use Rattle.heap_laws.proofs.Writing.{WroteWithin, wrote_part, wrote_wider, wrote_then, wrote_apart}
-use Rattle.heap_laws.proofs.Becoming.{becomes_heap}
-use Rattle.heap_laws.proofs.Exchanging.{exchanges_parts, gap_free}
-use Rattle.heap_laws.proofs.Altering.{TiedAlike, rewritten, finds_callers}
-use Rattle.heap_laws.proofs.Plain.{lives_plain, replaced_plain}
-use Rattle.heap_laws.proofs.Resizings.{length-sized_to, size_of-with_length}
+use Rattle.laws_heap.proofs.Deciding.{cond-true, cond-false}
+use Rattle.laws_heap.proofs.Frames.{SameBetween, SameBetween-then, slice-same, slice-overwritten-within}
+use Rattle.laws_heap.proofs.Layouts.{IsNotFree}
+use Rattle.laws_heap.proofs.Finding.{finds_spelled}
+use Rattle.laws_heap.proofs.Changing.{named_live_chunk}
+use Rattle.laws_heap.proofs.Writing.{WroteWithin, wrote_part, wrote_wider, wrote_then, wrote_apart}
+use Rattle.laws_heap.proofs.Becoming.{becomes_heap}
+use Rattle.laws_heap.proofs.Exchanging.{exchanges_parts, gap_free}
+use Rattle.laws_heap.proofs.Altering.{TiedAlike, rewritten, finds_callers}
+use Rattle.laws_heap.proofs.Plain.{lives_plain, replaced_plain}
+use Rattle.laws_heap.proofs.Resizings.{length-sized_to, size_of-with_length}
 use Rattle.chunk_format.specs.declared.header.Header.{Header}
 use Rattle.chunk_format.specs.Header.{header_of, size_by, HasHeader, IsWritable, header_bytes, h_offset_to}
 use Rattle.heap_place.specs.declared.found.Found.{Found}

@@ -6,10 +6,10 @@ use Rattle.heap_model.specs.Heap.{HeapAccepted}
 use Rattle.heap_model.specs.Reading.{chunks_of}
 use Rattle.heap_model.specs.Space.{AllFree, NoRun}
 use Rattle.heap_model.specs.Layout.{merged, IsRoom}
-use Rattle.heap_laws.proofs.Chunks.{total-append, Spelled-size, SpelledAll-end, SpelledAll-push}
-use Rattle.heap_laws.proofs.Runs.{chunk_there, chunks_after, chunks_of-tiled}
-use Rattle.heap_laws.proofs.Freeing.{free_sum}
-use Rattle.heap_laws.proofs.Layouts.{IsNotFree, merged-live}
+use Rattle.laws_heap.proofs.Chunks.{total-append, Spelled-size, SpelledAll-end, SpelledAll-push}
+use Rattle.laws_heap.proofs.Runs.{chunk_there, chunks_after, chunks_of-tiled}
+use Rattle.laws_heap.proofs.Freeing.{free_sum}
+use Rattle.laws_heap.proofs.Layouts.{IsNotFree, merged-live}
 use Rattle.chunk_format.specs.declared.header.Header.{Header}
 use Rattle.chunk_format.specs.declared.header.Header.TheVariants as headers
 use Rattle.chunk_format.specs.Header.{header_of, size_by, HasHeader}

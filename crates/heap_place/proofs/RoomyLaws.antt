@@ -9,10 +9,10 @@ use Rattle.heap_model.specs.Heap.{HeapAccepted}
 use Rattle.heap_model.specs.Reading.{chunks_of}
 use Rattle.heap_model.specs.Space.{stays, NoneStays, runs_between, has_chunk, stretches, room_of, rooms_of, Short}
 use Rattle.heap_model.specs.Packing.{EndsStaying, BeginsStaying}
-use Rattle.heap_laws.proofs.Chunks.{Spelled-size, SpelledAll-split, SpelledAll-end}
-use Rattle.heap_laws.proofs.Runs.{chunks_after}
-use Rattle.heap_laws.proofs.Packings.{no_true}
-use Rattle.heap_laws.proofs.Stretches.{stretches_behind, run_then, rooms_of-append}
+use Rattle.laws_heap.proofs.Chunks.{Spelled-size, SpelledAll-split, SpelledAll-end}
+use Rattle.laws_heap.proofs.Runs.{chunks_after}
+use Rattle.laws_heap.proofs.Packings.{no_true}
+use Rattle.laws_heap.proofs.Stretches.{stretches_behind, run_then, rooms_of-append}
 use Rattle.chunk_format.specs.Header.{size_by, HasHeader}
 use Rattle.chunk_format.specs.declared.header.Header.{Header}
 use Rattle.heap_place.specs.Packs.{HeaderStays}

@@ -6,10 +6,10 @@ use Rattle.heap_model.specs.Heap.{HeapAccepted}
 use Rattle.heap_model.specs.Space.{free_front}
 use Rattle.heap_model.specs.Layout.{Becomes, gap}
 use Rattle.heap_model.specs.Resizing.{with_length, behind_front, GrowsInPlace}
-use Rattle.heap_laws.proofs.Chunks.{total-append, Spelled-size, SpelledAll-split}
-use Rattle.heap_laws.proofs.Shapes.{chunk_at-spelled, chunk_at-none}
-use Rattle.heap_laws.proofs.Changing.{named_live_chunk}
-use Rattle.heap_laws.proofs.Resizings.{front_parts, grows_parts}
+use Rattle.laws_heap.proofs.Chunks.{total-append, Spelled-size, SpelledAll-split}
+use Rattle.laws_heap.proofs.Shapes.{chunk_at-spelled, chunk_at-none}
+use Rattle.laws_heap.proofs.Changing.{named_live_chunk}
+use Rattle.laws_heap.proofs.Resizings.{front_parts, grows_parts}
 use Rattle.chunk_format.specs.Header.{header_of, HasHeader}
 use Rattle.chunk_format.specs.declared.header.Header.{Header}
 use Rattle.heap_place.specs.declared.found.Found.{Found}

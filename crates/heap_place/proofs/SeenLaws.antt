@@ -9,9 +9,9 @@ use Rattle.heap_model.specs.Reading.{chunks_of}
 use Rattle.heap_model.specs.Space.{stays, NoneStays}
 use Rattle.heap_model.specs.Packing.{EndsStaying, BeginsStaying}
 use Rattle.heap_model.specs.Meaning.{LiveChunk, NamedHere}
-use Rattle.heap_laws.proofs.Sliding.{none_stays-append}
-use Rattle.heap_laws.proofs.Chunks.{Spelled-size, Spelled-unique, SpelledAll-split, SpelledAll-end, SpelledAll-push, SpelledAll-rest}
-use Rattle.heap_laws.proofs.Runs.{chunk_there, chunks_after}
+use Rattle.laws_heap.proofs.Sliding.{none_stays-append}
+use Rattle.laws_heap.proofs.Chunks.{Spelled-size, Spelled-unique, SpelledAll-split, SpelledAll-end, SpelledAll-push, SpelledAll-rest}
+use Rattle.laws_heap.proofs.Runs.{chunk_there, chunks_after}
 use Rattle.chunk_format.specs.Header.{header_of, size_by, HasHeader}
 use Rattle.chunk_format.specs.declared.header.Header.{Header}
 use Rattle.chunk_format.proofs.HeaderLaws.{size_by-header_of}

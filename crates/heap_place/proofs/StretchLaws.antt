@@ -12,14 +12,14 @@ use Rattle.heap_model.specs.Space.{NoneStays, stays, room_of}
 use Rattle.heap_model.specs.Placing.{SameFrame}
 use Rattle.heap_model.specs.Layout.{Becomes, gap, merged, IsRoom, WritesPlain}
 use Rattle.heap_model.specs.Packing.{packed, lives, EndsStaying, opened, OpensBehind}
-use Rattle.heap_laws.proofs.Chunks.{total-append, SpelledAll-split, SpelledAll-end}
-use Rattle.heap_laws.proofs.Placed.{AnyPlaced-mid}
-use Rattle.heap_laws.proofs.Becoming.{frame_then}
-use Rattle.heap_laws.proofs.Compacting.{moved_within}
-use Rattle.heap_laws.proofs.Exchanging.{gap_free, gap_total}
-use Rattle.heap_laws.proofs.Layouts.{IsNotFree}
-use Rattle.heap_laws.proofs.Sliding.{lives-append, lives_total, lives_twice, stretch_packed}
-use Rattle.heap_laws.proofs.Stretches.{room_of-middle, one_stretch}
+use Rattle.laws_heap.proofs.Chunks.{total-append, SpelledAll-split, SpelledAll-end}
+use Rattle.laws_heap.proofs.Placed.{AnyPlaced-mid}
+use Rattle.laws_heap.proofs.Becoming.{frame_then}
+use Rattle.laws_heap.proofs.Compacting.{moved_within}
+use Rattle.laws_heap.proofs.Exchanging.{gap_free, gap_total}
+use Rattle.laws_heap.proofs.Layouts.{IsNotFree}
+use Rattle.laws_heap.proofs.Sliding.{lives-append, lives_total, lives_twice, stretch_packed}
+use Rattle.laws_heap.proofs.Stretches.{room_of-middle, one_stretch}
 use Rattle.heap_place.specs.declared.stretch.Stretch.{Stretch}
 use Rattle.heap_place.specs.Lifting.{FreeBehind}
 use Rattle.heap_place.specs.Packs.{BecomesExactly, RunOf, IsRun, Packs, MovesInRun, LeavesRoom, last_room}

@@ -5,7 +5,7 @@ use Rattle.std.proofs.lemmas.List.Sums.{sum_by-append, sum_by-cons}
 use Rattle.heap_model.specs.Chunk.{Chunk, size_of, total, free_size, Spelled, SpelledAll}
 use Rattle.heap_model.specs.Heap.{HeapAccepted}
 use Rattle.heap_model.specs.Space.{room_of}
-use Rattle.heap_laws.proofs.Chunks.{Spelled-size, Spelled-unique, total-append, SpelledAll-split}
+use Rattle.laws_heap.proofs.Chunks.{Spelled-size, Spelled-unique, total-append, SpelledAll-split}
 use Rattle.chunk_format.specs.Header.{header_of, size_by, HasHeader}
 use Rattle.chunk_format.specs.declared.header.Header.{Header}
 use Rattle.chunk_format.proofs.HeaderLaws.{size_by-header_of}

@@ -6,8 +6,8 @@ use Rattle.heap_model.specs.Chunk.{Chunk, free, movable, fixed, size_of, total, 
 use Rattle.heap_model.specs.Slots.{area_start}
 use Rattle.heap_model.specs.Heap.{HeapAccepted}
 use Rattle.heap_model.specs.Reading.{chunks_of}
-use Rattle.heap_laws.proofs.Chunks.{Spelled-size, SpelledAll-end, SpelledAll-push}
-use Rattle.heap_laws.proofs.Runs.{chunk_there, chunks_after, chunks_of-tiled}
+use Rattle.laws_heap.proofs.Chunks.{Spelled-size, SpelledAll-end, SpelledAll-push}
+use Rattle.laws_heap.proofs.Runs.{chunk_there, chunks_after, chunks_of-tiled}
 use Rattle.chunk_format.specs.declared.header.Header.{Header}
 use Rattle.chunk_format.specs.declared.header.Header.TheVariants as headers
 use Rattle.chunk_format.specs.Header.{header_of, size_by, HasHeader}

@@ -8,7 +8,7 @@ use Rattle.heap_model.specs.Bytes.{u32_at}
 use Rattle.heap_model.specs.Slots.{slot_count, first_slots, StandsBehind}
 use Rattle.heap_model.specs.Placed.{EveryOne}
 use Rattle.heap_model.specs.Space.{free_slots}
-use Rattle.heap_laws.proofs.Slots.{first_slots-more, first_slots-all, number_stands}
+use Rattle.laws_heap.proofs.Slots.{first_slots-more, first_slots-all, number_stands}
 use Rattle.master_table.specs.declared.table.FreeSlot.{FreeSlot}
 use Rattle.master_table.specs.Table.{IsEmptyAt, IsUsedAt, UsedBefore}
 

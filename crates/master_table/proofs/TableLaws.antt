@@ -3,7 +3,7 @@ use Rattle.std.proofs.Common.{◌≡◌, ◌≢◌, ℕ, ◌+◌, ◌*◌, ◌<�
 use Rattle.heap_model.specs.Bytes.{u32_at}
 use Rattle.heap_model.specs.Slots.{IsSlot, slot_count, slots_of, first_slots, StandsBehind}
 use Rattle.heap_model.specs.Placed.{EveryOne}
-use Rattle.heap_laws.proofs.Slots.{stands_number, stands_slot, number_stands, same_number, each_first_slot, every_first_slot, every_first-more}
+use Rattle.laws_heap.proofs.Slots.{stands_number, stands_slot, number_stands, same_number, each_first_slot, every_first_slot, every_first-more}
 use Rattle.master_table.specs.declared.table.FreeSlot.{FreeSlot}
 use Rattle.master_table.specs.Table.{IsEmptyAt, IsUsedAt, UsedBefore, NotAmong, IsFirstEmpty}
 

@@ -15,11 +15,11 @@ use Rattle.heap_model.specs.declared.names.Name.{Name}
 use Rattle.heap_model.specs.declared.call.MemoryCall.TheVariants.{Lock, Unlock, Size, Owner, Locks, Read, Write, Set, StrCopy, SetOwner}
 use Rattle.heap_model.specs.declared.call.Reply.TheVariants.{Refused, Done, Number, Locked, Data}
 use Rattle.heap_model.specs.declared.refusal.Refusal.TheVariants.{OwnedByDatabase, ChunkNotLocked, LockOverflow, ChunkFixed, InvalidOwner, OutOfBounds}
-use Rattle.heap_laws.proofs.Frames.{slice-of_slice}
-use Rattle.heap_laws.proofs.Finding.{finds_spelled}
-use Rattle.heap_laws.proofs.Exchanging.{ChangesName}
-use Rattle.heap_laws.proofs.Changing.{lock_changes, owner_changes, bytes_changes}
-use Rattle.heap_laws.proofs.Owning.{not_directory}
+use Rattle.laws_heap.proofs.Frames.{slice-of_slice}
+use Rattle.laws_heap.proofs.Finding.{finds_spelled}
+use Rattle.laws_heap.proofs.Exchanging.{ChangesName}
+use Rattle.laws_heap.proofs.Changing.{lock_changes, owner_changes, bytes_changes}
+use Rattle.laws_heap.proofs.Owning.{not_directory}
 use Rattle.heap_place.proofs.FoundLaws.{name_held}
 use Rattle.heap_place.specs.declared.found.Found.{Found}
 use Rattle.heap_place.specs.Found.{IsFound, CanGoTo}

@@ -20,12 +20,12 @@ use Rattle.heap_model.specs.declared.call.MemoryCall.TheVariants.{Resize}
 use Rattle.heap_model.specs.declared.call.Reply.TheVariants.{Refused, Done}
 use Rattle.heap_model.specs.declared.refusal.Refusal.{Refusal}
 use Rattle.heap_model.specs.declared.refusal.Refusal.TheVariants.{OwnedByDatabase, ChunkFixed, ChunkLocked, NotEnoughSpace}
-use Rattle.heap_laws.proofs.Deciding.{cond-true, cond-false}
-use Rattle.heap_laws.proofs.Slots.{same_slots}
-use Rattle.heap_laws.proofs.Exchanging.{ChangesName}
-use Rattle.heap_laws.proofs.Resizings.{live_sized, grow_changes, finds_behind}
-use Rattle.heap_laws.proofs.Compacting.{slot_unheld}
-use Rattle.heap_laws.proofs.Fitting.{fits_not_short_for}
+use Rattle.laws_heap.proofs.Deciding.{cond-true, cond-false}
+use Rattle.laws_heap.proofs.Slots.{same_slots}
+use Rattle.laws_heap.proofs.Exchanging.{ChangesName}
+use Rattle.laws_heap.proofs.Resizings.{live_sized, grow_changes, finds_behind}
+use Rattle.laws_heap.proofs.Compacting.{slot_unheld}
+use Rattle.laws_heap.proofs.Fitting.{fits_not_short_for}
 use Rattle.heap_place.proofs.FoundLaws.{name_held, one_held, when_movable}
 use Rattle.heap_place.specs.declared.found.Found.{Found}
 use Rattle.heap_place.specs.Found.{IsFound, IsOne}

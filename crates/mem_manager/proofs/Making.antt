@@ -21,21 +21,21 @@ use Rattle.heap_model.specs.declared.refusal.Refusal.{Refusal}
 use Rattle.heap_model.specs.declared.refusal.Refusal.TheVariants.{OwnedByDatabase, ChunkLocked, NotEnoughSpace}
 use Rattle.master_table.specs.Table.{IsFirstEmpty, NotAmong}
 use Rattle.master_table.proofs.TableLaws.{used_fewer, used_apart, used_set}
-use Rattle.heap_laws.proofs.Meanings.{held-is, empty_unheld}
-use Rattle.heap_laws.proofs.Slots.{same_slots}
-use Rattle.heap_laws.proofs.Accepted.{heap_of_read}
-use Rattle.heap_laws.proofs.Exchanging.{ChangesName}
-use Rattle.heap_laws.proofs.Changing.{claim_changes, room_unheld}
-use Rattle.heap_laws.proofs.Owning.{owned-merged, owned_held, owned_place}
+use Rattle.laws_heap.proofs.Meanings.{held-is, empty_unheld}
+use Rattle.laws_heap.proofs.Slots.{same_slots}
+use Rattle.laws_heap.proofs.Accepted.{heap_of_read}
+use Rattle.laws_heap.proofs.Exchanging.{ChangesName}
+use Rattle.laws_heap.proofs.Changing.{claim_changes, room_unheld}
+use Rattle.laws_heap.proofs.Owning.{owned-merged, owned_held, owned_place}
 use Rattle.heap_place.specs.declared.found.Found.{Found}
 use Rattle.heap_place.specs.Found.{IsFound}
-use Rattle.heap_laws.proofs.Becoming.{frame_then}
-use Rattle.heap_laws.proofs.Compacting.{slides_alike}
-use Rattle.heap_laws.proofs.Lowering.{made_lowers}
+use Rattle.laws_heap.proofs.Becoming.{frame_then}
+use Rattle.laws_heap.proofs.Compacting.{slides_alike}
+use Rattle.laws_heap.proofs.Lowering.{made_lowers}
 use Rattle.mem_manager.specs.Lookup.{IsManaged, MakesNew, HasNoRoomFor}
 use Rattle.mem_manager.proofs.Moving.{BytesAndSlid, rest_then, held_then, still_then, first_slid, used_slid}
 use Rattle.mem_manager.proofs.Stepping.{known, of_known, not_of_known, is_known, refused, OnlyBytes, still_others, used_altered}
-use Rattle.heap_laws.proofs.Updating.{held_updated}
+use Rattle.laws_heap.proofs.Updating.{held_updated}
 
 -- ---- free
 

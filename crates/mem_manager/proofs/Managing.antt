@@ -11,11 +11,11 @@ use Rattle.heap_model.specs.Maps.{gone, put}
 use Rattle.heap_model.specs.Layout.{Alters, with_bytes}
 use Rattle.heap_model.specs.Store.{bytes_of, owner_of, bytes_under, owner_under}
 use Rattle.heap_model.specs.Leaving.{Leaves, NamesDirectory}
-use Rattle.heap_laws.proofs.Frames.{slice-of_slice}
-use Rattle.heap_laws.proofs.Slots.{same_slots}
-use Rattle.heap_laws.proofs.Exchanging.{ChangesName}
-use Rattle.heap_laws.proofs.Updating.{held_updated}
-use Rattle.heap_laws.proofs.Compacting.{slot_unheld}
+use Rattle.laws_heap.proofs.Frames.{slice-of_slice}
+use Rattle.laws_heap.proofs.Slots.{same_slots}
+use Rattle.laws_heap.proofs.Exchanging.{ChangesName}
+use Rattle.laws_heap.proofs.Updating.{held_updated}
+use Rattle.laws_heap.proofs.Compacting.{slot_unheld}
 use Rattle.master_table.proofs.TableLaws.{used_still}
 use Rattle.heap_place.proofs.FoundLaws.{name_held, bytes_inside}
 use Rattle.heap_place.specs.declared.found.Found.{Found}

@@ -9,9 +9,9 @@ use Rattle.heap_model.specs.Maps.{callers_map, not_owned}
 use Rattle.heap_model.specs.Space.{place_of}
 use Rattle.heap_model.specs.Placing.{Finds}
 use Rattle.heap_model.specs.MemorySteps.{IsNowhere, Of}
-use Rattle.heap_laws.proofs.Deciding.{cond-true}
-use Rattle.heap_laws.proofs.Finding.{held_finds, finds_one, callers_managers}
-use Rattle.heap_laws.proofs.Altering.{finds_place}
+use Rattle.laws_heap.proofs.Deciding.{cond-true}
+use Rattle.laws_heap.proofs.Finding.{held_finds, finds_one, callers_managers}
+use Rattle.laws_heap.proofs.Altering.{finds_place}
 use Rattle.heap_place.proofs.FoundLaws.{name_held}
 use Rattle.heap_place.proofs.RelocateLaws.{one_placed}
 use Rattle.heap_place.specs.declared.found.Found.{Found}

@@ -19,14 +19,14 @@ use Rattle.heap_model.specs.declared.call.MemoryCall.{MemoryCall}
 use Rattle.heap_model.specs.declared.call.Reply.{Reply}
 use Rattle.heap_model.specs.declared.call.Reply.TheVariants.{Refused}
 use Rattle.heap_model.specs.declared.refusal.Refusal.{Refusal}
-use Rattle.heap_laws.proofs.Meanings.{held-is, empty_unheld}
-use Rattle.heap_laws.proofs.Slots.{same_slots}
-use Rattle.heap_laws.proofs.Accepted.{heap_of_read}
-use Rattle.heap_laws.proofs.Finding.{callers_some}
-use Rattle.heap_laws.proofs.Becoming.{same_frame}
-use Rattle.heap_laws.proofs.Exchanging.{ChangesName}
-use Rattle.heap_laws.proofs.Updating.{held_updated}
-use Rattle.heap_laws.proofs.Compacting.{changes_move_nothing}
+use Rattle.laws_heap.proofs.Meanings.{held-is, empty_unheld}
+use Rattle.laws_heap.proofs.Slots.{same_slots}
+use Rattle.laws_heap.proofs.Accepted.{heap_of_read}
+use Rattle.laws_heap.proofs.Finding.{callers_some}
+use Rattle.laws_heap.proofs.Becoming.{same_frame}
+use Rattle.laws_heap.proofs.Exchanging.{ChangesName}
+use Rattle.laws_heap.proofs.Updating.{held_updated}
+use Rattle.laws_heap.proofs.Compacting.{changes_move_nothing}
 use Rattle.master_table.proofs.TableLaws.{used_still}
 use Rattle.heap_place.proofs.FoundLaws.{name_held}
 use Rattle.heap_place.proofs.RelocateLaws.{one_placed}

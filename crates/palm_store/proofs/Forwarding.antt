@@ -8,7 +8,7 @@ use Rattle.heap_model.specs.declared.call.Call.{Call}
 use Rattle.heap_model.specs.declared.call.Call.TheVariants as calls
 use Rattle.heap_model.specs.declared.call.MemoryCall.{MemoryCall}
 use Rattle.heap_model.specs.declared.call.Reply.{Reply}
-use Rattle.store_laws.proofs.Lifting.{memory_call_steps}
+use Rattle.laws_store.proofs.Lifting.{memory_call_steps}
 
 -- a call that may change the heap
 pub forwarded : (inside value new : Memory) (call : MemoryCall) (reply : Reply) → inside ≡ value → Accepted inside.bytes → Does inside call reply new → DoesInStore value (calls.Memory call) reply new

@@ -14,9 +14,9 @@ use Rattle.heap_model.specs.declared.names.Name.{Name}
 use Rattle.heap_model.specs.declared.entry.RecordInfo.{RecordInfo}
 use Rattle.heap_model.specs.declared.entry.ResourceInfo.{ResourceInfo}
 use Rattle.heap_model.specs.declared.entry.Entry.TheVariants as entries
-use Rattle.heap_laws.proofs.Meanings.{held-zero}
-use Rattle.store_laws.proofs.Found.{found_stands}
-use Rattle.store_laws.proofs.Owners.{owned_some}
+use Rattle.laws_heap.proofs.Meanings.{held-zero}
+use Rattle.laws_store.proofs.Found.{found_stands}
+use Rattle.laws_store.proofs.Owners.{owned_some}
 use Rattle.record_db.proofs.Raising.{is_there}
 
 -- ---- the database

@@ -8,10 +8,10 @@ use Rattle.heap_model.specs.Store.{StoredDatabase, databases, unique_id, unique_
 use Rattle.heap_model.specs.StoreWords.{with_changed, with_number}
 use Rattle.heap_model.specs.EntrySteps.{entries_of, entry_under, OfEntry, data_of_entry, resources_under, replaced_if, replaced, with_attributes, entry_changed, LeavesStore}
 use Rattle.heap_model.specs.declared.names.Db.{Db}
-use Rattle.heap_laws.proofs.Deciding.{same_some, none_some}
-use Rattle.store_laws.proofs.Listing.{same-yes, times-cons, all-times, distinct-times}
-use Rattle.store_laws.proofs.Found.{changed_by_number}
-use Rattle.store_laws.proofs.Stepping.{number_once}
+use Rattle.laws_heap.proofs.Deciding.{same_some, none_some}
+use Rattle.laws_store.proofs.Listing.{same-yes, times-cons, all-times, distinct-times}
+use Rattle.laws_store.proofs.Found.{changed_by_number}
+use Rattle.laws_store.proofs.Stepping.{number_once}
 use Rattle.store_entries.specs.Labels.{labelled, HasOther, CanHave}
 use Rattle.store_entries.specs.declared.changing.Label.TheVariants as labels
 use Rattle.record_db.proofs.Entries.{Here, here, entry_is, fits}

@@ -11,7 +11,7 @@ use Rattle.heap_model.specs.Store.{StoredDatabase, Store, store_of}
 use Rattle.heap_model.specs.StoreWords.{with_changed, with_number}
 use Rattle.heap_model.specs.EntrySteps.{raised, raised_header, LeavesStore, MakesNone}
 use Rattle.heap_model.specs.declared.names.Db.{Db}
-use Rattle.heap_laws.proofs.Deciding.{cond-true, cond-false}
+use Rattle.laws_heap.proofs.Deciding.{cond-true, cond-false}
 
 -- what is there
 pub is_there : {X : Type 0} (x : Option X) → IsSome x → (one : X) × (x ≡ Some one)

@@ -29,17 +29,17 @@ use Rattle.heap_model.specs.declared.refusal.Refusal.TheVariants.{NotEnoughSpace
 use Rattle.heap_model.specs.declared.call.DatabaseCall.TheVariants.{Create}
 use Rattle.heap_model.specs.declared.call.Call.TheVariants as calls
 use Rattle.heap_model.specs.declared.call.Reply.TheVariants as replies
-use Rattle.heap_laws.proofs.Frames.{length-u32_bytes}
-use Rattle.heap_laws.proofs.Finding.{read_heap, callers_managers}
-use Rattle.heap_laws.proofs.Holding.{as_before}
-use Rattle.store_laws.specs.Changes.{Appends}
-use Rattle.store_laws.proofs.Listing.{same-yes, same-no, times-cons}
-use Rattle.store_laws.proofs.Owners.{owned_slot, directory_owner, owned_some}
-use Rattle.store_laws.proofs.Counting.{has_databases, listed_numbers, length-numbers}
-use Rattle.store_laws.proofs.Rewriting.{get-any}
-use Rattle.store_laws.proofs.Keeping.{directory_like, number_owner}
-use Rattle.store_laws.proofs.Creating.{managers_loose, u32s_push}
-use Rattle.store_laws.proofs.Stepping.{create_steps, same_steps}
+use Rattle.laws_heap.proofs.Frames.{length-u32_bytes}
+use Rattle.laws_heap.proofs.Finding.{read_heap, callers_managers}
+use Rattle.laws_heap.proofs.Holding.{as_before}
+use Rattle.laws_store.specs.Changes.{Appends}
+use Rattle.laws_store.proofs.Listing.{same-yes, same-no, times-cons}
+use Rattle.laws_store.proofs.Owners.{owned_slot, directory_owner, owned_some}
+use Rattle.laws_store.proofs.Counting.{has_databases, listed_numbers, length-numbers}
+use Rattle.laws_store.proofs.Rewriting.{get-any}
+use Rattle.laws_store.proofs.Keeping.{directory_like, number_owner}
+use Rattle.laws_store.proofs.Creating.{managers_loose, u32s_push}
+use Rattle.laws_store.proofs.Stepping.{create_steps, same_steps}
 use Rattle.store_change.specs.Listing.{ListsNew}
 use Rattle.store_change.proofs.Maps.{owner_held, owner_none, owner_alike, bytes_held, owned, held_some, still_through}
 use Rattle.store_change.proofs.Listing.{chunk_of, put_here, put_apart, all_written, lock_of}

@@ -21,11 +21,11 @@ use Rattle.heap_model.specs.declared.refusal.Refusal.TheVariants.{ChunkLocked}
 use Rattle.heap_model.specs.declared.call.DatabaseCall.TheVariants.{Delete}
 use Rattle.heap_model.specs.declared.call.Call.TheVariants as calls
 use Rattle.heap_model.specs.declared.call.Reply.TheVariants as replies
-use Rattle.heap_laws.proofs.Meanings.{held-zero}
-use Rattle.store_laws.proofs.Listing.{times-cons, times-append}
-use Rattle.store_laws.proofs.Creating.{managers_loose}
-use Rattle.store_laws.proofs.Owners.{directory_owner}
-use Rattle.store_laws.proofs.Stepping.{drop_steps}
+use Rattle.laws_heap.proofs.Meanings.{held-zero}
+use Rattle.laws_store.proofs.Listing.{times-cons, times-append}
+use Rattle.laws_store.proofs.Creating.{managers_loose}
+use Rattle.laws_store.proofs.Owners.{directory_owner}
+use Rattle.laws_store.proofs.Stepping.{drop_steps}
 use Rattle.store_lookup.specs.Databases.{HasNumber, IsListedAt}
 use Rattle.store_lookup.proofs.Numbers.{stands, has_number_is, in_store, length-listed, number_slot, number_held, no_directory}
 use Rattle.store_change.specs.Named.{named_under}

@@ -9,15 +9,15 @@ use Rattle.heap_model.specs.Leaving.{Leaves}
 use Rattle.heap_model.specs.Database.{data_in}
 use Rattle.heap_model.specs.Store.{StoredDatabase, owner_under, directory_bytes, listed, databases, Accepted}
 use Rattle.heap_model.specs.StoreWords.{all_gone}
-use Rattle.heap_laws.proofs.Meanings.{held-zero}
-use Rattle.store_laws.specs.Changes.{Drops, Clears}
-use Rattle.store_laws.proofs.Listing.{same-yes, same-no, times-cons}
-use Rattle.store_laws.proofs.Naming.{named-remove}
-use Rattle.store_laws.proofs.Owners.{directory_owner, owned_some}
-use Rattle.store_laws.proofs.Counting.{has_databases, same-is, header_slots, length-numbers}
-use Rattle.store_laws.proofs.Rewriting.{number_at}
-use Rattle.store_laws.proofs.Keeping.{directory_like}
-use Rattle.store_laws.proofs.Deleting.{u32s_remove}
+use Rattle.laws_heap.proofs.Meanings.{held-zero}
+use Rattle.laws_store.specs.Changes.{Drops, Clears}
+use Rattle.laws_store.proofs.Listing.{same-yes, same-no, times-cons}
+use Rattle.laws_store.proofs.Naming.{named-remove}
+use Rattle.laws_store.proofs.Owners.{directory_owner, owned_some}
+use Rattle.laws_store.proofs.Counting.{has_databases, same-is, header_slots, length-numbers}
+use Rattle.laws_store.proofs.Rewriting.{number_at}
+use Rattle.laws_store.proofs.Keeping.{directory_like}
+use Rattle.laws_store.proofs.Deleting.{u32s_remove}
 use Rattle.store_lookup.proofs.Numbers.{Stands, length-listed, length-databases}
 use Rattle.store_change.specs.Unlisting.{Unlists}
 use Rattle.store_change.proofs.Maps.{kept, is_gone, owner_none, owner_alike}

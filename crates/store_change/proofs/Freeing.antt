@@ -17,19 +17,19 @@ use Rattle.heap_model.specs.Leaving.{Leaves}
 use Rattle.heap_model.specs.Database.{entry_data, data_in, database_in, entry_in, entry_count_in, resources_in, entry_offset, IsSpelled}
 use Rattle.heap_model.specs.Store.{bytes_under, owner_under, database_under, Accepted}
 use Rattle.heap_model.specs.StoreWords.{all_gone}
-use Rattle.heap_laws.proofs.Finding.{callers_some}
-use Rattle.heap_laws.proofs.Meanings.{held-zero}
-use Rattle.store_laws.proofs.Listing.{same-yes, same-no, times-cons, times-append, times-some}
-use Rattle.store_laws.proofs.Owners.{directory_owner}
-use Rattle.store_laws.proofs.Keeping.{bytes_like}
-use Rattle.store_laws.proofs.Counting.{same-is, same-least}
-use Rattle.store_laws.proofs.Numbered.{number_some}
-use Rattle.store_laws.proofs.Shapes.{offset_below, spelled_shape}
+use Rattle.laws_heap.proofs.Finding.{callers_some}
+use Rattle.laws_heap.proofs.Meanings.{held-zero}
+use Rattle.laws_store.proofs.Listing.{same-yes, same-no, times-cons, times-append, times-some}
+use Rattle.laws_store.proofs.Owners.{directory_owner}
+use Rattle.laws_store.proofs.Keeping.{bytes_like}
+use Rattle.laws_store.proofs.Counting.{same-is, same-least}
+use Rattle.laws_store.proofs.Numbered.{number_some}
+use Rattle.laws_store.proofs.Shapes.{offset_below, spelled_shape}
 use Rattle.store_lookup.specs.Databases.{HasNumber}
 use Rattle.store_lookup.proofs.Numbers.{stands, listed_at, number_slot, number_held}
 use Rattle.store_change.specs.Named.{named_under}
 use Rattle.store_change.proofs.Deletion.{named_most}
-use Rattle.store_laws.proofs.Edited.{here as updated_here, apart as updated_apart}
+use Rattle.laws_store.proofs.Edited.{here as updated_here, apart as updated_apart}
 use Rattle.store_change.proofs.Maps.{gone_out, gone_in, kept, is_gone, owned}
 
 -- ---- the slots in the bytes of a database

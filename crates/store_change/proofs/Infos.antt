@@ -16,10 +16,10 @@ use Rattle.heap_model.specs.declared.database.DbInfo.{DbInfo}
 use Rattle.heap_model.specs.declared.call.DatabaseCall.TheVariants.{SetInfo}
 use Rattle.heap_model.specs.declared.call.Call.TheVariants as calls
 use Rattle.heap_model.specs.declared.call.Reply.TheVariants as replies
-use Rattle.store_laws.specs.Changes.{HasStore}
-use Rattle.store_laws.proofs.Numbered.{accepted_sound}
-use Rattle.store_laws.proofs.Edited.{put_respells}
-use Rattle.store_laws.proofs.Editing.{rename_steps}
+use Rattle.laws_store.specs.Changes.{HasStore}
+use Rattle.laws_store.proofs.Numbered.{accepted_sound}
+use Rattle.laws_store.proofs.Edited.{put_respells}
+use Rattle.laws_store.proofs.Editing.{rename_steps}
 use Rattle.db_format.specs.declared.header.DbHeader.{DbHeader}
 use Rattle.db_format.specs.Headers.{header_of, HasHeader, with_header, WritesHeader}
 use Rattle.store_lookup.specs.Databases.{HasNumber}

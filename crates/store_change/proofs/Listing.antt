@@ -15,11 +15,11 @@ use Rattle.heap_model.specs.Space.{Still, place_under, free_slots, free_behind, 
 use Rattle.heap_model.specs.Maps.{changed, gone, put, sized}
 use Rattle.heap_model.specs.Store.{bytes_under, directory_bytes, owner_under, Accepted, listed}
 use Rattle.heap_model.specs.Leaving.{Leaves, NamesDirectory}
-use Rattle.heap_laws.proofs.Frames.{length-u32_bytes}
+use Rattle.laws_heap.proofs.Frames.{length-u32_bytes}
 use Rattle.mem_manager.specs.Lookup.{MakesNew}
-use Rattle.store_laws.proofs.Owners.{directory_owner}
-use Rattle.store_laws.proofs.Creating.{managers_loose, made_then_none, slots_made}
-use Rattle.store_laws.proofs.Keeping.{directory_like}
+use Rattle.laws_store.proofs.Owners.{directory_owner}
+use Rattle.laws_store.proofs.Creating.{managers_loose, made_then_none, slots_made}
+use Rattle.laws_store.proofs.Keeping.{directory_like}
 use Rattle.heap_model.specs.Rooms.{Lowers, Part, makes, growth, Stuck}
 use Rattle.heap_model.specs.DatabaseFields.{header_size}
 use Rattle.heap_model.specs.DatabaseSteps.{create_parts, create_slots}
@@ -27,10 +27,10 @@ use Rattle.heap_model.specs.Refusals.{FirstBrings}
 use Rattle.heap_model.specs.MemorySteps.{Of, IsLocked, growth_checks}
 use Rattle.heap_model.specs.declared.refusal.Refusal.{Refusal}
 use Rattle.heap_model.specs.declared.refusal.Refusal.TheVariants.{NotEnoughSpace}
-use Rattle.store_laws.proofs.Parts.{made_then_short}
+use Rattle.laws_store.proofs.Parts.{made_then_short}
 use Rattle.mem_manager.specs.Lookup.{HasNoRoomFor, IsMovable}
 use Rattle.store_change.specs.Listing.{ListsLast, ListsNew, HasNoRoomToList}
-use Rattle.store_laws.proofs.Edited.{here as updated_here, apart as updated_apart}
+use Rattle.laws_store.proofs.Edited.{here as updated_here, apart as updated_apart}
 use Rattle.store_lookup.proofs.Numbers.{no_directory}
 use Rattle.store_change.proofs.Maps.{owner_none, bytes_held, Owned, owned, held_some, still_through, kept_apart, none_loose}
 

@@ -13,8 +13,8 @@ use Rattle.heap_model.specs.Refusals.{FirstBrings}
 use Rattle.heap_model.specs.MemorySteps.{growth_checks}
 use Rattle.heap_model.specs.declared.refusal.Refusal.{Refusal}
 use Rattle.mem_manager.specs.Lookup.{IsMovable}
-use Rattle.store_laws.proofs.Creating.{managers_loose}
-use Rattle.store_laws.proofs.Deleting.{closed_up}
+use Rattle.laws_store.proofs.Creating.{managers_loose}
+use Rattle.laws_store.proofs.Deleting.{closed_up}
 use Rattle.store_change.specs.Unlisting.{Unlists}
 use Rattle.store_change.proofs.Maps.{bytes_held, still_through, kept_apart}
 use Rattle.store_change.proofs.Listing.{put_here, put_apart, sized_here, sized_apart, lock_of, the_directory, growth_short}

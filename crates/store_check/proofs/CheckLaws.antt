@@ -3,11 +3,11 @@ use Rattle.std.proofs.Common.{◌≡◌, ℕ, List, [], ◌∷◌, ◌++◌, len
 use Rattle.heap_model.specs.Bytes.{AreBytes}
 use Rattle.heap_model.specs.Heap.{HeapAccepted}
 use Rattle.heap_model.specs.Store.{listed, Accepted}
-use Rattle.store_laws.proofs.Listing.{no_least, no_least_pair}
+use Rattle.laws_store.proofs.Listing.{no_least, no_least_pair}
 use Rattle.heap_check.specs.Faults.{FirstBrought}
 use Rattle.heap_check.specs.Faults as heaps
 use Rattle.heap_check.specs.declared.fault.HeapFault.{HeapFault}
-use Rattle.heap_check.proofs.CheckLaws as heap_laws
+use Rattle.heap_check.proofs.CheckLaws as laws_heap
 use Rattle.store_check.specs.declared.fault.StoreFault.{StoreFault}
 use Rattle.store_check.specs.declared.fault.StoreFault.TheVariants.{Heap}
 use Rattle.store_check.specs.Listing.{listed_count, IsListing}
@@ -58,10 +58,10 @@ pub heap_first : (image : List ℕ) (first : HeapFault) → heaps.IsFirstFault i
 heap_first image first f = inr (inl (first, f, refl))
 
 pub heap_refused : (image : List ℕ) (first : HeapFault) → heaps.IsFirstFault image first → Accepted image → ⊥
-heap_refused image first f a = heap_laws.refuses image first f a.heap
+heap_refused image first f a = laws_heap.refuses image first f a.heap
 
 pub store_first : (image : List ℕ) (fault : StoreFault) → HeapAccepted image → IsFirstOr (store_faults image) fault → IsAnswered image fault
-store_first image fault h f = elim f [ inl none ↦ inl (none, h) | inr first ↦ inr (inr (λ other row. heap_laws.refuses image row.0 row.1 h, first)) ]
+store_first image fault h f = elim f [ inl none ↦ inl (none, h) | inr first ↦ inr (inr (λ other row. laws_heap.refuses image row.0 row.1 h, first)) ]
 
 pub first_refused : (image : List ℕ) (fault : StoreFault) → HeapAccepted image → AreBytes image → IsFirstOr (store_faults image) fault → IsRefusal image fault
 first_refused image fault h b f = elim f [ inl none ↦ inl none | inr first ↦ inr (λ a. first_none (store_faults image) fault first ((accepted_none image h b).0 a)) ]

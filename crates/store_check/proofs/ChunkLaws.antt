@@ -3,7 +3,7 @@ use Rattle.std.proofs.Common.{◌≡◌, ℕ, ◌+◌, ◌<◌, ◌≤◌, List,
 use Rattle.std.specs.Prelude.{◌⊎◌, slice_index}
 use Rattle.heap_model.specs.Slots.{StandsBehind, slot_count}
 use Rattle.heap_model.specs.Store.{managers_owner, data_owner, owner_under}
-use Rattle.heap_laws.proofs.Slots.{stands_below, same_slot}
+use Rattle.laws_heap.proofs.Slots.{stands_below, same_slot}
 use Rattle.heap_check.specs.Faults.{FirstBrought}
 use Rattle.store_check.specs.declared.fault.StoreFault.TheVariants.{SharedChunk, StrayChunk}
 use Rattle.store_check.specs.Faults.{shared_faults, stray_faults, NoneBrought}

@@ -7,9 +7,9 @@ use Rattle.heap_model.specs.Slots.{IsSlot, StandsBehind}
 use Rattle.heap_model.specs.Heap.{HeapAccepted, directory_of}
 use Rattle.heap_model.specs.Lists.{same, times, Least}
 use Rattle.heap_model.specs.Store.{managers_owner, data_owner, owner_under, listed, named, IsHeaderSlot}
-use Rattle.heap_laws.proofs.Slots.{slot_stands, stands_there}
-use Rattle.store_laws.proofs.Listing.{same-yes, same-no, times-cons, times-append, contained-times, times-contained, all-times, distinct-times}
-use Rattle.store_laws.proofs.Owners.{owned_some, directory_owner, owned_slot}
+use Rattle.laws_heap.proofs.Slots.{slot_stands, stands_there}
+use Rattle.laws_store.proofs.Listing.{same-yes, same-no, times-cons, times-append, contained-times, times-contained, all-times, distinct-times}
+use Rattle.laws_store.proofs.Owners.{owned_some, directory_owner, owned_slot}
 use Rattle.store_check.specs.Faults.{IsShared, IsStray}
 use Rattle.store_check.specs.Naming.{AreNamed, accounted, AreMarks, IsMarkedTwice, IsUnmarked}
 

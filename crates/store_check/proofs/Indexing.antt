@@ -3,7 +3,7 @@ use Rattle.std.proofs.Common.{◌≡◌, ℕ, ◌<◌, length, get_or, sym, subs
 use Rattle.std.proofs.lemmas.List.FromFn.{length-map-range_with_len, get_or-map-range_with_len}
 use Rattle.std.specs.Prelude.{All}
 use Rattle.heap_model.specs.Lists.{times, Distinct, numbered}
-use Rattle.store_laws.proofs.Listing.{times-some, contained-times}
+use Rattle.laws_store.proofs.Listing.{times-some, contained-times}
 
 pub length-numbered : {X : Type 0} (each : ℕ → X) (n : ℕ) → length (numbered each n) ≡ n
 length-numbered each n = length-map-range_with_len each 0 n

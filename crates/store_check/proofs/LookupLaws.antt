@@ -10,9 +10,9 @@ use Rattle.heap_model.specs.Meaning.{LiveChunk}
 use Rattle.heap_model.specs.Reading.{chunk_at, chunks_of, held}
 use Rattle.heap_model.specs.Store.{managers_owner, bytes_of, owner_of, bytes_under, owner_under, directory_bytes}
 use Rattle.heap_model.specs.declared.names.Place.{Place}
-use Rattle.heap_laws.proofs.Meanings.{held-is, held-zero, empty_unheld}
-use Rattle.heap_laws.proofs.Finding.{read_heap, InSlot, in_slot, finds_held, finds_spelled, finds_read}
-use Rattle.store_laws.proofs.Owners.{directory_owner, owned_slot}
+use Rattle.laws_heap.proofs.Meanings.{held-is, held-zero, empty_unheld}
+use Rattle.laws_heap.proofs.Finding.{read_heap, InSlot, in_slot, finds_held, finds_spelled, finds_read}
+use Rattle.laws_store.proofs.Owners.{directory_owner, owned_slot}
 use Rattle.chunk_format.specs.declared.header.Header.{Header}
 use Rattle.chunk_format.specs.declared.header.Header.TheVariants as headers
 use Rattle.chunk_format.specs.Header.{header_of}

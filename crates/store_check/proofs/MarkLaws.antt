@@ -4,8 +4,8 @@ use Rattle.std.proofs.lemmas.Bool.{cases_eq}
 use Rattle.std.proofs.lemmas.List.{get_or-set_same, get_or-set_other}
 use Rattle.heap_model.specs.Slots.{IsSlot, StandsBehind}
 use Rattle.heap_model.specs.Lists.{same, times}
-use Rattle.heap_laws.proofs.Slots.{same_number, same_slot, stands_slot}
-use Rattle.store_laws.proofs.Listing.{same-yes, same-no, times-cons, times-append}
+use Rattle.laws_heap.proofs.Slots.{same_number, same_slot, stands_slot}
+use Rattle.laws_store.proofs.Listing.{same-yes, same-no, times-cons, times-append}
 use Rattle.store_check.specs.Naming.{AreMarks}
 
 -- one more

@@ -2,7 +2,7 @@
 use Rattle.std.proofs.Common.{◌≡◌, ℕ, ◌<◌, List, take, sym, ap, ◌∙◌, arith}
 use Rattle.std.specs.Prelude.{◌↔◌}
 use Rattle.heap_model.specs.Database.{name_field, name_in, HasName}
-use Rattle.store_laws.proofs.Names.{name_read}
+use Rattle.laws_store.proofs.Names.{name_read}
 use Rattle.store_check.specs.Listing.{listed_count}
 use Rattle.store_check.specs.Faults.{IsSameName, same_name_faults, NoneBrought}
 

@@ -6,8 +6,8 @@ use Rattle.heap_model.specs.Heap.{HeapAccepted, directory_of}
 use Rattle.heap_model.specs.Lists.{same, times, numbered}
 use Rattle.heap_model.specs.Store.{managers_owner, owner_under, directory_bytes, listed, most_databases, IsHeaderSlot}
 use Rattle.heap_check.specs.Faults.{FirstBrought}
-use Rattle.store_laws.proofs.Listing.{same-yes, same-no, times-cons}
-use Rattle.store_laws.proofs.Numbers.{numbered_more}
+use Rattle.laws_store.proofs.Listing.{same-yes, same-no, times-cons}
+use Rattle.laws_store.proofs.Numbers.{numbered_more}
 use Rattle.store_check.specs.declared.fault.StoreFault.TheVariants.{BadDirectorySlot}
 use Rattle.store_check.specs.Listing.{listed_at, listed_count, IsListing}
 use Rattle.store_check.specs.Faults.{IsBadSlot, slot_faults, NoneBrought}

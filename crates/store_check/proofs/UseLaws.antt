@@ -8,7 +8,7 @@ use Rattle.heap_model.specs.Heap.{directory_of}
 use Rattle.heap_model.specs.Lists.{numbered}
 use Rattle.heap_model.specs.Database.{entry_data, data_in, entry_in, entry_count_in, database_in}
 use Rattle.heap_model.specs.Store.{StoredDatabase, listed, database_under, databases, named_by, named}
-use Rattle.store_laws.proofs.Numbers.{numbered_more}
+use Rattle.laws_store.proofs.Numbers.{numbered_more}
 use Rattle.store_check.specs.Listing.{listed_at, listed_count, header_at, entries_in}
 
 -- one number more

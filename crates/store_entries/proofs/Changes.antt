@@ -14,14 +14,14 @@ use Rattle.heap_model.specs.Counts.{IsSound, NamesData}
 use Rattle.heap_model.specs.Leaving.{Leaves, Respells, database_here}
 use Rattle.heap_model.specs.EntrySteps.{data_under, replaced, without_data, raised_header, with_entries, entry_changed, data_freed, entry_dropped, entry_handed_over, raised, LeavesStore, MakesNone}
 use Rattle.heap_model.specs.declared.names.Db.{Db}
-use Rattle.heap_laws.proofs.Deciding.{same_some, none_some}
-use Rattle.store_laws.specs.Entries.{HasOwnId}
-use Rattle.store_laws.proofs.Listing.{same-no}
-use Rattle.store_laws.proofs.Owners.{owned_some}
-use Rattle.store_laws.proofs.Numbered.{accepted_sound, number_slot, number_some, number_held, data_here, entry_owner}
-use Rattle.store_laws.proofs.Edited.{edited, gone_balance, respelled}
-use Rattle.store_laws.proofs.Editing.{edit_steps, respell_steps}
-use Rattle.store_laws.proofs.Entries.{raised_sound, replaced_is, replaced_kept, replaced_own, replaced_names, removed_sound, removed_names, moved_sound, moved_names}
+use Rattle.laws_heap.proofs.Deciding.{same_some, none_some}
+use Rattle.laws_store.specs.Entries.{HasOwnId}
+use Rattle.laws_store.proofs.Listing.{same-no}
+use Rattle.laws_store.proofs.Owners.{owned_some}
+use Rattle.laws_store.proofs.Numbered.{accepted_sound, number_slot, number_some, number_held, data_here, entry_owner}
+use Rattle.laws_store.proofs.Edited.{edited, gone_balance, respelled}
+use Rattle.laws_store.proofs.Editing.{edit_steps, respell_steps}
+use Rattle.laws_store.proofs.Entries.{raised_sound, replaced_is, replaced_kept, replaced_own, replaced_names, removed_sound, removed_names, moved_sound, moved_names}
 use Rattle.mem_manager.specs.Lookup.{IsMovable}
 use Rattle.store_lookup.specs.Databases.{HasNumber}
 use Rattle.store_entries.proofs.Named.{for_data, data_callers, data_movable, data_no_directory}

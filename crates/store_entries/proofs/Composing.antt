@@ -13,10 +13,10 @@ use Rattle.heap_model.specs.Maps.{updated, changed, gone}
 use Rattle.heap_model.specs.Database.{Database, spelled, database_in}
 use Rattle.heap_model.specs.Leaving.{Leaves, Respells, rewritten, database_here}
 use Rattle.heap_model.specs.EntrySteps.{MakesNone}
-use Rattle.heap_laws.proofs.Deciding.{none_some}
-use Rattle.heap_laws.proofs.Meanings.{held-zero}
-use Rattle.store_laws.proofs.Keeping.{bytes_like}
-use Rattle.store_laws.proofs.Edited.{edited, here as updated_here, apart as updated_apart}
+use Rattle.laws_heap.proofs.Deciding.{none_some}
+use Rattle.laws_heap.proofs.Meanings.{held-zero}
+use Rattle.laws_store.proofs.Keeping.{bytes_like}
+use Rattle.laws_store.proofs.Edited.{edited, here as updated_here, apart as updated_apart}
 
 -- ---- what names stand for
 

@@ -9,8 +9,8 @@ use Rattle.heap_model.specs.Counts.{NamesData}
 use Rattle.heap_model.specs.Leaving.{database_here}
 use Rattle.heap_model.specs.EntrySteps.{resources_under, OfEntry, deleted_bit, without_data}
 use Rattle.heap_model.specs.declared.names.Db.{Db}
-use Rattle.store_laws.specs.Entries.{HasOwnId}
-use Rattle.store_laws.proofs.Numbered.{accepted_sound, entry_here, kind_here, data_here, entry_fits, entry_names}
+use Rattle.laws_store.specs.Entries.{HasOwnId}
+use Rattle.laws_store.proofs.Numbered.{accepted_sound, entry_here, kind_here, data_here, entry_fits, entry_names}
 use Rattle.store_lookup.specs.Databases.{HasNumber}
 use Rattle.store_entries.specs.declared.changing.Label.{Label}
 use Rattle.store_entries.specs.declared.changing.Label.TheVariants as labels

@@ -8,10 +8,10 @@ use Rattle.heap_model.specs.Meaning.{LiveChunk, NamedHere}
 use Rattle.heap_model.specs.Reading.{held}
 use Rattle.heap_model.specs.Maps.{callers_map}
 use Rattle.heap_model.specs.Store.{owner_of, owner_under, data_owner}
-use Rattle.heap_laws.proofs.Placed.{EveryPlaced-split}
-use Rattle.heap_laws.proofs.Finding.{read_heap, held_finds, finds_spelled, callers_some}
+use Rattle.laws_heap.proofs.Placed.{EveryPlaced-split}
+use Rattle.laws_heap.proofs.Finding.{read_heap, held_finds, finds_spelled, callers_some}
 use Rattle.mem_manager.specs.Lookup.{IsMovable}
-use Rattle.store_laws.proofs.Owners.{directory_owner}
+use Rattle.laws_store.proofs.Owners.{directory_owner}
 
 -- a chunk that is for data
 pub record IsForData (image : List ℕ) (name : ℕ) : Type 0 where

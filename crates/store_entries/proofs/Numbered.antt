@@ -11,8 +11,8 @@ use Rattle.heap_model.specs.StoreWords.{In}
 use Rattle.heap_model.specs.Leaving.{database_here}
 use Rattle.heap_model.specs.EntrySteps.{entries_in, OfEntry, resources_under}
 use Rattle.heap_model.specs.declared.names.Db.{Db}
-use Rattle.store_laws.proofs.Shapes.{offset_below}
-use Rattle.store_laws.proofs.Numbered.{in_store, number_spelled, entries_here, kind_here, entry_fits, accepted_sound}
+use Rattle.laws_store.proofs.Shapes.{offset_below}
+use Rattle.laws_store.proofs.Numbered.{in_store, number_spelled, entries_here, kind_here, entry_fits, accepted_sound}
 use Rattle.store_lookup.specs.Databases.{HasNumber}
 use Rattle.store_lookup.proofs.Numbers.{number_shape}
 

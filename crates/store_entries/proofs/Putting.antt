@@ -19,22 +19,22 @@ use Rattle.heap_model.specs.Leaving.{Leaves, Respells, rewritten, SpellsHere, da
 use Rattle.heap_model.specs.EntrySteps.{entries_in, resources_under, with_entry_at, entry_made, LeavesStore}
 use Rattle.heap_model.specs.StoreSteps.{StoreAsBefore}
 use Rattle.heap_model.specs.declared.names.Db.{Db}
-use Rattle.heap_laws.proofs.Holding.{as_before}
+use Rattle.laws_heap.proofs.Holding.{as_before}
 use Rattle.mem_manager.specs.Lookup.{MakesNew}
-use Rattle.store_laws.specs.Entries.{HasNewId}
-use Rattle.store_laws.proofs.Creating.{managers_loose}
-use Rattle.store_laws.proofs.Entries.{fresh_new}
-use Rattle.store_laws.proofs.Edited.{here as updated_here, apart as updated_apart}
-use Rattle.store_laws.proofs.Editing.{make_steps, same_steps}
-use Rattle.store_laws.proofs.Numbered.{in_here, in_store, entries_here, kind_here}
-use Rattle.store_laws.proofs.Owners.{owned_some, directory_owner}
-use Rattle.store_laws.proofs.Parts.{made_then_short}
+use Rattle.laws_store.specs.Entries.{HasNewId}
+use Rattle.laws_store.proofs.Creating.{managers_loose}
+use Rattle.laws_store.proofs.Entries.{fresh_new}
+use Rattle.laws_store.proofs.Edited.{here as updated_here, apart as updated_apart}
+use Rattle.laws_store.proofs.Editing.{make_steps, same_steps}
+use Rattle.laws_store.proofs.Numbered.{in_here, in_store, entries_here, kind_here}
+use Rattle.laws_store.proofs.Owners.{owned_some, directory_owner}
+use Rattle.laws_store.proofs.Parts.{made_then_short}
 use Rattle.store_lookup.specs.Databases.{HasNumber}
 use Rattle.store_entries.specs.declared.making.NewEntry.{NewEntry}
 use Rattle.store_entries.specs.declared.making.NewEntry.TheVariants as new
 use Rattle.store_entries.specs.Labels.{IsMadeOf}
 use Rattle.store_entries.specs.Putting.{PutsIn}
-use Rattle.store_laws.proofs.Keeping.{bytes_like}
+use Rattle.laws_store.proofs.Keeping.{bytes_like}
 use Rattle.store_entries.proofs.Composing.{then_respelled, database_kept, still_between}
 
 -- ---- when the chunk was made

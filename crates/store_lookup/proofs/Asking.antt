@@ -17,9 +17,9 @@ use Rattle.heap_model.specs.declared.call.DatabaseCall.TheVariants.{Find, Nth, C
 use Rattle.heap_model.specs.declared.call.Call.TheVariants as calls
 use Rattle.heap_model.specs.declared.call.Reply.TheVariants as replies
 use Rattle.heap_model.specs.declared.refusal.Refusal.TheVariants.{NoSuchDatabase}
-use Rattle.store_laws.proofs.Listing.{all-times, map-All}
-use Rattle.store_laws.proofs.Counting.{listed_numbers}
-use Rattle.store_laws.proofs.Doing.{asks, same_store, refused}
+use Rattle.laws_store.proofs.Listing.{all-times, map-All}
+use Rattle.laws_store.proofs.Counting.{listed_numbers}
+use Rattle.laws_store.proofs.Doing.{asks, same_store, refused}
 use Rattle.db_format.specs.declared.header.DbHeader.{DbHeader}
 use Rattle.db_format.specs.Headers.{header_of, HasHeader}
 use Rattle.store_lookup.specs.Databases.{HasNumber, name_under}

@@ -13,13 +13,13 @@ use Rattle.heap_model.specs.Lists.{times}
 use Rattle.heap_model.specs.Database.{database_in, HasShape}
 use Rattle.heap_model.specs.Store.{StoredDatabase, managers_owner, bytes_of, owner_of, bytes_under, owner_under, directory_bytes, listed, database_under, databases, IsHeaderSlot, Accepted, store_of}
 use Rattle.heap_model.specs.StoreWords.{with_number}
-use Rattle.heap_laws.proofs.Meanings.{held-zero}
-use Rattle.store_laws.proofs.Listing.{times-some, times-contained, contained-times}
-use Rattle.store_laws.proofs.Shapes.{spelled_shape}
-use Rattle.store_laws.proofs.Owners.{directory_owner}
+use Rattle.laws_heap.proofs.Meanings.{held-zero}
+use Rattle.laws_store.proofs.Listing.{times-some, times-contained, contained-times}
+use Rattle.laws_store.proofs.Shapes.{spelled_shape}
+use Rattle.laws_store.proofs.Owners.{directory_owner}
 use Rattle.store_lookup.specs.Databases.{HasNumber, IsListedAt}
 -- These laws are those of numbers in an accepted image.
-pub use Rattle.store_laws.proofs.Numbered.{with_number_is, with_number_none, number_listed, listed_number, number_here as has_number_is, in_store, number_slot, owned_there, number_held, number_spelled}
+pub use Rattle.laws_store.proofs.Numbered.{with_number_is, with_number_none, number_listed, listed_number, number_here as has_number_is, in_store, number_slot, owned_there, number_held, number_spelled}
 
 -- what isn't a number is that of no database
 pub no_number : (image : List ℕ) (db : ℕ) → (HasNumber image db → ⊥) → with_number (store_of image) db ≡ None

@@ -8,7 +8,7 @@ use Rattle.heap_model.specs.Store.{bytes_under}
 use Rattle.heap_model.specs.Leaving.{database_here}
 use Rattle.heap_model.specs.EntrySteps.{with_entry_at}
 use Rattle.db_format.specs.EitherEntry.{entry_of}
-use Rattle.heap_laws.proofs.Results.{on_err}
+use Rattle.laws_heap.proofs.Results.{on_err}
 use Rattle.database_edits.proofs.Opening.{short_of, inserted}
 use Rattle.database_edits.proofs.inserting.insert_entry.Goals as goal
 

@@ -1,6 +1,6 @@
 use Rattle.std.proofs.Common.{sym, ◌∙◌, refl}
 use Rattle.std.proofs.lemmas.Bool.{false≢true}
-use Rattle.heap_laws.proofs.Slots.{length-slots_of}
+use Rattle.laws_heap.proofs.Slots.{length-slots_of}
 use Rattle.heap_check.proofs.CheckLaws.{surveyed_mismatch, surveyed_without, surveyed_owner, passed_paired, passed_directory, passed_heap}
 use Rattle.heap_check.proofs.check.check_area.Goals as goal
 

@@ -1,6 +1,6 @@
 use Rattle.std.proofs.lemmas.Bool.{false≢true}
 use Rattle.heap_model.specs.Slots.{IsSlot}
-use Rattle.heap_laws.proofs.Slots.{stands_slot, slot_within}
+use Rattle.laws_heap.proofs.Slots.{stands_slot, slot_within}
 use Rattle.heap_check.proofs.DirectoryLaws.{directory_decided, no_directory}
 use Rattle.heap_check.proofs.directory.has_directory.Goals as goal
 

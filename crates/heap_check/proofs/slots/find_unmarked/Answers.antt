@@ -1,7 +1,7 @@
 use Rattle.std.proofs.Common.{refl, arith, List, ℕ, subst}
 use Rattle.std.proofs.lemmas.Bool.{false≢true}
 use Rattle.heap_model.specs.Placed.{EveryOne}
-use Rattle.heap_laws.proofs.Slots.{every_first-more, first_slots-all}
+use Rattle.laws_heap.proofs.Slots.{every_first-more, first_slots-all}
 use Rattle.heap_check.specs.Survey.{IsMarked}
 use Rattle.heap_check.proofs.SlotLaws.{first_of_number}
 use Rattle.heap_check.proofs.slots.find_unmarked.Goals as goal

@@ -1,5 +1,5 @@
 use Rattle.std.proofs.Common.{ℕ, subst, ◌∙◌}
-use Rattle.heap_laws.proofs.Slots.{stands_slot, slot_within, same_number}
+use Rattle.laws_heap.proofs.Slots.{stands_slot, slot_within, same_number}
 use Rattle.heap_check.specs.Survey.{MarkedAt}
 use Rattle.heap_check.proofs.slots.is_marked.Goals as goal
 

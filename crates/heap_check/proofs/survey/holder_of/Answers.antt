@@ -1,4 +1,4 @@
-use Rattle.heap_laws.proofs.Slots.{stands_slot, slot_within}
+use Rattle.laws_heap.proofs.Slots.{stands_slot, slot_within}
 use Rattle.heap_check.proofs.survey.holder_of.Goals as goal
 
 pub get_u32-requires : goal.get_u32-requires

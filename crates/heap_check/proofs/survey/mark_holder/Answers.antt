@@ -1,7 +1,7 @@
 use Rattle.std.proofs.Common.{ℕ, ◌<◌, arith, sym, ap, subst, ◌∙◌}
 use Rattle.heap_model.specs.Bytes.{u32_at}
 use Rattle.heap_model.specs.Slots.{IsSlot}
-use Rattle.heap_laws.proofs.Slots.{stands_slot}
+use Rattle.laws_heap.proofs.Slots.{stands_slot}
 use Rattle.heap_check.specs.Survey.{IsHolder}
 use Rattle.heap_check.proofs.SlotLaws.{holds_true, holds_false, mark_set, mark_none}
 use Rattle.heap_check.proofs.survey.mark_holder.Goals as goal

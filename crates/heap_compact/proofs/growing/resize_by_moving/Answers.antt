@@ -2,8 +2,8 @@ use Rattle.std.proofs.Common.{◌≡◌, ℕ, sym, subst, arith}
 use Rattle.heap_model.specs.Space.{Short, MovesOneStretchAnd}
 use Rattle.heap_model.specs.Memory.{Memory}
 use Rattle.heap_model.specs.Chunk.{need}
-use Rattle.heap_laws.proofs.Fitting.{room_not_short_for, short_for_beyond}
-use Rattle.heap_laws.proofs.Unmoved.{alone_one, itself_alone}
+use Rattle.laws_heap.proofs.Fitting.{room_not_short_for, short_for_beyond}
+use Rattle.laws_heap.proofs.Unmoved.{alone_one, itself_alone}
 use Rattle.heap_compact.proofs.ResizedLaws.{is_loose, loose_slid, slid_then, slid_alone, fits_in_stretch, fits_not_short, short_own, own_fits, room_fits}
 use Rattle.heap_compact.proofs.growing.resize_by_moving.Goals as goal
 

@@ -1,6 +1,6 @@
 use Rattle.std.proofs.Common.{ap, arith}
 use Rattle.heap_model.specs.Memory.{Memory}
-use Rattle.heap_laws.proofs.Directory.{directory_written}
+use Rattle.laws_heap.proofs.Directory.{directory_written}
 use Rattle.heap_place.proofs.directory.name_directory.Goals as goal
 
 pub returns-clause-names : goal.returns-clause-names

@@ -1,8 +1,8 @@
 use Rattle.std.proofs.Common.{◌-◌, ◌+◌, arith}
 use Rattle.heap_model.specs.Packing.{lives}
 use Rattle.heap_place.proofs.StretchLaws.{stretch_run, among_stretch, moves_few, packed_frame, packed_plain, slot_then, table_then, numbers, room_behind, opened_some, opened_none}
-use Rattle.heap_laws.proofs.Becoming.{frame_then}
-use Rattle.heap_laws.proofs.Plain.{plain_then}
+use Rattle.laws_heap.proofs.Becoming.{frame_then}
+use Rattle.laws_heap.proofs.Plain.{plain_then}
 use Rattle.heap_place.proofs.open.open_in.Goals as goal
 
 pub pack-room-requires-clause-run : goal.pack-room-requires-clause-run

@@ -1,6 +1,6 @@
 use Rattle.std.proofs.Common.{◌∙◌, inl, inr, refl}
-use Rattle.heap_laws.proofs.Plain.{plain_then}
-use Rattle.heap_laws.proofs.Directory.{named_room, relocated_again}
+use Rattle.laws_heap.proofs.Plain.{plain_then}
+use Rattle.laws_heap.proofs.Directory.{named_room, relocated_again}
 use Rattle.heap_place.proofs.DirectoryLaws.{named_one, some_name, moved_owner}
 use Rattle.heap_place.proofs.relocate.relocate_directory.Goals as goal
 

@@ -1,5 +1,5 @@
 use Rattle.std.proofs.Common.{sym, ap, ◌∙◌}
-use Rattle.heap_laws.proofs.Plain.{plain_then}
+use Rattle.laws_heap.proofs.Plain.{plain_then}
 use Rattle.heap_place.specs.declared.found.Found.{Found}
 use Rattle.heap_place.proofs.RelocateLaws.{stand_apart, relocated_found, slot_emptied, freed_keeps, owner_fits}
 use Rattle.heap_place.proofs.relocate.relocate_other.Goals as goal

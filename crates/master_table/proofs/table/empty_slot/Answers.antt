@@ -1,6 +1,6 @@
 use Rattle.std.proofs.Common.{◌≡◌, ℕ, subst, ◌∙◌}
 use Rattle.heap_model.specs.Bytes.{u32_at}
-use Rattle.heap_laws.proofs.Slots.{stands_slot, same_slot}
+use Rattle.laws_heap.proofs.Slots.{stands_slot, same_slot}
 use Rattle.master_table.proofs.table.empty_slot.Goals as goal
 
 pub word_of-requires-clause-slot : goal.word_of-requires-clause-slot

@@ -1,4 +1,4 @@
-use Rattle.heap_laws.proofs.Slots.{stands_slot}
+use Rattle.laws_heap.proofs.Slots.{stands_slot}
 use Rattle.master_table.proofs.table.resolve.Goals as goal
 
 pub place_in-requires-clause-slot : goal.place_in-requires-clause-slot

@@ -3,7 +3,7 @@ use Rattle.heap_model.specs.EntrySteps.{deleted_bit}
 use Rattle.heap_model.specs.declared.call.Call.TheVariants as calls
 use Rattle.heap_model.specs.declared.call.RecordCall.TheVariants.{Archive}
 use Rattle.heap_model.specs.declared.call.Reply.TheVariants.{Done}
-use Rattle.store_laws.proofs.Doing.{changes, kept_then}
+use Rattle.laws_store.proofs.Doing.{changes, kept_then}
 use Rattle.record_db.proofs.Labels.{may_have, attributes_set}
 use Rattle.record_db.proofs.Raising.{number_left, raised_after}
 use Rattle.record_db.proofs.changing.archive.Goals as goal

@@ -1,5 +1,5 @@
 use Rattle.std.proofs.Common.{refl, sym, subst, inr}
-use Rattle.store_laws.proofs.Doing.{refused, handed_on, changes}
+use Rattle.laws_store.proofs.Doing.{refused, handed_on, changes}
 use Rattle.record_db.proofs.Resized.{leaves_resized, may_grow, no_growth}
 use Rattle.heap_model.specs.Memory.{Memory}
 use Rattle.heap_model.specs.Store.{store_of}
@@ -9,7 +9,7 @@ use Rattle.heap_model.specs.declared.refusal.Refusal.{Refusal}
 use Rattle.heap_model.specs.EntrySteps.{data_under}
 use Rattle.heap_model.specs.declared.call.RecordCall.TheVariants.{Resize}
 use Rattle.heap_model.specs.declared.call.Reply.TheVariants.{Done, Refused}
-use Rattle.heap_laws.proofs.Unmoved.{itself_alone}
+use Rattle.laws_heap.proofs.Unmoved.{itself_alone}
 use Rattle.record_db.proofs.Raising.{raised_after, nothing_moved, one_stretch_moved}
 use Rattle.record_db.proofs.making.resize_record.Goals as goal
 

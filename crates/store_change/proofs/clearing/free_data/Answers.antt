@@ -1,7 +1,7 @@
 -- The header is as it was, so the next slot is that of the database that was given; its chunk is still there.
 use Rattle.std.proofs.Common.{refl, sym, subst, ◌∙◌, ◌≡◌, ◌<◌, ℕ, List, length}
 use Rattle.heap_model.specs.Database.{IsSpelled, database_in, data_in}
-use Rattle.store_laws.proofs.Doing.{kept_then}
+use Rattle.laws_store.proofs.Doing.{kept_then}
 use Rattle.store_lookup.proofs.Numbers.{number_spelled}
 use Rattle.store_change.proofs.Freeing.{freed_none, freed_next, named_at, header_there, header_like, slot_left, slot_other}
 use Rattle.store_change.proofs.clearing.free_data.Goals as goal

@@ -3,7 +3,7 @@ use Rattle.std.specs.Prelude.{Option}
 use Rattle.heap_model.specs.Meaning.{LiveChunk}
 use Rattle.heap_model.specs.MemorySteps.{Of, IsLocked}
 use Rattle.heap_model.specs.Reading.{held}
-use Rattle.heap_laws.proofs.Meanings.{held-zero}
+use Rattle.laws_heap.proofs.Meanings.{held-zero}
 use Rattle.store_change.proofs.clearing.is_locked.Goals as goal
 
 pub returns-then-slot-eq0 : goal.returns-then-slot-eq0

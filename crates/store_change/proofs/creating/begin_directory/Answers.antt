@@ -2,7 +2,7 @@
 use Rattle.std.proofs.Common.{ap, ◌∙◌, arith, ℕ, length, replicate, ◌≡◌}
 use Rattle.std.proofs.lemmas.List.{length-replicate}
 use Rattle.heap_model.specs.Bytes.{overwritten}
-use Rattle.heap_laws.proofs.Frames.{length-u32_bytes}
+use Rattle.laws_heap.proofs.Frames.{length-u32_bytes}
 use Rattle.store_change.proofs.Listing.{made_here, put_here, begun, chunk_of}
 use Rattle.store_change.proofs.Maps.{bytes_held, owner_held}
 use Rattle.store_change.proofs.creating.begin_directory.Goals as goal

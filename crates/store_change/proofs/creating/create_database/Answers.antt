@@ -9,8 +9,8 @@ use Rattle.heap_model.specs.DatabaseSteps.{IsTaken, empty_database}
 use Rattle.heap_model.specs.declared.call.DatabaseCall.TheVariants.{Create}
 use Rattle.heap_model.specs.declared.call.Call.TheVariants as calls
 use Rattle.heap_model.specs.declared.call.Reply.TheVariants as replies
-use Rattle.store_laws.proofs.Doing.{handed_on}
-use Rattle.store_laws.proofs.Spellings.{length-header_bytes}
+use Rattle.laws_store.proofs.Doing.{handed_on}
+use Rattle.laws_store.proofs.Spellings.{length-header_bytes}
 use Rattle.store_change.specs.Listing.{ListsNew}
 use Rattle.store_change.proofs.Maps.{bytes_held}
 use Rattle.store_change.proofs.Listing.{chunk_of}

@@ -7,8 +7,8 @@ use Rattle.heap_model.specs.Heap.{directory_of}
 use Rattle.heap_model.specs.Space.{ShortFor}
 use Rattle.heap_model.specs.Store.{directory_bytes}
 use Rattle.heap_model.specs.declared.refusal.Refusal.TheVariants.{NotEnoughSpace}
-use Rattle.store_laws.proofs.Creating.{managers_loose}
-use Rattle.heap_laws.proofs.Results.{if_err, on_err}
+use Rattle.laws_store.proofs.Creating.{managers_loose}
+use Rattle.laws_heap.proofs.Results.{if_err, on_err}
 use Rattle.store_change.proofs.Listing.{the_directory, directory_loose, directory_few, directory_short, grown_room, growth_short, sized_here, extended}
 use Rattle.store_change.proofs.creating.extend_directory.Goals as goal
 

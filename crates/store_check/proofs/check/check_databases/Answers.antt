@@ -2,7 +2,7 @@ use Rattle.std.proofs.Common.{◌≡◌}
 use Rattle.std.specs.Prelude.{◌⊎◌}
 use Rattle.heap_model.specs.Store.{Accepted}
 use Rattle.store_check.specs.declared.fault.StoreFault.TheVariants.{OutOfMemory}
-use Rattle.heap_laws.proofs.Results.{if_err}
+use Rattle.laws_heap.proofs.Results.{if_err}
 use Rattle.store_check.proofs.CheckLaws.{marked_first, own_first, first_refused, none_accepted, listed_length}
 use Rattle.store_check.proofs.check.check_databases.Goals as goal
 

@@ -1,5 +1,5 @@
 use Rattle.store_check.specs.Checks.{IsAnswered}
-use Rattle.heap_laws.proofs.Results.{if_err}
+use Rattle.laws_heap.proofs.Results.{if_err}
 use Rattle.store_check.proofs.CheckLaws.{store_first}
 use Rattle.store_check.proofs.check.check_store_from.Goals as goal
 

@@ -1,6 +1,6 @@
 use Rattle.std.proofs.Common.{◌≡◌, ◌*◌, ◌∙◌, ap, ℕ, List, length, refl, arith, inl, inr}
 use Rattle.heap_model.specs.Bytes.{u32_at}
-use Rattle.store_laws.proofs.Owners.{owned_slot}
+use Rattle.laws_store.proofs.Owners.{owned_slot}
 use Rattle.store_check.specs.Listing.{listed_at}
 use Rattle.store_check.specs.Naming.{met}
 use Rattle.store_check.proofs.SlotLaws.{word_bad}

@@ -1,7 +1,7 @@
 use Rattle.std.proofs.Common.{◌∙◌}
 use Rattle.heap_model.specs.EntrySteps.{Tells}
 use Rattle.db_format.specs.EitherEntry.{entry_of}
-use Rattle.store_laws.proofs.Numbered.{entry_here}
+use Rattle.laws_store.proofs.Numbered.{entry_here}
 use Rattle.store_entries.proofs.Numbered.{of_entry}
 use Rattle.store_entries.proofs.asking.entry.Goals as goal
 

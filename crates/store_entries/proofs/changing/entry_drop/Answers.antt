@@ -6,7 +6,7 @@ use Rattle.heap_model.specs.Reading.{held}
 use Rattle.heap_model.specs.Store.{store_of}
 use Rattle.heap_model.specs.EntrySteps.{LeavesStore, data_under}
 use Rattle.db_format.specs.EitherEntry.{entry_of}
-use Rattle.store_laws.proofs.Numbered.{accepted_spells}
+use Rattle.laws_store.proofs.Numbered.{accepted_spells}
 use Rattle.store_entries.specs.Labels.{MayOwn, dropped_to}
 use Rattle.store_entries.proofs.Numbered.{count_fits, index_below}
 use Rattle.store_entries.proofs.Changes.{drop_steps, hand_over_steps, slot_there, slot_no_directory, slot_movable, slot_some}

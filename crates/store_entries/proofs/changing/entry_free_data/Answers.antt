@@ -5,7 +5,7 @@ use Rattle.heap_model.specs.Leaving.{Leaves}
 use Rattle.heap_model.specs.Reading.{held}
 use Rattle.heap_model.specs.EntrySteps.{without_data}
 use Rattle.db_format.specs.EitherEntry.{entry_of}
-use Rattle.store_laws.proofs.Numbered.{accepted_spells}
+use Rattle.laws_store.proofs.Numbered.{accepted_spells}
 use Rattle.store_entries.proofs.Numbered.{count_fits, fits_here, index_below}
 use Rattle.store_entries.proofs.Changes.{free_steps, slot_there, slot_no_directory}
 use Rattle.store_entries.proofs.Labelling.{emptied_names, emptied_id, emptied_data}

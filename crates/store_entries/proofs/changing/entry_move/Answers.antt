@@ -1,5 +1,5 @@
 use Rattle.std.proofs.Common.{arith}
-use Rattle.store_laws.proofs.Numbered.{accepted_spells}
+use Rattle.laws_store.proofs.Numbered.{accepted_spells}
 use Rattle.store_entries.proofs.Numbered.{count_fits, index_below, index_most}
 use Rattle.store_entries.proofs.Changes.{move_steps, respelled_none}
 use Rattle.store_entries.proofs.changing.entry_move.Goals as goal

@@ -1,7 +1,7 @@
 use Rattle.std.proofs.Common.{arith, ◌∙◌, ℕ, List}
 use Rattle.heap_model.specs.Database.{Entry}
 use Rattle.db_format.specs.EitherEntry.{entry_of}
-use Rattle.store_laws.proofs.Numbered.{accepted_spells}
+use Rattle.laws_store.proofs.Numbered.{accepted_spells}
 use Rattle.store_entries.specs.Labels.{labelled}
 use Rattle.store_entries.proofs.Numbered.{count_fits, fits_here, index_below}
 use Rattle.store_entries.proofs.Changes.{set_steps, respelled_none}

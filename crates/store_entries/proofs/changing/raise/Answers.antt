@@ -1,4 +1,4 @@
-use Rattle.store_laws.proofs.Numbered.{accepted_spells}
+use Rattle.laws_store.proofs.Numbered.{accepted_spells}
 use Rattle.store_entries.proofs.Changes.{raise_steps, respelled_none}
 use Rattle.store_entries.proofs.changing.raise.Goals as goal
 

@@ -3,9 +3,9 @@ use Rattle.std.proofs.Common.{◌<◌, ◌∙◌, arith, ℕ, List, length}
 use Rattle.heap_model.specs.EntrySteps.{entries_in}
 use Rattle.heap_model.specs.Store.{store_of}
 use Rattle.db_format.specs.EitherEntry.{entry_of}
-use Rattle.store_laws.proofs.Editing.{same_steps}
+use Rattle.laws_store.proofs.Editing.{same_steps}
 use Rattle.store_entries.proofs.Putting.{new_steps, left_as_before}
-use Rattle.heap_laws.proofs.Results.{on_err}
+use Rattle.laws_heap.proofs.Results.{on_err}
 use Rattle.store_entries.proofs.making.entry_new.Goals as goal
 
 pub returns-in_err-name-clause-refused : goal.returns-in_err-name-clause-refused

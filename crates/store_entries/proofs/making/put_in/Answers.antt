@@ -7,7 +7,7 @@ use Rattle.heap_model.specs.Maps.{gone}
 use Rattle.heap_model.specs.Leaving.{Leaves}
 use Rattle.heap_model.specs.Database.{Entry, Database, entry_with, has_resources}
 use Rattle.db_format.specs.EitherEntry.{entry_of}
-use Rattle.store_laws.proofs.Numbered.{accepted_spells, entries_here, kind_here}
+use Rattle.laws_store.proofs.Numbered.{accepted_spells, entries_here, kind_here}
 use Rattle.store_entries.proofs.Numbered.{index_most}
 use Rattle.store_entries.proofs.Putting.{spells_still, database_still, made_no_directory, puts_in, no_header_room, given_back}
 use Rattle.store_entries.proofs.making.put_in.Goals as goal

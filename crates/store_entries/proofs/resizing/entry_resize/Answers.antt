@@ -6,10 +6,10 @@ use Rattle.heap_model.specs.MemorySteps.{growth_checks}
 use Rattle.heap_model.specs.Refusals.{NoneHolds, FirstBrings}
 use Rattle.heap_model.specs.Store.{store_of}
 use Rattle.heap_model.specs.EntrySteps.{data_under, with_chunks, LeavesStore}
-use Rattle.store_laws.proofs.Editing.{resize_steps}
+use Rattle.laws_store.proofs.Editing.{resize_steps}
 use Rattle.store_entries.proofs.Named.{for_data, data_movable}
 use Rattle.store_entries.proofs.Changes.{slot_owner, slot_some, slot_named}
-use Rattle.heap_laws.proofs.Results.{if_err}
+use Rattle.laws_heap.proofs.Results.{if_err}
 use Rattle.store_entries.proofs.Growing as growing
 use Rattle.store_entries.proofs.resizing.entry_resize.Goals as goal
 

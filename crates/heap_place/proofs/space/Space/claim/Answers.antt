@@ -4,7 +4,7 @@ use Rattle.heap_model.specs.Bytes.{u32_at}
 use Rattle.heap_model.specs.Slots.{IsSlot}
 use Rattle.heap_model.specs.Heap.{HeapAccepted}
 use Rattle.heap_place.proofs.CutLaws.{room_facts}
-use Rattle.heap_laws.proofs.Becoming.{same_slots}
+use Rattle.laws_heap.proofs.Becoming.{same_slots}
 use Rattle.heap_place.proofs.space.Space.claim.Goals as goal
 
 pub size_of_body-requires : goal.size_of_body-requires

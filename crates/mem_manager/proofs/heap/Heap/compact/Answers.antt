@@ -6,7 +6,7 @@ use Rattle.heap_model.specs.Packing.{Packed, Slid}
 use Rattle.heap_model.specs.MemorySteps.{Does}
 use Rattle.heap_model.specs.declared.call.MemoryCall.TheVariants.{Compact}
 use Rattle.heap_model.specs.declared.call.Reply.{Reply}
-use Rattle.heap_laws.proofs.Packings.{packed_is_packed, packed_slid}
+use Rattle.laws_heap.proofs.Packings.{packed_is_packed, packed_slid}
 use Rattle.mem_manager.proofs.Moving.{compacted, used_compacted}
 use Rattle.mem_manager.proofs.heap.Heap.compact.Goals as goal
 

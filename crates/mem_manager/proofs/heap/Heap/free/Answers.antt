@@ -8,7 +8,7 @@ use Rattle.mem_manager.proofs.Stepping.{handed_on, one_of}
 use Rattle.mem_manager.proofs.Making.{free_database, free_locked, freed, used_freed}
 use Rattle.mem_manager.proofs.Altering.{not_the_directory}
 use Rattle.master_table.specs.Table.{NotAmong}
-use Rattle.heap_laws.proofs.Changing.{freed_changes}
+use Rattle.laws_heap.proofs.Changing.{freed_changes}
 use Rattle.mem_manager.proofs.heap.Heap.free.Goals as goal
 use Rattle.mem_manager.proofs.heap.Heap.free.Goals.{else-found-gt0-via-then-found-gt0+else-found-lt-FIXED_LOCK, else-found-gt0-via-else-found-gt0}
 

@@ -3,7 +3,7 @@ use Rattle.heap_model.specs.Memory.{Memory}
 use Rattle.heap_model.specs.Maps.{gone}
 use Rattle.heap_model.specs.Reading.{held}
 use Rattle.heap_model.specs.Leaving.{Leaves}
-use Rattle.heap_laws.proofs.Changing.{freed_changes}
+use Rattle.laws_heap.proofs.Changing.{freed_changes}
 use Rattle.master_table.specs.Table.{NotAmong}
 use Rattle.mem_manager.proofs.Making.{used_freed}
 use Rattle.mem_manager.proofs.Managing.{leaves_gone}

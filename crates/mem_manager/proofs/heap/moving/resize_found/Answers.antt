@@ -3,7 +3,7 @@ use Rattle.heap_model.specs.Memory.{Memory}
 use Rattle.heap_model.specs.Chunk.{need}
 use Rattle.heap_model.specs.Space.{ShortFor, MovesOneStretchAnd}
 use Rattle.heap_compact.specs.Resized.{Resized}
-use Rattle.heap_laws.proofs.Unmoved.{nothing_alone, itself_alone}
+use Rattle.laws_heap.proofs.Unmoved.{nothing_alone, itself_alone}
 use Rattle.mem_manager.proofs.Growing.{never_fits, growth_locked, growth_short, grown_passes, grown_leaves, grown_moves_nothing, moved_passes}
 use Rattle.mem_manager.proofs.heap.moving.resize_found.Goals as goal
 

@@ -1,5 +1,0 @@
-use Rattle.heap_laws.proofs.Accepted.{Decides-accepted}
-use Rattle.heap_laws.proofs.laws.acceptance_is_decided.Goals as goal
-
-pub returns : goal.returns
-returns c image = ((Decides-accepted image).0, (Decides-accepted image).1)

@@ -1,5 +1,0 @@
-use Rattle.heap_laws.proofs.Meanings.{heap_holds, holds_one}
-use Rattle.heap_laws.proofs.laws.holds_one_map.Goals as goal
-
-pub returns : goal.returns
-returns c image accepted = (heap_holds image accepted, holds_one image)

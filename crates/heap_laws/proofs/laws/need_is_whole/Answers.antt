@@ -1,5 +1,0 @@
-use Rattle.std.proofs.Common.{arith}
-use Rattle.heap_laws.proofs.laws.need_is_whole.Goals as goal
-
-pub returns : goal.returns
-returns c count = record { whole = omega arith; least = omega arith; holds = omega arith; tight = omega arith }

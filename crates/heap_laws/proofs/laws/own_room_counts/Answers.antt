@@ -1,5 +1,0 @@
-use Rattle.heap_laws.proofs.Stretches.{short_for_parts}
-use Rattle.heap_laws.proofs.laws.own_room_counts.Goals as goal
-
-pub returns : goal.returns
-returns c = short_for_parts

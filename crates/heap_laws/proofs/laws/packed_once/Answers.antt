@@ -1,5 +1,0 @@
-use Rattle.heap_laws.proofs.Compacting.{packed_chunks, packed_layout}
-use Rattle.heap_laws.proofs.laws.packed_once.Goals as goal
-
-pub returns : goal.returns
-returns c chunks image accepted = (packed_chunks chunks image accepted, packed_layout chunks image accepted)

@@ -1,5 +1,0 @@
-use Rattle.heap_laws.proofs.Packings.{packed_is_packed, packed_slid}
-use Rattle.heap_laws.proofs.laws.packing_is_packed.Goals as goal
-
-pub returns : goal.returns
-returns c chunks = (packed_is_packed chunks, packed_slid chunks)

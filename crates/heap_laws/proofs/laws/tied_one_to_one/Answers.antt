@@ -1,5 +1,0 @@
-use Rattle.heap_laws.proofs.Bodies.{one_place, one_slot}
-use Rattle.heap_laws.proofs.laws.tied_one_to_one.Goals as goal
-
-pub returns : goal.returns
-returns c image cs tiles tied = record { one_place = one_place image cs tied; one_slot = one_slot image cs tiles }

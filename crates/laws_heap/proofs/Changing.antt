@@ -1,0 +1,130 @@
+-- What changes under a name, and where, when its chunk is exchanged.
+use Rattle.std.proofs.Common.{◌≡◌, ◌≢◌, ℕ, ◌+◌, ◌-◌, ◌<◌, ◌≤◌, List, [], ◌∷◌, ◌++◌, length, Option, Some, None, refl, sym, ap, subst, ◌∙◌, arith, inl, inr}
+use Rattle.heap_model.specs.Bytes.{overwritten}
+use Rattle.heap_model.specs.Chunk.{Chunk, free, movable, fixed, fixed_lock, need, size_of, total}
+use Rattle.heap_model.specs.Slots.{table_end, area_start}
+use Rattle.heap_model.specs.Heap.{IsHeap, HeapAccepted}
+use Rattle.heap_model.specs.Placed.{AnyPlaced}
+use Rattle.heap_model.specs.Meaning.{LiveChunk, NamedHere}
+use Rattle.heap_model.specs.Reading.{chunks_of, held}
+use Rattle.heap_model.specs.Space.{AllFree}
+use Rattle.heap_model.specs.Placing.{Finds}
+use Rattle.heap_model.specs.Layout.{merged, layout_of, Exchanges, Alters, gap, in_front, freed, with_lock, with_owner, with_bytes, IsRoom}
+use Rattle.laws_heap.proofs.Frames.{length-overwritten}
+use Rattle.laws_heap.proofs.Placed.{At, one_at, AnyPlaced-mid, SpelledAll-takes}
+use Rattle.laws_heap.proofs.Meanings.{live_under-there, with_offset, slot_place, held-is}
+use Rattle.laws_heap.proofs.Altering.{named_live, named_place}
+use Rattle.laws_heap.proofs.Finding.{read_heap}
+use Rattle.laws_heap.proofs.Layouts.{IsNotFree, merged-twice, total-merged}
+use Rattle.laws_heap.proofs.Exchanging.{exchanges_layout, exchanges_parts, gap_free, gap_total, room_in_layout, free_no_other, named_no_other, named_beside, unheld_beside, ChangesName, exchange_changes}
+
+pub changes_as : (old new : List ℕ) (name : ℕ) (now other : Option LiveChunk) (there place : Option ℕ) → now ≡ other → there ≡ place → ChangesName old new name now there → ChangesName old new name other place
+changes_as old new name now other there place e f ch = subst (λ (p : Option ℕ). ChangesName old new name other p) f (subst (λ (o : Option LiveChunk). ChangesName old new name o there) e ch)
+
+abbrev pub some_place : ℕ → Option ℕ
+some_place n = Some n
+
+-- ---- a chunk of a name is exchanged
+
+-- a chunk of a name is live
+pub named_live_chunk : (name at : ℕ) (live : LiveChunk) (c : Chunk) → NamedHere name live at c → IsNotFree c
+named_live_chunk name at live (free size) n = n
+named_live_chunk name at live (movable bytes lock owner slot) n = tt
+named_live_chunk name at live (fixed bytes owner) n = tt
+
+pub freed_changes : (old new : List ℕ) (name at : ℕ) (live : LiveChunk) (c : Chunk) → HeapAccepted old → Finds old name live c at → Alters old new at freed → ChangesName old new name None None
+freed_changes old new name at live c h f x =
+    let named : NamedHere name live (area_start old + total f.before) c = subst (λ (n : ℕ). NamedHere name live n c) f.there f.named in
+    exchange_changes old new f.before c (freed c ∷ []) f.after name h (ap merged f.chunks)
+    ((exchanges_parts old new at (λ chunk. freed chunk ∷ []) f.before c f.after h (named_live_chunk name at live c f.named) f.chunks f.there).0 x) (let e : size_of c + 0 ≡ size_of c = omega arith in e)
+    (named_beside old f.before c f.after name live h f.chunks named) (named_no_other name _ live c [] named tt) (free_no_other name _ (freed c ∷ []) tt)
+
+pub named_changes : (old new : List ℕ) (name place : ℕ) (live now : LiveChunk) (c : Chunk) (change : Chunk → Chunk) → HeapAccepted old → 8 ≤ place → Finds old name live c (place - 8) → Alters old new (place - 8) change → size_of (change c) ≡ size_of c
+    → NamedHere name now (place - 8) (change c) → ChangesName old new name (Some now) (Some place)
+named_changes old new name place live now c change h low f x size is =
+    let there = f.there in
+    let here : ℕ = area_start old + total f.before in
+    let was : NamedHere name live here c = subst (λ (n : ℕ). NamedHere name live n c) f.there f.named in
+    let becomes : NamedHere name now here (change c) = subst (λ (n : ℕ). NamedHere name now n (change c)) f.there is in
+    changes_as old new name _ (Some now) _ (Some place) (named_live name here now (change c) [] becomes) (named_place name here now (change c) [] becomes ∙ ap some_place (let e : here + 8 ≡ place = omega arith in e))
+    (exchange_changes old new f.before c (change c ∷ []) f.after name h (ap merged f.chunks)
+    ((exchanges_parts old new (place - 8) (λ chunk. change chunk ∷ []) f.before c f.after h (named_live_chunk name here live c was) f.chunks f.there).0 x) (let e : size_of (change c) + 0 ≡ size_of c = omega arith in e)
+    (named_beside old f.before c f.after name live h f.chunks was) (named_no_other name _ live c [] was tt) (named_no_other name _ now (change c) [] becomes tt))
+
+pub lock_changes : (old new : List ℕ) (name place lock : ℕ) (live : LiveChunk) (c : Chunk) → HeapAccepted old → 8 ≤ place → Finds old name live c (place - 8) → live.lock ≢ fixed_lock → Alters old new (place - 8) (with_lock lock) → ChangesName old new name (Some (record live { lock = lock })) (Some place)
+lock_changes old new name place lock live (free size) h low f loose x = absurd f.named
+lock_changes old new name place lock live (movable bytes count owner slot) h low f loose x =
+    named_changes old new name place live (record live { lock = lock }) (movable bytes count owner slot) (with_lock lock) h low f x refl (f.named.0, ap (λ (l : LiveChunk). record l { lock = lock }) f.named.1)
+lock_changes old new name place lock live (fixed bytes owner) h low f loose x = absurd (loose (sym (ap (λ (l : LiveChunk). l.lock) f.named.1)))
+
+pub owner_changes : (old new : List ℕ) (name place owner : ℕ) (live : LiveChunk) (c : Chunk) → HeapAccepted old → 8 ≤ place → Finds old name live c (place - 8) → Alters old new (place - 8) (with_owner owner) → ChangesName old new name (Some (record live { owner = owner })) (Some place)
+owner_changes old new name place owner live (free size) h low f x = absurd f.named
+owner_changes old new name place owner live (movable bytes count holder slot) h low f x =
+    named_changes old new name place live (record live { owner = owner }) (movable bytes count holder slot) (with_owner owner) h low f x refl (f.named.0, ap (λ (l : LiveChunk). record l { owner = owner }) f.named.1)
+owner_changes old new name place owner live (fixed bytes holder) h low f x =
+    named_changes old new name place live (record live { owner = owner }) (fixed bytes holder) (with_owner owner) h low f x refl (f.named.0, ap (λ (l : LiveChunk). record l { owner = owner }) f.named.1)
+
+pub bytes_changes : (old new : List ℕ) (name place at : ℕ) (part : List ℕ) (live : LiveChunk) (c : Chunk) → HeapAccepted old → 8 ≤ place → Finds old name live c (place - 8) → at + length part ≤ length live.bytes → Alters old new (place - 8) (with_bytes at part)
+    → ChangesName old new name (Some (record live { bytes = overwritten live.bytes at part })) (Some place)
+bytes_changes old new name place at part live (free size) h low f within x = absurd f.named
+bytes_changes old new name place at part live (movable bytes count owner slot) h low f within x =
+    let fits : at + length part ≤ length bytes = subst (λ (l : LiveChunk). at + length part ≤ length l.bytes) (sym f.named.1) within in
+    named_changes old new name place live (record live { bytes = overwritten live.bytes at part }) (movable bytes count owner slot) (with_bytes at part) h low f x (ap need (length-overwritten bytes at part fits)) (f.named.0, ap (λ (l : LiveChunk). record l { bytes = overwritten l.bytes at part }) f.named.1)
+bytes_changes old new name place at part live (fixed bytes owner) h low f within x =
+    let fits : at + length part ≤ length bytes = subst (λ (l : LiveChunk). at + length part ≤ length l.bytes) (sym f.named.1) within in
+    named_changes old new name place live (record live { bytes = overwritten live.bytes at part }) (fixed bytes owner) (with_bytes at part) h low f x (ap need (length-overwritten bytes at part fits)) (f.named.0, ap (λ (l : LiveChunk). record l { bytes = overwritten l.bytes at part }) f.named.1)
+
+-- ---- a chunk of a name that stood for nothing is made at the front of a room
+
+pub claim_changes : (old new : List ℕ) (at size name : ℕ) (now : LiveChunk) (d : Chunk) → HeapAccepted old → 0 < size → IsRoom old at size → held old name ≡ None → Exchanges old new at (in_front d) → size_of d ≤ size → NamedHere name now at d
+    → ChangesName old new name (Some now) (Some (at + 8))
+claim_changes old new at size name now d h some r none x fits is =
+    let room = room_in_layout old at size h some r in
+    let here : ℕ = area_start old + total (merged r.before) in
+    let there : at ≡ here = r.there ∙ ap (λ (n : ℕ). area_start old + n) (sym (total-merged r.before)) in
+    let becomes : NamedHere name now here d = subst (λ (n : ℕ). NamedHere name now n d) there is in
+    let parts : layout_of old ≡ merged (merged r.before ++ free room.more ∷ room.behind) = sym (merged-twice (chunks_of old)) ∙ ap merged room.layout in
+    let within = room.within in
+    let left : ℕ = room.more - size_of d in
+    let sizes : total (d ∷ gap left) ≡ room.more = let e = gap_total left in omega arith in
+    changes_as old new name _ (Some now) _ (Some (at + 8)) (named_live name here now d (gap left) becomes) (named_place name here now d (gap left) becomes ∙ ap (λ (n : ℕ). some_place (n + 8)) (sym there))
+    (exchange_changes old new (merged r.before) (free room.more) (d ∷ gap left) room.behind name h parts ((exchanges_layout old new at (in_front d) (merged r.before) (free room.more) room.behind h room.layout there).0 x) sizes
+    (unheld_beside old (merged r.before) room.more room.behind name parts none) (free_no_other name _ (free room.more ∷ []) tt) (named_no_other name _ now d (gap left) becomes (gap_free left)))
+
+-- where a free chunk stands there is no fixed one, so its place names nothing
+pub free_unheld : (image : List ℕ) (before : List Chunk) (size : ℕ) (after : List Chunk) → HeapAccepted image → chunks_of image ≡ before ++ free size ∷ after → held image (area_start image + total before + 8) ≡ None
+free_unheld image before size after h e = nothing (held image place) refl where
+  place : ℕ
+  place = area_start image + total before + 8
+
+  heap : IsHeap image (chunks_of image)
+  heap = read_heap image h
+
+  free_here : AnyPlaced (At (area_start image + total before) (λ at c. c ≡ free size)) (area_start image) (chunks_of image)
+  free_here = subst (λ (cs : List Chunk). AnyPlaced (At (area_start image + total before) (λ at c. c ≡ free size)) (area_start image) cs) (sym e)
+      (AnyPlaced-mid (At (area_start image + total before) (λ at c. c ≡ free size)) (area_start image) before (free size) after (refl, refl))
+
+  not_free : (live : LiveChunk) (at : ℕ) (c : Chunk) → NamedHere place live at c → c ≡ free size → ⊥
+  not_free live at c n e = subst (λ (d : Chunk). NamedHere place live at d) e n
+
+  nothing : (x : Option LiveChunk) → held image place ≡ x → x ≡ None
+  nothing None e = refl
+  nothing (Some live) e =
+      let o = with_offset place live (area_start image) (chunks_of image) (live_under-there (area_start image) (chunks_of image) place live (sym (held-is image (chunks_of image) place heap) ∙ e)) in
+      elim o.kind [
+        | inl b ↦ let high : place < table_end image = (slot_place image (chunks_of image) place (o.at + 8) heap b).0.in_table in absurd (omega arith)
+        | inr is ↦
+            let same : o.at ≡ area_start image + total before = omega arith in
+            let both = one_at (NamedHere place live) (λ at c. c ≡ free size) (area_start image + total before) (area_start image) (chunks_of image) (SpelledAll-takes image (area_start image) (chunks_of image) (length image) heap.tiles.area)
+            (subst (λ (n : ℕ). AnyPlaced (At n (NamedHere place live)) (area_start image) (chunks_of image)) same o.there) free_here in
+            absurd (not_free live (area_start image + total before) both.0 both.1 both.2)
+      ]
+
+-- the place of a room names nothing
+pub room_unheld : (image : List ℕ) (at size : ℕ) → HeapAccepted image → 0 < size → IsRoom image at size → held image (at + 8) ≡ None
+room_unheld image at size h some r = by_run r.run r.all_free r.sums r.chunks where
+  by_run : (run : List Chunk) → AllFree run → size ≡ total run → chunks_of image ≡ r.before ++ (run ++ r.after) → held image (at + 8) ≡ None
+  by_run [] f sums e = absurd (omega arith)
+  by_run (movable bytes lock owner slot ∷ run) f sums e = absurd f
+  by_run (fixed bytes owner ∷ run) f sums e = absurd f
+  by_run (free n ∷ run) f sums e = ap (λ (k : ℕ). held image (k + 8)) r.there ∙ free_unheld image r.before n (run ++ r.after) h e

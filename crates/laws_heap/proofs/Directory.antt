@@ -1,0 +1,185 @@
+-- The directory word is written: all else of the image is as it was.
+use Rattle.std.proofs.Common.{◌≡◌, ℕ, ◌+◌, ◌<◌, ◌≤◌, ◌^◌, ◌%◌, List, ◌∷◌, length, Option, Some, None, refl, sym, ap, subst, ◌∙◌, arith, inl, inr}
+use Rattle.std.proofs.lemmas.Bool.{cases_eq}
+use Rattle.std.specs.Prelude.{◌⊎◌}
+use Rattle.heap_model.specs.Bytes.{u32_at, u32_bytes, overwritten}
+use Rattle.heap_model.specs.Chunk.{Chunk, free, movable, fixed, total, SpelledAll}
+use Rattle.heap_model.specs.Frame.{directory_at}
+use Rattle.heap_model.specs.Slots.{IsSlot, slot_count, table_end, head_end, area_start, start_behind}
+use Rattle.heap_model.specs.Heap.{IsHead, IsBody, Tiles, Tied, IsCallersIfFixed, ManagersHere, HasDirectory, directory_of, IsHeap, HeapAccepted}
+use Rattle.heap_model.specs.Placed.{EveryPlaced, AnyPlaced}
+use Rattle.heap_model.specs.Meaning.{LiveChunk, NamedHere}
+use Rattle.heap_model.specs.Reading.{chunks_of, held, live_under}
+use Rattle.heap_model.specs.Placing.{Finds}
+use Rattle.heap_model.specs.Layout.{merged, layout_of, Becomes, IsRoom, IsFreeAt, WritesPlain}
+use Rattle.heap_model.specs.Resizing.{relocated, Relocates}
+use Rattle.heap_model.specs.Store.{managers_owner, owner_of, owner_under}
+use Rattle.heap_model.specs.Leaving.{NamesDirectory}
+use Rattle.laws_heap.proofs.Frames.{SameBetween, SameBetween-within, u16_at-same, u32_at-same, u32_at-written}
+use Rattle.laws_heap.proofs.Chunks.{SpelledAll-same, SpelledAll-end}
+use Rattle.laws_heap.proofs.Runs.{chunks_of-tiled}
+use Rattle.laws_heap.proofs.Placed.{EveryPlaced-split, AnyPlaced-mid, SpelledAll-takes}
+use Rattle.laws_heap.proofs.Finding.{read_heap, held_finds}
+use Rattle.laws_heap.proofs.Plain.{free_inside}
+use Rattle.laws_heap.proofs.Owning.{not_directory}
+use Rattle.laws_heap.proofs.Writing.{WroteWithin, wrote_word, wrote_word_apart}
+
+-- a chunk of the manager's has this name
+is_managers : (image : List ℕ) (name : ℕ) → HeapAccepted image → owner_under image name ≡ managers_owner → AnyPlaced (ManagersHere name) (area_start image) (chunks_of image)
+unfolding owner_under
+is_managers image name h owned = by_held (held image name) refl owned where
+  by_chunk : (live : LiveChunk) (at : ℕ) (chunk : Chunk) → live.owner ≡ managers_owner → IsCallersIfFixed at chunk → NamedHere name live at chunk → ManagersHere name at chunk
+  by_chunk live at (free size) none callers n = n
+  by_chunk live at (movable bytes lock owner slot) none callers n = (n.0, ap (λ (x : LiveChunk). x.owner) n.1 ∙ none)
+  by_chunk live at (fixed bytes owner) none callers n =
+      let same : owner ≡ live.owner = ap (λ (x : LiveChunk). x.owner) n.1 in
+      let some : 0 < owner = callers.0 in
+      absurd (omega arith)
+
+  by_found : (live : LiveChunk) (chunk : Chunk) (at : ℕ) → live.owner ≡ managers_owner → Finds image name live chunk at → AnyPlaced (ManagersHere name) (area_start image) (chunks_of image)
+  by_found live chunk at none f =
+      let callers = EveryPlaced-split IsCallersIfFixed (area_start image) f.before (chunk ∷ f.after) (subst (λ (cs : List Chunk). EveryPlaced IsCallersIfFixed (area_start image) cs) f.chunks (read_heap image h).fixed_are_callers) in
+      subst (λ (cs : List Chunk). AnyPlaced (ManagersHere name) (area_start image) cs) (sym f.chunks)
+      (AnyPlaced-mid (ManagersHere name) (area_start image) f.before chunk f.after
+      (by_chunk live (area_start image + total f.before) chunk none callers.1.0 (subst (λ (n : ℕ). NamedHere name live n chunk) f.there f.named)))
+
+  by_held : (x : Option LiveChunk) → held image name ≡ x → owner_of x ≡ managers_owner → AnyPlaced (ManagersHere name) (area_start image) (chunks_of image)
+  by_held None e none = absurd (omega (arith, none))
+  by_held (Some live) e none = let k = held_finds image name live h e in by_found live k.chunk k.at none k.finds
+
+-- the word is 0, or names a chunk of the manager's
+abbrev pub MayBeDirectory : List ℕ → ℕ → Type 0
+MayBeDirectory image word = (word ≡ 0) ⊎ (owner_under image word ≡ managers_owner)
+
+pub directory_written : (old new : List ℕ) (word : ℕ) → HeapAccepted old → new ≡ overwritten old directory_at (u32_bytes word) → word < 2 ^ 32 → MayBeDirectory old word → NamesDirectory old new word × WritesPlain old new
+unfolding held
+directory_written old new word h is fits may = (record { accepted = (cs, heap_new); len = len; count = count; directory = named; map = map_same; chunks = chunks_same }, plain) where
+  cs : List Chunk
+  cs = chunks_of old
+
+  heap : IsHeap old cs
+  heap = read_heap old h
+
+  inside : area_start old + 8 ≤ length old
+  inside = heap.tiles.head.a_chunk_fits
+
+  w : WroteWithin old new 12 16
+  w = let fits_in : area_start old + 8 ≤ length old = heap.tiles.head.a_chunk_fits in wrote_word old new 12 word is (omega arith)
+
+  len : length new ≡ length old
+  len = w.len
+
+  count : slot_count new ≡ slot_count old
+  count = sym (u16_at-same 8 old new 0 12 w.below (omega arith) (omega arith))
+
+  start : area_start new ≡ area_start old
+  start = ap start_behind count
+
+  behind : SameBetween (area_start old) (length old) old new
+  behind = SameBetween-within 16 (length old) (area_start old) (length old) old new w.above (omega arith) (omega arith)
+
+  named : directory_of new ≡ word
+  named = ap directory_of is ∙ u32_at-written word 12 old (omega (arith, inside)) fits
+
+  head_new : IsHead new
+  head_new =
+      let head = heap.tiles.head in
+      let some = head.some_slot in
+      let ends : head_end new ≡ head_end old = omega (arith, count) in
+      record {
+        magic_is = sym (u32_at-same 0 old new 0 12 w.below (omega arith) (omega arith)) ∙ head.magic_is;
+        size_is = sym (u32_at-same 4 old new 0 12 w.below (omega arith) (omega arith)) ∙ head.size_is ∙ sym len;
+        least = rw len head.least;
+        most = rw len head.most;
+        whole = rw len head.whole;
+        some_slot = omega (arith, count);
+        a_chunk_fits = omega (arith, start, len, inside);
+        reserved = sym (u16_at-same 10 old new 0 12 w.below (omega arith) (omega arith)) ∙ head.reserved;
+        padding = λ ne.
+            ap (u32_at new) ends ∙ sym (u32_at-same (head_end old) old new 16 (length old) w.above (omega arith) (omega (arith, inside))) ∙ head.padding (λ e. ne (ends ∙ e ∙ sym start));
+      }
+
+  tiles_new : Tiles new cs
+  tiles_new = record {
+    head = head_new;
+    area = subst (λ (n : ℕ). SpelledAll new n cs (length new)) (sym start) (subst (λ (n : ℕ). SpelledAll new (area_start old) cs n) (sym len) (SpelledAll-same old new (area_start old) cs (length old) behind len heap.tiles.area));
+  }
+
+  chunks_same : chunks_of new ≡ chunks_of old
+  chunks_same = chunks_of-tiled new cs tiles_new
+
+  map_same : (name : ℕ) → held new name ≡ held old name
+  map_same name = ap (λ (n : ℕ). live_under n (chunks_of new) name) start ∙ ap (λ (ds : List Chunk). live_under (area_start old) ds name) chunks_same
+
+  slot_was : (slot : ℕ) → IsSlot new slot → IsSlot old slot
+  slot_was slot s = let high : slot < table_end new = s.in_table in record { behind_head = s.behind_head; in_table = omega (arith, high, count); whole = s.whole }
+
+  slot_is : (slot : ℕ) → IsSlot old slot → IsSlot new slot
+  slot_is slot s = let high : slot < table_end old = s.in_table in record { behind_head = s.behind_head; in_table = omega (arith, high, count); whole = s.whole }
+
+  slot_same : (slot : ℕ) → IsSlot old slot → u32_at new slot ≡ u32_at old slot
+  slot_same slot s =
+      let low : 16 ≤ slot = s.behind_head in
+      let high : slot < table_end old = s.in_table in
+      let four : slot % 4 ≡ 0 = s.whole in
+      wrote_word_apart old new 12 16 slot w (inr (low, omega (arith, high, four, inside)))
+
+  tied_new : Tied new cs
+  tied_new slot place some = (
+    λ s. subst (λ (n : ℕ). IsBody n cs slot place) (sym start) ((heap.tied slot place some).0 (slot_was slot s.0, sym (slot_same slot (slot_was slot s.0)) ∙ s.1)),
+    λ b. let s = (heap.tied slot place some).1 (subst (λ (n : ℕ). IsBody n cs slot place) start b) in (slot_is slot s.0, slot_same slot s.0 ∙ s.1),
+  )
+
+  directory_new : HasDirectory new cs
+  directory_new = elim may [
+    | inl none ↦ inl (named ∙ none)
+    | inr owned ↦ inr (subst (λ (n : ℕ). AnyPlaced (ManagersHere n) (area_start new) cs) (sym named) (subst (λ (n : ℕ). AnyPlaced (ManagersHere word) n cs) (sym start) (is_managers old word h owned)))
+  ]
+
+  heap_new : IsHeap new cs
+  heap_new = record { tiles = tiles_new; tied = tied_new; fixed_are_callers = subst (λ (n : ℕ). EveryPlaced IsCallersIfFixed n cs) (sym start) heap.fixed_are_callers; directory = directory_new }
+
+  plain : WritesPlain old new
+  plain at begins =
+      let was : AnyPlaced (IsFreeAt at) (area_start old) cs = subst (λ (ds : List Chunk). AnyPlaced (IsFreeAt at) (area_start old) ds) chunks_same (subst (λ (n : ℕ). AnyPlaced (IsFreeAt at) n (chunks_of new)) start begins) in
+      let f = free_inside at (area_start old) cs (SpelledAll-takes old (area_start old) cs (length old) heap.tiles.area) was in
+      let low = f.0 in
+      let high = f.1 in
+      let end = SpelledAll-end old (area_start old) cs (length old) heap.tiles.area in
+      inr (was, wrote_word_apart old new 12 16 at w (inr (omega (arith, low), omega (arith, high, end))))
+
+-- ---- where another directory is named
+
+pub named_start : (old new : List ℕ) (word : ℕ) → NamesDirectory old new word → area_start new ≡ area_start old
+named_start old new word n = ap start_behind n.count
+
+pub named_finds : (old new : List ℕ) (word name : ℕ) (live : LiveChunk) (chunk : Chunk) (at : ℕ) → NamesDirectory old new word → Finds old name live chunk at → Finds new name live chunk at
+named_finds old new word name live chunk at n f = record { before = f.before; after = f.after; chunks = n.chunks ∙ f.chunks; there = f.there ∙ ap (λ (k : ℕ). k + total f.before) (sym (named_start old new word n)); named = f.named }
+
+pub named_room : (old new : List ℕ) (word at size : ℕ) → NamesDirectory old new word → IsRoom old at size → IsRoom new at size
+named_room old new word at size n r = record {
+  before = r.before;
+  run = r.run;
+  after = r.after;
+  chunks = n.chunks ∙ r.chunks;
+  all_free = r.all_free;
+  there = r.there ∙ ap (λ (k : ℕ). k + total r.before) (sym (named_start old new word n));
+  sums = r.sums;
+  front = ap merged n.chunks ∙ r.front;
+}
+
+-- the directory's chunk is the manager's
+pub directory_owned : (image : List ℕ) (live : LiveChunk) → HeapAccepted image → held image (directory_of image) ≡ Some live → live.owner ≡ managers_owner
+directory_owned image live h e = elim (cases_eq live.owner 0) [ inl none ↦ none | inr some ↦ absurd (not_directory image (directory_of image) live h e some refl) ]
+
+-- what is done to the chunks while there is no directory, and the directory is named again
+pub named_again : (old mid later new : List ℕ) (name : ℕ) (cs : List Chunk) → NamesDirectory old mid 0 → Becomes mid later cs → NamesDirectory later new name → name ≡ directory_of old → Becomes old new cs
+named_again old mid later new name cs first b last is = record {
+  frame = record { accepted = last.accepted; len = last.len ∙ b.frame.len ∙ first.len; count = last.count ∙ b.frame.count ∙ first.count; directory = last.directory ∙ is };
+  layout = ap merged last.chunks ∙ b.layout;
+}
+
+pub relocated_again : (old mid later new : List ℕ) (name here there : ℕ) (chunk : Chunk) → NamesDirectory old mid 0 → Relocates mid later here there chunk → NamesDirectory later new name → name ≡ directory_of old → Relocates old new here there chunk
+relocated_again old mid later new name here there chunk first moved last is =
+    subst (λ (cs : List Chunk). Becomes old new cs) (ap (λ (n : ℕ). relocated here there chunk n (layout_of mid)) (named_start old mid 0 first) ∙ ap (λ (cs : List Chunk). relocated here there chunk (area_start old) (merged cs)) first.chunks)
+    (named_again old mid later new name (relocated here there chunk (area_start mid) (layout_of mid)) first moved last is)

@@ -1,0 +1,368 @@
+-- A chunk that goes to the front of a free one elsewhere: its name alone stands for something else, and
+-- is elsewhere.
+use Rattle.std.proofs.Common.{◌≡◌, ◌≢◌, ◌⊎◌, ℕ, ◌+◌, ◌-◌, ◌<◌, ◌≤◌, List, [], ◌∷◌, ◌++◌, Some, refl, sym, ap, subst, ◌∙◌, append_assoc, append-nil, arith, inl, inr}
+use Rattle.std.specs.Prelude.{◌==◌}
+use Rattle.std.proofs.lemmas.Bool.{eq-eqb}
+use Rattle.std.proofs.lemmas.Bool.Decides.{nat_tests}
+use Rattle.heap_model.specs.Chunk.{Chunk, free, movable, need, size_of, total}
+use Rattle.heap_model.specs.Slots.{area_start}
+use Rattle.heap_model.specs.Heap.{BodyHere, IsBody, HeapAccepted}
+use Rattle.heap_model.specs.Placed.{EveryPlaced, AnyPlaced}
+use Rattle.heap_model.specs.Meaning.{LiveChunk, NamedHere}
+use Rattle.heap_model.specs.Reading.{chunks_of, held, live_under}
+use Rattle.heap_model.specs.Space.{place_under, place_of}
+use Rattle.heap_model.specs.Placing.{Finds}
+use Rattle.heap_model.specs.Layout.{merged, layout_of, Becomes, Exchanges, Alters, gap, in_front, freed, IsRoom}
+use Rattle.heap_model.specs.Resizing.{with_length, relocated, Relocates}
+use Rattle.laws_heap.proofs.Deciding.{cond-true, cond-false}
+use Rattle.laws_heap.proofs.Chunks.{total-append}
+use Rattle.laws_heap.proofs.Placed.{TakesBytes, EveryPlaced-split, AnyPlaced-right, AnyPlaced-map}
+use Rattle.laws_heap.proofs.Replacing.{any_replaced}
+use Rattle.laws_heap.proofs.Meanings.{held-is, live_under-is}
+use Rattle.laws_heap.proofs.Finding.{read_heap}
+use Rattle.laws_heap.proofs.Lives.{live_replaced, place_replaced}
+use Rattle.laws_heap.proofs.Layouts.{IsNotFree, any-layout, merged-front, merged-right, merged-live, merged-twice, total-merged}
+use Rattle.laws_heap.proofs.Becoming.{frame_then, becomes_start, becomes_held, becomes_place, becomes_body, becomes_slot}
+use Rattle.laws_heap.proofs.Exchanging.{exchanges_layout, layout_takes, gap_free, gap_total, RoomInLayout, room_in_layout, NoOther, free_no_other, named_no_other, held_parts, place_parts, ChangesName}
+use Rattle.laws_heap.proofs.Changing.{changes_as}
+use Rattle.laws_heap.proofs.Compacting.{body_placed}
+use Rattle.laws_heap.proofs.Stretches.{heads}
+use Rattle.laws_heap.proofs.Resizings.{live_sized, named_sized, size_of-with_length}
+
+-- ---- by parts of the list
+
+-- an offset is none of those from one on, so many
+abbrev Outside : ℕ → ℕ → ℕ → Type 0
+Outside there at size = (there < at) ⊎ (at + size ≤ there)
+
+later : (there at one more : ℕ) → Outside there at (one + more) → Outside there (at + one) more
+later there at one more o = elim o [ inl low ↦ inl (omega arith) | inr high ↦ inr (omega arith) ]
+
+not_at : (there at one more : ℕ) → 8 ≤ one → Outside there at (one + more) → at ≢ there
+not_at there at one more least o = elim o [ inl low ↦ omega arith | inr high ↦ omega arith ]
+
+passed_by : (here there : ℕ) (d : Chunk) (at : ℕ) (cs rest : List Chunk) → EveryPlaced TakesBytes at cs → Outside here at (total cs) → Outside there at (total cs) → relocated here there d at (cs ++ rest) ≡ cs ++ relocated here there d (at + total cs) rest
+unfolding relocated
+passed_by here there d at [] rest takes p q = ap (λ (n : ℕ). relocated here there d n rest) (let e : at ≡ at + 0 = omega arith in e)
+passed_by here there d at (c ∷ cs) rest takes p q =
+    let one : at ≢ here = not_at here at (size_of c) (total cs) takes.0 p in
+    let two : at ≢ there = not_at there at (size_of c) (total cs) takes.0 q in
+    ap (λ (ds : List Chunk). ds ++ relocated here there d (at + size_of c) (cs ++ rest))
+    (cond-false (at == here) (freed c ∷ []) _ (grind (arith, nat_tests)) ∙ cond-false (at == there) (in_front d c) (c ∷ []) (grind (arith, nat_tests)))
+    ∙ ap (λ (ds : List Chunk). c ∷ ds) (passed_by here there d (at + size_of c) cs rest takes.1 (later here at (size_of c) (total cs) p) (later there at (size_of c) (total cs) q) ∙ ap (λ (n : ℕ). cs ++ relocated here there d n rest) (let e : at + size_of c + total cs ≡ at + (size_of c + total cs) = omega arith in e))
+
+at_here : (here there : ℕ) (d : Chunk) (at : ℕ) (c : Chunk) (rest : List Chunk) → at ≡ here → relocated here there d at (c ∷ rest) ≡ freed c ∷ relocated here there d (at + size_of c) rest
+unfolding relocated
+at_here here there d at c rest e = ap (λ (ds : List Chunk). ds ++ relocated here there d (at + size_of c) rest) (cond-true (at == here) (freed c ∷ []) _ (eq-eqb at here e))
+
+at_there : (here there : ℕ) (d : Chunk) (at : ℕ) (c : Chunk) (rest : List Chunk) → at ≢ here → at ≡ there → relocated here there d at (c ∷ rest) ≡ in_front d c ++ relocated here there d (at + size_of c) rest
+unfolding relocated
+at_there here there d at c rest apart e =
+    ap (λ (ds : List Chunk). ds ++ relocated here there d (at + size_of c) rest) (cond-false (at == here) (freed c ∷ []) _ (grind (arith, nat_tests)) ∙ cond-true (at == there) (in_front d c) (c ∷ []) (eq-eqb at there e))
+
+to_end : (here there : ℕ) (d : Chunk) (at : ℕ) (cs : List Chunk) → EveryPlaced TakesBytes at cs → Outside here at (total cs) → Outside there at (total cs) → relocated here there d at cs ≡ cs
+unfolding relocated
+to_end here there d at cs takes p q = ap (relocated here there d at) (sym (append-nil cs)) ∙ passed_by here there d at cs [] takes p q ∙ append-nil cs
+
+-- the free one is behind it
+relocated-behind : (here there : ℕ) (d : Chunk) (at : ℕ) (before : List Chunk) (c : Chunk) (mid : List Chunk) (room : ℕ) (after : List Chunk) → EveryPlaced TakesBytes at (before ++ c ∷ (mid ++ free room ∷ after)) → here ≡ at + total before → there ≡ here + size_of c + total mid
+    → relocated here there d at (before ++ c ∷ (mid ++ free room ∷ after)) ≡ before ++ freed c ∷ (mid ++ (in_front d (free room) ++ after))
+relocated-behind here there d at before c mid room after takes one two =
+    let t = EveryPlaced-split TakesBytes at before (c ∷ (mid ++ free room ∷ after)) takes in
+    let u = EveryPlaced-split TakesBytes (at + total before + size_of c) mid (free room ∷ after) t.1.1 in
+    let least = t.1.0 in
+    let some = u.1.0 in
+    passed_by here there d at before (c ∷ (mid ++ free room ∷ after)) t.0 (inr (omega arith)) (inr (omega arith))
+    ∙ ap (λ (ds : List Chunk). before ++ ds) (at_here here there d (at + total before) c (mid ++ free room ∷ after) (omega arith)
+    ∙ ap (λ (ds : List Chunk). freed c ∷ ds) (passed_by here there d (at + total before + size_of c) mid (free room ∷ after) u.0 (inl (omega arith)) (inr (omega arith))
+    ∙ ap (λ (ds : List Chunk). mid ++ ds) (at_there here there d (at + total before + size_of c + total mid) (free room) after (omega arith) (omega arith)
+    ∙ ap (λ (ds : List Chunk). in_front d (free room) ++ ds) (to_end here there d (at + total before + size_of c + total mid + room) after u.1.1 (inl (omega arith)) (inl (omega arith))))))
+
+-- the free one is in front of it
+relocated-front : (here there : ℕ) (d : Chunk) (at : ℕ) (before : List Chunk) (room : ℕ) (mid : List Chunk) (c : Chunk) (after : List Chunk) → EveryPlaced TakesBytes at (before ++ free room ∷ (mid ++ c ∷ after)) → there ≡ at + total before → here ≡ there + room + total mid
+    → relocated here there d at (before ++ free room ∷ (mid ++ c ∷ after)) ≡ before ++ (in_front d (free room) ++ (mid ++ freed c ∷ after))
+relocated-front here there d at before room mid c after takes one two =
+    let t = EveryPlaced-split TakesBytes at before (free room ∷ (mid ++ c ∷ after)) takes in
+    let u = EveryPlaced-split TakesBytes (at + total before + room) mid (c ∷ after) t.1.1 in
+    let least = t.1.0 in
+    let some = u.1.0 in
+    passed_by here there d at before (free room ∷ (mid ++ c ∷ after)) t.0 (inr (omega arith)) (inr (omega arith))
+    ∙ ap (λ (ds : List Chunk). before ++ ds) (at_there here there d (at + total before) (free room) (mid ++ c ∷ after) (omega arith) (omega arith)
+    ∙ ap (λ (ds : List Chunk). in_front d (free room) ++ ds) (passed_by here there d (at + total before + room) mid (c ∷ after) u.0 (inr (omega arith)) (inl (omega arith))
+    ∙ ap (λ (ds : List Chunk). mid ++ ds) (at_here here there d (at + total before + room + total mid) c after (omega arith)
+    ∙ ap (λ (ds : List Chunk). freed c ∷ ds) (to_end here there d (at + total before + room + total mid + size_of c) after u.1.1 (inl (omega arith)) (inl (omega arith))))))
+
+-- ---- two spots of a list
+
+-- some neighbouring chunks for others in two spots, of which none has another name: all other names
+-- stand for what they stood for, and are where they were
+two_change : (old new : List ℕ) (before first firsts mid second seconds after : List Chunk) (name : ℕ) → HeapAccepted old → layout_of old ≡ merged (before ++ (first ++ (mid ++ (second ++ after))))
+    → Becomes old new (before ++ (firsts ++ (mid ++ (seconds ++ after)))) → total firsts ≡ total first → total seconds ≡ total second → NoOther name (area_start old + total before) first → NoOther name (area_start old + total before) firsts
+    → NoOther name (area_start old + total (before ++ (first ++ mid))) second → NoOther name (area_start old + total (before ++ (first ++ mid))) seconds → ChangesName old new name (held new name) (place_of new name)
+two_change old new before first firsts mid second seconds after name h e b one two of_first of_firsts of_second of_seconds = record {
+  frame = b.frame;
+  here = refl;
+  others = λ other apart. becomes_held old new (before ++ (firsts ++ (mid ++ (seconds ++ after)))) other b
+      ∙ live_replaced start before first firsts (mid ++ (seconds ++ after)) other one (of_firsts.live other apart ∙ sym (of_first.live other apart))
+      ∙ ap (λ (cs : List Chunk). live_under start cs other) (sym (in_front_of (seconds ++ after)))
+      ∙ live_replaced start front second seconds after other two (of_seconds.live other apart ∙ sym (of_second.live other apart))
+      ∙ ap (λ (cs : List Chunk). live_under start cs other) (in_front_of (second ++ after))
+      ∙ sym (held_parts old (before ++ (first ++ (mid ++ (second ++ after)))) other e);
+  place = refl;
+  places = λ other apart. becomes_place old new (before ++ (firsts ++ (mid ++ (seconds ++ after)))) other b
+      ∙ place_replaced start before first firsts (mid ++ (seconds ++ after)) other one (of_firsts.place other apart ∙ sym (of_first.place other apart))
+      ∙ ap (λ (cs : List Chunk). place_under start cs other) (sym (in_front_of (seconds ++ after)))
+      ∙ place_replaced start front second seconds after other two (of_seconds.place other apart ∙ sym (of_second.place other apart))
+      ∙ ap (λ (cs : List Chunk). place_under start cs other) (in_front_of (second ++ after))
+      ∙ sym (place_parts old (before ++ (first ++ (mid ++ (second ++ after)))) other e);
+  slots = λ slot s apart. becomes_slot old new (before ++ (firsts ++ (mid ++ (seconds ++ after)))) slot h b s (λ place. (
+    λ x. any_replaced (BodyHere slot place) start before first firsts (mid ++ (seconds ++ after)) one (λ m. absurd (of_first.body slot place apart m))
+        (subst (IsBodyIn slot place) (in_front_of (seconds ++ after)) (any_replaced (BodyHere slot place) start front second seconds after two (λ m. absurd (of_second.body slot place apart m))
+        (subst (IsBodyIn slot place) (sym (in_front_of (second ++ after))) (any-layout (BodyHere slot place) (λ k n t. t) start (chunks_of old) (before ++ (first ++ (mid ++ (second ++ after)))) e x)))),
+    λ x. any-layout (BodyHere slot place) (λ k n t. t) start (before ++ (first ++ (mid ++ (second ++ after)))) (chunks_of old) (sym e)
+        (subst (IsBodyIn slot place) (in_front_of (second ++ after)) (any_replaced (BodyHere slot place) start front seconds second after (sym two) (λ m. absurd (of_seconds.body slot place apart m))
+        (subst (IsBodyIn slot place) (sym (in_front_of (seconds ++ after))) (any_replaced (BodyHere slot place) start before firsts first (mid ++ (seconds ++ after)) (sym one) (λ m. absurd (of_firsts.body slot place apart m)) x)))),
+  ));
+} where
+  start : ℕ
+  start = area_start old
+
+  front : List Chunk
+  front = before ++ (first ++ mid)
+
+  in_front_of : (cs : List Chunk) → front ++ cs ≡ before ++ (first ++ (mid ++ cs))
+  in_front_of cs = append_assoc before (first ++ mid) cs ∙ ap (λ (ds : List Chunk). before ++ ds) (append_assoc first mid cs)
+
+  IsBodyIn : ℕ → ℕ → List Chunk → Type 0
+  IsBodyIn slot place cs = AnyPlaced (BodyHere slot place) start cs
+
+-- what stands in the new list is held, and is there
+stands : (old new : List ℕ) (cs : List Chunk) (name : ℕ) (now : LiveChunk) (place : ℕ) → Becomes old new cs → 0 < place → AnyPlaced (NamedHere name now) (area_start old) cs → IsBody (area_start old) cs name place → (held new name ≡ Some now) × (place_of new name ≡ Some place)
+stands old new cs name now place b some there body =
+    let heap = read_heap new b.frame.accepted in
+    let start = becomes_start old new cs b in
+    let is : AnyPlaced (NamedHere name now) (area_start new) (chunks_of new) =
+    subst (λ (n : ℕ). AnyPlaced (NamedHere name now) n (chunks_of new)) (sym start) (any-layout (NamedHere name now) (λ at size n. n) (area_start old) cs (chunks_of new) (sym b.layout) there) in
+    (held-is new (chunks_of new) name heap ∙ (live_under-is new (chunks_of new) name now heap).1 is, body_placed new name place b.frame.accepted ((becomes_body old new cs name place b).1 body) some)
+
+-- ---- a list that is cut at two of its chunks
+
+record CutBehind (xs : List Chunk) (c : Chunk) (ys zs : List Chunk) (d : Chunk) (ws : List Chunk) : Type 0 where
+  mid : List Chunk
+  front : zs ≡ xs ++ c ∷ mid
+  back : ys ≡ mid ++ d ∷ ws
+
+behind_more : (x z : Chunk) (xs : List Chunk) (c : Chunk) (ys zs : List Chunk) (d : Chunk) (ws : List Chunk) → x ≡ z → CutBehind xs c ys zs d ws → CutBehind (x ∷ xs) c ys (z ∷ zs) d ws
+behind_more x z xs c ys zs d ws e k = let front = k.front in record { mid = k.mid; front = cc; back = k.back }
+
+two_cuts : (xs : List Chunk) (c : Chunk) (ys zs : List Chunk) (d : Chunk) (ws : List Chunk) → (c ≡ d → ⊥) → xs ++ c ∷ ys ≡ zs ++ d ∷ ws → CutBehind xs c ys zs d ws ⊎ CutBehind zs d ws xs c ys
+two_cuts [] c ys [] d ws apart e = absurd (apart (heads e).0)
+two_cuts [] c ys (z ∷ zs) d ws apart e = let t = heads e in inl (record { mid = zs; front = ap (λ (x : Chunk). x ∷ zs) (sym t.0); back = t.1 })
+two_cuts (x ∷ xs) c ys [] d ws apart e = let t = heads e in inr (record { mid = xs; front = ap (λ (z : Chunk). z ∷ xs) t.0; back = sym t.1 })
+two_cuts (x ∷ xs) c ys (z ∷ zs) d ws apart e =
+    let t = heads e in
+    elim (two_cuts xs c ys zs d ws apart t.1) [
+      | inl k ↦ inl (behind_more x z xs c ys zs d ws t.0 k)
+      | inr k ↦ inr (behind_more z x zs d ws xs c ys (sym t.0) k)
+    ]
+
+-- ---- a movable chunk is relocated
+
+pub relocate_changes : (old new : List ℕ) (name here there size count : ℕ) (live : LiveChunk) (bytes : List ℕ) (lock owner slot : ℕ) → HeapAccepted old → Finds old name live (movable bytes lock owner slot) here → 0 < size → IsRoom old there size → need count ≤ size
+    → Relocates old new here there (with_length count (movable bytes lock owner slot)) → ChangesName old new name (Some (live_sized count live)) (Some (there + 8))
+relocate_changes old new name here there size count live bytes lock owner slot h f some r fits b = elim (two_cuts before c after front (free room.more) room.behind (λ e. cc) (sym layout ∙ room.layout)) [ inl k ↦ behind k | inr k ↦ in_front_of k ] where
+  c : Chunk
+  c = movable bytes lock owner slot
+
+  d : Chunk
+  d = with_length count c
+
+  start : ℕ
+  start = area_start old
+
+  before : List Chunk
+  before = merged f.before
+
+  after : List Chunk
+  after = merged f.after
+
+  front : List Chunk
+  front = merged r.before
+
+  room : RoomInLayout old there size r.before r.after
+  room = room_in_layout old there size h some r
+
+  left : ℕ
+  left = room.more - size_of d
+
+  now : LiveChunk
+  now = live_sized count live
+
+  layout : layout_of old ≡ before ++ c ∷ after
+  layout = ap merged f.chunks ∙ merged-live f.before c f.after tt
+
+  from : here ≡ start + total before
+  from = f.there ∙ ap (λ (n : ℕ). start + n) (sym (total-merged f.before))
+
+  to : there ≡ start + total front
+  to = r.there ∙ ap (λ (n : ℕ). start + n) (sym (total-merged r.before))
+
+  was : (at : ℕ) → NamedHere name live at c
+  was at = f.named
+
+  is : (at : ℕ) → NamedHere name now at d
+  is at = named_sized name at count live c f.named
+
+  sizes : total (d ∷ gap left) ≡ total (free room.more ∷ [])
+  sizes =
+      let taken = size_of-with_length c count tt in
+      let rest = gap_total left in
+      let within = room.within in
+      omega arith
+
+  takes : (cs : List Chunk) → layout_of old ≡ cs → EveryPlaced TakesBytes start cs
+  takes cs e = subst (λ (ds : List Chunk). EveryPlaced TakesBytes start ds) e (layout_takes old h)
+
+  alike : (cs : List Chunk) → layout_of old ≡ cs → layout_of old ≡ merged cs
+  alike cs e = sym (merged-twice (chunks_of old)) ∙ ap merged e
+
+  becomes : (cs ds : List Chunk) → layout_of old ≡ cs → relocated here there d start cs ≡ ds → Becomes old new ds
+  becomes cs ds e x = subst (λ (xs : List Chunk). Becomes old new xs) (ap (relocated here there d start) e ∙ x) b
+
+  -- the chunk with its new length, by its name and by its body
+  At : ℕ → Chunk → Type 0
+  At at x = NamedHere name now at x × BodyHere name (there + 8) at x
+
+  -- it stands at an offset of the new list
+  done : (cs : List Chunk) → Becomes old new cs → AnyPlaced At start cs → ChangesName old new name (held new name) (place_of new name) → ChangesName old new name (Some now) (Some (there + 8))
+  done cs x any change =
+      let s = stands old new cs name now (there + 8) x (omega arith) (AnyPlaced-map At (NamedHere name now) (λ at y p. p.0) start cs any) (AnyPlaced-map At (BodyHere name (there + 8)) (λ at y p. p.1) start cs any) in
+      changes_as old new name _ _ _ _ s.0 s.1 change
+
+  behind : CutBehind before c after front (free room.more) room.behind → ChangesName old new name (Some now) (Some (there + 8))
+  behind k =
+      let mid : List Chunk = k.mid in
+      let first : ℕ = start + total before in
+      let second : ℕ = first + size_of c + total mid in
+      let cs : List Chunk = before ++ c ∷ (mid ++ free room.more ∷ room.behind) in
+      let ds : List Chunk = before ++ freed c ∷ (mid ++ ((d ∷ gap left) ++ room.behind)) in
+      let e : layout_of old ≡ cs = layout ∙ ap (λ (xs : List Chunk). before ++ c ∷ xs) k.back in
+      let sum = ap total k.front ∙ total-append before (c ∷ mid) in
+      let apart : there ≡ here + size_of c + total mid = omega (arith, from, to, sum) in
+      let place : second + 8 ≡ there + 8 = omega (arith, from, apart) in
+      let x = becomes cs ds e (relocated-behind here there d start before c mid room.more room.behind (takes cs e) from apart) in
+      done ds x (AnyPlaced-right At start before (freed c ∷ (mid ++ ((d ∷ gap left) ++ room.behind))) (inr (AnyPlaced-right At (first + size_of c) mid ((d ∷ gap left) ++ room.behind) (inl (is second, (f.named.0, place))))))
+      (two_change old new before (c ∷ []) (freed c ∷ []) mid (free room.more ∷ []) (d ∷ gap left) room.behind name h (alike cs e) x refl sizes (named_no_other name _ live c [] (was first) tt) (free_no_other name _ (freed c ∷ []) tt)
+      (free_no_other name _ (free room.more ∷ []) tt) (named_no_other name _ now d (gap left) (is second) (gap_free left)))
+
+  in_front_of : CutBehind front (free room.more) room.behind before c after → ChangesName old new name (Some now) (Some (there + 8))
+  in_front_of k =
+      let mid : List Chunk = k.mid in
+      let first : ℕ = start + total front in
+      let cs : List Chunk = front ++ free room.more ∷ (mid ++ c ∷ after) in
+      let ds : List Chunk = front ++ ((d ∷ gap left) ++ (mid ++ freed c ∷ after)) in
+      let e : layout_of old ≡ cs = room.layout ∙ ap (λ (xs : List Chunk). front ++ free room.more ∷ xs) k.back in
+      let sum = ap total k.front ∙ total-append front (free room.more ∷ mid) in
+      let apart : here ≡ there + room.more + total mid = omega (arith, from, to, sum) in
+      let place : first + 8 ≡ there + 8 = omega (arith, to) in
+      let x = becomes cs ds e (relocated-front here there d start front room.more mid c after (takes cs e) to apart) in
+      done ds x (AnyPlaced-right At start front ((d ∷ gap left) ++ (mid ++ freed c ∷ after)) (inl (is first, (f.named.0, place))))
+      (two_change old new front (free room.more ∷ []) (d ∷ gap left) mid (c ∷ []) (freed c ∷ []) after name h (alike cs e) x sizes refl (free_no_other name _ (free room.more ∷ []) tt) (named_no_other name _ now d (gap left) (is first) (gap_free left))
+      (named_no_other name _ live c [] (was first) tt) (free_no_other name _ (freed c ∷ []) tt))
+
+-- ---- in steps: a stand-in is made there, gets the bytes, and gets the name once the chunk is free
+
+-- a live chunk is altered among others
+altered_layout : (old new : List ℕ) (there : ℕ) (change : Chunk → Chunk) (before : List Chunk) (c : Chunk) (after : List Chunk) → HeapAccepted old → IsNotFree c → layout_of old ≡ merged (before ++ c ∷ after) → there ≡ area_start old + total before → Alters old new there change
+    → layout_of new ≡ merged (before ++ change c ∷ after)
+altered_layout old new there change before c after h live e is x =
+    ((exchanges_layout old new there (λ d. change d ∷ []) (merged before) c (merged after) h (e ∙ merged-live before c after live) (is ∙ ap (λ (n : ℕ). area_start old + n) (sym (total-merged before)))).0 x).layout
+    ∙ merged-front before (change c ∷ merged after)
+    ∙ merged-right before (change c ∷ merged after) (change c ∷ after) (merged-right (change c ∷ []) (merged after) after (merged-twice after))
+
+pub relocates : (s0 s1 s2 s3 s4 : List ℕ) (here there size : ℕ) (before : List Chunk) (bytes : List ℕ) (lock owner slot : ℕ) (after : List Chunk) (f g d : Chunk) (write make : Chunk → Chunk) → HeapAccepted s0 → chunks_of s0 ≡ before ++ movable bytes lock owner slot ∷ after
+    → here ≡ area_start s0 + total before → 0 < size → IsRoom s0 there size → size_of d ≤ size → IsNotFree f → IsNotFree g → size_of f ≡ size_of d → size_of g ≡ size_of d → write f ≡ g → make g ≡ d
+    → Exchanges s0 s1 there (in_front f) → Alters s1 s2 there write → Alters s2 s3 here freed → Alters s3 s4 there make → Relocates s0 s4 here there d
+relocates s0 s1 s2 s3 s4 here there size before bytes lock owner slot after f g d write make h chunks from some r fits f_live g_live f_size g_size f_is g_is x1 x2 x3 x4 =
+    record { frame = frame_then s0 s3 s4 (frame_then s0 s2 s3 (frame_then s0 s1 s2 x1.frame x2.frame) x3.frame) x4.frame; layout = elim (two_cuts (merged before) c (merged after) front (free room.more) room.behind (λ e. cc) (sym layout ∙ room.layout)) [ inl k ↦ behind k | inr k ↦ in_front_of k ] } where
+      c : Chunk
+      c = movable bytes lock owner slot
+
+      start : ℕ
+      start = area_start s0
+
+      front : List Chunk
+      front = merged r.before
+
+      room : RoomInLayout s0 there size r.before r.after
+      room = room_in_layout s0 there size h some r
+
+      rest : List Chunk
+      rest = gap (room.more - size_of d) ++ room.behind
+
+      layout : layout_of s0 ≡ merged before ++ c ∷ merged after
+      layout = ap merged chunks ∙ merged-live before c after tt
+
+      from_merged : here ≡ start + total (merged before)
+      from_merged = from ∙ ap (λ (n : ℕ). start + n) (sym (total-merged before))
+
+      to : there ≡ start + total front
+      to = r.there ∙ ap (λ (n : ℕ). start + n) (sym (total-merged r.before))
+
+      start1 : area_start s1 ≡ start
+      start1 = becomes_start s0 s1 _ x1
+
+      start2 : area_start s2 ≡ start
+      start2 = becomes_start s1 s2 _ x2 ∙ start1
+
+      start3 : area_start s3 ≡ start
+      start3 = becomes_start s2 s3 _ x3 ∙ start2
+
+      takes : (cs : List Chunk) → layout_of s0 ≡ cs → EveryPlaced TakesBytes start cs
+      takes cs e = subst (λ (ds : List Chunk). EveryPlaced TakesBytes start ds) e (layout_takes s0 h)
+
+      made : layout_of s1 ≡ merged (front ++ f ∷ rest)
+      made = ((exchanges_layout s0 s1 there (in_front f) front (free room.more) room.behind h room.layout to).0 x1).layout ∙ ap (λ (n : ℕ). merged (front ++ f ∷ (gap (room.more - n) ++ room.behind))) f_size
+
+      written : layout_of s2 ≡ merged (front ++ g ∷ rest)
+      written = altered_layout s1 s2 there write front f rest x1.frame.accepted f_live made (to ∙ ap (λ (n : ℕ). n + total front) (sym start1)) x2 ∙ ap (λ (x : Chunk). merged (front ++ x ∷ rest)) f_is
+
+      behind : CutBehind (merged before) c (merged after) front (free room.more) room.behind → layout_of s4 ≡ merged (relocated here there d start (layout_of s0))
+      behind k =
+          let mid : List Chunk = k.mid in
+          let cs : List Chunk = merged before ++ c ∷ (mid ++ free room.more ∷ room.behind) in
+          let e : layout_of s0 ≡ cs = layout ∙ ap (λ (xs : List Chunk). merged before ++ c ∷ xs) k.back in
+          let sum = ap total k.front ∙ total-append (merged before) (c ∷ mid) in
+          let sums = total-append (merged before) (freed c ∷ mid) in
+          let apart : there ≡ here + size_of c + total mid = omega (arith, from_merged, to, sum) in
+          let in_cut : (x y : Chunk) → (merged before ++ x ∷ mid) ++ y ∷ rest ≡ merged before ++ x ∷ (mid ++ y ∷ rest) = λ x y. append_assoc (merged before) (x ∷ mid) (y ∷ rest) in
+          let before_it = from_merged ∙ ap (λ (n : ℕ). n + total (merged before)) (sym start2) in
+          let gone : layout_of s3 ≡ merged (merged before ++ freed c ∷ (mid ++ g ∷ rest)) =
+          altered_layout s2 s3 here freed (merged before) c (mid ++ g ∷ rest) x2.frame.accepted tt (written ∙ ap (λ (xs : List Chunk). merged (xs ++ g ∷ rest)) k.front ∙ ap merged (in_cut c g)) before_it x3 in
+          let place : there ≡ area_start s3 + total (merged before ++ freed c ∷ mid) = omega (arith, from_merged, apart, sums, start3) in
+          altered_layout s3 s4 there make (merged before ++ freed c ∷ mid) g rest x3.frame.accepted g_live (gone ∙ ap merged (sym (in_cut (freed c) g))) place x4
+          ∙ ap (λ (x : Chunk). merged ((merged before ++ freed c ∷ mid) ++ x ∷ rest)) g_is
+          ∙ ap merged (in_cut (freed c) d)
+          ∙ ap merged (sym (ap (relocated here there d start) e ∙ relocated-behind here there d start (merged before) c mid room.more room.behind (takes cs e) from_merged apart))
+
+      in_front_of : CutBehind front (free room.more) room.behind (merged before) c (merged after) → layout_of s4 ≡ merged (relocated here there d start (layout_of s0))
+      in_front_of k =
+          let mid : List Chunk = k.mid in
+          let left : List Chunk = gap (room.more - size_of d) in
+          let cs : List Chunk = front ++ free room.more ∷ (mid ++ c ∷ merged after) in
+          let e : layout_of s0 ≡ cs = room.layout ∙ ap (λ (xs : List Chunk). front ++ free room.more ∷ xs) k.back in
+          let sum = ap total k.front ∙ total-append front (free room.more ∷ mid) in
+          let sums = total-append front (g ∷ (left ++ mid)) in
+          let more = total-append left mid in
+          let all = gap_total (room.more - size_of d) in
+          let within = room.within in
+          let apart : here ≡ there + room.more + total mid = omega (arith, from_merged, to, sum) in
+          let in_cut : (x : Chunk) → front ++ g ∷ (left ++ (mid ++ x ∷ merged after)) ≡ (front ++ g ∷ (left ++ mid)) ++ x ∷ merged after =
+          λ x. ap (λ (xs : List Chunk). front ++ g ∷ xs) (sym (append_assoc left mid (x ∷ merged after))) ∙ sym (append_assoc front (g ∷ (left ++ mid)) (x ∷ merged after)) in
+          let was : layout_of s2 ≡ merged ((front ++ g ∷ (left ++ mid)) ++ c ∷ merged after) = written ∙ ap (λ (xs : List Chunk). merged (front ++ g ∷ (left ++ xs))) k.back ∙ ap merged (in_cut c) in
+          let place : here ≡ area_start s2 + total (front ++ g ∷ (left ++ mid)) = omega (arith, apart, to, sums, more, all, start2, g_size) in
+          let gone : layout_of s3 ≡ merged (front ++ g ∷ (left ++ (mid ++ freed c ∷ merged after))) =
+          altered_layout s2 s3 here freed (front ++ g ∷ (left ++ mid)) c (merged after) x2.frame.accepted tt was place x3 ∙ ap merged (sym (in_cut (freed c))) in
+          altered_layout s3 s4 there make front g (left ++ (mid ++ freed c ∷ merged after)) x3.frame.accepted g_live gone (to ∙ ap (λ (n : ℕ). n + total front) (sym start3)) x4
+          ∙ ap (λ (x : Chunk). merged (front ++ x ∷ (left ++ (mid ++ freed c ∷ merged after)))) g_is
+          ∙ ap merged (sym (ap (relocated here there d start) e ∙ relocated-front here there d start front room.more mid c (merged after) (takes cs e) to apart))

@@ -1,0 +1,169 @@
+-- Chunks in the middle of an accepted heap are replaced by others of the same size.
+use Rattle.std.proofs.Common.{◌≡◌, ◌≢◌, ℕ, ◌+◌, ◌<◌, List, ◌++◌, length, sym, ap, subst, ◌∙◌, arith, inl, inr}
+use Rattle.std.specs.Prelude.{◌⊎◌, ◌↔◌}
+use Rattle.heap_model.specs.Bytes.{u32_at}
+use Rattle.heap_model.specs.Chunk.{Chunk, total, SpelledAll}
+use Rattle.heap_model.specs.Slots.{IsSlot, slot_count, table_end, head_end, area_start, start_behind}
+use Rattle.heap_model.specs.Heap.{IsHead, Tiles, BodyHere, IsBody, IsCallersIfFixed, ManagersHere, directory_of, IsHeap}
+use Rattle.heap_model.specs.Placed.{EveryPlaced, AnyPlaced}
+use Rattle.laws_heap.proofs.Frames.{SameBetween, u16_at-same, u32_at-same}
+use Rattle.laws_heap.proofs.Chunks.{SpelledAll-append, SpelledAll-split, SpelledAll-end, SpelledAll-same}
+use Rattle.laws_heap.proofs.Placed.{EveryPlaced-append, EveryPlaced-split, AnyPlaced-left, AnyPlaced-right, AnyPlaced-split}
+
+-- ---- the head
+
+-- two images have the same words in front of their chunks, slots aside
+pub record SameHead (old new : List ℕ) : Type 0 where
+  pub len : length new ≡ length old
+  pub words : SameBetween 0 16 old new
+  pub padding : SameBetween (head_end old) (area_start old) old new
+
+pub same_count : (old new : List ℕ) → SameHead old new → slot_count new ≡ slot_count old
+same_count old new same = sym (u16_at-same 8 old new 0 16 same.words (omega arith) (omega arith))
+
+pub same_start : (old new : List ℕ) → SameHead old new → area_start new ≡ area_start old
+same_start old new same = let count = same_count old new same in ap start_behind count
+
+pub same_directory : (old new : List ℕ) → SameHead old new → directory_of new ≡ directory_of old
+same_directory old new same = sym (u32_at-same 12 old new 0 16 same.words (omega arith) (omega arith))
+
+pub slot_there : (old new : List ℕ) (slot : ℕ) → SameHead old new → IsSlot old slot → IsSlot new slot
+slot_there old new slot same s =
+    let count = same_count old new same in
+    let high : slot < table_end old = s.in_table in
+    record { behind_head = s.behind_head; in_table = omega arith; whole = s.whole }
+
+pub slot_back : (old new : List ℕ) (slot : ℕ) → SameHead old new → IsSlot new slot → IsSlot old slot
+slot_back old new slot same s =
+    let count = same_count old new same in
+    let high : slot < table_end new = s.in_table in
+    record { behind_head = s.behind_head; in_table = omega arith; whole = s.whole }
+
+pub head_same : (old new : List ℕ) → SameHead old new → IsHead old → IsHead new
+head_same old new same h =
+    let len = same.len in
+    let count = same_count old new same in
+    let start = same_start old new same in
+    let some = h.some_slot in
+    let fits = h.a_chunk_fits in
+    let ends : head_end new ≡ head_end old = omega arith in
+    record {
+      magic_is = sym (u32_at-same 0 old new 0 16 same.words (omega arith) (omega arith)) ∙ h.magic_is;
+      size_is = sym (u32_at-same 4 old new 0 16 same.words (omega arith) (omega arith)) ∙ h.size_is ∙ sym len;
+      least = rw len h.least;
+      most = rw len h.most;
+      whole = rw len h.whole;
+      some_slot = omega arith;
+      a_chunk_fits = omega arith;
+      reserved = sym (u16_at-same 10 old new 0 16 same.words (omega arith) (omega arith)) ∙ h.reserved;
+      padding = λ ne.
+          let there : head_end old ≢ area_start old = λ e. ne (ends ∙ e ∙ sym start) in
+          ap (u32_at new) ends ∙ sym (u32_at-same (head_end old) old new (head_end old) (area_start old) same.padding (omega arith) (omega arith)) ∙ h.padding there;
+    }
+
+-- ---- the chunks
+
+-- what is the same, and what is spelled in the place of the middle chunks, which begin at an offset
+pub record Replaces (old new : List ℕ) (before mid others after : List Chunk) (at : ℕ) : Type 0 where
+  pub there : at ≡ area_start old + total before
+  pub head : SameHead old new
+  pub front : SameBetween (area_start old) at old new
+  pub back : SameBetween (at + total mid) (length old) old new
+  pub spelled : SpelledAll new at others (at + total mid)
+
+pub replaced_total : (old new : List ℕ) (before mid others after : List Chunk) (at : ℕ) → Replaces old new before mid others after at → total others ≡ total mid
+replaced_total old new before mid others after at r = let e = SpelledAll-end new at others (at + total mid) r.spelled in omega arith
+
+replaced_area : (old new : List ℕ) (before mid others after : List Chunk) (at : ℕ) → Replaces old new before mid others after at → SpelledAll old (area_start old) (before ++ (mid ++ after)) (length old)
+    → SpelledAll new (area_start old) (before ++ (others ++ after)) (length new)
+replaced_area old new before mid others after at r s =
+    let start : ℕ = area_start old in
+    let len = r.head.len in
+    let first = SpelledAll-split old start before (mid ++ after) (length old) s in
+    let second = SpelledAll-split old (start + total before) mid after (length old) first.1 in
+    let there : start + total before ≡ at = sym r.there in
+    let front = SpelledAll-same old new start before (start + total before) (subst (λ (n : ℕ). SameBetween start n old new) r.there r.front) len first.0 in
+    let back = SpelledAll-same old new (at + total mid) after (length old) r.back len (subst (λ (n : ℕ). SpelledAll old (n + total mid) after (length old)) there second.1) in
+    subst (λ (n : ℕ). SpelledAll new start (before ++ (others ++ after)) n) (sym len)
+    (SpelledAll-append new start before (others ++ after) at (length old) (subst (λ (n : ℕ). SpelledAll new start before n) there front) (SpelledAll-append new at others after (at + total mid) (length old) r.spelled back))
+
+pub replaced_tiles : (old new : List ℕ) (before mid others after : List Chunk) (at : ℕ) → Tiles old (before ++ (mid ++ after)) → Replaces old new before mid others after at → Tiles new (before ++ (others ++ after))
+replaced_tiles old new before mid others after at t r = record {
+  head = head_same old new r.head t.head;
+  area = subst (λ (n : ℕ). SpelledAll new n (before ++ (others ++ after)) (length new)) (sym (same_start old new r.head)) (replaced_area old new before mid others after at r t.area);
+}
+
+-- ---- the heap
+
+-- the slots and bodies of the new image are tied, its fixed chunks are callers', and its directory is there
+pub record Retied (old new : List ℕ) (before others after : List Chunk) (at : ℕ) : Type 0 where
+  pub ties : (slot place : ℕ) → 0 < place → ((IsSlot old slot × (u32_at new slot ≡ place)) ↔ IsBody (area_start old) (before ++ (others ++ after)) slot place)
+  pub callers : EveryPlaced IsCallersIfFixed at others
+  pub directory : AnyPlaced (ManagersHere (directory_of old)) (area_start old) (before ++ (others ++ after)) ⊎ (directory_of old ≡ 0)
+
+pub replaced_heap : (old new : List ℕ) (before mid others after : List Chunk) (at : ℕ) → IsHeap old (before ++ (mid ++ after)) → Replaces old new before mid others after at → Retied old new before others after at
+    → IsHeap new (before ++ (others ++ after))
+replaced_heap old new before mid others after at h r t =
+    let start : ℕ = area_start old in
+    let cs : List Chunk = before ++ (others ++ after) in
+    let starts : area_start new ≡ start = same_start old new r.head in
+    let sizes = replaced_total old new before mid others after at r in
+    let place : at ≡ start + total before = r.there in
+    let owners = EveryPlaced-split IsCallersIfFixed start before (mid ++ after) h.fixed_are_callers in
+    let rest = EveryPlaced-split IsCallersIfFixed (start + total before) mid after owners.1 in
+    let behind : start + total before + total mid ≡ start + total before + total others = omega arith in
+    record {
+      tiles = replaced_tiles old new before mid others after at h.tiles r;
+      tied = λ slot place positive. (
+        λ s. subst (λ (n : ℕ). IsBody n cs slot place) (sym starts) ((t.ties slot place positive).0 (slot_back old new slot r.head s.0, s.1)),
+        λ b. let s = (t.ties slot place positive).1 (subst (λ (n : ℕ). IsBody n cs slot place) starts b) in (slot_there old new slot r.head s.0, s.1),
+      );
+      fixed_are_callers = subst (λ (n : ℕ). EveryPlaced IsCallersIfFixed n cs) (sym starts)
+          (EveryPlaced-append IsCallersIfFixed start before (others ++ after) owners.0
+          (EveryPlaced-append IsCallersIfFixed (start + total before) others after (subst (λ (n : ℕ). EveryPlaced IsCallersIfFixed n others) place t.callers) (subst (λ (n : ℕ). EveryPlaced IsCallersIfFixed n after) behind rest.1)));
+      directory = elim t.directory [
+        | inl m ↦ inr (subst (λ (n : ℕ). AnyPlaced (ManagersHere (directory_of new)) n cs) (sym starts) (subst (λ (w : ℕ). AnyPlaced (ManagersHere w) start cs) (sym (same_directory old new r.head)) m))
+        | inr none ↦ inl (same_directory old new r.head ∙ none)
+      ];
+    }
+
+-- ---- what holds of some chunk, where the middle ones are replaced
+
+pub any_replaced : (P : ℕ → Chunk → Type 0) (start : ℕ) (before mid others after : List Chunk) → total others ≡ total mid → (AnyPlaced P (start + total before) mid → AnyPlaced P (start + total before) others)
+    → AnyPlaced P start (before ++ (mid ++ after)) → AnyPlaced P start (before ++ (others ++ after))
+any_replaced P start before mid others after sizes same h = elim (AnyPlaced-split P start before (mid ++ after) h) [
+  | inl front ↦ AnyPlaced-left P start before (others ++ after) front
+  | inr rest ↦ AnyPlaced-right P start before (others ++ after) (elim (AnyPlaced-split P (start + total before) mid after rest) [
+    | inl here ↦ AnyPlaced-left P (start + total before) others after (same here)
+    | inr back ↦ AnyPlaced-right P (start + total before) others after (subst (λ (n : ℕ). AnyPlaced P (start + total before + n) after) (sym sizes) back)
+  ])
+]
+
+-- ---- slots are as they were, and the bodies too
+
+pub record SameSlots (old new : List ℕ) : Type 0 where
+  pub same : (slot : ℕ) → IsSlot old slot → u32_at new slot ≡ u32_at old slot
+
+pub kept_ties : (old new : List ℕ) (before mid others after : List Chunk) (at : ℕ) → IsHeap old (before ++ (mid ++ after)) → Replaces old new before mid others after at → SameSlots old new
+    → ((slot place : ℕ) → AnyPlaced (BodyHere slot place) at mid ↔ AnyPlaced (BodyHere slot place) at others)
+    → (slot place : ℕ) → 0 < place → ((IsSlot old slot × (u32_at new slot ≡ place)) ↔ IsBody (area_start old) (before ++ (others ++ after)) slot place)
+kept_ties old new before mid others after at h r slots bodies slot place positive =
+    let start : ℕ = area_start old in
+    let sizes = replaced_total old new before mid others after at r in
+    let there : AnyPlaced (BodyHere slot place) (start + total before) mid → AnyPlaced (BodyHere slot place) (start + total before) others =
+    λ b. subst (λ (n : ℕ). AnyPlaced (BodyHere slot place) n others) r.there ((bodies slot place).0 (subst (λ (n : ℕ). AnyPlaced (BodyHere slot place) n mid) (sym r.there) b)) in
+    let back : AnyPlaced (BodyHere slot place) (start + total before) others → AnyPlaced (BodyHere slot place) (start + total before) mid =
+    λ b. subst (λ (n : ℕ). AnyPlaced (BodyHere slot place) n mid) r.there ((bodies slot place).1 (subst (λ (n : ℕ). AnyPlaced (BodyHere slot place) n others) (sym r.there) b)) in (
+      λ s. any_replaced (BodyHere slot place) start before mid others after sizes there ((h.tied slot place positive).0 (s.0, sym (slots.same slot s.0) ∙ s.1)),
+      λ b. let s = (h.tied slot place positive).1 (any_replaced (BodyHere slot place) start before others mid after (sym sizes) back b) in (s.0, slots.same slot s.0 ∙ s.1),
+    )
+
+-- the directory, where the manager's chunks are as they were
+pub kept_directory : (old new : List ℕ) (before mid others after : List Chunk) (at : ℕ) → IsHeap old (before ++ (mid ++ after)) → Replaces old new before mid others after at
+    → (AnyPlaced (ManagersHere (directory_of old)) at mid → AnyPlaced (ManagersHere (directory_of old)) at others)
+    → AnyPlaced (ManagersHere (directory_of old)) (area_start old) (before ++ (others ++ after)) ⊎ (directory_of old ≡ 0)
+kept_directory old new before mid others after at h r managers = elim h.directory [
+  | inl none ↦ inr none
+  | inr m ↦ inl (any_replaced (ManagersHere (directory_of old)) (area_start old) before mid others after (replaced_total old new before mid others after at r)
+      (λ b. subst (λ (n : ℕ). AnyPlaced (ManagersHere (directory_of old)) n others) r.there (managers (subst (λ (n : ℕ). AnyPlaced (ManagersHere (directory_of old)) n mid) (sym r.there) b))) m)
+]

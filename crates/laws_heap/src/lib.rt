@@ -1,0 +1,45 @@
+//! Laws of the definitions in `heap_model`.
+//!
+//! The functions here have empty bodies: what each promises is a law, proved once. The lemmas
+//! behind them, which the crates above cite in their proofs, stand in `proofs/`:
+//!
+//! | file | laws of |
+//! |---|---|
+//! | `Frames`, `Writing` | where two lists of bytes agree, and what a write leaves |
+//! | `Deciding` | tests and the facts that they decide |
+//! | `Chunks` | runs of chunks, which are put together, taken apart and framed |
+//! | `Placed` | what holds of every chunk where it stands, or of some one |
+//! | `Shapes`, `Runs` | chunks that are read and chunks that are spelled, one or all from an offset on |
+//! | `Slots`, `Bodies` | slots by their number, and the two halves of the ties |
+//! | `Accepted`, `Meanings` | the test of an accepted heap, and the map that it holds |
+//! | `Finding` | the chunk that a name stands for, among the chunks |
+//! | `Lives` | what names stand for, and where, in lists that are put together |
+//! | `Layouts` | lists in which free neighbours are made one: what is the same of them |
+//! | `Becoming` | an image that has become another: what it holds, and where, by the layout alone |
+//! | `Replacing` | chunks of a heap replaced by others of their size: it stays accepted |
+//! | `Plain` | the same: first words of free chunks, of which no other bits are set |
+//! | `Freeing`, `Altering` | the same: free chunks split, joined and claimed, live ones freed and altered |
+//! | `Exchanging` | a chunk of a layout exchanged for others: by parts, and what all names stand for |
+//! | `Changing` | the same by what is done: what its name stands for afterwards |
+//! | `Owning` | all chunks of an owner made free |
+//! | `Packings` | what packing leaves: it is packed, and one list alone |
+//! | `Sliding` | chunks that slide: what names stand for, which stay, and the rooms are as they were |
+//! | `Numbering` | the number of the stretch that a chunk is in, in lists of one layout, and where chunks slide |
+//! | `Compacting` | the same of an image; and which of its chunks have moved, and how much |
+//! | `Holding` | how much is free, by what is held |
+//! | `Stretches` | one stretch of an image: the one around a chunk, and its room among the others |
+//! | `Lowering` | a chunk that is made lowers one room, and no other changes its stretch |
+//! | `Resizings`, `Relocating` | a chunk that takes another length, in its place or elsewhere: what its name stands for then |
+//! | `Openness` | what contracts over layouts leave open, by bodies that split and join otherwise |
+//!
+//! `test_heap_format` tries the definitions on images.
+#![tactic(auto)]
+
+mod laws;
+
+pub use laws::{
+    acceptance_is_decided, chunks_are_read, held_tells_free, holds_one_map, layout_tells,
+    need_is_whole, own_room_counts, packed_once, packing_is_packed, packing_joins_rooms,
+    packing_moves, sliding_keeps, slots_are_listed, slots_are_names, tied_one_to_one, tiled_once,
+    tiles_are_read, zero_names_nothing,
+};

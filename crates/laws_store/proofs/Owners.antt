@@ -1,0 +1,72 @@
+-- The owners of names: which names are slots, and which chunks are the manager's.
+use Rattle.std.proofs.Common.{◌≡◌, ℕ, zero, suc, ◌+◌, ◌<◌, List, ◌∷◌, Option, Some, None, refl, sym, ap, subst, ◌∙◌, arith, inl, inr}
+use Rattle.std.specs.Prelude.{◌⊎◌}
+use Rattle.heap_model.specs.Chunk.{Chunk, free, movable, fixed, total}
+use Rattle.heap_model.specs.Placed.{EveryPlaced, AnyPlaced}
+use Rattle.heap_model.specs.Slots.{IsSlot, area_start}
+use Rattle.heap_model.specs.Heap.{BodyHere, IsCallersIfFixed, ManagersHere, HeapAccepted, directory_of}
+use Rattle.heap_model.specs.Meaning.{LiveChunk, NamedHere}
+use Rattle.heap_model.specs.Reading.{chunks_of, held}
+use Rattle.heap_model.specs.Store.{managers_owner, data_owner, owner_of, owner_under}
+use Rattle.laws_heap.proofs.Placed.{AnyPlaced-parts, AnyPlaced-mid, EveryPlaced-split}
+use Rattle.laws_heap.proofs.Finding.{read_heap, finds_held, held_finds}
+use Rattle.laws_heap.proofs.Meanings.{held-zero}
+
+-- the name 0 has no owner
+pub owner-zero : (image : List ℕ) → HeapAccepted image → owner_under image 0 ≡ 16
+unfolding owner_under
+owner-zero image heap = ap owner_of (held-zero image heap)
+
+-- what has an owner is not 0
+pub owned_some : (image : List ℕ) (name owner : ℕ) → HeapAccepted image → owner_under image name ≡ owner → owner < 16 → 0 < name
+owned_some image zero owner heap e below = let none = owner-zero image heap in absurd (omega arith)
+owned_some image (suc name) owner heap e below = omega arith
+
+managers_live : (slot at : ℕ) (chunk : Chunk) → ManagersHere slot at chunk → (live : LiveChunk) × NamedHere slot live at chunk × (live.owner ≡ 0)
+managers_live slot at (free size) m = absurd m
+managers_live slot at (movable bytes lock owner named) m = (record { bytes = bytes; lock = lock; owner = owner }, (m.0, refl), m.1)
+managers_live slot at (fixed bytes owner) m = absurd m
+
+-- the directory is the manager's, if there is one
+pub directory_owner : (image : List ℕ) → HeapAccepted image → 0 < directory_of image → owner_under image (directory_of image) ≡ managers_owner
+unfolding owner_under
+directory_owner image h some = elim (read_heap image h).directory [
+  | inl none ↦ absurd (omega arith)
+  | inr any ↦
+      let p = AnyPlaced-parts (ManagersHere (directory_of image)) (area_start image) (chunks_of image) any in
+      let m = managers_live (directory_of image) (area_start image + total p.before) p.chunk p.holds in
+      ap owner_of (finds_held image (directory_of image) m.0 p.chunk (area_start image + total p.before) h (record { before = p.before; after = p.after; chunks = p.parts; there = refl; named = m.1 })) ∙ m.2
+]
+
+-- ---- such chunks are movable, and their names are slots
+
+owned_body : (slot : ℕ) (live : LiveChunk) (at : ℕ) (c : Chunk) → (live.owner ≡ 0) ⊎ (live.owner ≡ 15) → NamedHere slot live at c → IsCallersIfFixed at c → BodyHere slot (at + 8) at c
+owned_body slot live at (free size) owner n callers = absurd n
+owned_body slot live at (movable bytes lock own named) owner n callers = (n.0, refl)
+owned_body slot live at (fixed bytes own) owner n callers =
+    let same : own ≡ live.owner = ap (λ (l : LiveChunk). l.owner) n.1 in
+    let low = callers.0 in
+    let high = callers.1 in
+    absurd (elim owner [ inl e ↦ omega arith | inr e ↦ omega arith ])
+
+held_slot : (image : List ℕ) (slot : ℕ) (live : LiveChunk) → HeapAccepted image → held image slot ≡ Some live → (live.owner ≡ 0) ⊎ (live.owner ≡ 15) → IsSlot image slot
+held_slot image slot live h e owner =
+    let heap = read_heap image h in
+    let found = held_finds image slot live h e in
+    let f = found.finds in
+    let start : ℕ = area_start image in
+    let here : ℕ = start + total f.before in
+    let named : NamedHere slot live here found.chunk = subst (λ (n : ℕ). NamedHere slot live n found.chunk) f.there f.named in
+    let callers : EveryPlaced IsCallersIfFixed here (found.chunk ∷ f.after) =
+    (EveryPlaced-split IsCallersIfFixed start f.before (found.chunk ∷ f.after) (subst (λ (cs : List Chunk). EveryPlaced IsCallersIfFixed start cs) f.chunks heap.fixed_are_callers)).1 in
+    let body = owned_body slot live here found.chunk owner named callers.0 in
+    let any : AnyPlaced (BodyHere slot (here + 8)) start (chunks_of image) = subst (λ (cs : List Chunk). AnyPlaced (BodyHere slot (here + 8)) start cs) (sym f.chunks) (AnyPlaced-mid (BodyHere slot (here + 8)) start f.before found.chunk f.after body) in
+    ((heap.tied slot (here + 8) (omega arith)).1 any).0
+
+-- a name with one of these owners is a slot
+pub owned_slot : (image : List ℕ) (name : ℕ) → HeapAccepted image → (owner_under image name ≡ managers_owner) ⊎ (owner_under image name ≡ data_owner) → IsSlot image name
+unfolding owner_under
+owned_slot image name h owner = by (held image name) refl owner where
+  by : (o : Option LiveChunk) → held image name ≡ o → (owner_of o ≡ 0) ⊎ (owner_of o ≡ 15) → IsSlot image name
+  by None e own = absurd (elim own [ inl z ↦ omega arith | inr z ↦ omega arith ])
+  by (Some live) e own = held_slot image name live h e own

@@ -1,0 +1,5 @@
+use Rattle.laws_store.proofs.Stepping.{create_steps}
+use Rattle.laws_store.proofs.laws.creates_are_steps.Goals as goal
+
+pub returns : goal.returns
+returns c = create_steps

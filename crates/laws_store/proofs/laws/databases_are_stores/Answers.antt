@@ -1,0 +1,5 @@
+use Rattle.laws_store.proofs.Stepping.{has_store}
+use Rattle.laws_store.proofs.laws.databases_are_stores.Goals as goal
+
+pub returns : goal.returns
+returns c image store h same = has_store image store.map store.databases h same

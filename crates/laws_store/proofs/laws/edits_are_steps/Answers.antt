@@ -1,0 +1,5 @@
+use Rattle.laws_store.proofs.Editing.{edit_steps}
+use Rattle.laws_store.proofs.laws.edits_are_steps.Goals as goal
+
+pub returns : goal.returns
+returns c = edit_steps

@@ -1,0 +1,5 @@
+use Rattle.laws_store.proofs.Editing.{make_steps}
+use Rattle.laws_store.proofs.laws.makes_are_steps.Goals as goal
+
+pub returns : goal.returns
+returns c = make_steps

@@ -1,0 +1,5 @@
+use Rattle.laws_store.proofs.Keeping.{databases_kept}
+use Rattle.laws_store.proofs.laws.stores_are_kept.Goals as goal
+
+pub returns : goal.returns
+returns c = databases_kept

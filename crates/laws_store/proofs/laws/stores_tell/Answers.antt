@@ -1,0 +1,5 @@
+use Rattle.laws_store.proofs.Telling.{stores_tell}
+use Rattle.laws_store.proofs.laws.stores_tell.Goals as goal
+
+pub returns : goal.returns
+returns c = stores_tell

@@ -1,5 +1,0 @@
-use Rattle.store_laws.proofs.Found.{found_at}
-use Rattle.store_laws.proofs.laws.databases_are_found.Goals as goal
-
-pub returns : goal.returns
-returns c store db one = found_at db store.databases one

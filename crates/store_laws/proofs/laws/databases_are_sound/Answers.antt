@@ -1,5 +1,0 @@
-use Rattle.store_laws.proofs.Numbered.{accepted_sound, accepted_spells}
-use Rattle.store_laws.proofs.laws.databases_are_sound.Goals as goal
-
-pub returns : goal.returns
-returns c = λ image db a has. (accepted_sound image db a has, accepted_spells image db a has)

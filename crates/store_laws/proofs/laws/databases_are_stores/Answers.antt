@@ -1,5 +1,0 @@
-use Rattle.store_laws.proofs.Stepping.{has_store}
-use Rattle.store_laws.proofs.laws.databases_are_stores.Goals as goal
-
-pub returns : goal.returns
-returns c image store h same = has_store image store.map store.databases h same

@@ -1,5 +1,0 @@
-use Rattle.store_laws.proofs.Directories.{u32s_read, u32s_back}
-use Rattle.store_laws.proofs.laws.directories_are_read.Goals as goal
-
-pub returns : goal.returns
-returns c = (u32s_read, u32s_back)

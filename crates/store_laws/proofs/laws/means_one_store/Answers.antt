@@ -1,5 +1,0 @@
-use Rattle.store_laws.proofs.Meaning.{read_is_meant, one_meant}
-use Rattle.store_laws.proofs.laws.means_one_store.Goals as goal
-
-pub returns : goal.returns
-returns c image a = (read_is_meant image a, one_meant image)

@@ -1,5 +1,0 @@
-use Rattle.store_laws.proofs.Lifting.{memory_call_steps}
-use Rattle.store_laws.proofs.laws.memory_calls_are_store_steps.Goals as goal
-
-pub returns : goal.returns
-returns c = memory_call_steps

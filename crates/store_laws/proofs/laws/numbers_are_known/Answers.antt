@@ -1,6 +1,0 @@
-use Rattle.store_laws.proofs.Counting.{numbers_distinct}
-use Rattle.store_laws.proofs.Found.{is_number}
-use Rattle.store_laws.proofs.laws.numbers_are_known.Goals as goal
-
-pub returns : goal.returns
-returns c image store h = (numbers_distinct image store.databases h, λ db. is_number image store.databases db h)

@@ -1,6 +1,0 @@
-use Rattle.heap_model.specs.Database.{database_in}
-use Rattle.store_laws.proofs.Shapes.{spelled_shape, shape_spelled}
-use Rattle.store_laws.proofs.laws.shapes_are_spellings.Goals as goal
-
-pub returns : goal.returns
-returns c bytes b = (spelled_shape (database_in bytes) bytes, shape_spelled bytes b)

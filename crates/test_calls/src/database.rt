@@ -1,0 +1,77 @@
+//! Calls on databases.
+
+use crate::memory::any_name;
+use heap_model::{DatabaseCall, Db, DbInfo, DbName};
+use rand::RngExt;
+use rand::seq::IndexedRandom;
+use rand_pcg::Pcg32;
+use test_model::{Database, Image};
+
+/// Names that databases may have, some alike, and below them names that they may not have.
+const NAMES: [&[u8]; 10] = [
+    b"a",
+    b"ab",
+    b"abc",
+    b"b",
+    b"0123456789012345678901234567890",
+    b"0123456789012345678901234567891",
+    b"",
+    b"a\0",
+    b"01234567890123456789012345678901",
+    b"0123456789012345678901234567890123456789",
+];
+
+fn any_db_name(random: &mut Pcg32) -> DbName {
+    match NAMES.choose(random) {
+        Some(name) => DbName::of(name),
+        None => DbName::of(b""),
+    }
+}
+
+/// A number: most often that of a database, else the name of a chunk or of none.
+pub(crate) fn any_db(random: &mut Pcg32, image: &Image, databases: &[Database]) -> Db {
+    match databases.choose(random) {
+        Some(database) if random.random_range(0u32..6) > 0 => database.db,
+        _ => Db(any_name(random, &image.pieces).0),
+    }
+}
+
+/// A date, a type or another word whose values mean nothing here.
+fn any_word(random: &mut Pcg32) -> u32 {
+    random.random_range(0u32..u32::MAX)
+}
+
+fn any_info(random: &mut Pcg32) -> DbInfo {
+    DbInfo {
+        name: any_db_name(random),
+        attributes: random.random_range(0u16..u16::MAX),
+        version: random.random_range(0u16..u16::MAX),
+        creation_date: any_word(random),
+        modification_date: any_word(random),
+        backup_date: any_word(random),
+        modification_number: any_word(random),
+        kind: any_word(random),
+        creator: any_word(random),
+        seed: any_word(random),
+        entry_count: random.random_range(0u16..u16::MAX),
+    }
+}
+
+/// A call on databases, seldom one that deletes one.
+pub fn database_call(random: &mut Pcg32, image: &Image, databases: &[Database]) -> DatabaseCall {
+    match random.random_range(0u32..24) {
+        0..=6 => DatabaseCall::Create {
+            name: any_db_name(random),
+            kind: any_word(random),
+            creator: any_word(random),
+            resources: random.random_range(0u32..2) == 0,
+            date: any_word(random),
+        },
+        7..=9 => DatabaseCall::Delete(any_db(random, image, databases)),
+        10..=12 => DatabaseCall::Find(any_db_name(random)),
+        13..=15 => DatabaseCall::Nth(random.random_range(0u32..6)),
+        16 => DatabaseCall::Count,
+        17..=19 => DatabaseCall::Info(any_db(random, image, databases)),
+        _ => DatabaseCall::SetInfo(any_db(random, image, databases), any_info(random)),
+    }
+}

@@ -1,0 +1,279 @@
+//! Lists of calls that look random, on a store and on the plain model beside it.
+
+use crate::beside::{Beside, bytes_of, store_of};
+use crate::calls::do_call;
+use crate::counts::Counts;
+use crate::images::{MIXED, TWO_DATABASES, blank_image};
+use heap_model::{Call, Refusal, Reply};
+use rand::RngExt;
+use rand_pcg::Pcg32;
+use std::alloc::Global;
+use std::process::Abort;
+use std::test::*;
+use test_calls::{database_call, memory_call, record_call};
+use test_images::{DATABASE, bytes_of as listed};
+use test_model::Image;
+
+/// Each call with the refusals that it must have met, beside being accepted. That there are too many
+/// databases or records has tests of its own.
+const OUTCOMES: [(&str, &[Refusal]); 37] = [
+    (
+        "handle_new",
+        &[Refusal::InvalidOwner, Refusal::NotEnoughSpace],
+    ),
+    ("ptr_new", &[Refusal::InvalidOwner, Refusal::NotEnoughSpace]),
+    (
+        "free",
+        &[
+            Refusal::InvalidHandle,
+            Refusal::OwnedByDatabase,
+            Refusal::ChunkLocked,
+        ],
+    ),
+    (
+        "lock",
+        &[
+            Refusal::InvalidHandle,
+            Refusal::ChunkFixed,
+            Refusal::LockOverflow,
+        ],
+    ),
+    (
+        "unlock",
+        &[
+            Refusal::InvalidHandle,
+            Refusal::ChunkFixed,
+            Refusal::ChunkNotLocked,
+        ],
+    ),
+    ("size", &[Refusal::InvalidHandle]),
+    ("owner", &[Refusal::InvalidHandle]),
+    ("locks", &[Refusal::InvalidHandle]),
+    ("read", &[Refusal::InvalidHandle, Refusal::OutOfBounds]),
+    ("write", &WRITES),
+    ("set", &WRITES),
+    ("str_copy", &WRITES),
+    (
+        "resize",
+        &[
+            Refusal::InvalidHandle,
+            Refusal::OwnedByDatabase,
+            Refusal::ChunkFixed,
+            Refusal::ChunkLocked,
+            Refusal::NotEnoughSpace,
+        ],
+    ),
+    (
+        "set_owner",
+        &[
+            Refusal::InvalidHandle,
+            Refusal::OwnedByDatabase,
+            Refusal::InvalidOwner,
+        ],
+    ),
+    ("recover", &[Refusal::InvalidHandle]),
+    ("free_by_owner", &[Refusal::InvalidOwner]),
+    ("free_bytes", &[]),
+    ("largest_stretch", &[]),
+    ("compact", &[]),
+    (
+        "create",
+        &[
+            Refusal::InvalidName,
+            Refusal::AlreadyExists,
+            Refusal::NotEnoughSpace,
+        ],
+    ),
+    ("delete", &[Refusal::NoSuchDatabase, Refusal::ChunkLocked]),
+    ("find", &[Refusal::NoSuchDatabase]),
+    ("nth", &[Refusal::NoSuchDatabase]),
+    ("count", &[]),
+    ("info", &[Refusal::NoSuchDatabase]),
+    (
+        "set_info",
+        &[
+            Refusal::NoSuchDatabase,
+            Refusal::InvalidName,
+            Refusal::AlreadyExists,
+        ],
+    ),
+    (
+        "new_record",
+        &[
+            Refusal::NoSuchDatabase,
+            Refusal::NotRecordDatabase,
+            Refusal::ReadOnly,
+            Refusal::NotEnoughSpace,
+        ],
+    ),
+    (
+        "delete_record",
+        &[
+            Refusal::NoSuchDatabase,
+            Refusal::NotRecordDatabase,
+            Refusal::ReadOnly,
+            Refusal::IndexOutOfRange,
+            Refusal::RecordDeleted,
+            Refusal::ChunkLocked,
+        ],
+    ),
+    (
+        "archive",
+        &[
+            Refusal::NoSuchDatabase,
+            Refusal::NotRecordDatabase,
+            Refusal::ReadOnly,
+            Refusal::IndexOutOfRange,
+            Refusal::RecordDeleted,
+        ],
+    ),
+    (
+        "remove",
+        &[
+            Refusal::NoSuchDatabase,
+            Refusal::NotRecordDatabase,
+            Refusal::ReadOnly,
+            Refusal::IndexOutOfRange,
+            Refusal::ChunkLocked,
+        ],
+    ),
+    (
+        "move_record",
+        &[
+            Refusal::NoSuchDatabase,
+            Refusal::NotRecordDatabase,
+            Refusal::ReadOnly,
+            Refusal::IndexOutOfRange,
+        ],
+    ),
+    (
+        "get",
+        &[
+            Refusal::NoSuchDatabase,
+            Refusal::NotRecordDatabase,
+            Refusal::IndexOutOfRange,
+            Refusal::RecordDeleted,
+            Refusal::RecordBusy,
+        ],
+    ),
+    (
+        "query",
+        &[
+            Refusal::NoSuchDatabase,
+            Refusal::NotRecordDatabase,
+            Refusal::IndexOutOfRange,
+            Refusal::RecordDeleted,
+        ],
+    ),
+    ("release", &ASKED),
+    ("record_info", &ASKED),
+    (
+        "resize_record",
+        &[
+            Refusal::NoSuchDatabase,
+            Refusal::NotRecordDatabase,
+            Refusal::ReadOnly,
+            Refusal::IndexOutOfRange,
+            Refusal::RecordDeleted,
+            Refusal::ChunkLocked,
+            Refusal::NotEnoughSpace,
+        ],
+    ),
+    (
+        "num_records",
+        &[Refusal::NoSuchDatabase, Refusal::NotRecordDatabase],
+    ),
+];
+
+const ASKED: [Refusal; 3] = [
+    Refusal::NoSuchDatabase,
+    Refusal::NotRecordDatabase,
+    Refusal::IndexOutOfRange,
+];
+
+const WRITES: [Refusal; 3] = [
+    Refusal::InvalidHandle,
+    Refusal::ChunkNotLocked,
+    Refusal::OutOfBounds,
+];
+
+/// A call of any manager.
+fn any_call(random: &mut Pcg32, alloc: Global, beside: &Beside) -> Result<Call, Fail> {
+    let image = Image::decode(alloc, &beside.image)?;
+    let databases = beside.plain.databases();
+    let call = match random.random_range(0u32..10) {
+        0..=2 => Call::Memory(memory_call(random, alloc, &image)?),
+        3..=5 => Call::Database(database_call(random, &image, databases)),
+        _ => Call::Record(record_call(random, &image, databases)),
+    };
+    Ok(call)
+}
+
+/// A call of a list, and what it answered.
+#[derive(Drop)]
+struct Done {
+    call: Call,
+    reply: Reply,
+}
+
+/// Does a list of calls that a seed gives, each on the image that the one before left, and counts what
+/// they answer.
+fn run_list(
+    rt: &(impl Abort + AllocGlobal),
+    counts: &mut Counts,
+    image: Vec<u8>,
+    seed: u64,
+    count: u32,
+) -> Result<(), Fail> {
+    let alloc = rt.alloc();
+    let first = image.clone()?;
+    let mut random = Pcg32::new(seed, 1);
+    let mut list = Vec::new(alloc);
+    let mut beside = Beside::new(alloc, image)?;
+    for number in 0..count {
+        let call = any_call(&mut random, alloc, &beside)?;
+        let spot = format!(in alloc; "call {number} of list {seed}")?;
+        let reply = beside.call(rt, spot.as_str(), &call)?;
+        counts.add(&call, &reply)?;
+        list.push(Done { call, reply })?;
+    }
+    check_again(rt, &list, &first, &beside.image)
+}
+
+/// Does a list again, on one store from end to end: it must answer the same and leave the same bytes.
+fn check_again(
+    rt: &(impl Abort + AllocGlobal),
+    list: &[Done],
+    first: &[u8],
+    last: &[u8],
+) -> Result<(), Fail> {
+    let alloc = rt.alloc();
+    let mut store = store_of(alloc, first)?;
+    for Done { call, reply } in list {
+        assert_eq!(rt;
+            &do_call(alloc, &mut store, call),
+            reply,
+            "on one store: {call:?}"
+        );
+    }
+    assert_eq!(rt; bytes_of(&store.into_region()), last, "on one store");
+    store_of(alloc, last)?;
+    Ok(())
+}
+
+/// From blank images, and from images with databases.
+#[test]
+fn lists_of_calls(rt: HostRuntime) -> Result<(), Fail> {
+    let alloc = rt.alloc();
+    let mut counts = Counts::new(alloc);
+    for seed in 1..9u64 {
+        run_list(&rt, &mut counts, blank_image(alloc, 256, 8)?, seed, 150)?;
+        run_list(&rt, &mut counts, blank_image(alloc, 512, 6)?, seed, 150)?;
+        run_list(&rt, &mut counts, blank_image(alloc, 4096, 40)?, seed, 300)?;
+        run_list(&rt, &mut counts, listed(alloc, DATABASE)?, seed, 100)?;
+        run_list(&rt, &mut counts, listed(alloc, TWO_DATABASES)?, seed, 100)?;
+        run_list(&rt, &mut counts, listed(alloc, MIXED)?, seed, 300)?;
+    }
+    counts.check(&rt, &OUTCOMES);
+    Ok(())
+}
