@@ -3,3 +3,4 @@ pub mod WriteLaws
 pub mod WalkLaws
 pub mod BlankLaws
 pub mod SecondLaws
+pub mod EmptyLaws

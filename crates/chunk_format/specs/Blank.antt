@@ -7,6 +7,7 @@ use Rattle.heap_model.specs.Slots.{slot_count, start_behind}
 use Rattle.heap_model.specs.Heap.{IsHeap}
 use Rattle.heap_model.specs.Reading.{held}
 use Rattle.heap_model.specs.Layout.{IsPlain}
+use Rattle.heap_model.specs.Store.{Store}
 
 -- an image may have this size
 pub record IsRegionSize (size : ℕ) : Type 0 where
@@ -28,6 +29,11 @@ pub record IsBlank (size slots : ℕ) (image : List ℕ) : Type 0 where
   pub nothing : (name : ℕ) → held image name ≡ None
   pub plain : IsPlain (u32_at image (start_behind slots))
   pub zeros : (k : ℕ) → start_behind slots + 4 ≤ k → k < size → slice_index image k ≡ 0
+
+-- callers may name nothing in a store, and it has no database
+pub record IsEmpty (store : Store) : Type 0 where
+  pub map : (name : ℕ) → store.map name ≡ None
+  pub databases : store.databases ≡ []
 
 -- bytes over which a frame is written: the magic, the size and the slot count
 abbrev pub framed : List ℕ → ℕ → ℕ → List ℕ

@@ -1,6 +1,6 @@
 -- The header of a chunk: what its two words say.
 use Rattle.std.specs.Prelude.{◌≡◌, ◌≤◌, ◌<◌, ◌+◌, ◌-◌, ◌*◌, ◌/◌, ◌%◌, ◌^◌, ◌++◌, ◌⊎◌, ◌==◌, if◌then◌else◌, ℕ, List, [], ◌∷◌, length, slice_range}
-use Rattle.heap_model.specs.Bytes.{u32_bytes}
+use Rattle.heap_model.specs.Bytes.{u32_at, u32_bytes, overwritten}
 use Rattle.heap_model.specs.Chunk.{Chunk, free, movable, fixed, fixed_lock, need, size_of, slot_named, Spelled}
 use Rattle.heap_model.specs.Reading.{lock_field, owner_field, h_offset_field}
 use Rattle.heap_model.specs.declared.names.Place.{Place}
@@ -61,6 +61,13 @@ with_lock_field word lock = lock * 2 ^ 28 + word % 2 ^ 28
 -- a second word with another owner field
 abbrev pub with_owner_field : ℕ → ℕ → ℕ
 with_owner_field word owner = word / 2 ^ 28 * 2 ^ 28 + owner * 2 ^ 24 + word % 2 ^ 24
+
+-- an image with another lock field, or another owner field, in the header at an offset
+abbrev pub with_lock_at : List ℕ → ℕ → ℕ → List ℕ
+with_lock_at image at lock = overwritten image (at + 4) (u32_bytes (with_lock_field (u32_at image (at + 4)) lock))
+
+abbrev pub with_owner_at : List ℕ → ℕ → ℕ → List ℕ
+with_owner_at image at owner = overwritten image (at + 4) (u32_bytes (with_owner_field (u32_at image (at + 4)) owner))
 
 -- The movable chunk that was spelled at this offset is spelled there with another lock count, and is
 -- else as it was.

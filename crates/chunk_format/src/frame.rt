@@ -92,7 +92,8 @@ pub fn directory(region: &Region) -> u32
 /// Writes the directory word: 0, or the offset of the directory's slot.
 pub fn put_directory(region: &mut Region, word: u32)
     requires { HasFrame region.old }
-    ensures after { region.new ≡ record region.old { bytes = overwritten region.old.bytes directory_at (u32_bytes word) } }
+    ensures after { region.new ≡ record region.old
+        { bytes = overwritten region.old.bytes directory_at (u32_bytes word) } }
     ensures len { length region.new.bytes ≡ length region.old.bytes }
 {
     region.put_u32(DIRECTORY_AT, word);

@@ -2,11 +2,11 @@
 
 ghost use Rattle.std.specs.Prelude.{◌≡◌, ◌%◌, ◌+◌, ◌≤◌, ◌<◌, ◌^◌, length, option_map, IfSome, IfNone, SomeIff};
 ghost use Rattle.heap_model.specs.Memory.{IsWithin};
-ghost use Rattle.heap_model.specs.Bytes.{u32_at, u32_bytes, overwritten};
+ghost use Rattle.heap_model.specs.Bytes.{overwritten};
 ghost use Rattle.heap_model.specs.Frame.{most_size};
 ghost use Rattle.heap_model.specs.Chunk.{Chunk, need, fixed_lock, Spelled, HasChunk};
 ghost use Rattle.heap_model.specs.Reading.{chunk_at};
-ghost use Rattle.chunk_format.specs.Header.{chunk_with, size_by, live_header_by, h_offset_to, live_words, with_lock_field, with_owner_field, Relocks, Reowns};
+ghost use Rattle.chunk_format.specs.Header.{chunk_with, size_by, live_header_by, h_offset_to, live_words, with_lock_at, with_owner_at, Relocks, Reowns};
 
 use crate::frame::MOST_SIZE;
 use raw_region::Region;
@@ -19,6 +19,12 @@ const ABOVE_24_BITS: u32 = 0x100_0000;
 
 /// What stands above the 28 bits of owner and hOffset is a multiple of this.
 const ABOVE_28_BITS: u32 = 0x1000_0000;
+
+/// What the header of a chunk takes in bytes. The body begins behind it.
+pub const HEADER_SIZE: u32 = 8;
+
+/// Where the second word of a header stands, from the header's start.
+const SECOND_WORD_AT: usize = 4;
 
 /// The owner of the manager's own chunks: the directory, and the headers of databases.
 pub const MANAGERS_OWNER: u8 = 0;
@@ -59,7 +65,7 @@ pub fn size_of_body(length: u32) -> u32
     requires { need length < 2 ^ 24 }
     ensures { result ≡ need length }
 {
-    8 + 8 * ((length + 7) / 8)
+    HEADER_SIZE + 8 * ((length + 7) / 8)
 }
 
 /// What a chunk with a body of `length` bytes takes, as `size_of_body` answers it. None where that is
@@ -67,7 +73,7 @@ pub fn size_of_body(length: u32) -> u32
 pub fn chunk_size(length: u32) -> Option<u32>
     ensures { SomeIff result (need length ≤ most_size) (need length) }
 {
-    if length > MOST_SIZE - 8 {
+    if length > MOST_SIZE - HEADER_SIZE {
         return None;
     }
     Some(size_of_body(length))
@@ -129,8 +135,9 @@ impl Header {
         if first >= FREE_BIT {
             return (Header::Free { size }, size);
         }
-        let length = size - 8 - first / ABOVE_24_BITS;
-        (live_header(at, length, region.get_u32(offset + 4)), size)
+        let length = size - HEADER_SIZE - first / ABOVE_24_BITS;
+        let second = region.get_u32(offset + SECOND_WORD_AT);
+        (live_header(at, length, second), size)
     }
 
     /// Writes the header at `at`: of a free chunk its first word alone, with every bit but the free
@@ -140,7 +147,8 @@ impl Header {
         requires inside { IsWithin region.old at (size_by self) }
         requires small { length region.old.bytes < 2 ^ 24 }
         requires writable { IsWritable at self }
-        ensures after { region.new ≡ record region.old { bytes = overwritten region.old.bytes at (header_bytes at self) } }
+        ensures after { region.new ≡ record region.old
+            { bytes = overwritten region.old.bytes at (header_bytes at self) } }
         ensures len { length region.new.bytes ≡ length region.old.bytes }
         ensures spelled { HasHeader region.new.bytes at self }
     {
@@ -174,14 +182,15 @@ impl Header {
 #[inline]
 fn decode(region: &Region, at: u32) -> Option<(Header, u32)>
     requires small { length region.now.bytes < 2 ^ 24 }
-    ensures found { IfSome result (λ both. Spelled region.now.bytes at (chunk_with region.now.bytes at both.0)) }
+    ensures found { IfSome result
+        (λ both. Spelled region.now.bytes at (chunk_with region.now.bytes at both.0)) }
     ensures inside { IfSome result (λ both. at + size_by both.0 ≤ length region.now.bytes) }
     ensures size { IfSome result (λ both. both.1 ≡ size_by both.0) }
     ensures none { IfNone result ((chunk : Chunk) → Spelled region.now.bytes at chunk → ⊥) }
 {
     let offset = at as usize;
     let end = region.len();
-    if offset + 8 > end {
+    if offset + HEADER_SIZE as usize > end {
         return None;
     }
     let first = region.get_u32(offset);
@@ -194,8 +203,8 @@ fn decode(region: &Region, at: u32) -> Option<(Header, u32)>
         let is_free = first >= FREE_BIT && size != 0;
         return is_free.then_some((Header::Free { size }, size));
     }
-    let length = size.checked_sub(8 + adjustment)?;
-    let second = region.get_u32(offset + 4);
+    let length = size.checked_sub(HEADER_SIZE + adjustment)?;
+    let second = region.get_u32(offset + SECOND_WORD_AT);
     let lock = (second / ABOVE_28_BITS) as u8;
     let owner = (second / ABOVE_24_BITS % 16) as u8;
     let h_offset = second % ABOVE_24_BITS;
@@ -244,11 +253,12 @@ fn live_header(at: u32, length: u32, second: u32) -> Header
 pub fn put_lock(region: &mut Region, at: u32, lock: u8)
     requires inside { IsWithin region.old at 8 }
     requires lock { lock < fixed_lock }
-    ensures after { region.new ≡ record region.old { bytes = overwritten region.old.bytes (at + 4) (u32_bytes (with_lock_field (u32_at region.old.bytes (at + 4)) lock)) } }
+    ensures after { region.new ≡ record region.old
+        { bytes = with_lock_at region.old.bytes at lock } }
     ensures len { length region.new.bytes ≡ length region.old.bytes }
     ensures relocked { Relocks region.old.bytes region.new.bytes at lock }
 {
-    let second = at as usize + 4;
+    let second = at as usize + SECOND_WORD_AT;
     let word = region.get_u32(second);
     region.put_u32(second, lock as u32 * ABOVE_28_BITS + word % ABOVE_28_BITS);
 }
@@ -259,11 +269,12 @@ pub fn put_lock(region: &mut Region, at: u32, lock: u8)
 pub fn put_owner(region: &mut Region, at: u32, owner: u8)
     requires inside { IsWithin region.old at 8 }
     requires owner { owner < 16 }
-    ensures after { region.new ≡ record region.old { bytes = overwritten region.old.bytes (at + 4) (u32_bytes (with_owner_field (u32_at region.old.bytes (at + 4)) owner)) } }
+    ensures after { region.new ≡ record region.old
+        { bytes = with_owner_at region.old.bytes at owner } }
     ensures len { length region.new.bytes ≡ length region.old.bytes }
     ensures reowned { Reowns region.old.bytes region.new.bytes at owner }
 {
-    let second = at as usize + 4;
+    let second = at as usize + SECOND_WORD_AT;
     let word = region.get_u32(second);
     let lock = word / ABOVE_28_BITS * ABOVE_28_BITS;
     let rest = word % ABOVE_24_BITS;
@@ -286,12 +297,13 @@ fn write_live(region: &mut Region, at: u32, count: u32, lock: u8, owner: u8, h_o
     requires lock { lock < 16 }
     requires owner { owner < 16 }
     requires h_offset { h_offset < 2 ^ 24 }
-    ensures after { region.new ≡ record region.old { bytes = overwritten region.old.bytes at (live_words count lock owner h_offset) } }
+    ensures after { region.new ≡ record region.old
+        { bytes = overwritten region.old.bytes at (live_words count lock owner h_offset) } }
     ensures len { length region.new.bytes ≡ length region.old.bytes }
 {
     let size = size_of_body(count);
     let offset = at as usize;
-    region.put_u32(offset, (size - 8 - count) * ABOVE_24_BITS + size);
+    region.put_u32(offset, (size - HEADER_SIZE - count) * ABOVE_24_BITS + size);
     let above = lock as u32 * ABOVE_28_BITS + owner as u32 * ABOVE_24_BITS;
-    region.put_u32(offset + 4, above + h_offset);
+    region.put_u32(offset + SECOND_WORD_AT, above + h_offset);
 }

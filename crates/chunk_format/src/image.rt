@@ -1,10 +1,11 @@
 //! Blank images.
 
 ghost use Rattle.std.specs.Prelude.{◌≡◌, ◌↔◌, IfOk, Err, replicate};
-ghost use Rattle.chunk_format.specs.Blank.{IsRegionSize, LeavesRoom, IsPlanned, IsBlank};
+ghost use Rattle.heap_model.specs.Store.{Accepted, store_of};
+ghost use Rattle.chunk_format.specs.Blank.{IsRegionSize, LeavesRoom, IsPlanned, IsBlank, IsEmpty};
 
 use crate::frame::{is_image_size, start_behind, write_frame};
-use crate::header::Header;
+use crate::header::{HEADER_SIZE, Header};
 use heap_model::Allowance;
 use raw_region::Region;
 use std::alloc::{AllocError, Global};
@@ -28,8 +29,11 @@ pub enum BlankFault {
 /// count bytes, and the layout is this project's own (docs/FORMAT.md).
 pub fn blank(alloc: Global, size: u32, slots: u16) -> Result<Region, BlankFault>
     ensures blank { IfOk result (λ region. IsBlank size slots region.bytes) }
+    ensures accepted { IfOk result (λ region. Accepted region.bytes) }
+    ensures empty { IfOk result (λ region. IsEmpty (store_of region.bytes)) }
     ensures size { (result ≡ Err BlankFault.BadSize) ↔ (IsRegionSize size → ⊥) }
-    ensures slots { (result ≡ Err BlankFault.BadSlotCount) ↔ (IsRegionSize size × (LeavesRoom size slots → ⊥)) }
+    ensures slots { (result ≡ Err BlankFault.BadSlotCount)
+        ↔ (IsRegionSize size × (LeavesRoom size slots → ⊥)) }
 {
     blank_from(&alloc, size, slots)
 }
@@ -37,14 +41,17 @@ pub fn blank(alloc: Global, size: u32, slots: u16) -> Result<Region, BlankFault>
 /// `blank`, where the growth asks for a grant.
 pub fn blank_from<A: Allowance>(memory: &A, size: u32, slots: u16) -> Result<Region, BlankFault>
     ensures blank { IfOk result (λ region. IsBlank size slots region.bytes) }
+    ensures accepted { IfOk result (λ region. Accepted region.bytes) }
+    ensures empty { IfOk result (λ region. IsEmpty (store_of region.bytes)) }
     ensures size { (result ≡ Err BlankFault.BadSize) ↔ (IsRegionSize size → ⊥) }
-    ensures slots { (result ≡ Err BlankFault.BadSlotCount) ↔ (IsRegionSize size × (LeavesRoom size slots → ⊥)) }
+    ensures slots { (result ≡ Err BlankFault.BadSlotCount)
+        ↔ (IsRegionSize size × (LeavesRoom size slots → ⊥)) }
 {
     if !is_image_size(size as usize) {
         return Err(BlankFault::BadSize);
     }
     let start = start_behind(slots);
-    if slots == 0 || size < start + 8 {
+    if slots == 0 || size < start + HEADER_SIZE {
         return Err(BlankFault::BadSlotCount);
     }
     let Ok(mut region) = zeros(memory, size) else {

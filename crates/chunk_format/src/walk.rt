@@ -4,7 +4,7 @@ ghost use Rattle.std.specs.Prelude.{◌≡◌, ◌<◌, ◌^◌, length};
 ghost use Rattle.heap_model.specs.Reading.{chunks_from};
 ghost use Rattle.chunk_format.specs.Header.{headers_of};
 
-use crate::header::Header;
+use crate::header::{HEADER_SIZE, Header};
 use heap_model::Place;
 use raw_region::Region;
 use std::marker::Model;
@@ -57,7 +57,7 @@ impl<'a> Iterator for Walk<'a> {
         match Header::read_with_size(self.region, at) {
             Some((header, size)) => {
                 self.at = at + size;
-                Some((Place(at + 8), header))
+                Some((Place(at + HEADER_SIZE), header))
             }
             None => None,
         }

@@ -1,15 +1,15 @@
 -- A name's chunk with another length: where it stands, elsewhere, and once a stretch has slid.
-use Rattle.std.proofs.Common.{◌≡◌, ℕ, ◌+◌, ◌-◌, ◌<◌, ◌≤◌, List, ◌∷◌, ◌++◌, length, Bool, Option, Some, refl, sym, ap, subst, ◌∙◌, arith, inl, inr}
+use Rattle.std.proofs.Common.{◌≡◌, ℕ, ◌+◌, ◌-◌, ◌<◌, ◌≤◌, List, ◌∷◌, ◌++◌, length, Bool, true, false, Option, Some, refl, sym, ap, subst, ◌∙◌, arith, inl, inr}
 use Rattle.std.proofs.lemmas.Bool.{cases_eq, OnTrue_at}
 use Rattle.std.specs.Prelude.{◌==◌, if◌then◌else◌, IsSome, IsTrue, ◌↔◌}
-use Rattle.std.specs.Bool.{OnTrue}
+use Rattle.std.specs.Bool.{OnTrue, OnFalse}
 use Rattle.heap_model.specs.Bytes.{sized_to}
 use Rattle.heap_model.specs.Chunk.{Chunk, movable, need, size_of}
 use Rattle.heap_model.specs.Heap.{HeapAccepted}
 use Rattle.heap_model.specs.Meaning.{LiveChunk}
-use Rattle.heap_model.specs.Reading.{held}
+use Rattle.heap_model.specs.Reading.{chunks_of, held}
 use Rattle.heap_model.specs.Maps.{changed}
-use Rattle.heap_model.specs.Space.{ShortFor, Short, FitsInPlace, MovesAlone, MovesOneStretchAnd, free_front, room_of}
+use Rattle.heap_model.specs.Space.{NoRun, ShortFor, Short, FitsInPlace, MovesAlone, MovesOneStretchAnd, free_front, room_of}
 use Rattle.heap_model.specs.Layout.{IsRoom}
 use Rattle.heap_model.specs.Packing.{SlidesOneStretch, OpensBehind}
 use Rattle.heap_model.specs.Resizing.{with_length, GrowsInPlace, Relocates}
@@ -17,6 +17,7 @@ use Rattle.laws_heap.proofs.Becoming.{frame_then}
 use Rattle.laws_heap.proofs.Exchanging.{ChangesName}
 use Rattle.laws_heap.proofs.Resizings.{live_sized, grow_changes, finds_behind, opened_behind}
 use Rattle.laws_heap.proofs.Relocating.{relocate_changes}
+use Rattle.laws_heap.proofs.Fitting.{room_not_short_for}
 use Rattle.laws_heap.proofs.Compacting.{slides_alike, slides_move_one, opens_one}
 use Rattle.laws_heap.proofs.Stretches.{short_for_parts, room_of-middle}
 use Rattle.laws_heap.proofs.Updating.{held_updated}
@@ -25,7 +26,7 @@ use Rattle.heap_place.proofs.WalkLaws.{free_within}
 use Rattle.heap_place.specs.declared.found.Found.{Found}
 use Rattle.heap_place.specs.declared.stretch.Stretch.{Stretch}
 use Rattle.heap_place.specs.Found.{IsFound, IsOne}
-use Rattle.heap_place.specs.Relocation.{RelocatesFound}
+use Rattle.heap_place.specs.Relocation.{RelocatesFound, RelocatesToRun}
 use Rattle.heap_place.specs.Resizes.{TellsWhetherInPlace}
 use Rattle.heap_place.specs.Stretches.{IsAmong, HasRoomOf}
 use Rattle.heap_compact.specs.Resized.{IsLoose, Resized, FitsInStretch}
@@ -40,6 +41,9 @@ same_live e = cc
 -- a chunk without locks is loose, and a loose one has none
 pub is_loose : (image : List ℕ) (found : Found) → HeapAccepted image → IsOne image found → found.lock ≡ 0 → IsLoose image found.name.0
 is_loose image found h f none = record { live = f.live; is_held = one_held image found h f; unlocked = sym f.lock_is ∙ none }
+
+pub loose_there : (image : List ℕ) (name : ℕ) → IsLoose image name → IsSome (held image name)
+loose_there image name l = subst (λ (x : Option LiveChunk). IsSome x) (sym l.is_held) refl
 
 pub loose_lock : (image : List ℕ) (name : ℕ) (found : Found) → HeapAccepted image → IsLoose image name → IsFound image name found → found.lock ≡ 0
 loose_lock image name found h l f = f.lock_is ∙ ap (λ (x : LiveChunk). x.lock) (same_live (sym (name_held image name found h f) ∙ l.is_held)) ∙ l.unlocked
@@ -77,12 +81,24 @@ grown_resized old new found count told h f unlocked fits tells grows =
     (grow_changes old new found.name.0 found.place.0 count f.live (movable bytes lock owner slot) h f.behind_header g reaches (OnTrue_at (tell.1 reaches) grows)))
     (tells f)
 
-pub relocated_resized : (old new : List ℕ) (found : Found) (at size count : ℕ) → HeapAccepted old → IsOne old found → found.lock ≡ 0 → IsRoom old at size → need count ≤ size → RelocatesFound old new found at count → ChangedAlone old new found.name.0 count
+relocated_resized : (old new : List ℕ) (found : Found) (at size count : ℕ) → HeapAccepted old → IsOne old found → found.lock ≡ 0 → IsRoom old at size → need count ≤ size → RelocatesFound old new found at count → ChangedAlone old new found.name.0 count
 relocated_resized old new found at size count h f unlocked r fits moved =
     when_movable old found.name.0 found f (λ c g. Relocates old new (found.place.0 - 8) at (with_length count c) → ChangedAlone old new found.name.0 count) (λ e. omega arith)
     (λ bytes lock owner slot g x. changed_alone old new found.name.0 count f.live (Some (at + 8)) (one_held old found h f) (sym f.lock_is ∙ unlocked)
     (relocate_changes old new found.name.0 (found.place.0 - 8) at size count f.live bytes lock owner slot h g (omega arith) r fits x))
     (moved f)
+
+-- of a free run that has the room, where there is one
+pub run_resized : (old new : List ℕ) (found : Found) (count : ℕ) → HeapAccepted old → IsOne old found → found.lock ≡ 0 → RelocatesToRun old new found count → ChangedAlone old new found.name.0 count
+run_resized old new found count h f unlocked r = relocated_resized old new found r.at r.size count h f unlocked r.room r.enough r.moved
+
+pub moved_resized : (old new : List ℕ) (found : Found) (count : ℕ) (told : Bool) → HeapAccepted old → IsOne old found → found.lock ≡ 0 → (NoRun (chunks_of old) (need count) → ⊥) → OnFalse told (NoRun (chunks_of old) (need count)) → OnTrue told (RelocatesToRun old new found count)
+    → ChangedAlone old new found.name.0 count
+moved_resized old new found count true h f unlocked has none moved = run_resized old new found count h f unlocked moved
+moved_resized old new found count false h f unlocked has none moved = absurd (has none)
+
+pub run_not_short : (old new : List ℕ) (found : Found) (count : ℕ) → RelocatesToRun old new found count → ShortFor old found.name.0 (need count) → ⊥
+run_not_short old new found count r = room_not_short_for old found.name.0 r.at r.size (need count) (omega arith) r.room r.enough
 
 -- ---- a stretch has slid before
 

@@ -1,11 +1,11 @@
 //! A chunk gets another length where its place doesn't have it.
 
-ghost use Rattle.std.specs.Prelude.{◌≡◌, ◌≤◌};
+ghost use Rattle.std.specs.Prelude.{◌≡◌};
 ghost use Rattle.std.specs.Bool.{OnTrue, OnFalse};
 ghost use Rattle.heap_model.specs.Chunk.{need};
 ghost use Rattle.heap_model.specs.Heap.{HeapAccepted};
-ghost use Rattle.heap_model.specs.Space.{ShortFor, FitsInPlace, MovesAlone, MovesOneStretchAnd};
-ghost use Rattle.heap_model.specs.Layout.{IsRoom};
+ghost use Rattle.heap_model.specs.Reading.{chunks_of};
+ghost use Rattle.heap_model.specs.Space.{NoRun, ShortFor, FitsInPlace, MovesAlone, MovesOneStretchAnd};
 ghost use Rattle.heap_place.specs.Found.{IsOne};
 ghost use Rattle.heap_place.specs.Stretches.{IsAmong};
 ghost use Rattle.heap_compact.specs.Resized.{IsLoose, Resized, FitsInStretch};
@@ -13,7 +13,7 @@ ghost use Rattle.heap_compact.specs.Resized.{IsLoose, Resized, FitsInStretch};
 use crate::making::room_by_packing;
 use chunk_format::{chunk_size, size_of_body};
 use heap_model::Name;
-use heap_place::{Found, Room, Space, Stretch};
+use heap_place::{Found, Space, Stretch};
 
 /// Gives a movable chunk without locks `count` bytes, where it or others of one stretch may move: its first
 /// ones, or all of them and zeros behind. Answers whether there is room for them: in a free run
@@ -30,41 +30,53 @@ pub fn resize_by_moving(space: &mut Space, found: Found, count: u32) -> bool
     ensures refused { OnFalse result (space.new ≡ space.old) }
     ensures rest { space.new ≡ record space.old { bytes = space.new.bytes; slid = space.new.slid } }
 {
+    if space.relocate(found, count) {
+        return true;
+    }
+    resize_by_packing(space, found, count)
+}
+
+/// The same without a free run that has the room: in its own stretch, else in another.
+fn resize_by_packing(space: &mut Space, found: Found, count: u32) -> bool
+    requires accepted { HeapAccepted space.old.bytes }
+    requires found { IsOne space.old.bytes found }
+    requires unlocked { found.lock ≡ 0 }
+    ensures resized { OnTrue result (Resized space.old.bytes space.new.bytes found.name.0 count) }
+    ensures not_short { OnTrue result (ShortFor space.old.bytes found.name.0 (need count) → ⊥) }
+    ensures short { OnFalse result (ShortFor space.old.bytes found.name.0 (need count)) }
+    ensures one_stretch { MovesOneStretchAnd space.old.bytes space.new.bytes found.name.0 }
+    ensures refused { OnFalse result (space.new ≡ space.old) }
+    ensures rest { space.new ≡ record space.old { bytes = space.new.bytes; slid = space.new.slid } }
+{
     let size = match chunk_size(count) {
         Some(size) => size,
         None => return false,
     };
-    if let Some(room) = space.place(size) {
-        relocate_named(space, found.name, room, count);
-        return true;
-    }
     let stretch = space.stretch_around(found);
     if size_of_body(found.length) + space.room_of(stretch) >= size {
         grow_in_stretch(space, found, stretch, count);
         return true;
     }
     match room_by_packing(space, size) {
-        Some(room) => {
-            relocate_named(space, found.name, room, count);
+        Some(_) => {
+            relocate_named(space, found.name, count);
             true
         }
         None => false,
     }
 }
 
-/// Moves a name's chunk to the front of room.
-fn relocate_named(space: &mut Space, name: Name, room: Room, count: u32)
+/// Moves a name's chunk to a free run that has the room; there is one.
+fn relocate_named(space: &mut Space, name: Name, count: u32)
     requires accepted { HeapAccepted space.old.bytes }
     requires loose { IsLoose space.old.bytes name.0 }
-    requires room { IsRoom space.old.bytes room.at room.size }
-    requires enough { need count ≤ room.size }
+    requires has_run { NoRun (chunks_of space.old.bytes) (need count) → ⊥ }
     ensures resized { Resized space.old.bytes space.new.bytes name.0 count }
     ensures alone { MovesAlone space.old.bytes space.new.bytes name.0 }
     ensures rest { space.new ≡ record space.old { bytes = space.new.bytes; slid = space.new.slid } }
 {
-    if let Some(found) = space.find(name) {
-        space.relocate(found, room, count);
-    }
+    let found = space.chunk(name);
+    space.relocate(found, count);
 }
 
 /// Opens room behind a chunk, whose stretch this is and has the room, and grows the chunk over it.
@@ -91,7 +103,6 @@ fn grow_named(space: &mut Space, name: Name, count: u32)
     ensures alone { MovesAlone space.old.bytes space.new.bytes name.0 }
     ensures rest { space.new ≡ record space.old { bytes = space.new.bytes } }
 {
-    if let Some(found) = space.find(name) {
-        space.grow_in_place(found, count);
-    }
+    let found = space.chunk(name);
+    space.grow_in_place(found, count);
 }

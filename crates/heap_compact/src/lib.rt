@@ -8,10 +8,14 @@
 //! |---|---|
 //! | `making` | makes room, by packing one stretch where it has to |
 //! | `growing` | gives a chunk another length where its place doesn't have it |
+//!
+//! `Space` is handed up: its methods `compact`, `grow_in_place`, `open_behind`, `shrink` and `relocate` are
+//! what compaction is made of.
 #![tactic(auto)]
 
 mod growing;
 mod making;
 
 pub use growing::resize_by_moving;
+pub use heap_place::Space;
 pub use making::make_room;

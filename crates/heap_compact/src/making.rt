@@ -25,7 +25,7 @@ pub fn make_room(space: &mut Space, size: u32) -> Option<Room>
     ensures once { space.new.slid ≡ space.old.slid + moved_bytes space.old.bytes space.new.bytes }
     ensures rest { space.new ≡ record space.old { bytes = space.new.bytes; slid = space.new.slid } }
 {
-    match space.place(size) {
+    match space.find_room(size) {
         Some(room) => Some(room),
         None => room_by_packing(space, size),
     }

@@ -37,7 +37,7 @@ changed_there old new found change h f b =
 -- ---- another lock count
 
 relocks : (old new : List ℕ) (name at lock : ℕ) (found : Found) (live : LiveChunk) (c : Chunk) → HeapAccepted old → (f : Finds old name live c at) → Fields name live found → found.lock < fixed_lock → (lock ≡ 0) ⊎ (0 < found.owner) → Relocks old new at lock → WroteWithin old new at (at + 8)
-    → Becomes old new (f.before ++ with_lock lock c ∷ f.after)
+    → Becomes old new (f.before ++ with_lock lock c ∷ f.after) × WritesPlain old new
 relocks old new name at lock found live (free size) h f k loose owned re w = absurd f.named
 relocks old new name at lock found live (movable bytes count holder slot) h f k loose owned re w =
     let s : Spelled old at (movable bytes count holder slot) = finds_spelled old name live (movable bytes count holder slot) at h f in
@@ -45,10 +45,10 @@ relocks old new name at lock found live (movable bytes count holder slot) h f k 
     movable_relabelled old new name at live bytes bytes count holder slot lock holder h f (λ directory none. none) w (re bytes count holder slot (subst (λ (n : ℕ). (lock ≡ 0) ⊎ (0 < n)) same owned) s) refl
 relocks old new name at lock found live (fixed bytes holder) h f k loose owned re w = let e : fixed_lock ≡ live.lock = ap (λ (x : LiveChunk). x.lock) f.named.1 in let same = k.lock_is in absurd (omega arith)
 
-pub relocked_there : (old new : List ℕ) (found : Found) (lock word : ℕ) → HeapAccepted old → IsOne old found → found.lock < fixed_lock → (lock ≡ 0) ⊎ (0 < found.owner) → Relocks old new (found.place.0 - 8) lock → new ≡ overwritten old (found.place.0 - 8 + 4) (u32_bytes word) → Alters old new (found.place.0 - 8) (with_lock lock)
+pub relocked_there : (old new : List ℕ) (found : Found) (lock word : ℕ) → HeapAccepted old → IsOne old found → found.lock < fixed_lock → (lock ≡ 0) ⊎ (0 < found.owner) → Relocks old new (found.place.0 - 8) lock → new ≡ overwritten old (found.place.0 - 8 + 4) (u32_bytes word) → Alters old new (found.place.0 - 8) (with_lock lock) × WritesPlain old new
 relocked_there old new found lock word h f loose owned re is =
-    changed_there old new found (with_lock lock) h f
-    (relocks old new found.name.0 (found.place.0 - 8) lock found f.live f.chunk h f.finds (fields_of old found.name.0 found f) loose owned re (wrote_second old new found word h f is))
+    let done = relocks old new found.name.0 (found.place.0 - 8) lock found f.live f.chunk h f.finds (fields_of old found.name.0 found f) loose owned re (wrote_second old new found word h f is) in
+    (changed_there old new found (with_lock lock) h f done.0, done.1)
 
 -- ---- another owner
 
@@ -56,7 +56,7 @@ may_stand : (count lock owner : ℕ) → lock ≡ count → (0 < lock → 0 < ow
 may_stand zero lock owner e locked = inl refl
 may_stand (suc count) lock owner e locked = inr (locked (omega arith))
 
-reowns : (old new : List ℕ) (name at owner : ℕ) (found : Found) (live : LiveChunk) (c : Chunk) → HeapAccepted old → (f : Finds old name live c at) → Fields name live found → CanGoTo old found owner → Reowns old new at owner → WroteWithin old new at (at + 8) → Becomes old new (f.before ++ with_owner owner c ∷ f.after)
+reowns : (old new : List ℕ) (name at owner : ℕ) (found : Found) (live : LiveChunk) (c : Chunk) → HeapAccepted old → (f : Finds old name live c at) → Fields name live found → CanGoTo old found owner → Reowns old new at owner → WroteWithin old new at (at + 8) → Becomes old new (f.before ++ with_owner owner c ∷ f.after) × WritesPlain old new
 reowns old new name at owner found live (free size) h f k can re w = absurd f.named
 reowns old new name at owner found live (movable bytes count holder slot) h f k can re w =
     let s : Spelled old at (movable bytes count holder slot) = finds_spelled old name live (movable bytes count holder slot) at h f in
@@ -68,10 +68,10 @@ reowns old new name at owner found live (fixed bytes holder) h f k can re w =
     let is : found.lock ≡ fixed_lock = k.lock_is ∙ ap (λ (x : LiveChunk). x.lock) (sym f.named.1) in
     fixed_relabelled old new name at live bytes bytes holder owner h f (can.locked (omega arith)) (can.fixed is) w (re.fixed_too bytes holder s) refl
 
-pub reowned_there : (old new : List ℕ) (found : Found) (owner word : ℕ) → HeapAccepted old → IsOne old found → CanGoTo old found owner → Reowns old new (found.place.0 - 8) owner → new ≡ overwritten old (found.place.0 - 8 + 4) (u32_bytes word) → Alters old new (found.place.0 - 8) (with_owner owner)
+pub reowned_there : (old new : List ℕ) (found : Found) (owner word : ℕ) → HeapAccepted old → IsOne old found → CanGoTo old found owner → Reowns old new (found.place.0 - 8) owner → new ≡ overwritten old (found.place.0 - 8 + 4) (u32_bytes word) → Alters old new (found.place.0 - 8) (with_owner owner) × WritesPlain old new
 reowned_there old new found owner word h f can re is =
-    changed_there old new found (with_owner owner) h f
-    (reowns old new found.name.0 (found.place.0 - 8) owner found f.live f.chunk h f.finds (fields_of old found.name.0 found f) can re (wrote_second old new found word h f is))
+    let done = reowns old new found.name.0 (found.place.0 - 8) owner found f.live f.chunk h f.finds (fields_of old found.name.0 found f) can re (wrote_second old new found word h f is) in
+    (changed_there old new found (with_owner owner) h f done.0, done.1)
 
 -- ---- bytes of a body
 
@@ -85,21 +85,21 @@ written_there old new found at part h f within is =
     (changed_there old new found (with_bytes at part) h f done.0, done.1)
 
 pub slid_there : (old region : Memory) (new : List ℕ) (found : Found) (from to count : ℕ) → region ≡ old → HeapAccepted old.bytes → IsOne old.bytes found → from + count ≤ found.length → to + count ≤ found.length
-    → new ≡ overwritten region.bytes (found.place.0 + to) (slice_range region.bytes (found.place.0 + from) (found.place.0 + from + count)) → SlidesWithin old.bytes new found from to count
+    → new ≡ overwritten region.bytes (found.place.0 + to) (slice_range region.bytes (found.place.0 + from) (found.place.0 + from + count)) → SlidesWithin old.bytes new found from to count × WritesPlain old.bytes new
 slid_there old region new found from to count same h f in_from in_to is =
     let inside = bytes_inside old.bytes found h f in
     let many : length (slice_range old.bytes (found.place.0 + from) (found.place.0 + from + count)) ≡ count = simp (length-take, length-drop) (omega arith) in
-    (written_there old.bytes new found to (slice_range old.bytes (found.place.0 + from) (found.place.0 + from + count)) h f (omega arith)
-    (is ∙ ap (λ (m : Memory). overwritten m.bytes (found.place.0 + to) (slice_range m.bytes (found.place.0 + from) (found.place.0 + from + count))) same)).0
+    written_there old.bytes new found to (slice_range old.bytes (found.place.0 + from) (found.place.0 + from + count)) h f (omega arith)
+    (is ∙ ap (λ (m : Memory). overwritten m.bytes (found.place.0 + to) (slice_range m.bytes (found.place.0 + from) (found.place.0 + from + count))) same)
 
-pub filled_there : (old new : List ℕ) (found : Found) (at count byte : ℕ) → HeapAccepted old → IsOne old found → at + count ≤ found.length → new ≡ overwritten old (found.place.0 + at) (replicate count byte) → Alters old new (found.place.0 - 8) (with_bytes at (replicate count byte))
+pub filled_there : (old new : List ℕ) (found : Found) (at count byte : ℕ) → HeapAccepted old → IsOne old found → at + count ≤ found.length → new ≡ overwritten old (found.place.0 + at) (replicate count byte) → Alters old new (found.place.0 - 8) (with_bytes at (replicate count byte)) × WritesPlain old new
 filled_there old new found at count byte h f within is =
     let many : length (replicate {A = ℕ} count byte) ≡ count = length-replicate count byte in
-    (written_there old new found at (replicate count byte) h f (omega arith) is).0
+    written_there old new found at (replicate count byte) h f (omega arith) is
 
 pub ended_there : (old mid new : List ℕ) (found : Found) (at : ℕ) (part : List ℕ) → HeapAccepted old → IsOne old found → at + length part + 1 ≤ found.length → mid ≡ overwritten old (found.place.0 + at) part → new ≡ overwritten mid (found.place.0 + at + length part) (0 ∷ [])
-    → Alters old new (found.place.0 - 8) (with_bytes at (part ++ 0 ∷ []))
+    → Alters old new (found.place.0 - 8) (with_bytes at (part ++ 0 ∷ [])) × WritesPlain old new
 ended_there old mid new found at part h f within mid_is new_is =
     let inside = bytes_inside old found h f in
     let more : length (part ++ 0 ∷ []) ≡ length part + 1 = length-append part (0 ∷ []) in
-    (written_there old new found at (part ++ 0 ∷ []) h f (omega arith) (new_is ∙ ap (λ (x : List ℕ). overwritten x (found.place.0 + at + length part) (0 ∷ [])) mid_is ∙ overwritten-behind old (found.place.0 + at) part (0 ∷ []) (found.place.0 + at + length part) refl (omega arith))).0
+    written_there old new found at (part ++ 0 ∷ []) h f (omega arith) (new_is ∙ ap (λ (x : List ℕ). overwritten x (found.place.0 + at + length part) (0 ∷ [])) mid_is ∙ overwritten-behind old (found.place.0 + at) part (0 ∷ []) (found.place.0 + at + length part) refl (omega arith))

@@ -8,7 +8,7 @@ use Rattle.heap_model.specs.Slots.{IsSlot, slot_count, table_end, area_start}
 use Rattle.heap_model.specs.Heap.{BodyHere, IsBody, IsCallersIfFixed, ManagersHere, directory_of, HasDirectory, IsHeap}
 use Rattle.heap_model.specs.Placed.{EveryPlaced, AnyPlaced}
 use Rattle.heap_model.specs.Reading.{chunks_of}
-use Rattle.heap_model.specs.Layout.{merged, Becomes, WritesPlain}
+use Rattle.heap_model.specs.Layout.{WritesPlain}
 use Rattle.heap_model.specs.Packing.{lives}
 use Rattle.laws_heap.proofs.Bodies.{IsBody-low, IsBody-high}
 use Rattle.laws_heap.proofs.Placed.{EveryPlaced-append, EveryPlaced-split, AnyPlaced-left, AnyPlaced-right, AnyPlaced-split}
@@ -16,6 +16,7 @@ use Rattle.laws_heap.proofs.Chunks.{total-append}
 use Rattle.laws_heap.proofs.Plain.{free_plain, lives_plain, middle_plain}
 use Rattle.laws_heap.proofs.Runs.{chunks_of-tiled}
 use Rattle.heap_place.specs.Lifting.{Lifting}
+use Rattle.heap_place.specs.Packs.{BecomesExactly}
 
 -- ---- what does not depend on where a chunk stands
 
@@ -199,13 +200,7 @@ module _ (old image : List ℕ) (before moved after : List Chunk) (gap at : ℕ)
   heap_again : IsHeap image (before ++ free gap ∷ (moved ++ after))
   heap_again = record { tiles = l.tiles; tied = tied_again; fixed_are_callers = callers_again; directory = directory_again }
 
-  pub lift_done : Becomes old image (before ++ free gap ∷ (moved ++ after))
-  lift_done = record {
-    frame = record { accepted = (before ++ free gap ∷ (moved ++ after), heap_again); len = l.len; count = l.count; directory = l.directory };
-    layout = ap merged (chunks_of-tiled image (before ++ free gap ∷ (moved ++ after)) l.tiles);
-  }
-
-  pub lift_plain : gap < 2 ^ 24 → lives moved ≡ moved → WritesPlain old image
+  lift_plain : gap < 2 ^ 24 → lives moved ≡ moved → WritesPlain old image
   lift_plain small live =
       let sizes = total-append moved (free gap ∷ []) in
       let was : chunks_of old ≡ before ++ ((moved ++ free gap ∷ []) ++ after) =
@@ -214,3 +209,10 @@ module _ (old image : List ℕ) (before moved after : List Chunk) (gap at : ℕ)
       middle_plain old image before (moved ++ free gap ∷ []) (free gap ∷ moved) after start was l.tiles new_start is_start (omega (arith, sizes)) l.len
       (λ there low out. l.apart there low (elim out [ inl front ↦ inl (omega (arith, front, is_start)) | inr back ↦ let from = back.0 in inr (omega (arith, from, sizes, end), back.1) ]))
       (free_plain image start gap moved word small (lives_plain image (start + gap) moved live))
+
+  pub lift_done : gap < 2 ^ 24 → lives moved ≡ moved → BecomesExactly old image (before ++ free gap ∷ (moved ++ after))
+  lift_done small live = record {
+    frame = record { accepted = (before ++ free gap ∷ (moved ++ after), heap_again); len = l.len; count = l.count; directory = l.directory };
+    exact = chunks_of-tiled image (before ++ free gap ∷ (moved ++ after)) l.tiles;
+    plain = lift_plain small live;
+  }

@@ -1,15 +1,16 @@
 -- A chunk that goes to room elsewhere, step by step.
-use Rattle.std.proofs.Common.{◌≡◌, ◌≢◌, ℕ, ◌+◌, ◌-◌, ◌%◌, ◌^◌, ◌<◌, ◌≤◌, List, [], ◌∷◌, ◌++◌, length, take, drop, replicate, Option, Some, None, refl, sym, ap, subst, ◌∙◌, arith, inl, inr}
+use Rattle.std.proofs.Common.{◌≡◌, ◌≢◌, ℕ, ◌+◌, ◌-◌, ◌%◌, ◌^◌, ◌<◌, ◌≤◌, List, [], ◌∷◌, ◌++◌, length, take, drop, replicate, Bool, Option, Some, None, refl, sym, ap, subst, ◌∙◌, arith, inl, inr}
 use Rattle.std.proofs.lemmas.List.{length-replicate, length-take, take_all, take-take, drop-replicate}
-use Rattle.std.proofs.lemmas.Bool.{cases_lt}
+use Rattle.std.proofs.lemmas.Bool.{cases_lt, OnTrue_at, OnTrue_from}
+use Rattle.std.specs.Bool.{OnTrue}
 use Rattle.std.specs.Prelude.{slice_range, min}
 use Rattle.heap_model.specs.Bytes.{u32_at, u32_bytes, overwritten, sized_to}
 use Rattle.heap_model.specs.Chunk.{Chunk, free, movable, fixed, fixed_lock, need, size_of, Spelled}
 use Rattle.heap_model.specs.Slots.{IsSlot, table_end}
 use Rattle.heap_model.specs.Heap.{HeapAccepted}
 use Rattle.heap_model.specs.Meaning.{LiveChunk, NamedHere}
-use Rattle.heap_model.specs.Reading.{held}
-use Rattle.heap_model.specs.Space.{place_of}
+use Rattle.heap_model.specs.Reading.{chunks_of, held}
+use Rattle.heap_model.specs.Space.{NoRun, place_of}
 use Rattle.heap_model.specs.Placing.{Finds}
 use Rattle.heap_model.specs.Layout.{Becomes, Exchanges, Alters, in_front, freed, with_bytes, IsRoom, WritesPlain}
 use Rattle.heap_model.specs.Resizing.{with_length, Relocates}
@@ -19,6 +20,7 @@ use Rattle.laws_heap.proofs.Exchanging.{ChangesName}
 use Rattle.laws_heap.proofs.Changing.{claim_changes, room_unheld, bytes_changes, freed_changes}
 use Rattle.laws_heap.proofs.Resizings.{length-sized_to}
 use Rattle.laws_heap.proofs.Relocating.{relocates}
+use Rattle.laws_heap.proofs.Fitting.{room_is_run}
 use Rattle.laws_heap.proofs.Compacting.{slot_unheld}
 use Rattle.laws_heap.proofs.Chunks.{Spelled-same}
 use Rattle.laws_heap.proofs.Frames.{u32_at-written, length-overwritten}
@@ -31,7 +33,7 @@ use Rattle.chunk_format.specs.Header.{HasHeader, live_words, h_offset_to}
 use Rattle.heap_model.specs.declared.names.Name.{Name}
 use Rattle.heap_place.specs.declared.found.Found.{Found}
 use Rattle.heap_place.specs.Found.{IsOne}
-use Rattle.heap_place.specs.Relocation.{stand_in, KeepsFound, Copies, with_name}
+use Rattle.heap_place.specs.Relocation.{stand_in, KeepsFound, Copies, with_name, RelocatesToRun}
 use Rattle.heap_place.proofs.FoundLaws.{heap_in_parts, middle_of, found_inside, own_slot, one_held, when_movable}
 use Rattle.heap_place.proofs.CutLaws.{slot_facts, header_movable, wrote_words, table_kept}
 use Rattle.heap_place.proofs.AlterLaws.{changed_there, written_there}
@@ -300,3 +302,8 @@ owner_fits image found h f = by_chunk f.live f.chunk f.finds f.owner_is where
       let fits = s.owner_fits in
       let same : owner ≡ live.owner = ap (λ (x : LiveChunk). x.owner) g.named.1 in
       omega arith
+
+-- ---- a run that had the room
+
+pub had_run : (old new : List ℕ) (found : Found) (count : ℕ) (told : Bool) → OnTrue told (RelocatesToRun old new found count) → OnTrue told (NoRun (chunks_of old) (need count) → ⊥)
+had_run old new found count told h = OnTrue_from told (NoRun (chunks_of old) (need count) → ⊥) (λ e none. let r = OnTrue_at e h in room_is_run old r.at r.size (need count) r.room r.enough none)

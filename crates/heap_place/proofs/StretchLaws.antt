@@ -11,10 +11,9 @@ use Rattle.std.specs.Prelude.{IsTrue}
 use Rattle.heap_model.specs.Space.{NoneStays, stays, room_of}
 use Rattle.heap_model.specs.Placing.{SameFrame}
 use Rattle.heap_model.specs.Layout.{Becomes, gap, merged, IsRoom, WritesPlain}
-use Rattle.heap_model.specs.Packing.{packed, lives, EndsStaying, opened, OpensBehind}
+use Rattle.heap_model.specs.Packing.{packed, lives, EndsStaying, WholeStretch, opened, OpensBehind}
 use Rattle.laws_heap.proofs.Chunks.{total-append, SpelledAll-split, SpelledAll-end}
 use Rattle.laws_heap.proofs.Placed.{AnyPlaced-mid}
-use Rattle.laws_heap.proofs.Becoming.{frame_then}
 use Rattle.laws_heap.proofs.Compacting.{moved_within}
 use Rattle.laws_heap.proofs.Exchanging.{gap_free, gap_total}
 use Rattle.laws_heap.proofs.Layouts.{IsNotFree}
@@ -24,9 +23,9 @@ use Rattle.heap_place.specs.declared.stretch.Stretch.{Stretch}
 use Rattle.heap_place.specs.Lifting.{FreeBehind}
 use Rattle.heap_place.specs.Packs.{BecomesExactly, RunOf, IsRun, Packs, MovesInRun, LeavesRoom, last_room}
 use Rattle.heap_place.specs.Search.{KeepsApart}
-use Rattle.heap_place.specs.Stretches.{StretchIs, IsStretch, IsAmongAt, HasRoomOf}
+use Rattle.heap_place.specs.Stretches.{StretchIs, IsStretch, IsAmongAt, HasRoomOf, OpensExactly}
 use Rattle.heap_place.proofs.FoundLaws.{heap_in_parts}
-use Rattle.heap_place.proofs.ExactLaws.{exactly_start, exactly_becomes}
+use Rattle.heap_place.proofs.ExactLaws.{exactly_start, exactly_becomes, exactly_then}
 use Rattle.heap_place.proofs.RoomLaws.{live_keeps}
 use Rattle.heap_place.proofs.DropLaws.{gap_some, gap_none}
 
@@ -153,9 +152,6 @@ module _ (old mid : List ℕ) (at name count : ℕ) (stretch : Stretch) (room : 
   pub packed_frame : SameFrame old mid
   packed_frame = packed_image.frame
 
-  pub packed_plain : WritesPlain old mid
-  packed_plain = packed_image.plain
-
   all_room : room ≡ room_of (a.front ++ v ∷ a.back)
   all_room =
       let last = leaves a.before (a.front ++ v ∷ a.back) a.after run in
@@ -241,22 +237,35 @@ module _ (old mid : List ℕ) (at name count : ℕ) (stretch : Stretch) (room : 
       }
 
   -- so it is with any parts
-  whole_opened : (new : List ℕ) → Becomes old new (a.before ++ (opened a.front v a.back ++ a.after)) → OpensBehind old new at
-  whole_opened new b = λ before front bytes owner slot back after whole there.
-      let alike = one_stretch old before front (movable bytes 0 owner slot) back after a.before a.front v a.back a.after at h whole there a.is.whole a.there in
-      subst (λ (cs : List Chunk). Becomes old new cs) (opened_alike before front (movable bytes 0 owner slot) back after a.before a.front v a.back a.after alike.in_front alike.first_part alike.rest alike.behind) b
+  pub record OpensRoom (new : List ℕ) : Type 0 where
+    pub opened_behind : OpensBehind old new at
+    pub exact : OpensExactly old new at
+    pub frame : SameFrame old new
+    pub plain : WritesPlain old new
 
-  pub opened_some : (new : List ℕ) → 0 < room → Becomes mid new ((a.before ++ (fore ++ v ∷ [])) ++ free room ∷ (rear ++ a.after)) → OpensBehind old new at
+  whole_opened : (new : List ℕ) → BecomesExactly old new (a.before ++ (opened a.front v a.back ++ a.after)) → OpensRoom new
+  whole_opened new b = record {
+    opened_behind = λ before front bytes owner slot back after whole there. subst (λ (cs : List Chunk). Becomes old new cs) (parts before front bytes owner slot back after whole there) (exactly_becomes old new (a.before ++ (opened a.front v a.back ++ a.after)) b);
+    exact = λ before front bytes owner slot back after whole there. b.exact ∙ parts before front bytes owner slot back after whole there;
+    frame = b.frame;
+    plain = b.plain;
+  } where
+    parts : (before front : List Chunk) (bytes : List ℕ) (owner slot : ℕ) (back after : List Chunk) → WholeStretch old before (front ++ movable bytes 0 owner slot ∷ back) after → at ≡ area_start old + total before + total front
+        → a.before ++ (opened a.front v a.back ++ a.after) ≡ before ++ (opened front (movable bytes 0 owner slot) back ++ after)
+    parts before front bytes owner slot back after whole there =
+        let alike = one_stretch old before front (movable bytes 0 owner slot) back after a.before a.front v a.back a.after at h whole there a.is.whole a.there in
+        opened_alike before front (movable bytes 0 owner slot) back after a.before a.front v a.back a.after alike.in_front alike.first_part alike.rest alike.behind
+
+  pub opened_some : (new : List ℕ) → 0 < room → BecomesExactly mid new ((a.before ++ (fore ++ v ∷ [])) ++ free room ∷ (rear ++ a.after)) → OpensRoom new
   opened_some new some b =
       let g : free room ∷ [] ≡ gap (room_of (a.front ++ a.back)) = sym (gap_some room some) ∙ ap gap room_is in
       let e : (a.before ++ (fore ++ v ∷ [])) ++ free room ∷ (rear ++ a.after) ≡ a.before ++ (opened a.front v a.back ++ a.after) =
       regroup_open a.before fore rear a.after v (free room) ∙ ap (λ (cs : List Chunk). a.before ++ ((fore ++ v ∷ (cs ++ rear)) ++ a.after)) g in
-      let b_2 : Becomes mid new (a.before ++ (opened a.front v a.back ++ a.after)) = subst (λ (cs : List Chunk). Becomes mid new cs) e b in
-      whole_opened new record { frame = frame_then old mid new packed_image.frame b_2.frame; layout = b_2.layout }
+      whole_opened new (exactly_then old mid new _ (a.before ++ (opened a.front v a.back ++ a.after)) packed_image (subst (λ (cs : List Chunk). BecomesExactly mid new cs) e b))
 
-  pub opened_none : room ≡ 0 → OpensBehind old mid at
+  pub opened_none : room ≡ 0 → OpensRoom mid
   opened_none none =
       let g : [] ≡ gap (room_of (a.front ++ a.back)) = sym (gap_none (room_of (a.front ++ a.back)) (sym room_is ∙ none)) in
       let e : packed (a.front ++ v ∷ a.back) ≡ opened a.front v a.back =
       packed_is ∙ ap (λ (cs : List Chunk). (fore ++ v ∷ rear) ++ cs) (gap_none room none) ∙ append-nil (fore ++ v ∷ rear) ∙ ap (λ (cs : List Chunk). fore ++ v ∷ (cs ++ rear)) g in
-      whole_opened mid (exactly_becomes old mid (a.before ++ (opened a.front v a.back ++ a.after)) (subst (λ (cs : List Chunk). BecomesExactly old mid (a.before ++ (cs ++ a.after))) e packed_image))
+      whole_opened mid (subst (λ (cs : List Chunk). BecomesExactly old mid (a.before ++ (cs ++ a.after))) e packed_image)

@@ -15,11 +15,15 @@ use Rattle.chunk_format.specs.declared.header.Header.{Header}
 use Rattle.chunk_format.specs.declared.header.Header.TheVariants as headers
 use Rattle.heap_place.specs.declared.found.Found.{Found}
 
+-- where the header of a found chunk is
+abbrev pub header_at : Found → ℕ
+header_at found = found.place.0 - 8
+
 -- a name's chunk was found, whoever owns it
 pub record IsFound (image : List ℕ) (name : ℕ) (found : Found) : Type 0 where
   pub live : LiveChunk
   pub chunk : Chunk
-  pub finds : Finds image name live chunk (found.place.0 - 8)
+  pub finds : Finds image name live chunk (header_at found)
   pub behind_header : 8 ≤ found.place.0
   pub name_is : found.name.0 ≡ name
   pub count : found.length ≡ length live.bytes
@@ -44,7 +48,7 @@ pub record CanGoTo (image : List ℕ) (found : Found) (owner : ℕ) : Type 0 whe
 
 -- some bytes of the body of a found chunk stand at another offset within it too, as they were before
 abbrev pub SlidesWithin : List ℕ → List ℕ → Found → ℕ → ℕ → ℕ → Type 0
-SlidesWithin old new found from to count = Alters old new (found.place.0 - 8) (with_bytes to (slice_range old (found.place.0 + from) (found.place.0 + from + count)))
+SlidesWithin old new found from to count = Alters old new (header_at found) (with_bytes to (slice_range old (found.place.0 + from) (found.place.0 + from + count)))
 
 -- what a header says of the movable chunk whose body is at a place
 abbrev pub movable_by : Header → Place → Option Found

@@ -1,11 +1,11 @@
 -- A chunk that goes to room elsewhere: a fixed one stands in for it there, gets its bytes, and gets its
 -- name once the chunk is free.
-use Rattle.std.specs.Prelude.{◌+◌, ◌-◌, ℕ, List, take}
-use Rattle.heap_model.specs.Chunk.{Chunk, free, movable, fixed, fixed_lock}
-use Rattle.heap_model.specs.Layout.{Alters, with_bytes}
+use Rattle.std.specs.Prelude.{◌≤◌, ◌+◌, ◌-◌, ℕ, List, take}
+use Rattle.heap_model.specs.Chunk.{Chunk, free, movable, fixed, fixed_lock, need}
+use Rattle.heap_model.specs.Layout.{Alters, with_bytes, IsRoom}
 use Rattle.heap_model.specs.Resizing.{with_length, Relocates}
 use Rattle.heap_place.specs.declared.found.Found.{Found}
-use Rattle.heap_place.specs.Found.{IsOne}
+use Rattle.heap_place.specs.Found.{IsOne, header_at}
 
 -- a stand-in of so many bytes, which begins at an offset, as it is found
 abbrev pub stand_in : ℕ → ℕ → Found
@@ -17,7 +17,7 @@ KeepsFound old new = (found : Found) → IsOne old found → IsOne new found
 
 -- one chunk has got the first bytes of another, as many as it has room for
 abbrev pub Copies : List ℕ → List ℕ → Found → Found → Type 0
-Copies old new from to = (f : IsOne old from) → Alters old new (to.place.0 - 8) (with_bytes 0 (take to.length f.live.bytes))
+Copies old new from to = (f : IsOne old from) → Alters old new (header_at to) (with_bytes 0 (take to.length f.live.bytes))
 
 -- as a movable chunk without locks, which names a slot, if it is fixed
 abbrev pub with_name : ℕ → ℕ → Chunk → Chunk
@@ -27,4 +27,12 @@ with_name owner slot (fixed bytes holder) = movable bytes 0 owner slot
 
 -- the chunk that was found stands at the front of the free one at an offset, with so many bytes
 abbrev pub RelocatesFound : List ℕ → List ℕ → Found → ℕ → ℕ → Type 0
-RelocatesFound old new found there count = (f : IsOne old found) → Relocates old new (found.place.0 - 8) there (with_length count f.chunk)
+RelocatesFound old new found there count = (f : IsOne old found) → Relocates old new (header_at found) there (with_length count f.chunk)
+
+-- it stands at the front of a run of neighbouring free chunks that had the room
+pub record RelocatesToRun (old new : List ℕ) (found : Found) (count : ℕ) : Type 0 where
+  pub at : ℕ
+  pub size : ℕ
+  pub room : IsRoom old at size
+  pub enough : need count ≤ size
+  pub moved : RelocatesFound old new found at count

@@ -5,8 +5,9 @@ use Rattle.heap_model.specs.Slots.{area_start}
 use Rattle.heap_model.specs.Reading.{chunks_of}
 use Rattle.heap_model.specs.Space.{NoneStays, room_of, rooms_of, stretches}
 use Rattle.heap_model.specs.Layout.{Becomes, IsRoom}
-use Rattle.heap_model.specs.Packing.{packed, moved_by_packing, EndsStaying, WholeStretch}
+use Rattle.heap_model.specs.Packing.{packed, moved_by_packing, EndsStaying, WholeStretch, opened}
 use Rattle.heap_place.specs.declared.found.Found.{Found}
+use Rattle.heap_place.specs.Found.{header_at}
 use Rattle.heap_place.specs.declared.stretch.Stretch.{Stretch}
 
 -- these chunks are a whole stretch, and it stands there
@@ -63,7 +64,14 @@ pub record IsAmongAt (image : List ℕ) (at name count : ℕ) (stretch : Stretch
 
 -- the same of a chunk that was found
 abbrev pub IsAmong : List ℕ → Found → Stretch → Type 0
-IsAmong image found stretch = IsAmongAt image (found.place.0 - 8) found.name.0 found.length stretch
+IsAmong image found stretch = IsAmongAt image (header_at found) found.name.0 found.length stretch
+
+-- The room of its stretch is directly behind a movable chunk without locks, and these very chunks stand
+-- there: the room is one free chunk.
+abbrev pub OpensExactly : List ℕ → List ℕ → ℕ → Type 0
+OpensExactly old new at =
+    (before front : List Chunk) (bytes : List ℕ) (owner slot : ℕ) (back after : List Chunk) → WholeStretch old before (front ++ movable bytes 0 owner slot ∷ back) after
+    → at ≡ area_start old + total before + total front → chunks_of new ≡ before ++ (opened front (movable bytes 0 owner slot) back ++ after)
 
 -- the search has come to an offset, and the last chunk that stays ends at another, not behind `at`
 pub record SeenUpTo (image : List ℕ) (at start here : ℕ) : Type 0 where

@@ -3,11 +3,11 @@
 ghost use Rattle.std.specs.Prelude.{◌≡◌, ◌<◌, ◌-◌, ◌⊎◌};
 ghost use Rattle.heap_model.specs.Chunk.{fixed_lock};
 ghost use Rattle.heap_model.specs.Heap.{HeapAccepted};
-ghost use Rattle.heap_model.specs.Layout.{Alters, with_lock, with_owner};
-ghost use Rattle.heap_place.specs.Found.{IsOne, CanGoTo};
+ghost use Rattle.heap_model.specs.Layout.{Alters, with_lock, with_owner, WritesPlain};
+ghost use Rattle.heap_place.specs.Found.{IsOne, CanGoTo, header_at};
 
 use crate::found::Found;
-use chunk_format::{put_lock, put_owner};
+use chunk_format::{HEADER_SIZE, put_lock, put_owner};
 use raw_region::Region;
 
 /// Gives a movable chunk another lock count.
@@ -17,10 +17,11 @@ pub(crate) fn relock_at(region: &mut Region, found: Found, lock: u8)
     requires movable { found.lock < fixed_lock }
     requires lock { lock < fixed_lock }
     requires owned { (lock ≡ 0) ⊎ (0 < found.owner) }
-    ensures made { Alters region.old.bytes region.new.bytes (found.place.0 - 8) (with_lock lock) }
+    ensures made { Alters region.old.bytes region.new.bytes (header_at found) (with_lock lock) }
+    ensures plain { WritesPlain region.old.bytes region.new.bytes }
     ensures rest { region.new ≡ record region.old { bytes = region.new.bytes } }
 {
-    put_lock(region, found.place.0 - 8, lock);
+    put_lock(region, found.place.0 - HEADER_SIZE, lock);
 }
 
 /// Gives a live chunk to another owner.
@@ -28,8 +29,9 @@ pub(crate) fn reown_at(region: &mut Region, found: Found, owner: u8)
     requires accepted { HeapAccepted region.old.bytes }
     requires found { IsOne region.old.bytes found }
     requires owner { CanGoTo region.old.bytes found owner }
-    ensures made { Alters region.old.bytes region.new.bytes (found.place.0 - 8) (with_owner owner) }
+    ensures made { Alters region.old.bytes region.new.bytes (header_at found) (with_owner owner) }
+    ensures plain { WritesPlain region.old.bytes region.new.bytes }
     ensures rest { region.new ≡ record region.old { bytes = region.new.bytes } }
 {
-    put_owner(region, found.place.0 - 8, owner);
+    put_owner(region, found.place.0 - HEADER_SIZE, owner);
 }

@@ -10,7 +10,7 @@ ghost use Rattle.heap_model.specs.Layout.{Becomes, Exchanges, in_front, IsRoom, 
 ghost use Rattle.heap_place.specs.Search.{IsCut, WroteRest};
 
 use crate::room::Room;
-use chunk_format::{Header, size_of_body};
+use chunk_format::{HEADER_SIZE, Header, size_of_body};
 use heap_model::{Name, Place};
 use raw_region::Region;
 
@@ -50,7 +50,8 @@ pub(crate) fn claim_movable(region: &mut Region, at: u32, slot: Name, count: u32
     requires slot { IsSlot region.old.bytes slot.0 }
     requires empty { u32_at region.old.bytes slot.0 ≡ 0 }
     requires owner { owner < 16 }
-    ensures made { Exchanges region.old.bytes region.new.bytes at (in_front (movable (replicate count 0) 0 owner slot.0)) }
+    ensures made { Exchanges region.old.bytes region.new.bytes at
+        (in_front (movable (replicate count 0) 0 owner slot.0)) }
     ensures plain { WritesPlain region.old.bytes region.new.bytes }
     ensures rest { region.new ≡ record region.old { bytes = region.new.bytes } }
 {
@@ -61,8 +62,8 @@ pub(crate) fn claim_movable(region: &mut Region, at: u32, slot: Name, count: u32
         slot: slot.0,
     };
     header.write(region, at);
-    region.fill(at as usize + 8, count as usize, 0);
-    master_table::set(region, slot, Place(at + 8));
+    region.fill(at as usize + HEADER_SIZE as usize, count as usize, 0);
+    master_table::set(region, slot, Place(at + HEADER_SIZE));
 }
 
 /// Makes the front of room a fixed chunk of `count` zeros, and answers its name.
@@ -72,14 +73,15 @@ pub(crate) fn claim_fixed(region: &mut Region, room: Room, count: u32, owner: u8
     requires enough { need count ≤ room.size }
     requires some_owner { 0 < owner }
     requires most_owner { owner < 15 }
-    ensures made { Exchanges region.old.bytes region.new.bytes room.at (in_front (fixed (replicate count 0) owner)) }
+    ensures made { Exchanges region.old.bytes region.new.bytes room.at
+        (in_front (fixed (replicate count 0) owner)) }
     ensures name { result.0 ≡ room.at + 8 }
     ensures plain { WritesPlain region.old.bytes region.new.bytes }
     ensures rest { region.new ≡ record region.old { bytes = region.new.bytes } }
 {
     cut(region, room, size_of_body(count));
     claim_fixed_at(region, room.at, count, owner);
-    Name(room.at + 8)
+    Name(room.at + HEADER_SIZE)
 }
 
 /// Makes the free chunk at `at` a fixed one of zeros.
@@ -88,7 +90,8 @@ fn claim_fixed_at(region: &mut Region, at: u32, count: u32, owner: u8)
     requires cut { IsCut region.old.bytes at (need count) }
     requires some_owner { 0 < owner }
     requires most_owner { owner < 15 }
-    ensures made { Exchanges region.old.bytes region.new.bytes at (in_front (fixed (replicate count 0) owner)) }
+    ensures made { Exchanges region.old.bytes region.new.bytes at
+        (in_front (fixed (replicate count 0) owner)) }
     ensures plain { WritesPlain region.old.bytes region.new.bytes }
     ensures rest { region.new ≡ record region.old { bytes = region.new.bytes } }
 {
@@ -97,6 +100,6 @@ fn claim_fixed_at(region: &mut Region, at: u32, count: u32, owner: u8)
         owner,
     };
     header.write(region, at);
-    let body = at as usize + 8;
+    let body = at as usize + HEADER_SIZE as usize;
     region.fill(body, count as usize, 0);
 }

@@ -2,10 +2,9 @@
 
 ghost use Rattle.std.specs.Prelude.{◌≡◌, ◌+◌, ◌-◌, ◌<◌, ◌^◌, length};
 ghost use Rattle.heap_model.specs.Heap.{HeapAccepted};
-ghost use Rattle.heap_model.specs.Layout.{WritesPlain};
 ghost use Rattle.heap_place.specs.Lifting.{IsCarried, MendsOne, AreCarried, MendsAll, HasFreeBehind, Lifts};
 
-use chunk_format::Header;
+use chunk_format::{HEADER_SIZE, Header};
 use heap_model::{Name, Place};
 use raw_region::Region;
 
@@ -15,7 +14,6 @@ pub(crate) fn lift(region: &mut Region, start: u32, end: u32, gap: u32)
     requires accepted { HeapAccepted region.old.bytes }
     requires behind { HasFreeBehind region.old.bytes start end gap }
     ensures lifted { Lifts region.old.bytes region.new.bytes start end gap }
-    ensures plain { WritesPlain region.old.bytes region.new.bytes }
     ensures slid { region.new.slid ≡ region.old.slid + (end - start) }
 {
     let from = start as usize;
@@ -59,7 +57,7 @@ fn mend_one(region: &mut Region, at: u32, gap: u32) -> u32
             slot,
         };
         mended.write(region, at);
-        master_table::set(region, Name(slot), Place(at + 8));
+        master_table::set(region, Name(slot), Place(at + HEADER_SIZE));
     }
     size
 }

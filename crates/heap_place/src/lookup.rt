@@ -9,7 +9,7 @@ ghost use Rattle.heap_place.specs.Found.{IsFound, IsOne, NothingAt, NoSlotHolds}
 
 use crate::found::{Found, as_movable};
 use crate::walks::find_fixed;
-use chunk_format::Header;
+use chunk_format::{HEADER_SIZE, Header};
 use heap_model::{Name, Place};
 use master_table::resolve;
 use raw_region::Region;
@@ -33,9 +33,10 @@ fn movable_at(region: &Region, place: Place) -> Option<Found>
     requires accepted { HeapAccepted region.now.bytes }
     requires behind_header { 8 ≤ place.0 }
     requires chunk { HasChunk region.now.bytes (place.0 - 8) }
-    ensures { (name : ℕ) → HoldsPlace region.now.bytes name place.0 → MatchOption result ⊥ (IsFound region.now.bytes name) }
+    ensures { (name : ℕ) → HoldsPlace region.now.bytes name place.0
+        → MatchOption result ⊥ (IsFound region.now.bytes name) }
 {
-    as_movable(Header::at(region, place.0 - 8), place)
+    as_movable(Header::at(region, place.0 - HEADER_SIZE), place)
 }
 
 /// The live chunk whose body is at a place. The header that seems to stand in front of it is believed
@@ -59,10 +60,10 @@ fn in_slot_at(region: &Region, place: Place) -> Option<Found>
     ensures there { IfSome result (λ found. found.place.0 ≡ place.0) }
     ensures none { IfNone result (NoSlotHolds region.now.bytes place.0) }
 {
-    if place.0 < 8 {
+    if place.0 < HEADER_SIZE {
         return None;
     }
-    let header = match Header::read(region, place.0 - 8) {
+    let header = match Header::read(region, place.0 - HEADER_SIZE) {
         Some(header) => header,
         None => return None,
     };

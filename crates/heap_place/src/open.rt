@@ -5,13 +5,14 @@ ghost use Rattle.heap_model.specs.Heap.{HeapAccepted};
 ghost use Rattle.heap_model.specs.Placing.{SameFrame};
 ghost use Rattle.heap_model.specs.Layout.{WritesPlain};
 ghost use Rattle.heap_model.specs.Packing.{OpensBehind};
-ghost use Rattle.heap_place.specs.Stretches.{IsAmong};
+ghost use Rattle.heap_place.specs.Found.{header_at};
+ghost use Rattle.heap_place.specs.Stretches.{IsAmong, OpensExactly};
 
 use crate::found::Found;
 use crate::lift::lift;
 use crate::pack::pack;
 use crate::stretch::Stretch;
-use chunk_format::size_of_body;
+use chunk_format::{HEADER_SIZE, size_of_body};
 use master_table::word_of;
 use raw_region::Region;
 
@@ -21,7 +22,8 @@ use raw_region::Region;
 pub(crate) fn open_in(region: &mut Region, stretch: Stretch, found: Found)
     requires accepted { HeapAccepted region.old.bytes }
     requires among { IsAmong region.old.bytes found stretch }
-    ensures opened { OpensBehind region.old.bytes region.new.bytes (found.place.0 - 8) }
+    ensures opened { OpensBehind region.old.bytes region.new.bytes (header_at found) }
+    ensures exact { OpensExactly region.old.bytes region.new.bytes (header_at found) }
     ensures frame { SameFrame region.old.bytes region.new.bytes }
     ensures plain { WritesPlain region.old.bytes region.new.bytes }
     ensures few { region.new.slid ≤ region.old.slid + 2 * (stretch.end - stretch.start) }
@@ -29,7 +31,7 @@ pub(crate) fn open_in(region: &mut Region, stretch: Stretch, found: Found)
     let room = pack(region, stretch.start, stretch.end).room;
     if room > 0 {
         let place = word_of(region, found.name.0);
-        let behind = place - 8 + size_of_body(found.length);
+        let behind = place - HEADER_SIZE + size_of_body(found.length);
         lift(region, behind, stretch.end - room, room);
     }
 }

@@ -8,7 +8,7 @@ ghost use Rattle.heap_place.specs.Found.{owned_by};
 
 use crate::found::Found;
 use crate::release::release;
-use chunk_format::{FIXED_LOCK, Header, area_start};
+use chunk_format::{FIXED_LOCK, HEADER_SIZE, Header, area_start};
 use heap_model::{Name, Place};
 use raw_region::Region;
 
@@ -16,7 +16,8 @@ use raw_region::Region;
 pub(crate) fn release_owned(region: &mut Region, owner: u8) -> u32
     requires accepted { HeapAccepted region.old.bytes }
     requires some_owner { 0 < owner }
-    ensures gone { Becomes region.old.bytes region.new.bytes (owned_freed owner (layout_of region.old.bytes)) }
+    ensures gone { Becomes region.old.bytes region.new.bytes
+        (owned_freed owner (layout_of region.old.bytes)) }
     ensures count { result ≡ count_by (is_owned_by owner) (layout_of region.old.bytes) }
     ensures plain { WritesPlain region.old.bytes region.new.bytes }
     ensures rest { region.new ≡ record region.old { bytes = region.new.bytes } }
@@ -26,7 +27,7 @@ pub(crate) fn release_owned(region: &mut Region, owner: u8) -> u32
     let mut count = 0;
     while at < end {
         let (header, size) = Header::at_with_size(region, at);
-        match if_owned(header, Place(at + 8), owner) {
+        match if_owned(header, Place(at + HEADER_SIZE), owner) {
             Some(found) => {
                 at += release(region, found);
                 count += 1;

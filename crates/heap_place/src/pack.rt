@@ -12,7 +12,7 @@ ghost use Rattle.heap_place.specs.Packs.{IsRun, Packs, MovesInRun, LeavesRoom, I
 ghost use Rattle.chunk_format.specs.Header.{HasHeader, size_by};
 
 use crate::stretch::Stretch;
-use chunk_format::{Header, area_start};
+use chunk_format::{HEADER_SIZE, Header, area_start};
 use heap_model::{Name, Place};
 use raw_region::Region;
 
@@ -28,7 +28,8 @@ pub(crate) struct Outcome {
 /// Packs the chunks of each stretch, and answers how many bytes it slid.
 pub(crate) fn compact(region: &mut Region) -> u32
     requires accepted { HeapAccepted region.old.bytes }
-    ensures packed { Becomes region.old.bytes region.new.bytes (packed (chunks_of region.old.bytes)) }
+    ensures packed { Becomes region.old.bytes region.new.bytes
+        (packed (chunks_of region.old.bytes)) }
     ensures exact { chunks_of region.new.bytes ≡ packed (chunks_of region.old.bytes) }
     ensures moved { result ≡ moved_bytes region.old.bytes region.new.bytes }
     ensures plain { WritesPlain region.old.bytes region.new.bytes }
@@ -86,7 +87,8 @@ struct Step {
 fn pack_one(region: &mut Region, at: u32, room: u32) -> Step
     requires accepted { HeapAccepted region.old.bytes }
     requires behind { IsBehindRoom region.old.bytes at room }
-    ensures packed { PacksOne region.old.bytes region.new.bytes at room result.size result.slid result.room }
+    ensures packed { PacksOne region.old.bytes region.new.bytes at room
+        result.size result.slid result.room }
     ensures slid { region.new.slid ≡ region.old.slid + result.slid }
 {
     let (header, size) = Header::at_with_size(region, at);
@@ -141,6 +143,6 @@ fn drop_one(region: &mut Region, header: Header, at: u32, size: u32, room: u32)
         region.slide(at as usize, to as usize, size as usize);
         header.write(region, to);
         Header::Free { size: room }.write(region, to + size);
-        master_table::set(region, Name(slot), Place(to + 8));
+        master_table::set(region, Name(slot), Place(to + HEADER_SIZE));
     }
 }

@@ -3,12 +3,12 @@
 ghost use Rattle.std.specs.Prelude.{◌≡◌, ◌≢◌, ◌<◌, ◌+◌, ◌-◌, ◌^◌, length};
 ghost use Rattle.heap_model.specs.Heap.{HeapAccepted, directory_of};
 ghost use Rattle.heap_model.specs.Layout.{Alters, FreeUpTo, freed, WritesPlain};
-ghost use Rattle.heap_place.specs.Found.{IsOne};
+ghost use Rattle.heap_place.specs.Found.{IsOne, header_at};
 ghost use Rattle.heap_place.specs.Search.{free_size_at, ChunksFrom};
 
 use crate::found::Found;
 use crate::walks::size_if_free;
-use chunk_format::{FIXED_LOCK, Header, size_of_body};
+use chunk_format::{FIXED_LOCK, HEADER_SIZE, Header, size_of_body};
 use raw_region::Region;
 
 /// Makes a live chunk free, with the free chunk behind it, and empties its slot, if it has one.
@@ -16,12 +16,12 @@ pub(crate) fn release(region: &mut Region, found: Found) -> u32
     requires accepted { HeapAccepted region.old.bytes }
     requires found { IsOne region.old.bytes found }
     requires no_directory { found.name.0 ≢ directory_of region.old.bytes }
-    ensures gone { Alters region.old.bytes region.new.bytes (found.place.0 - 8) freed }
-    ensures free { FreeUpTo region.new.bytes (found.place.0 - 8) (found.place.0 - 8 + result) }
+    ensures gone { Alters region.old.bytes region.new.bytes (header_at found) freed }
+    ensures free { FreeUpTo region.new.bytes (header_at found) (header_at found + result) }
     ensures plain { WritesPlain region.old.bytes region.new.bytes }
     ensures rest { region.new ≡ record region.old { bytes = region.new.bytes } }
 {
-    let at = found.place.0 - 8;
+    let at = found.place.0 - HEADER_SIZE;
     let size = size_of_body(found.length);
     let joined = size + free_size(region, at + size);
     Header::Free { size: joined }.write(region, at);

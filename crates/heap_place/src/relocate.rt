@@ -1,30 +1,54 @@
 //! A movable chunk goes to room elsewhere.
 
 ghost use Rattle.std.specs.Prelude.{◌≡◌, ◌≢◌, ◌≤◌, ◌<◌, ◌+◌, ◌-◌, min, replicate};
+ghost use Rattle.std.specs.Bool.{OnTrue, OnFalse};
 ghost use Rattle.heap_model.specs.Bytes.{u32_at};
 ghost use Rattle.heap_model.specs.Chunk.{fixed, fixed_lock, need};
 ghost use Rattle.heap_model.specs.Slots.{IsSlot};
 ghost use Rattle.heap_model.specs.Heap.{HeapAccepted, directory_of};
+ghost use Rattle.heap_model.specs.Reading.{chunks_of};
+ghost use Rattle.heap_model.specs.Space.{NoRun};
 ghost use Rattle.heap_model.specs.Placing.{SameFrame};
 ghost use Rattle.heap_model.specs.Layout.{Alters, Exchanges, in_front, IsRoom, WritesPlain};
-ghost use Rattle.heap_place.specs.Found.{IsOne};
-ghost use Rattle.heap_place.specs.Relocation.{stand_in, KeepsFound, Copies, with_name, RelocatesFound};
+ghost use Rattle.heap_place.specs.Found.{IsOne, header_at};
+ghost use Rattle.heap_place.specs.Relocation.{stand_in, KeepsFound, Copies, with_name, RelocatesFound, RelocatesToRun};
 
 use crate::claim::claim_fixed;
 use crate::directory::{directory_name, name_directory};
 use crate::found::Found;
 use crate::release::release;
-use crate::room::Room;
-use chunk_format::{FIXED_LOCK, Header};
+use crate::room::{Room, room_for_body};
+use chunk_format::{FIXED_LOCK, HEADER_SIZE, Header};
 use heap_model::{Name, Place};
 use raw_region::Region;
 
 /// The owner of a stand-in; any that a fixed chunk may have would do.
 const STAND_IN_OWNER: u8 = 1;
 
-/// Moves a movable chunk without locks to the front of room, and gives it `count` bytes there: its first
-/// ones, or all of them and zeros behind. It may be the directory.
-pub(crate) fn relocate(region: &mut Region, found: Found, room: Room, count: u32)
+/// Moves a movable chunk without locks to the front of a free run that has the room, and gives it `count`
+/// bytes there: its first ones, or all of them and zeros behind. Answers whether there is such a run.
+pub(crate) fn relocate(region: &mut Region, found: Found, count: u32) -> bool
+    requires accepted { HeapAccepted region.old.bytes }
+    requires found { IsOne region.old.bytes found }
+    requires unlocked { found.lock ≡ 0 }
+    ensures moved { OnTrue result (RelocatesToRun region.old.bytes region.new.bytes found count) }
+    ensures no_run { OnFalse result (NoRun (chunks_of region.old.bytes) (need count)) }
+    ensures refused { OnFalse result (region.new ≡ region.old) }
+    ensures frame { SameFrame region.old.bytes region.new.bytes }
+    ensures plain { WritesPlain region.old.bytes region.new.bytes }
+    ensures slid { OnTrue result (region.new.slid ≡ region.old.slid + min found.length count) }
+{
+    match room_for_body(region, count) {
+        Some(room) => {
+            relocate_to(region, found, room, count);
+            true
+        }
+        None => false,
+    }
+}
+
+/// Moves a movable chunk without locks to the front of room. It may be the directory.
+fn relocate_to(region: &mut Region, found: Found, room: Room, count: u32)
     requires accepted { HeapAccepted region.old.bytes }
     requires found { IsOne region.old.bytes found }
     requires unlocked { found.lock ≡ 0 }
@@ -85,7 +109,8 @@ fn stand_in_at(region: &mut Region, room: Room, count: u32) -> Found
     requires accepted { HeapAccepted region.old.bytes }
     requires room { IsRoom region.old.bytes room.at room.size }
     requires enough { need count ≤ room.size }
-    ensures made { Exchanges region.old.bytes region.new.bytes room.at (in_front (fixed (replicate count 0) 1)) }
+    ensures made { Exchanges region.old.bytes region.new.bytes room.at
+        (in_front (fixed (replicate count 0) 1)) }
     ensures is { result ≡ stand_in room.at count }
     ensures found { IsOne region.new.bytes result }
     ensures others { KeepsFound region.old.bytes region.new.bytes }
@@ -126,7 +151,8 @@ fn take_name(region: &mut Region, there: Found, slot: Name, owner: u8)
     requires slot { IsSlot region.old.bytes slot.0 }
     requires empty { u32_at region.old.bytes slot.0 ≡ 0 }
     requires owner { owner < 16 }
-    ensures made { Alters region.old.bytes region.new.bytes (there.place.0 - 8) (with_name owner slot.0) }
+    ensures made { Alters region.old.bytes region.new.bytes (header_at there)
+        (with_name owner slot.0) }
     ensures plain { WritesPlain region.old.bytes region.new.bytes }
     ensures rest { region.new ≡ record region.old { bytes = region.new.bytes } }
 {
@@ -136,6 +162,6 @@ fn take_name(region: &mut Region, there: Found, slot: Name, owner: u8)
         owner,
         slot: slot.0,
     };
-    header.write(region, there.place.0 - 8);
+    header.write(region, there.place.0 - HEADER_SIZE);
     master_table::set(region, slot, there.place);
 }

@@ -6,13 +6,13 @@ ghost use Rattle.heap_model.specs.Chunk.{need};
 ghost use Rattle.heap_model.specs.Heap.{HeapAccepted};
 ghost use Rattle.heap_model.specs.Layout.{WritesPlain};
 ghost use Rattle.heap_model.specs.Resizing.{GrowsInPlace};
-ghost use Rattle.heap_place.specs.Found.{IsOne};
+ghost use Rattle.heap_place.specs.Found.{IsOne, header_at};
 ghost use Rattle.heap_place.specs.Resizes.{sized_header, RunBehind, Resizes, IsBound, BeginsWithFree, TellsWhetherInPlace};
 
 use crate::claim::write_rest;
 use crate::found::Found;
 use crate::release::free_size;
-use chunk_format::{FIXED_LOCK, Header, chunk_size, size_of_body};
+use chunk_format::{FIXED_LOCK, HEADER_SIZE, Header, chunk_size, size_of_body};
 use raw_region::Region;
 
 /// Gives a live chunk `count` bytes where it stands, out of its own and of `behind` bytes of free chunks
@@ -25,7 +25,7 @@ pub(crate) fn resize_at(region: &mut Region, found: Found, count: u32, behind: u
     ensures plain { WritesPlain region.old.bytes region.new.bytes }
     ensures rest { region.new ≡ record region.old { bytes = region.new.bytes } }
 {
-    let at = found.place.0 - 8;
+    let at = found.place.0 - HEADER_SIZE;
     let size = size_of_body(count);
     let left = size_of_body(found.length) + behind - size;
     let gained = count.saturating_sub(found.length);
@@ -58,14 +58,15 @@ fn header_with(found: Found, count: u32) -> Header
 pub(crate) fn grow_in_place_at(region: &mut Region, found: Found, count: u32) -> bool
     requires accepted { HeapAccepted region.old.bytes }
     requires found { IsOne region.old.bytes found }
-    ensures grown { OnTrue result (GrowsInPlace region.old.bytes region.new.bytes (found.place.0 - 8) count) }
+    ensures grown { OnTrue result
+        (GrowsInPlace region.old.bytes region.new.bytes (header_at found) count) }
     ensures refused { OnFalse result (region.new ≡ region.old) }
     ensures tells { TellsWhetherInPlace region.old.bytes found (need count) result }
     ensures plain { WritesPlain region.old.bytes region.new.bytes }
     ensures rest { region.new ≡ record region.old { bytes = region.new.bytes } }
 {
     let own = size_of_body(found.length);
-    let behind = free_run(region, found.place.0 - 8 + own);
+    let behind = free_run(region, found.place.0 - HEADER_SIZE + own);
     match chunk_size(count) {
         Some(size) if size <= own + behind => {
             resize_at(region, found, count, behind);

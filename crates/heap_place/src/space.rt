@@ -1,6 +1,6 @@
 //! The type that owns a heap's region.
 
-ghost use Rattle.std.specs.Prelude.{◌≡◌, ◌≢◌, ◌≤◌, ◌<◌, ◌+◌, ◌-◌, ◌*◌, ◌++◌, ◌∷◌, ◌⊎◌, [], length, replicate, min, count_by, IfSome, IfNone, None};
+ghost use Rattle.std.specs.Prelude.{◌≡◌, ◌≢◌, ◌≤◌, ◌<◌, ◌+◌, ◌-◌, ◌*◌, ◌++◌, ◌∷◌, ◌⊎◌, [], length, replicate, min, count_by, IsSome, IfSome, IfNone, None};
 ghost use Rattle.std.specs.Bool.{OnTrue, OnFalse};
 ghost use Rattle.heap_model.specs.Bytes.{u32_at};
 ghost use Rattle.heap_model.specs.Chunk.{movable, fixed, need, fixed_lock, is_owned_by};
@@ -14,10 +14,10 @@ ghost use Rattle.heap_model.specs.Placing.{SameFrame};
 ghost use Rattle.heap_model.specs.Store.{managers_owner, owner_under};
 ghost use Rattle.heap_model.specs.Leaving.{NamesDirectory};
 ghost use Rattle.heap_model.specs.Layout.{Becomes, layout_of, owned_freed, Exchanges, Alters, in_front, freed, with_lock, with_owner, with_bytes, FreeUpTo, IsRoom, WritesPlain};
-ghost use Rattle.heap_place.specs.Found.{IsFound, IsOne, NothingAt, CanGoTo, SlidesWithin};
+ghost use Rattle.heap_place.specs.Found.{IsFound, IsOne, NothingAt, CanGoTo, SlidesWithin, header_at};
 ghost use Rattle.heap_place.specs.Resizes.{TellsWhetherInPlace};
-ghost use Rattle.heap_place.specs.Relocation.{RelocatesFound};
-ghost use Rattle.heap_place.specs.Stretches.{IsStretch, IsAmong, HasRoom, HasRoomOf, PacksStretch, RoomAtEnd, SlidesStretch};
+ghost use Rattle.heap_place.specs.Relocation.{RelocatesToRun};
+ghost use Rattle.heap_place.specs.Stretches.{IsStretch, IsAmong, HasRoom, HasRoomOf, OpensExactly, PacksStretch, RoomAtEnd, SlidesStretch};
 
 use crate::alter::{relock_at, reown_at};
 use crate::claim::{claim_fixed, claim_movable, cut};
@@ -87,6 +87,16 @@ impl Space {
         find_named(&self.region, name)
     }
 
+    /// The chunk of a name that stands for one, as `find` answers it.
+    #[inline]
+    pub fn chunk(&self, name: Name) -> Found
+        requires accepted { HeapAccepted self.now.bytes }
+        requires there { IsSome (held self.now.bytes name.0) }
+        ensures { IsFound self.now.bytes name.0 result }
+    {
+        self.find(name).unwrap()
+    }
+
     /// The live chunk whose body is at a place, whoever owns it. Bytes of a body that look like a header
     /// are none.
     pub fn find_at(&self, place: Place) -> Option<Found>
@@ -136,7 +146,7 @@ impl Space {
 
     /// Room for a chunk of `size` bytes, header included: the front of a run of neighbouring free chunks.
     /// None where no such run has so many bytes.
-    pub fn place(&self, size: u32) -> Option<Room>
+    pub fn find_room(&self, size: u32) -> Option<Room>
         requires accepted { HeapAccepted self.now.bytes }
         requires some_size { 0 < size }
         ensures room { IfSome result (λ room. IsRoom self.now.bytes room.at room.size) }
@@ -154,7 +164,8 @@ impl Space {
         requires slot { IsSlot self.old.bytes slot.0 }
         requires empty { u32_at self.old.bytes slot.0 ≡ 0 }
         requires owner { owner < 16 }
-        ensures made { Exchanges self.old.bytes self.new.bytes room.at (in_front (movable (replicate count 0) 0 owner slot.0)) }
+        ensures made { Exchanges self.old.bytes self.new.bytes room.at
+            (in_front (movable (replicate count 0) 0 owner slot.0)) }
         ensures plain { WritesPlain self.old.bytes self.new.bytes }
         ensures rest { self.new ≡ record self.old { bytes = self.new.bytes } }
     {
@@ -169,7 +180,8 @@ impl Space {
         requires enough { need count ≤ room.size }
         requires some_owner { 0 < owner }
         requires most_owner { owner < 15 }
-        ensures made { Exchanges self.old.bytes self.new.bytes room.at (in_front (fixed (replicate count 0) owner)) }
+        ensures made { Exchanges self.old.bytes self.new.bytes room.at
+            (in_front (fixed (replicate count 0) owner)) }
         ensures name { result.0 ≡ room.at + 8 }
         ensures plain { WritesPlain self.old.bytes self.new.bytes }
         ensures rest { self.new ≡ record self.old { bytes = self.new.bytes } }
@@ -183,8 +195,8 @@ impl Space {
         requires accepted { HeapAccepted self.old.bytes }
         requires found { IsOne self.old.bytes found }
         requires no_directory { found.name.0 ≢ directory_of self.old.bytes }
-        ensures gone { Alters self.old.bytes self.new.bytes (found.place.0 - 8) freed }
-        ensures free { FreeUpTo self.new.bytes (found.place.0 - 8) (found.place.0 - 8 + result) }
+        ensures gone { Alters self.old.bytes self.new.bytes (header_at found) freed }
+        ensures free { FreeUpTo self.new.bytes (header_at found) (header_at found + result) }
         ensures plain { WritesPlain self.old.bytes self.new.bytes }
         ensures rest { self.new ≡ record self.old { bytes = self.new.bytes } }
     {
@@ -196,7 +208,8 @@ impl Space {
     pub fn give_back_owned(&mut self, owner: u8) -> u32
         requires accepted { HeapAccepted self.old.bytes }
         requires some_owner { 0 < owner }
-        ensures gone { Becomes self.old.bytes self.new.bytes (owned_freed owner (layout_of self.old.bytes)) }
+        ensures gone { Becomes self.old.bytes self.new.bytes
+            (owned_freed owner (layout_of self.old.bytes)) }
         ensures count { result ≡ count_by (is_owned_by owner) (layout_of self.old.bytes) }
         ensures plain { WritesPlain self.old.bytes self.new.bytes }
         ensures rest { self.new ≡ record self.old { bytes = self.new.bytes } }
@@ -211,7 +224,8 @@ impl Space {
         requires movable { found.lock < fixed_lock }
         requires lock { lock < fixed_lock }
         requires owned { (lock ≡ 0) ⊎ (0 < found.owner) }
-        ensures made { Alters self.old.bytes self.new.bytes (found.place.0 - 8) (with_lock lock) }
+        ensures made { Alters self.old.bytes self.new.bytes (header_at found) (with_lock lock) }
+        ensures plain { WritesPlain self.old.bytes self.new.bytes }
         ensures rest { self.new ≡ record self.old { bytes = self.new.bytes } }
     {
         relock_at(&mut self.region, found, lock);
@@ -222,7 +236,8 @@ impl Space {
         requires accepted { HeapAccepted self.old.bytes }
         requires found { IsOne self.old.bytes found }
         requires owner { CanGoTo self.old.bytes found owner }
-        ensures made { Alters self.old.bytes self.new.bytes (found.place.0 - 8) (with_owner owner) }
+        ensures made { Alters self.old.bytes self.new.bytes (header_at found) (with_owner owner) }
+        ensures plain { WritesPlain self.old.bytes self.new.bytes }
         ensures rest { self.new ≡ record self.old { bytes = self.new.bytes } }
     {
         reown_at(&mut self.region, found, owner);
@@ -233,7 +248,9 @@ impl Space {
         requires accepted { HeapAccepted self.old.bytes }
         requires found { IsOne self.old.bytes found }
         requires within { at + length bytes.now ≤ found.length }
-        ensures made { Alters self.old.bytes self.new.bytes (found.place.0 - 8) (with_bytes at bytes.now) }
+        ensures made { Alters self.old.bytes self.new.bytes (header_at found)
+            (with_bytes at bytes.now) }
+        ensures plain { WritesPlain self.old.bytes self.new.bytes }
         ensures rest { self.new ≡ record self.old { bytes = self.new.bytes } }
     {
         self.region
@@ -245,7 +262,9 @@ impl Space {
         requires accepted { HeapAccepted self.old.bytes }
         requires found { IsOne self.old.bytes found }
         requires within { at + length bytes.now + 1 ≤ found.length }
-        ensures made { Alters self.old.bytes self.new.bytes (found.place.0 - 8) (with_bytes at (bytes.now ++ 0 ∷ [])) }
+        ensures made { Alters self.old.bytes self.new.bytes (header_at found)
+            (with_bytes at (bytes.now ++ 0 ∷ [])) }
+        ensures plain { WritesPlain self.old.bytes self.new.bytes }
         ensures rest { self.new ≡ record self.old { bytes = self.new.bytes } }
     {
         let start = found.place.0 as usize + at as usize;
@@ -258,7 +277,9 @@ impl Space {
         requires accepted { HeapAccepted self.old.bytes }
         requires found { IsOne self.old.bytes found }
         requires within { at + count ≤ found.length }
-        ensures made { Alters self.old.bytes self.new.bytes (found.place.0 - 8) (with_bytes at (replicate count byte)) }
+        ensures made { Alters self.old.bytes self.new.bytes (header_at found)
+            (with_bytes at (replicate count byte)) }
+        ensures plain { WritesPlain self.old.bytes self.new.bytes }
         ensures rest { self.new ≡ record self.old { bytes = self.new.bytes } }
     {
         self.region
@@ -273,7 +294,9 @@ impl Space {
         requires from_within { from + count ≤ found.length }
         requires to_within { to + count ≤ found.length }
         ensures made { SlidesWithin self.old.bytes self.new.bytes found from to count }
-        ensures rest { self.new ≡ record self.old { bytes = self.new.bytes; slid = self.old.slid + count } }
+        ensures plain { WritesPlain self.old.bytes self.new.bytes }
+        ensures rest { self.new ≡ record self.old
+            { bytes = self.new.bytes; slid = self.old.slid + count } }
     {
         let body = found.place.0 as usize;
         self.region
@@ -286,7 +309,7 @@ impl Space {
         requires accepted { HeapAccepted self.old.bytes }
         requires found { IsOne self.old.bytes found }
         requires fits { need count ≤ need found.length }
-        ensures made { Shrinks self.old.bytes self.new.bytes (found.place.0 - 8) count }
+        ensures made { Shrinks self.old.bytes self.new.bytes (header_at found) count }
         ensures plain { WritesPlain self.old.bytes self.new.bytes }
         ensures rest { self.new ≡ record self.old { bytes = self.new.bytes } }
     {
@@ -299,7 +322,8 @@ impl Space {
     pub fn grow_in_place(&mut self, found: Found, count: u32) -> bool
         requires accepted { HeapAccepted self.old.bytes }
         requires found { IsOne self.old.bytes found }
-        ensures made { OnTrue result (GrowsInPlace self.old.bytes self.new.bytes (found.place.0 - 8) count) }
+        ensures made { OnTrue result
+            (GrowsInPlace self.old.bytes self.new.bytes (header_at found) count) }
         ensures refused { OnFalse result (self.new ≡ self.old) }
         ensures tells { TellsWhetherInPlace self.old.bytes found (need count) result }
         ensures plain { WritesPlain self.old.bytes self.new.bytes }
@@ -372,7 +396,8 @@ impl Space {
     pub fn open_behind(&mut self, found: Found, stretch: Stretch)
         requires accepted { HeapAccepted self.old.bytes }
         requires among { IsAmong self.old.bytes found stretch }
-        ensures opened { OpensBehind self.old.bytes self.new.bytes (found.place.0 - 8) }
+        ensures opened { OpensBehind self.old.bytes self.new.bytes (header_at found) }
+        ensures exact { OpensExactly self.old.bytes self.new.bytes (header_at found) }
         ensures frame { SameFrame self.old.bytes self.new.bytes }
         ensures plain { WritesPlain self.old.bytes self.new.bytes }
         ensures few { self.new.slid ≤ self.old.slid + 2 * (stretch.end - stretch.start) }
@@ -381,20 +406,22 @@ impl Space {
         open_in(&mut self.region, stretch, found);
     }
 
-    /// Moves a movable chunk without locks to the front of room, and gives it `count` bytes there: its
-    /// first ones, or all of them and zeros behind. No other chunk moves.
-    pub fn relocate(&mut self, found: Found, room: Room, count: u32)
+    /// Moves a movable chunk without locks to the front of a run of neighbouring free chunks that has the
+    /// room, and gives it `count` bytes there: its first ones, or all of them and zeros behind. Answers
+    /// whether there is such a run. No other chunk moves.
+    pub fn relocate(&mut self, found: Found, count: u32) -> bool
         requires accepted { HeapAccepted self.old.bytes }
         requires found { IsOne self.old.bytes found }
         requires unlocked { found.lock ≡ 0 }
-        requires room { IsRoom self.old.bytes room.at room.size }
-        requires enough { need count ≤ room.size }
-        ensures moved { RelocatesFound self.old.bytes self.new.bytes found room.at count }
+        ensures moved { OnTrue result (RelocatesToRun self.old.bytes self.new.bytes found count) }
+        ensures had_run { OnTrue result (NoRun (chunks_of self.old.bytes) (need count) → ⊥) }
+        ensures no_run { OnFalse result (NoRun (chunks_of self.old.bytes) (need count)) }
+        ensures refused { OnFalse result (self.new ≡ self.old) }
         ensures frame { SameFrame self.old.bytes self.new.bytes }
         ensures plain { WritesPlain self.old.bytes self.new.bytes }
-        ensures slid { self.new.slid ≡ self.old.slid + min found.length count }
+        ensures slid { OnTrue result (self.new.slid ≡ self.old.slid + min found.length count) }
         ensures rest { self.new ≡ record self.old { bytes = self.new.bytes; slid = self.new.slid } }
     {
-        relocate(&mut self.region, found, room, count);
+        relocate(&mut self.region, found, count)
     }
 }

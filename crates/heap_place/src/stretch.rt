@@ -9,7 +9,7 @@ ghost use Rattle.heap_place.specs.Stretches.{IsStretch, IsAmong, HasRoom, HasRoo
 use crate::found::Found;
 use crate::pack::stays;
 use crate::walks::size_if_free;
-use chunk_format::{Header, area_start};
+use chunk_format::{HEADER_SIZE, Header, area_start};
 use raw_region::Region;
 
 /// Where a stretch begins and ends, in bytes from the image's start.
@@ -27,7 +27,7 @@ pub(crate) fn stretch_around(region: &Region, found: Found) -> Stretch
     ensures around { IsAmong region.now.bytes found result }
     ensures stretch { IsStretch region.now.bytes result }
 {
-    let at = found.place.0 - 8;
+    let at = found.place.0 - HEADER_SIZE;
     let end = region.len() as u32;
     let mut here = area_start(region);
     let mut start = here;

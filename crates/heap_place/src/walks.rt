@@ -8,7 +8,7 @@ ghost use Rattle.heap_place.specs.Found.{IsFound, NoneFixedAs};
 ghost use Rattle.heap_place.specs.Search.{free_by};
 
 use crate::found::{Found, as_fixed};
-use chunk_format::{Header, area_start};
+use chunk_format::{HEADER_SIZE, Header, area_start};
 use heap_model::{Name, Place};
 use raw_region::Region;
 
@@ -18,13 +18,14 @@ pub(crate) fn find_fixed(region: &Region, name: Name) -> Option<Found>
     requires accepted { HeapAccepted region.now.bytes }
     ensures found { IfSome result (IsFound region.now.bytes name.0) }
     ensures there { IfSome result (λ found. found.place.0 ≡ name.0) }
-    ensures none { IfNone result (NoneFixedAs region.now.bytes name.0 (chunks_of region.now.bytes)) }
+    ensures none { IfNone result
+        (NoneFixedAs region.now.bytes name.0 (chunks_of region.now.bytes)) }
 {
     let end = region.len() as u32;
     let mut at = area_start(region);
     while at < end {
         let (header, taken) = Header::at_with_size(region, at);
-        if let Some(found) = as_fixed(header, Place(at + 8), name) {
+        if let Some(found) = as_fixed(header, Place(at + HEADER_SIZE), name) {
             return Some(found);
         }
         at += taken;

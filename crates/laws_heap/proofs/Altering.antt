@@ -194,18 +194,18 @@ body_stays old new at bytes others lock owner h_offset count holder way s t len 
 
 -- of a movable chunk with the same slot; the directory's stays the manager's
 pub movable_relabelled : (old new : List ℕ) (name at : ℕ) (live : LiveChunk) (bytes others : List ℕ) (lock owner slot count holder : ℕ) → HeapAccepted old → (f : Finds old name live (movable bytes lock owner slot) at) → (slot ≡ directory_of old → owner ≡ 0 → holder ≡ 0) → WroteWithin old new at (at + 8)
-    → Spelled new at (movable others count holder slot) → length others ≡ length bytes → Becomes old new (f.before ++ movable bytes count holder slot ∷ f.after)
+    → Spelled new at (movable others count holder slot) → length others ≡ length bytes → Becomes old new (f.before ++ movable bytes count holder slot ∷ f.after) × WritesPlain old new
 movable_relabelled old new name at live bytes others lock owner slot count holder h f kept w t len =
     let s : Spelled old at (movable bytes lock owner slot) = finds_spelled old name live (movable bytes lock owner slot) at h f in
     let same : others ≡ bytes = body_stays old new at bytes others lock owner s.0 count holder t.0 s.1 t.1 len w in
-    (altered_write old new name at live (movable bytes lock owner slot) (movable bytes count holder slot) h f
-    (wrote_wider old new at (at + 8) at (at + need (length bytes)) w (omega arith) (omega arith)) (subst (λ (b : List ℕ). Spelled new at (movable b count holder slot)) same t) refl refl (λ m. (m.0, kept m.0 m.1)) tt refl).0
+    altered_write old new name at live (movable bytes lock owner slot) (movable bytes count holder slot) h f
+    (wrote_wider old new at (at + 8) at (at + need (length bytes)) w (omega arith) (omega arith)) (subst (λ (b : List ℕ). Spelled new at (movable b count holder slot)) same t) refl refl (λ m. (m.0, kept m.0 m.1)) tt refl
 
 -- of a fixed chunk
 pub fixed_relabelled : (old new : List ℕ) (name at : ℕ) (live : LiveChunk) (bytes others : List ℕ) (owner holder : ℕ) → HeapAccepted old → (f : Finds old name live (fixed bytes owner) at) → 0 < holder → holder < 15 → WroteWithin old new at (at + 8)
-    → Spelled new at (fixed others holder) → length others ≡ length bytes → Becomes old new (f.before ++ fixed bytes holder ∷ f.after)
+    → Spelled new at (fixed others holder) → length others ≡ length bytes → Becomes old new (f.before ++ fixed bytes holder ∷ f.after) × WritesPlain old new
 fixed_relabelled old new name at live bytes others owner holder h f some_owner most_owner w t len =
     let s : Spelled old at (fixed bytes owner) = finds_spelled old name live (fixed bytes owner) at h f in
     let same : others ≡ bytes = body_stays old new at bytes others fixed_lock owner 0 fixed_lock holder 0 s t len w in
-    (altered_write old new name at live (fixed bytes owner) (fixed bytes holder) h f
-    (wrote_wider old new at (at + 8) at (at + need (length bytes)) w (omega arith) (omega arith)) (subst (λ (b : List ℕ). Spelled new at (fixed b holder)) same t) refl tt (λ m. m) (some_owner, most_owner) refl).0
+    altered_write old new name at live (fixed bytes owner) (fixed bytes holder) h f
+    (wrote_wider old new at (at + 8) at (at + need (length bytes)) w (omega arith) (omega arith)) (subst (λ (b : List ℕ). Spelled new at (fixed b holder)) same t) refl tt (λ m. m) (some_owner, most_owner) refl

@@ -126,5 +126,9 @@ all_fit image h = let e = SpelledAll-end image (area_start image) (chunks_of ima
 pub short_beyond : (image : List ℕ) (size : ℕ) → HeapAccepted image → 16777208 < size → Short image size
 short_beyond image size h big = let most = all_fit image h in let within = free_within (chunks_of image) in rooms_below (chunks_of image) size (omega arith)
 
+-- and no run has so many
+pub no_run_beyond : (image : List ℕ) (size : ℕ) → HeapAccepted image → 16777208 < size → NoRun (chunks_of image) size
+no_run_beyond image size h big = short_no_run (chunks_of image) size (omega arith) (short_beyond image size h big)
+
 pub short_for_beyond : (image : List ℕ) (name size : ℕ) → HeapAccepted image → 16777208 < size → ShortFor image name size
 short_for_beyond image name size h big = let most = all_fit image h in let within = freed_within (chunks_of image) name in rooms_below (with_freed (chunks_of image) name) size (omega arith)

@@ -9,7 +9,7 @@ use Rattle.heap_model.specs.Slots.{slot_count, first_slots, StandsBehind}
 use Rattle.heap_model.specs.Placed.{EveryOne}
 use Rattle.heap_model.specs.Space.{free_slots}
 use Rattle.laws_heap.proofs.Slots.{first_slots-more, first_slots-all, number_stands}
-use Rattle.master_table.specs.declared.table.FreeSlot.{FreeSlot}
+use Rattle.master_table.specs.declared.table.EmptySlot.{EmptySlot}
 use Rattle.master_table.specs.Table.{IsEmptyAt, IsUsedAt, UsedBefore}
 
 -- 1 for an empty slot, 0 for one in use
@@ -60,10 +60,10 @@ some_free image slot k s empty none =
     omega arith
 
 -- the count of those before one more, by whether an empty one was found there
-pub counted_some : (image : List ℕ) (k count : ℕ) (found : Option FreeSlot) → IfSome found (IsEmptyAt image k) → is_some found ≡ true → count ≡ empty_before image k → count + 1 ≡ empty_before image (k + 1)
+pub counted_some : (image : List ℕ) (k count : ℕ) (found : Option EmptySlot) → IfSome found (IsEmptyAt image k) → is_some found ≡ true → count ≡ empty_before image k → count + 1 ≡ empty_before image (k + 1)
 counted_some image k count None e is counted = absurd cc
 counted_some image k count (Some free) e is counted = empty_more image free.name.0 k count e.stands counted e.empty
 
-pub counted_none : (image : List ℕ) (k count : ℕ) (found : Option FreeSlot) → k < slot_count image → IfNone found (IsUsedAt image k) → is_some found ≡ false → count ≡ empty_before image k → count ≡ empty_before image (k + 1)
+pub counted_none : (image : List ℕ) (k count : ℕ) (found : Option EmptySlot) → k < slot_count image → IfNone found (IsUsedAt image k) → is_some found ≡ false → count ≡ empty_before image k → count ≡ empty_before image (k + 1)
 counted_none image k count None below used is counted = let s = number_stands image k below in empty_same image s.0 k count s.1 counted (used s.0 s.1)
 counted_none image k count (Some free) below used is counted = absurd cc

@@ -4,7 +4,7 @@ use Rattle.heap_model.specs.Bytes.{u32_at}
 use Rattle.heap_model.specs.Slots.{IsSlot, slot_count, slots_of, first_slots, StandsBehind}
 use Rattle.heap_model.specs.Placed.{EveryOne}
 use Rattle.laws_heap.proofs.Slots.{stands_number, stands_slot, number_stands, same_number, each_first_slot, every_first_slot, every_first-more}
-use Rattle.master_table.specs.declared.table.FreeSlot.{FreeSlot}
+use Rattle.master_table.specs.declared.table.EmptySlot.{EmptySlot}
 use Rattle.master_table.specs.Table.{IsEmptyAt, IsUsedAt, UsedBefore, NotAmong, IsFirstEmpty}
 
 -- the slot of a number, by its offset
@@ -12,7 +12,7 @@ pub stands_at : (image : List ℕ) (slot k count : ℕ) → count ≡ slot_count
 stands_at image slot k count is below there = subst (λ (s : ℕ). StandsBehind image s k) (sym there) (stands_number image k (omega arith))
 
 -- the first empty one, where those before it are in use
-pub first_empty : (image : List ℕ) (number : ℕ) (free : FreeSlot) → IsEmptyAt image number free → UsedBefore image number → IsFirstEmpty image free.name.0 free.before
+pub first_empty : (image : List ℕ) (number : ℕ) (free : EmptySlot) → IsEmptyAt image number free → UsedBefore image number → IsFirstEmpty image free.name.0 free.before
 first_empty image number free e used =
     let stands : StandsBehind image free.name.0 free.before = subst (λ (k : ℕ). StandsBehind image free.name.0 k) (sym e.count) e.stands in
     record { stands = stands; is_slot = stands_slot image free.name.0 free.before stands; empty = e.empty; used = subst (λ (k : ℕ). UsedBefore image k) (sym e.count) used }

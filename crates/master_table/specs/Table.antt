@@ -4,11 +4,15 @@ use Rattle.heap_model.specs.Bytes.{u32_at}
 use Rattle.heap_model.specs.Placed.{EveryOne}
 use Rattle.heap_model.specs.Slots.{IsSlot, StandsBehind, slot_count, first_slots}
 use Rattle.master_table.specs.declared.slots.Table.{Table}
-use Rattle.master_table.specs.declared.table.FreeSlot.{FreeSlot}
+use Rattle.master_table.specs.declared.table.EmptySlot.{EmptySlot}
+
+-- how many slots were read of a table
+abbrev pub slots_of : Table → ℕ
+slots_of table = table.count
 
 -- this is what was read of the table of an image
 abbrev pub IsTable : List ℕ → Table → Type 0
-IsTable image table = table.count ≡ slot_count image
+IsTable image table = slots_of table ≡ slot_count image
 
 -- a slot stands there, and holds this place
 pub record HoldsPlace (image : List ℕ) (slot place : ℕ) : Type 0 where
@@ -29,7 +33,7 @@ abbrev pub NotAmong : List ℕ → ℕ → ℕ → Type 0
 NotAmong image count name = EveryOne (λ slot. slot ≢ name) (first_slots image count)
 
 -- the slot behind so many others is empty, and this is it
-pub record IsEmptyAt (image : List ℕ) (number : ℕ) (free : FreeSlot) : Type 0 where
+pub record IsEmptyAt (image : List ℕ) (number : ℕ) (free : EmptySlot) : Type 0 where
   pub stands : StandsBehind image free.name.0 number
   pub empty : u32_at image free.name.0 ≡ 0
   pub count : free.before ≡ number

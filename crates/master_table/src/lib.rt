@@ -9,4 +9,6 @@ mod slots;
 mod table;
 
 pub use slots::Table;
-pub use table::{FreeSlot, clear, free_slot, resolve, set, slots_before, slots_free, word_of};
+pub use table::{
+    EmptySlot, clear, first_empty_slot, resolve, set, slots_before, slots_free, word_of,
+};

@@ -15,7 +15,7 @@ pub struct Table {
 }
 
 impl Table {
-    ghost use Rattle.master_table.specs.Table.{IsTable};
+    ghost use Rattle.master_table.specs.Table.{IsTable, slots_of};
 
     /// The table of an image.
     #[inline]
@@ -31,7 +31,7 @@ impl Table {
     /// How many slots there are.
     #[inline]
     pub fn count(self) -> u32
-        ensures { result ≡ self.count }
+        ensures { result ≡ slots_of self }
     {
         self.count as u32
     }
@@ -39,7 +39,7 @@ impl Table {
     /// The slot before which so many stand, by its offset.
     #[inline]
     pub fn slot(self, number: u32) -> u32
-        requires { number < self.count }
+        requires { number < slots_of self }
         ensures { (image : List ℕ) → IsTable image self → StandsBehind image result number }
     {
         FRAME_SIZE + SLOT_SIZE * number
@@ -48,9 +48,11 @@ impl Table {
     /// How many slots stand before the one at an offset, if one stands there.
     #[inline]
     pub fn number(self, slot: u32) -> Option<u32>
-        ensures below { IfSome result (λ number. number < self.count) }
-        ensures some { IfSome result (λ number. (image : List ℕ) → IsTable image self → StandsBehind image slot number) }
-        ensures none { IfNone result ((image : List ℕ) → IsTable image self → IsSlot image slot → ⊥) }
+        ensures below { IfSome result (λ number. number < slots_of self) }
+        ensures some { IfSome result
+            (λ number. (image : List ℕ) → IsTable image self → StandsBehind image slot number) }
+        ensures none { IfNone result
+            ((image : List ℕ) → IsTable image self → IsSlot image slot → ⊥) }
     {
         if slot < FRAME_SIZE || slot >= FRAME_SIZE + SLOT_SIZE * self.count() {
             return None;

@@ -5,7 +5,7 @@ ghost use Rattle.heap_model.specs.Bytes.{u32_at, u32_bytes, overwritten};
 ghost use Rattle.heap_model.specs.Frame.{HasFrame};
 ghost use Rattle.heap_model.specs.Slots.{IsSlot, HasTable, StandsBehind};
 ghost use Rattle.heap_model.specs.Space.{free_slots};
-ghost use Rattle.master_table.specs.Table.{HoldsPlace, HoldsNothing, IsTable, IsEmptyAt, IsUsedAt, IsFirstEmpty, UsedBefore};
+ghost use Rattle.master_table.specs.Table.{HoldsPlace, HoldsNothing, IsTable, slots_of, IsEmptyAt, IsUsedAt, IsFirstEmpty, UsedBefore};
 
 use crate::slots::Table;
 use heap_model::{Name, Place};
@@ -13,7 +13,7 @@ use raw_region::Region;
 
 /// An empty slot, and how many slots stand before it.
 #[derive(Clone, Copy, Debug, PartialEq, Eq)]
-pub struct FreeSlot {
+pub struct EmptySlot {
     pub name: Name,
     pub before: u32,
 }
@@ -40,7 +40,8 @@ pub fn slots_before(region: &Region, name: Name) -> Option<u32>
 /// The place that a slot holds. None where no slot stands there, or an empty one.
 pub fn resolve(region: &Region, name: Name) -> Option<Place>
     requires { HasTable region.now }
-    ensures { MatchOption result (HoldsNothing region.now.bytes name.0) (λ place. HoldsPlace region.now.bytes name.0 place.0) }
+    ensures { MatchOption result (HoldsNothing region.now.bytes name.0)
+        (λ place. HoldsPlace region.now.bytes name.0 place.0) }
 {
     match slots_before(region, name) {
         Some(_) => place_in(region, name),
@@ -53,7 +54,8 @@ pub fn resolve(region: &Region, name: Name) -> Option<Place>
 fn place_in(region: &Region, slot: Name) -> Option<Place>
     requires table { HasTable region.now }
     requires slot { IsSlot region.now.bytes slot.0 }
-    ensures { MatchOption result (HoldsNothing region.now.bytes slot.0) (λ place. HoldsPlace region.now.bytes slot.0 place.0) }
+    ensures { MatchOption result (HoldsNothing region.now.bytes slot.0)
+        (λ place. HoldsPlace region.now.bytes slot.0 place.0) }
 {
     match word_of(region, slot.0) {
         0 => None,
@@ -63,10 +65,10 @@ fn place_in(region: &Region, slot: Name) -> Option<Place>
 
 /// The slot before which so many stand, if it is empty.
 #[inline]
-fn empty_slot(region: &Region, table: Table, number: u32) -> Option<FreeSlot>
+fn empty_slot(region: &Region, table: Table, number: u32) -> Option<EmptySlot>
     requires has_table { HasTable region.now }
     requires table { IsTable region.now.bytes table }
-    requires below { number < table.count }
+    requires below { number < slots_of table }
     ensures some { IfSome result (IsEmptyAt region.now.bytes number) }
     ensures none { IfNone result (IsUsedAt region.now.bytes number) }
 {
@@ -74,7 +76,7 @@ fn empty_slot(region: &Region, table: Table, number: u32) -> Option<FreeSlot>
     if word_of(region, slot) != 0 {
         return None;
     }
-    Some(FreeSlot {
+    Some(EmptySlot {
         name: Name(slot),
         before: number,
     })
@@ -82,7 +84,7 @@ fn empty_slot(region: &Region, table: Table, number: u32) -> Option<FreeSlot>
 
 /// The first empty slot. The caller shows that the first `from` slots are in use, and so spares the
 /// search from going over these. None exactly where no slot is free.
-pub fn free_slot(region: &Region, from: u32) -> Option<FreeSlot>
+pub fn first_empty_slot(region: &Region, from: u32) -> Option<EmptySlot>
     requires table { HasTable region.now }
     requires used { UsedBefore region.now.bytes from }
     ensures some { IfSome result (λ slot. IsFirstEmpty region.now.bytes slot.name.0 slot.before) }
@@ -116,7 +118,8 @@ pub fn slots_free(region: &Region) -> u32
 pub fn set(region: &mut Region, slot: Name, place: Place)
     requires table { HasTable region.old }
     requires slot { IsSlot region.old.bytes slot.0 }
-    ensures after { region.new ≡ record region.old { bytes = overwritten region.old.bytes slot.0 (u32_bytes place.0) } }
+    ensures after { region.new ≡ record region.old
+        { bytes = overwritten region.old.bytes slot.0 (u32_bytes place.0) } }
     ensures len { length region.new.bytes ≡ length region.old.bytes }
 {
     region.put_u32(slot.0 as usize, place.0);
@@ -126,7 +129,8 @@ pub fn set(region: &mut Region, slot: Name, place: Place)
 pub fn clear(region: &mut Region, slot: Name)
     requires table { HasTable region.old }
     requires slot { IsSlot region.old.bytes slot.0 }
-    ensures after { region.new ≡ record region.old { bytes = overwritten region.old.bytes slot.0 (u32_bytes 0) } }
+    ensures after { region.new ≡ record region.old
+        { bytes = overwritten region.old.bytes slot.0 (u32_bytes 0) } }
     ensures len { length region.new.bytes ≡ length region.old.bytes }
 {
     region.put_u32(slot.0 as usize, 0);

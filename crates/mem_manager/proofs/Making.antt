@@ -2,7 +2,7 @@
 use Rattle.std.proofs.Common.{◌≡◌, ◌≢◌, ℕ, ◌+◌, ◌<◌, ◌≤◌, List, length, replicate, Option, Some, None, refl, sym, ap, subst, ◌∙◌, arith, inl, inr}
 use Rattle.std.proofs.lemmas.List.{length-replicate}
 use Rattle.std.specs.Prelude.{count_by, IfSome, Result, Ok, Err, IfOk, IfErr, OnOk, OnErr}
-use Rattle.master_table.specs.declared.table.FreeSlot.{FreeSlot}
+use Rattle.master_table.specs.declared.table.EmptySlot.{EmptySlot}
 use Rattle.heap_model.specs.Memory.{Memory}
 use Rattle.heap_model.specs.Chunk.{movable, fixed, fixed_lock, need, is_owned_by}
 use Rattle.heap_model.specs.Heap.{HeapAccepted}
@@ -174,9 +174,9 @@ new_lowers old mid new at room size owner slot before h s first r fits x =
     subst (λ (taken : ℕ). Lowers old new taken) takes (made_lowers old mid new at room (replicate size 0) owner slot h s (slot_unheld old slot before h first) r (omega arith) x)
 
 -- the slot that was found, of the region that is the heap's value
-pub as_first : (region read : Memory) (result : Option FreeSlot) (slot : FreeSlot) → read ≡ region → result ≡ Some slot → IfSome result (λ slot. IsFirstEmpty read.bytes slot.name.0 slot.before) → IsFirstEmpty region.bytes slot.name.0 slot.before
+pub as_first : (region read : Memory) (result : Option EmptySlot) (slot : EmptySlot) → read ≡ region → result ≡ Some slot → IfSome result (λ slot. IsFirstEmpty read.bytes slot.name.0 slot.before) → IsFirstEmpty region.bytes slot.name.0 slot.before
 as_first region read result slot same is first =
-    subst (λ (m : Memory). IsFirstEmpty m.bytes slot.name.0 slot.before) same (subst (λ (x : Option FreeSlot). IfSome x (λ slot. IsFirstEmpty read.bytes slot.name.0 slot.before)) is first)
+    subst (λ (m : Memory). IsFirstEmpty m.bytes slot.name.0 slot.before) same (subst (λ (x : Option EmptySlot). IfSome x (λ slot. IsFirstEmpty read.bytes slot.name.0 slot.before)) is first)
 
 pub ptr_unheld : (old mid : List ℕ) (at room size : ℕ) → SlidesOneStretch old mid → IsRoom mid at room → need size ≤ room → held mid (at + 8) ≡ None
 ptr_unheld old mid at room size s r fits = room_unheld mid at room s.becomes.frame.accepted (omega arith) r

@@ -79,6 +79,9 @@ write_viewed region value new name found at bytes same h f within made = write_c
 pub loose_found : (image : List ℕ) (name : ℕ) (found : Found) → HeapAccepted image → IsFound image name found → IsMovable image name → found.lock ≢ fixed_lock
 loose_found image name found h f m is = m.movable (sym (ap (λ (x : LiveChunk). x.lock) (one_live (sym (name_held image name found h f) ∙ m.is_held))) ∙ sym f.lock_is ∙ is)
 
+pub movable_there : (image : List ℕ) (name : ℕ) → IsMovable image name → IsSome (held image name)
+movable_there image name m = subst IsSome (sym m.is_held) refl
+
 -- a movable one may go to any owner but the manager
 pub may_go_to : (image : List ℕ) (name : ℕ) (found : Found) (owner : ℕ) → HeapAccepted image → IsFound image name found → IsMovable image name → name ≢ directory_of image → 0 < owner → owner < 16 → CanGoTo image found owner
 may_go_to image name found owner h f m other some most = record {

@@ -3,10 +3,12 @@ use Rattle.std.specs.Prelude.{◌≡◌, ◌≢◌, ◌⊎◌, ℕ, List, Some, 
 use Rattle.heap_model.specs.Heap.{HeapAccepted}
 use Rattle.heap_model.specs.Meaning.{LiveChunk}
 use Rattle.heap_model.specs.Chunk.{fixed_lock, need}
-use Rattle.heap_model.specs.Reading.{held}
+use Rattle.heap_model.specs.Reading.{held, chunks_of}
 use Rattle.heap_model.specs.Maps.{callers_map, made}
-use Rattle.heap_model.specs.Space.{place_of, free_slots, Short}
+use Rattle.heap_model.specs.Space.{place_of, free_slots, Short, NoRun, FitsInPlace, MovesNothing}
 use Rattle.heap_model.specs.Leaving.{Leaves}
+use Rattle.heap_model.specs.Refusals.{Check}
+use Rattle.heap_model.specs.MemorySteps.{growth_checks}
 use Rattle.master_table.specs.Table.{UsedBefore}
 
 -- the heap is accepted, and the first so many slots are in use
@@ -36,3 +38,15 @@ pub record MakesNew (old new : List ℕ) (name size owner : ℕ) : Type 0 where
 -- no slot is free, or no stretch has the room for so many bytes
 abbrev pub HasNoRoomFor : List ℕ → ℕ → Type 0
 HasNoRoomFor image size = (free_slots image ≡ 0) ⊎ Short image (need size)
+
+-- where a run of neighbouring free chunks has the room for so many bytes nothing moves
+abbrev pub MovesOnlyForRoom : List ℕ → List ℕ → ℕ → Type 0
+MovesOnlyForRoom old new size = (NoRun (chunks_of old) (need size) → ⊥) → MovesNothing old new
+
+-- where a name's chunk has so many bytes in its place nothing moves
+abbrev pub MovesOnlyToGrow : List ℕ → List ℕ → ℕ → ℕ → Type 0
+MovesOnlyToGrow old new name size = FitsInPlace old name (need size) → MovesNothing old new
+
+-- whether a name's chunk can have so many bytes
+abbrev pub checks_of_growth : List ℕ → ℕ → ℕ → List Check
+checks_of_growth image name size = growth_checks image (held image) name size

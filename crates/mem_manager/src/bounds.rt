@@ -4,6 +4,7 @@ ghost use Rattle.std.specs.Prelude.{◌≡◌, ◌<◌, ◌+◌, ◌==◌, Err, 
 ghost use Rattle.std.specs.List.{take_while};
 ghost use Rattle.heap_model.specs.MemorySteps.{IsNoCaller};
 
+use chunk_format::{DATA_OWNER, MANAGERS_OWNER};
 use heap_model::Refusal;
 use memchr::memchr;
 
@@ -13,7 +14,7 @@ pub(crate) fn check_owner(owner: u8) -> Result<(), Refusal>
     ensures err { OnErr result (IsNoCaller owner) }
     ensures refusal { IfErr result (λ refusal. refusal ≡ Refusal.InvalidOwner) }
 {
-    if owner == 0 || owner > 14 {
+    if owner == MANAGERS_OWNER || owner >= DATA_OWNER {
         return Err(Refusal::InvalidOwner);
     }
     Ok(())

@@ -20,8 +20,8 @@ use std::fmt;
 use std::marker::Model;
 use thiserror::Error;
 
-/// A region that is an accepted heap. Contracts see the region's value alone, and no method asks for
-/// anything of its caller: what a call can't do it refuses.
+/// A region that is an accepted heap. Contracts see the region's value alone. What a call for callers
+/// can't do it refuses; the calls for the store above ask it of their caller.
 #[derive(Drop)]
 pub struct Heap {
     space: Space,

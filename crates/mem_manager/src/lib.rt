@@ -1,9 +1,9 @@
 //! The memory manager: chunks are made, asked for, moved and freed by name.
 //!
-//! `Heap` owns a region that is an accepted heap. The contract of each of its methods is the step of
-//! the abstract store for that call: the reply is right, and what the image means afterwards is the
-//! store after the call. Beside it each says that the image is still accepted, and that no chunk
-//! that is locked or fixed, and still live, has moved.
+//! `Heap` owns a region that is an accepted heap. The contract of each call for callers is the step of
+//! the abstract store for it: the reply is right, what the image means afterwards is the store after
+//! the call, the image is still accepted, and no chunk that is locked or fixed, and still live, has
+//! moved. The calls for the store above promise what stands under one name afterwards.
 #![tactic(auto)]
 
 mod bounds;

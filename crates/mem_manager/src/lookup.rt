@@ -1,13 +1,15 @@
 //! What a name stands for, and which refusals a chunk brings.
 
 ghost use Rattle.std.specs.Prelude.{◌≡◌, ◌≢◌, ◌≤◌, ℕ, IfOk, OnOk, IfErr, OnErr, None};
+ghost use Rattle.heap_model.specs.Chunk.{fixed_lock};
 ghost use Rattle.heap_model.specs.Heap.{HeapAccepted};
 ghost use Rattle.heap_model.specs.Maps.{callers_map};
+ghost use Rattle.heap_model.specs.Store.{data_owner};
 ghost use Rattle.heap_model.specs.MemorySteps.{IsNowhere};
 ghost use Rattle.heap_place.specs.Found.{IsFound};
 ghost use Rattle.mem_manager.specs.Lookup.{IsThere};
 
-use chunk_format::{DATA_OWNER, FIXED_LOCK};
+use chunk_format::{DATA_OWNER, FIXED_LOCK, MANAGERS_OWNER};
 use heap_model::{Name, Place, Refusal};
 use heap_place::{Found, Space};
 
@@ -21,7 +23,7 @@ pub(crate) fn find(space: &Space, name: Name) -> Result<Found, Refusal>
     ensures refusal { IfErr result (λ refusal. refusal ≡ Refusal.InvalidHandle) }
 {
     match space.find(name) {
-        Some(found) if found.owner > 0 => Ok(found),
+        Some(found) if found.owner != MANAGERS_OWNER => Ok(found),
         _ => Err(Refusal::InvalidHandle),
     }
 }
@@ -34,7 +36,7 @@ pub(crate) fn name_at(space: &Space, place: Place) -> Result<Name, Refusal>
     ensures refusal { IfErr result (λ refusal. refusal ≡ Refusal.InvalidHandle) }
 {
     match space.find_at(place) {
-        Some(found) if found.owner > 0 => Ok(found.name),
+        Some(found) if found.owner != MANAGERS_OWNER => Ok(found.name),
         _ => Err(Refusal::InvalidHandle),
     }
 }
@@ -42,8 +44,8 @@ pub(crate) fn name_at(space: &Space, place: Place) -> Result<Name, Refusal>
 /// Refuses a chunk of a database.
 #[inline]
 pub(crate) fn check_callers(found: Found) -> Result<(), Refusal>
-    ensures ok { OnOk result (found.owner ≢ 15) }
-    ensures err { OnErr result (found.owner ≡ 15) }
+    ensures ok { OnOk result (found.owner ≢ data_owner) }
+    ensures err { OnErr result (found.owner ≡ data_owner) }
     ensures refusal { IfErr result (λ refusal. refusal ≡ Refusal.OwnedByDatabase) }
 {
     if found.owner == DATA_OWNER {
@@ -55,8 +57,8 @@ pub(crate) fn check_callers(found: Found) -> Result<(), Refusal>
 /// Refuses a fixed chunk.
 #[inline]
 pub(crate) fn check_movable(found: Found) -> Result<(), Refusal>
-    ensures ok { OnOk result (found.lock ≢ 15) }
-    ensures err { OnErr result (found.lock ≡ 15) }
+    ensures ok { OnOk result (found.lock ≢ fixed_lock) }
+    ensures err { OnErr result (found.lock ≡ fixed_lock) }
     ensures refusal { IfErr result (λ refusal. refusal ≡ Refusal.ChunkFixed) }
 {
     if found.lock == FIXED_LOCK {

@@ -5,7 +5,7 @@ ghost use Rattle.heap_model.specs.Slots.{slot_count as model_count};
 
 use crate::frames::frame_of;
 use heap_model::{Name, Place};
-use master_table::{FreeSlot, Table, clear, free_slot, resolve, set, slots_before, slots_free};
+use master_table::{EmptySlot, Table, clear, first_empty_slot, resolve, set, slots_before, slots_free};
 use raw_region::Region;
 use std::alloc::Global;
 use std::test::*;
@@ -89,10 +89,10 @@ fn a_slot_resolves_to_its_place(rt: HostRuntime) -> Result<(), Fail> {
 }
 
 /// The words of the slots, the first empty one, and how many there are.
-const FREE_SLOTS: [([u32; 4], Option<FreeSlot>, u32); 5] = [
+const FREE_SLOTS: [([u32; 4], Option<EmptySlot>, u32); 5] = [
     (
         [0, 0, 0, 0],
-        Some(FreeSlot {
+        Some(EmptySlot {
             name: Name(16),
             before: 0,
         }),
@@ -100,7 +100,7 @@ const FREE_SLOTS: [([u32; 4], Option<FreeSlot>, u32); 5] = [
     ),
     (
         [40, 0, 0, 56],
-        Some(FreeSlot {
+        Some(EmptySlot {
             name: Name(20),
             before: 1,
         }),
@@ -108,7 +108,7 @@ const FREE_SLOTS: [([u32; 4], Option<FreeSlot>, u32); 5] = [
     ),
     (
         [40, 56, 0, 0],
-        Some(FreeSlot {
+        Some(EmptySlot {
             name: Name(24),
             before: 2,
         }),
@@ -116,7 +116,7 @@ const FREE_SLOTS: [([u32; 4], Option<FreeSlot>, u32); 5] = [
     ),
     (
         [40, 56, 64, 0],
-        Some(FreeSlot {
+        Some(EmptySlot {
             name: Name(28),
             before: 3,
         }),
@@ -130,7 +130,7 @@ fn the_first_empty_slot_is_found(rt: HostRuntime) -> Result<(), Fail> {
     for (words, found, free) in &FREE_SLOTS {
         let region = table(rt.alloc(), *words)?;
         assert_eq!(rt; slots_free(&region), *free, "{words:?}");
-        assert_eq!(rt; free_slot(&region, 0), *found, "{words:?}");
+        assert_eq!(rt; first_empty_slot(&region, 0), *found, "{words:?}");
     }
     Ok(())
 }
@@ -139,9 +139,9 @@ fn the_first_empty_slot_is_found(rt: HostRuntime) -> Result<(), Fail> {
 #[test]
 fn a_search_passes_over_used_slots(rt: HostRuntime) -> Result<(), Fail> {
     let region = table(rt.alloc(), [40, 56, 0, 0])?;
-    if let Some(slot) = free_slot(&region, 0) {
+    if let Some(slot) = first_empty_slot(&region, 0) {
         assert_eq!(rt; slot.before, 2);
-        assert_eq!(rt; free_slot(&region, slot.before), Some(slot));
+        assert_eq!(rt; first_empty_slot(&region, slot.before), Some(slot));
     }
     Ok(())
 }

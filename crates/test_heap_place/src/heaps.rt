@@ -6,7 +6,7 @@ use chunk_format::{chunk_size, directory};
 use heap_check::check_heap;
 use heap_model::{Name, Place};
 use heap_place::{Found, Room, Space};
-use master_table::free_slot;
+use master_table::first_empty_slot;
 use raw_region::Region;
 use std::alloc::Global;
 use std::marker::Model;
@@ -77,25 +77,25 @@ impl CheckedSpace {
         self.space.free_bytes()
     }
 
-    pub(crate) fn place(&self, size: u32) -> Option<Room>
+    pub(crate) fn find_room(&self, size: u32) -> Option<Room>
         requires { 0 < size }
     {
-        self.space.place(size)
+        self.space.find_room(size)
     }
 
     /// Makes a movable chunk, under the first empty slot. None where there is no room or no slot.
     pub(crate) fn make(&mut self, count: u32, owner: u8) -> Option<Name>
         requires { owner < 16 }
     {
-        let room = self.space.place(chunk_size(count)?)?;
-        let slot = free_slot(self.space.region(), 0)?.name;
+        let room = self.space.find_room(chunk_size(count)?)?;
+        let slot = first_empty_slot(self.space.region(), 0)?.name;
         self.space.claim(room, slot, count, owner);
         Some(slot)
     }
 
     /// Makes a fixed chunk of a caller's. None where there is no room.
     pub(crate) fn make_fixed(&mut self, count: u32) -> Option<Name> {
-        let room = self.space.place(chunk_size(count)?)?;
+        let room = self.space.find_room(chunk_size(count)?)?;
         Some(self.space.claim_fixed(room, count, 14))
     }
 
@@ -153,8 +153,6 @@ impl CheckedSpace {
         if found.lock > 0 {
             return None;
         }
-        let room = self.space.place(chunk_size(count)?)?;
-        self.space.relocate(found, room, count);
-        Some(())
+        self.space.relocate(found, count).then_some(())
     }
 }

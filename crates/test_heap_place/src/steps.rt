@@ -34,8 +34,8 @@ fn do_step(space: &mut CheckedSpace, step: Step) -> Option<u32> {
             space.relock(Name(name), lock)?;
             Some(u32::from(lock))
         }
-        Step::RoomAt(size) if size > 0 => Some(space.place(size)?.at),
-        Step::RoomSize(size) if size > 0 => Some(space.place(size)?.size),
+        Step::RoomAt(size) if size > 0 => Some(space.find_room(size)?.at),
+        Step::RoomSize(size) if size > 0 => Some(space.find_room(size)?.size),
         Step::FreeBytes => Some(space.free_bytes()),
         _ => None,
     }

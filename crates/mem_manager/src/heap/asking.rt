@@ -1,9 +1,10 @@
 //! Calls that ask of a heap and leave it as it is.
 
-ghost use Rattle.std.specs.Prelude.{◌≡◌, ◌≢◌, ◌≤◌, ◌<◌, ℕ, Err, length};
+ghost use Rattle.std.specs.Prelude.{◌≡◌, ◌≢◌, ◌≤◌, ◌<◌, Err};
 ghost use Rattle.heap_model.specs.MemorySteps.{Does, reply_of};
 ghost use Rattle.heap_model.specs.declared.call.MemoryCall.{MemoryCall};
 ghost use Rattle.heap_model.specs.declared.call.Reply.{Reply};
+ghost use Rattle.mem_manager.specs.Replies.{number_or_refused, name_or_refused};
 
 use crate::bounds::check_range;
 use crate::heap::Heap;
@@ -15,7 +16,7 @@ impl Heap {
     ///
     /// Refused: `InvalidHandle`.
     pub fn size(&self, name: Name) -> Result<u32, Refusal>
-        ensures { Does self.now (MemoryCall.Size name) (reply_of (λ size. Reply.Number size) result) self.now }
+        ensures { Does self.now (MemoryCall.Size name) (number_or_refused result) self.now }
     {
         let found = find(&self.space, name)?;
         Ok(found.length)
@@ -25,7 +26,7 @@ impl Heap {
     ///
     /// Refused: `InvalidHandle`.
     pub fn owner(&self, name: Name) -> Result<u8, Refusal>
-        ensures { Does self.now (MemoryCall.Owner name) (reply_of (λ owner. Reply.Number owner) result) self.now }
+        ensures { Does self.now (MemoryCall.Owner name) (number_or_refused result) self.now }
     {
         let found = find(&self.space, name)?;
         Ok(found.owner)
@@ -35,7 +36,7 @@ impl Heap {
     ///
     /// Refused: `InvalidHandle`.
     pub fn locks(&self, name: Name) -> Result<u8, Refusal>
-        ensures { Does self.now (MemoryCall.Locks name) (reply_of (λ count. Reply.Number count) result) self.now }
+        ensures { Does self.now (MemoryCall.Locks name) (number_or_refused result) self.now }
     {
         let found = find(&self.space, name)?;
         Ok(found.lock)
@@ -45,7 +46,8 @@ impl Heap {
     ///
     /// Refused: `InvalidHandle`, `OutOfBounds`.
     pub fn read(&self, name: Name, at: u32, count: u32) -> Result<&[u8], Refusal>
-        ensures does { Does self.now (MemoryCall.Read name at count) (reply_of (λ bytes. Reply.Data bytes.now) result) self.now }
+        ensures does { Does self.now (MemoryCall.Read name at count)
+            (reply_of (λ bytes. Reply.Data bytes.now) result) self.now }
         ensures takes_no_memory { result ≢ Err Refusal.OutOfMemory }
     {
         let found = find(&self.space, name)?;
@@ -59,7 +61,7 @@ impl Heap {
     ///
     /// Refused: `InvalidHandle`, where no caller's chunk has its body there.
     pub fn recover(&self, place: Place) -> Result<Name, Refusal>
-        ensures { Does self.now (MemoryCall.Recover place) (reply_of (λ name. Reply.Named name) result) self.now }
+        ensures { Does self.now (MemoryCall.Recover place) (name_or_refused result) self.now }
     {
         name_at(&self.space, place)
     }

@@ -1,9 +1,9 @@
 //! Calls that change a chunk where it stands.
 
-ghost use Rattle.std.specs.Prelude.{◌≡◌, ◌≤◌, ◌<◌, ℕ, length};
-ghost use Rattle.heap_model.specs.MemorySteps.{Does, reply_of};
+ghost use Rattle.std.specs.Prelude.{◌≡◌, ◌≤◌, ◌<◌};
+ghost use Rattle.heap_model.specs.MemorySteps.{Does};
 ghost use Rattle.heap_model.specs.declared.call.MemoryCall.{MemoryCall};
-ghost use Rattle.heap_model.specs.declared.call.Reply.{Reply};
+ghost use Rattle.mem_manager.specs.Replies.{done_or_refused, number_or_refused, lock_or_refused};
 
 use crate::bounds::{before_zero, check_ended_range, check_owner, check_range};
 use crate::heap::{Heap, Locked};
@@ -19,7 +19,7 @@ impl Heap {
     ///
     /// Refused: `InvalidHandle`, `ChunkFixed`, `LockOverflow`.
     pub fn lock(&mut self, name: Name) -> Result<Locked, Refusal>
-        ensures { Does self.old (MemoryCall.Lock name) (reply_of (λ locked. Reply.Locked locked.place locked.count) result) self.new }
+        ensures { Does self.old (MemoryCall.Lock name) (lock_or_refused result) self.new }
     {
         let found = find(&self.space, name)?;
         check_movable(found)?;
@@ -38,7 +38,7 @@ impl Heap {
     ///
     /// Refused: `InvalidHandle`, `ChunkFixed`, `ChunkNotLocked`.
     pub fn unlock(&mut self, name: Name) -> Result<u8, Refusal>
-        ensures { Does self.old (MemoryCall.Unlock name) (reply_of (λ count. Reply.Number count) result) self.new }
+        ensures { Does self.old (MemoryCall.Unlock name) (number_or_refused result) self.new }
     {
         let found = find(&self.space, name)?;
         check_movable(found)?;
@@ -52,7 +52,8 @@ impl Heap {
     ///
     /// Refused: `InvalidHandle`, `ChunkNotLocked`, `OutOfBounds`.
     pub fn write(&mut self, name: Name, at: u32, bytes: &[u8]) -> Result<(), Refusal>
-        ensures { Does self.old (MemoryCall.Write name at bytes.now) (reply_of (λ done. Reply.Done) result) self.new }
+        ensures { Does self.old (MemoryCall.Write name at bytes.now)
+            (done_or_refused result) self.new }
     {
         let found = find(&self.space, name)?;
         check_locked(found)?;
@@ -65,7 +66,8 @@ impl Heap {
     ///
     /// Refused: `InvalidHandle`, `ChunkNotLocked`, `OutOfBounds`.
     pub fn set(&mut self, name: Name, at: u32, count: u32, byte: u8) -> Result<(), Refusal>
-        ensures { Does self.old (MemoryCall.Set name at count byte) (reply_of (λ done. Reply.Done) result) self.new }
+        ensures { Does self.old (MemoryCall.Set name at count byte)
+            (done_or_refused result) self.new }
     {
         let found = find(&self.space, name)?;
         check_locked(found)?;
@@ -79,7 +81,8 @@ impl Heap {
     ///
     /// Refused: `InvalidHandle`, `ChunkNotLocked`, `OutOfBounds`, for which the zero byte counts.
     pub fn str_copy(&mut self, name: Name, at: u32, text: &[u8]) -> Result<(), Refusal>
-        ensures { Does self.old (MemoryCall.StrCopy name at text.now) (reply_of (λ done. Reply.Done) result) self.new }
+        ensures { Does self.old (MemoryCall.StrCopy name at text.now)
+            (done_or_refused result) self.new }
     {
         let found = find(&self.space, name)?;
         check_locked(found)?;
@@ -93,7 +96,7 @@ impl Heap {
     ///
     /// Refused: `InvalidHandle`, `OwnedByDatabase`, `InvalidOwner`.
     pub fn set_owner(&mut self, name: Name, owner: u8) -> Result<(), Refusal>
-        ensures { Does self.old (MemoryCall.SetOwner name owner) (reply_of (λ done. Reply.Done) result) self.new }
+        ensures { Does self.old (MemoryCall.SetOwner name owner) (done_or_refused result) self.new }
     {
         let found = find(&self.space, name)?;
         check_callers(found)?;

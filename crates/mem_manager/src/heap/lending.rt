@@ -30,10 +30,7 @@ impl Heap {
     pub fn summary(&self) -> Summary
         ensures { Summarizes self.now.bytes result }
     {
-        match check_heap(self.space.region()) {
-            Ok(summary) => summary,
-            Err(_) => unreachable!(),
-        }
+        check_heap(self.space.region()).unwrap()
     }
 
     /// The bytes of the image.
@@ -61,10 +58,7 @@ impl Heap {
         requires there { IsSome (held self.now.bytes name.0) }
         ensures { (live : LiveChunk) → held self.now.bytes name.0 ≡ Some live → result ≡ live.lock }
     {
-        match self.space.find(name) {
-            Some(found) => found.lock,
-            None => 0,
-        }
+        self.space.chunk(name).lock
     }
 
     /// The bytes of any chunk, as they lie in the image.
@@ -72,10 +66,7 @@ impl Heap {
         requires { IsSome (held self.now.bytes name.0) }
         ensures { result.now ≡ bytes_under self.now.bytes name.0 }
     {
-        match self.space.find(name) {
-            Some(found) => self.body_of(found),
-            None => &[],
-        }
+        self.body_of(self.space.chunk(name))
     }
 
     /// The bytes of a chunk that was found.

@@ -1,19 +1,19 @@
 //! Calls that make chunks and free them.
 
-ghost use Rattle.std.specs.Prelude.{◌≡◌, ◌≤◌, ◌<◌, ◌+◌, ℕ, length, IfOk, OnOk, IfErr, OnErr};
+ghost use Rattle.std.specs.Prelude.{◌≡◌, ◌≤◌, ◌<◌, ◌+◌, IfOk, OnOk, IfErr, OnErr};
 ghost use Rattle.heap_model.specs.Chunk.{need};
 ghost use Rattle.heap_model.specs.Heap.{HeapAccepted};
 ghost use Rattle.heap_model.specs.Reading.{chunks_of};
-ghost use Rattle.heap_model.specs.Space.{NoRun, Short, MovesNothing, MovesOneStretch, moved_bytes};
+ghost use Rattle.heap_model.specs.Space.{NoRun, Short, MovesOneStretch, moved_bytes};
 ghost use Rattle.heap_model.specs.Packing.{SlidesOneStretch};
 ghost use Rattle.heap_model.specs.Layout.{IsRoom};
 ghost use Rattle.heap_model.specs.Rooms.{Lowers};
-ghost use Rattle.heap_model.specs.MemorySteps.{Does, reply_of};
+ghost use Rattle.heap_model.specs.MemorySteps.{Does};
 ghost use Rattle.heap_model.specs.declared.call.MemoryCall.{MemoryCall};
-ghost use Rattle.heap_model.specs.declared.call.Reply.{Reply};
+ghost use Rattle.mem_manager.specs.Replies.{done_or_refused, number_or_refused, name_or_refused};
 ghost use Rattle.heap_model.specs.Frame.{HasFrame};
 ghost use Rattle.master_table.specs.Table.{NotAmong};
-ghost use Rattle.mem_manager.specs.Lookup.{IsManaged, MakesNew, HasNoRoomFor};
+ghost use Rattle.mem_manager.specs.Lookup.{IsManaged, MakesNew, HasNoRoomFor, MovesOnlyForRoom};
 
 use crate::bounds::check_owner;
 use crate::heap::Heap;
@@ -22,7 +22,7 @@ use chunk_format::{FIXED_LOCK, chunk_size};
 use heap_compact::make_room;
 use heap_model::{Name, Refusal};
 use heap_place::{Room, Space};
-use master_table::{FreeSlot, free_slot, slots_before};
+use master_table::{EmptySlot, first_empty_slot, slots_before};
 use raw_region::Region;
 
 impl Heap {
@@ -35,8 +35,9 @@ impl Heap {
     /// Refused: `InvalidOwner`; `NotEnoughSpace`, where no slot is free, or no stretch has the room. Then
     /// nothing has changed.
     pub fn handle_new(&mut self, size: u32, owner: u8) -> Result<Name, Refusal>
-        ensures does { Does self.old (MemoryCall.HandleNew size owner) (reply_of (λ name. Reply.Named name) result) self.new }
-        ensures unmoved { (NoRun (chunks_of self.old.bytes) (need size) → ⊥) → MovesNothing self.old.bytes self.new.bytes }
+        ensures does { Does self.old (MemoryCall.HandleNew size owner)
+            (name_or_refused result) self.new }
+        ensures unmoved { MovesOnlyForRoom self.old.bytes self.new.bytes size }
         ensures one_stretch { MovesOneStretch self.old.bytes self.new.bytes }
         ensures once { self.new.slid ≡ self.old.slid + moved_bytes self.old.bytes self.new.bytes }
         ensures refused { OnErr result (self.new ≡ self.old) }
@@ -52,8 +53,9 @@ impl Heap {
     ///
     /// Refused: `InvalidOwner`; `NotEnoughSpace`, where no stretch has the room. Then nothing has changed.
     pub fn ptr_new(&mut self, size: u32, owner: u8) -> Result<Name, Refusal>
-        ensures does { Does self.old (MemoryCall.PtrNew size owner) (reply_of (λ name. Reply.Named name) result) self.new }
-        ensures unmoved { (NoRun (chunks_of self.old.bytes) (need size) → ⊥) → MovesNothing self.old.bytes self.new.bytes }
+        ensures does { Does self.old (MemoryCall.PtrNew size owner)
+            (name_or_refused result) self.new }
+        ensures unmoved { MovesOnlyForRoom self.old.bytes self.new.bytes size }
         ensures one_stretch { MovesOneStretch self.old.bytes self.new.bytes }
         ensures once { self.new.slid ≡ self.old.slid + moved_bytes self.old.bytes self.new.bytes }
         ensures refused { OnErr result (self.new ≡ self.old) }
@@ -68,7 +70,7 @@ impl Heap {
     ///
     /// Refused: `InvalidHandle`, `OwnedByDatabase`, `ChunkLocked`.
     pub fn free(&mut self, name: Name) -> Result<(), Refusal>
-        ensures { Does self.old (MemoryCall.Free name) (reply_of (λ done. Reply.Done) result) self.new }
+        ensures { Does self.old (MemoryCall.Free name) (done_or_refused result) self.new }
     {
         let found = find(&self.space, name)?;
         check_callers(found)?;
@@ -84,7 +86,7 @@ impl Heap {
     ///
     /// Refused: `InvalidOwner`.
     pub fn free_by_owner(&mut self, owner: u8) -> Result<u32, Refusal>
-        ensures { Does self.old (MemoryCall.FreeByOwner owner) (reply_of (λ count. Reply.Number count) result) self.new }
+        ensures { Does self.old (MemoryCall.FreeByOwner owner) (number_or_refused result) self.new }
     {
         let space = &mut self.space;
         check_owner(owner)?;
@@ -101,22 +103,23 @@ pub(crate) fn make_movable(
     used: u32,
     size: u32,
     owner: u8,
-) -> Result<FreeSlot, Refusal>
+) -> Result<EmptySlot, Refusal>
     requires managed { IsManaged space.old.bytes used }
     requires owner { owner < 16 }
-    ensures made { IfOk result (λ slot. MakesNew space.old.bytes space.new.bytes slot.name.0 size owner) }
+    ensures made { IfOk result
+        (λ slot. MakesNew space.old.bytes space.new.bytes slot.name.0 size owner) }
     ensures in_use { IfOk result (λ slot. IsManaged space.new.bytes slot.before) }
     ensures had_room { OnOk result (HasNoRoomFor space.old.bytes size → ⊥) }
     ensures no_room { OnErr result (HasNoRoomFor space.old.bytes size) }
     ensures refusal { IfErr result (λ refusal. refusal ≡ Refusal.NotEnoughSpace) }
     ensures refused { OnErr result (space.new ≡ space.old) }
-    ensures unmoved { (NoRun (chunks_of space.old.bytes) (need size) → ⊥) → MovesNothing space.old.bytes space.new.bytes }
+    ensures unmoved { MovesOnlyForRoom space.old.bytes space.new.bytes size }
     ensures one_stretch { MovesOneStretch space.old.bytes space.new.bytes }
     ensures lowers { OnOk result (Lowers space.old.bytes space.new.bytes (need size)) }
     ensures once { space.new.slid ≡ space.old.slid + moved_bytes space.old.bytes space.new.bytes }
     ensures rest { space.new ≡ record space.old { bytes = space.new.bytes; slid = space.new.slid } }
 {
-    let slot = free_slot(space.region(), used).ok_or(Refusal::NotEnoughSpace)?;
+    let slot = first_empty_slot(space.region(), used).ok_or(Refusal::NotEnoughSpace)?;
     let room = room_for(space, size)?;
     space.claim(room, slot.name, size, owner);
     Ok(slot)

@@ -6,14 +6,13 @@ ghost use Rattle.std.specs.Prelude.{◌≡◌, ◌≢◌, ◌≤◌, ◌<◌, �
 ghost use Rattle.heap_model.specs.Chunk.{need};
 ghost use Rattle.heap_model.specs.Rooms.{Lowers};
 ghost use Rattle.heap_model.specs.Heap.{directory_of};
-ghost use Rattle.heap_model.specs.Reading.{held, chunks_of};
-ghost use Rattle.heap_model.specs.Space.{NoRun, FitsInPlace, MovesNothing, MovesOneStretch, MovesOneStretchAnd, moved_bytes};
+ghost use Rattle.heap_model.specs.Reading.{held};
+ghost use Rattle.heap_model.specs.Space.{MovesNothing, MovesOneStretch, MovesOneStretchAnd, moved_bytes};
 ghost use Rattle.heap_model.specs.Maps.{gone, put, sized, reowned};
 ghost use Rattle.heap_model.specs.Store.{managers_owner, bytes_under, owner_under};
 ghost use Rattle.heap_model.specs.Leaving.{Leaves, NamesDirectory};
 ghost use Rattle.heap_model.specs.Refusals.{NoneHolds, FirstBrings};
-ghost use Rattle.heap_model.specs.MemorySteps.{growth_checks};
-ghost use Rattle.mem_manager.specs.Lookup.{IsMovable, MakesNew, HasNoRoomFor};
+ghost use Rattle.mem_manager.specs.Lookup.{IsMovable, MakesNew, HasNoRoomFor, MovesOnlyForRoom, MovesOnlyToGrow, checks_of_growth};
 
 use crate::heap::Heap;
 use crate::heap::making::{make_movable, used_without};
@@ -25,12 +24,13 @@ impl Heap {
     /// that was empty. Refused `NotEnoughSpace` alone, and then nothing has changed.
     pub fn sys_new(&mut self, size: u32, owner: u8) -> Result<Name, Refusal>
         requires owner { owner < 16 }
-        ensures made { IfOk result (λ name. MakesNew self.old.bytes self.new.bytes name.0 size owner) }
+        ensures made { IfOk result
+            (λ name. MakesNew self.old.bytes self.new.bytes name.0 size owner) }
         ensures had_room { OnOk result (HasNoRoomFor self.old.bytes size → ⊥) }
         ensures no_room { OnErr result (HasNoRoomFor self.old.bytes size) }
         ensures refusal { IfErr result (λ refusal. refusal ≡ Refusal.NotEnoughSpace) }
         ensures refused { OnErr result (self.new ≡ self.old) }
-        ensures unmoved { (NoRun (chunks_of self.old.bytes) (need size) → ⊥) → MovesNothing self.old.bytes self.new.bytes }
+        ensures unmoved { MovesOnlyForRoom self.old.bytes self.new.bytes size }
         ensures one_stretch { MovesOneStretch self.old.bytes self.new.bytes }
         ensures lowers { OnOk result (Lowers self.old.bytes self.new.bytes (need size)) }
         ensures once { self.new.slid ≡ self.old.slid + moved_bytes self.old.bytes self.new.bytes }
@@ -47,26 +47,22 @@ impl Heap {
         requires within { at + count ≤ length (bytes_under self.now.bytes name.0) }
         ensures { result.now ≡ slice_range (bytes_under self.now.bytes name.0) at (at + count) }
     {
-        match self.space.find(name) {
-            Some(found) => {
-                let start = found.place.0 as usize + at as usize;
-                self.space.region().slice(start, count as usize)
-            }
-            None => &[],
-        }
+        let found = self.space.chunk(name);
+        let start = found.place.0 as usize + at as usize;
+        self.space.region().slice(start, count as usize)
     }
 
     /// Writes bytes over those of any chunk, from `at` within it on.
     pub fn sys_write(&mut self, name: Name, at: u32, bytes: &[u8])
         requires there { IsSome (held self.old.bytes name.0) }
         requires within { at + length bytes.now ≤ length (bytes_under self.old.bytes name.0) }
-        ensures leaves { Leaves self.old.bytes self.new.bytes (put (held self.old.bytes) name.0 at bytes.now) }
+        ensures leaves { Leaves self.old.bytes self.new.bytes
+            (put (held self.old.bytes) name.0 at bytes.now) }
         ensures unmoved { MovesNothing self.old.bytes self.new.bytes }
         ensures rest { self.new ≡ record self.old { bytes = self.new.bytes } }
     {
-        if let Some(found) = self.space.find(name) {
-            self.space.write(found, at, bytes);
-        }
+        let found = self.space.chunk(name);
+        self.space.write(found, at, bytes);
     }
 
     /// Copies `count` bytes of a chunk's body from `from` within it to `to` within it; the ranges may overlap.
@@ -74,12 +70,13 @@ impl Heap {
         requires there { IsSome (held self.old.bytes name.0) }
         requires from_within { from + count ≤ length (bytes_under self.old.bytes name.0) }
         requires to_within { to + count ≤ length (bytes_under self.old.bytes name.0) }
-        ensures leaves { Leaves self.old.bytes self.new.bytes (put (held self.old.bytes) name.0 to (slice_range (bytes_under self.old.bytes name.0) from (from + count))) }
-        ensures rest { self.new ≡ record self.old { bytes = self.new.bytes; slid = self.old.slid + count } }
+        ensures leaves { Leaves self.old.bytes self.new.bytes (put (held self.old.bytes) name.0 to
+            (slice_range (bytes_under self.old.bytes name.0) from (from + count))) }
+        ensures rest { self.new ≡ record self.old
+            { bytes = self.new.bytes; slid = self.old.slid + count } }
     {
-        if let Some(found) = self.space.find(name) {
-            self.space.slide_within(found, from, to, count);
-        }
+        let found = self.space.chunk(name);
+        self.space.slide_within(found, from, to, count);
     }
 
     /// Gives a movable chunk, the directory too, `size` bytes: its first ones, or all of them and zeros behind.
@@ -89,18 +86,18 @@ impl Heap {
     /// locked and no stretch has the room. Then nothing has changed.
     pub fn sys_resize(&mut self, name: Name, size: u32) -> Result<(), Refusal>
         requires movable { IsMovable self.old.bytes name.0 }
-        ensures done { OnOk result (Leaves self.old.bytes self.new.bytes (sized (held self.old.bytes) name.0 size)) }
-        ensures could { OnOk result (NoneHolds (growth_checks self.old.bytes (held self.old.bytes) name.0 size)) }
+        ensures done { OnOk result (Leaves self.old.bytes self.new.bytes
+            (sized (held self.old.bytes) name.0 size)) }
+        ensures could { OnOk result (NoneHolds (checks_of_growth self.old.bytes name.0 size)) }
         ensures refused { OnErr result (self.new ≡ self.old) }
-        ensures why { IfErr result (λ refusal. FirstBrings (growth_checks self.old.bytes (held self.old.bytes) name.0 size) refusal) }
-        ensures unmoved { FitsInPlace self.old.bytes name.0 (need size) → MovesNothing self.old.bytes self.new.bytes }
+        ensures why { IfErr result
+            (λ refusal. FirstBrings (checks_of_growth self.old.bytes name.0 size) refusal) }
+        ensures unmoved { MovesOnlyToGrow self.old.bytes self.new.bytes name.0 size }
         ensures one_stretch { MovesOneStretchAnd self.old.bytes self.new.bytes name.0 }
         ensures rest { self.new ≡ record self.old { bytes = self.new.bytes; slid = self.new.slid } }
     {
-        match self.space.find(name) {
-            Some(found) => resize_found(&mut self.space, found, size),
-            None => Err(Refusal::InvalidHandle),
-        }
+        let found = self.space.chunk(name);
+        resize_found(&mut self.space, found, size)
     }
 
     /// Gives a movable chunk to another owner, 1 to 15. The directory has none but the manager.
@@ -109,12 +106,12 @@ impl Heap {
         requires no_directory { name.0 ≢ directory_of self.old.bytes }
         requires some_owner { 0 < owner }
         requires most_owner { owner < 16 }
-        ensures leaves { Leaves self.old.bytes self.new.bytes (reowned (held self.old.bytes) name.0 owner) }
+        ensures leaves { Leaves self.old.bytes self.new.bytes
+            (reowned (held self.old.bytes) name.0 owner) }
         ensures rest { self.new ≡ record self.old { bytes = self.new.bytes } }
     {
-        if let Some(found) = self.space.find(name) {
-            self.space.reown(found, owner);
-        }
+        let found = self.space.chunk(name);
+        self.space.reown(found, owner);
     }
 
     /// Frees any chunk but the directory.
@@ -124,11 +121,11 @@ impl Heap {
         ensures leaves { Leaves self.old.bytes self.new.bytes (gone (held self.old.bytes) name.0) }
         ensures rest { self.new ≡ record self.old { bytes = self.new.bytes } }
     {
-        if let Some(found) = self.space.find(name) {
-            self.used = used_without(self.space.region(), self.used, name);
-            self.space.give_back(found);
-        }
+        let found = self.space.chunk(name);
+        self.used = used_without(self.space.region(), self.used, name);
+        self.space.give_back(found);
     }
+
     /// The name of the directory's chunk, or `Name(0)` where there is none.
     pub fn directory(&self) -> Name
         ensures { result.0 ≡ directory_of self.now.bytes }

@@ -1,23 +1,25 @@
 //! Calls that move chunks.
 
 ghost use Rattle.std.specs.Prelude.{◌≡◌, ◌≢◌, ◌+◌, OnOk, OnErr, IfErr};
-ghost use Rattle.heap_model.specs.Chunk.{need, fixed_lock};
+ghost use Rattle.heap_model.specs.Chunk.{fixed_lock};
 ghost use Rattle.heap_model.specs.Heap.{HeapAccepted};
-ghost use Rattle.heap_model.specs.Space.{FitsInPlace, MovesNothing, MovesOneStretchAnd};
-ghost use Rattle.heap_model.specs.Reading.{held, chunks_of};
+ghost use Rattle.heap_model.specs.Space.{MovesOneStretchAnd};
+ghost use Rattle.heap_model.specs.Reading.{chunks_of};
 ghost use Rattle.heap_model.specs.Packing.{Packed, Slid};
 ghost use Rattle.heap_model.specs.Refusals.{NoneHolds, FirstBrings};
-ghost use Rattle.heap_model.specs.MemorySteps.{Does, reply_of, growth_checks};
+ghost use Rattle.heap_model.specs.MemorySteps.{Does};
 ghost use Rattle.heap_model.specs.declared.call.MemoryCall.{MemoryCall};
 ghost use Rattle.heap_model.specs.declared.call.Reply.{Reply};
+ghost use Rattle.mem_manager.specs.Replies.{done_or_refused};
 ghost use Rattle.heap_place.specs.Found.{IsOne};
 ghost use Rattle.heap_compact.specs.Resized.{Resized};
+ghost use Rattle.mem_manager.specs.Lookup.{MovesOnlyToGrow, checks_of_growth};
 
 use crate::heap::Heap;
 use crate::lookup::{check_callers, check_movable, find};
-use heap_compact::resize_by_moving;
+use heap_compact::{Space, resize_by_moving};
 use heap_model::{Name, Refusal};
-use heap_place::{Found, Space};
+use heap_place::Found;
 
 impl Heap {
     /// Gathers the free bytes of each stretch in one chunk behind its live ones, which keep their order, and
@@ -38,8 +40,9 @@ impl Heap {
     /// would have to move; `NotEnoughSpace`, where it is not locked and no stretch has the room, its own
     /// bytes counted as room of its own stretch. Then nothing has changed.
     pub fn resize(&mut self, name: Name, size: u32) -> Result<(), Refusal>
-        ensures does { Does self.old (MemoryCall.Resize name size) (reply_of (λ done. Reply.Done) result) self.new }
-        ensures unmoved { FitsInPlace self.old.bytes name.0 (need size) → MovesNothing self.old.bytes self.new.bytes }
+        ensures does { Does self.old (MemoryCall.Resize name size)
+            (done_or_refused result) self.new }
+        ensures unmoved { MovesOnlyToGrow self.old.bytes self.new.bytes name.0 size }
         ensures one_stretch { MovesOneStretchAnd self.old.bytes self.new.bytes name.0 }
         ensures refused { OnErr result (self.new ≡ self.old) }
     {
@@ -56,10 +59,11 @@ pub(crate) fn resize_found(space: &mut Space, found: Found, size: u32) -> Result
     requires found { IsOne space.old.bytes found }
     requires movable { found.lock ≢ fixed_lock }
     ensures done { OnOk result (Resized space.old.bytes space.new.bytes found.name.0 size) }
-    ensures could { OnOk result (NoneHolds (growth_checks space.old.bytes (held space.old.bytes) found.name.0 size)) }
+    ensures could { OnOk result (NoneHolds (checks_of_growth space.old.bytes found.name.0 size)) }
     ensures refused { OnErr result (space.new ≡ space.old) }
-    ensures why { IfErr result (λ refusal. FirstBrings (growth_checks space.old.bytes (held space.old.bytes) found.name.0 size) refusal) }
-    ensures unmoved { FitsInPlace space.old.bytes found.name.0 (need size) → MovesNothing space.old.bytes space.new.bytes }
+    ensures why { IfErr result
+        (λ refusal. FirstBrings (checks_of_growth space.old.bytes found.name.0 size) refusal) }
+    ensures unmoved { MovesOnlyToGrow space.old.bytes space.new.bytes found.name.0 size }
     ensures one_stretch { MovesOneStretchAnd space.old.bytes space.new.bytes found.name.0 }
     ensures rest { space.new ≡ record space.old { bytes = space.new.bytes; slid = space.new.slid } }
 {

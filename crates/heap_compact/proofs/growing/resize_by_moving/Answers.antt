@@ -1,83 +1,17 @@
-use Rattle.std.proofs.Common.{◌≡◌, ℕ, sym, subst, arith}
-use Rattle.heap_model.specs.Space.{Short, MovesOneStretchAnd}
-use Rattle.heap_model.specs.Memory.{Memory}
-use Rattle.heap_model.specs.Chunk.{need}
-use Rattle.laws_heap.proofs.Fitting.{room_not_short_for, short_for_beyond}
-use Rattle.laws_heap.proofs.Unmoved.{alone_one, itself_alone}
-use Rattle.heap_compact.proofs.ResizedLaws.{is_loose, loose_slid, slid_then, slid_alone, fits_in_stretch, fits_not_short, short_own, own_fits, room_fits}
+use Rattle.laws_heap.proofs.Unmoved.{alone_one}
+use Rattle.heap_compact.proofs.ResizedLaws.{run_resized, run_not_short, resized_here}
 use Rattle.heap_compact.proofs.growing.resize_by_moving.Goals as goal
 
-pub returns-in-None-clause-short : goal.returns-in-None-clause-short
-returns-in-None-clause-short c = let big = c.in-None.ensures in short_for_beyond c.args.space.now.bytes c.args.found.name.0 (need c.args.count) c.requires.accepted (omega arith)
+pub returns-then-relocate-clause-resized : goal.returns-then-relocate-clause-resized
+returns-then-relocate-clause-resized c =
+    (resized_here c.args.space.now.bytes c.relocate.new.self.bytes c.args.found.name.0 c.args.count c.args.found c.requires.found
+    (run_resized c.args.space.now.bytes c.relocate.new.self.bytes c.args.found c.args.count c.requires.accepted c.requires.found c.requires.unlocked c.if-relocate.ensures.moved)).0
 
-pub relocate_named-requires-clause-loose : goal.relocate_named-requires-clause-loose
-relocate_named-requires-clause-loose c = is_loose c.args.space.now.bytes c.args.found c.requires.accepted c.requires.found c.requires.unlocked
+pub returns-then-relocate-clause-not_short : goal.returns-then-relocate-clause-not_short
+returns-then-relocate-clause-not_short c = run_not_short c.args.space.now.bytes c.relocate.new.self.bytes c.args.found c.args.count c.if-relocate.ensures.moved
 
-pub returns-in-Some-place-clause-not_short : goal.returns-in-Some-place-clause-not_short
-returns-in-Some-place-clause-not_short c =
-    let same = c.in-Some.ensures.1 in
-    let enough = c.in-Some-place.ensures.enough in
-    room_not_short_for c.args.space.now.bytes c.args.found.name.0 c.in-Some-place.room.at c.in-Some-place.room.size (need c.args.count) (omega arith) c.in-Some-place.ensures.room (omega arith)
-
-pub size_of_body-requires : goal.size_of_body-requires
-size_of_body-requires c = let fits = own_fits c.args.space.now.bytes c.args.found c.requires.accepted c.requires.found in omega arith
-
-pub overflow_add-size_of_body : goal.overflow_add-size_of_body
-overflow_add-size_of_body c =
-    let fits = own_fits c.args.space.now.bytes c.args.found c.requires.accepted c.requires.found in
-    let own = c.size_of_body.ensures in
-    let room = room_fits c.args.space.now.bytes c.args.found c.stretch_around-stretch.result c.room_of.result c.requires.accepted c.stretch_around-stretch.ensures.around c.room_of.ensures in
-    omega arith
-
-pub grow_in_stretch-requires-clause-fits : goal.grow_in_stretch-requires-clause-fits
-grow_in_stretch-requires-clause-fits c =
-    let same = c.in-Some.ensures.1 in
-    let own = c.size_of_body.ensures in
-    let reaches = c.if-size_of_body-room_of.true in
-    fits_in_stretch c.args.space.now.bytes c.args.found c.stretch_around-stretch.result c.room_of.result (need c.args.count) c.stretch_around-stretch.ensures.around c.room_of.ensures (omega arith)
-
-pub returns-then-size_of_body-room_of-clause-not_short : goal.returns-then-size_of_body-room_of-clause-not_short
-returns-then-size_of_body-room_of-clause-not_short c =
-    let same = c.in-Some.ensures.1 in
-    let own = c.size_of_body.ensures in
-    let reaches = c.if-size_of_body-room_of.true in
-    fits_not_short c.args.space.now.bytes c.args.found (need c.args.count) c.requires.accepted
-    (fits_in_stretch c.args.space.now.bytes c.args.found c.stretch_around-stretch.result c.room_of.result (need c.args.count) c.stretch_around-stretch.ensures.around c.room_of.ensures (omega arith))
-
-pub relocate_named-requires-in-Some-room_by_packing-clause-loose : goal.relocate_named-requires-in-Some-room_by_packing-clause-loose
-relocate_named-requires-in-Some-room_by_packing-clause-loose c =
-    loose_slid c.args.space.now.bytes c.room_by_packing.new.space.bytes c.args.found.name.0 c.requires.accepted c.in-Some-room_by_packing.ensures.slides (is_loose c.args.space.now.bytes c.args.found c.requires.accepted c.requires.found c.requires.unlocked)
-
-pub returns-in-Some-room_by_packing-clause-resized : goal.returns-in-Some-room_by_packing-clause-resized
-returns-in-Some-room_by_packing-clause-resized c =
-    slid_then c.args.space.now.bytes c.room_by_packing.new.space.bytes c.relocate_named-in-Some-room_by_packing.new.space.bytes c.args.found.name.0 c.args.count c.requires.accepted c.in-Some-room_by_packing.ensures.slides c.relocate_named-in-Some-room_by_packing.ensures.resized
-
-pub returns-in-Some-room_by_packing-clause-not_short : goal.returns-in-Some-room_by_packing-clause-not_short
-returns-in-Some-room_by_packing-clause-not_short c short =
-    let same : c.in-Some.size ≡ need c.args.count = c.in-Some.ensures.1 in
-    let own = c.size_of_body.ensures in
-    let less = c.if-size_of_body-room_of.false in
-    c.in-Some-room_by_packing.ensures.not_short
-    (subst (λ (n : ℕ). Short c.args.space.now.bytes n) (sym same) ((short_own c.args.space.now.bytes c.args.found c.stretch_around-stretch.result c.room_of.result (need c.args.count) c.requires.accepted c.stretch_around-stretch.ensures.around c.room_of.ensures (omega arith)).0 short))
-
-pub returns-in-None-room_by_packing-clause-short : goal.returns-in-None-room_by_packing-clause-short
-returns-in-None-room_by_packing-clause-short c =
-    let same : c.in-Some.size ≡ need c.args.count = c.in-Some.ensures.1 in
-    let own = c.size_of_body.ensures in
-    let less = c.if-size_of_body-room_of.false in
-    (short_own c.args.space.now.bytes c.args.found c.stretch_around-stretch.result c.room_of.result (need c.args.count) c.requires.accepted c.stretch_around-stretch.ensures.around c.room_of.ensures (omega arith)).1
-    (subst (λ (n : ℕ). Short c.args.space.now.bytes n) same c.in-None-room_by_packing.ensures.short)
-
-pub returns-in-None-clause-one_stretch : goal.returns-in-None-clause-one_stretch
-returns-in-None-clause-one_stretch c = itself_alone c.args.space.now.bytes c.args.found.name.0
-
-pub returns-in-Some-place-clause-one_stretch : goal.returns-in-Some-place-clause-one_stretch
-returns-in-Some-place-clause-one_stretch c = alone_one c.args.space.now.bytes c.relocate_named.new.space.bytes c.args.found.name.0 c.relocate_named.ensures.alone
-
-pub returns-in-Some-room_by_packing-clause-one_stretch : goal.returns-in-Some-room_by_packing-clause-one_stretch
-returns-in-Some-room_by_packing-clause-one_stretch c =
-    slid_alone c.args.space.now.bytes c.room_by_packing.new.space.bytes c.relocate_named-in-Some-room_by_packing.new.space.bytes c.args.found.name.0 c.requires.accepted c.in-Some-room_by_packing.ensures.slides c.relocate_named-in-Some-room_by_packing.ensures.alone
-
-pub returns-in-None-room_by_packing-clause-one_stretch : goal.returns-in-None-room_by_packing-clause-one_stretch
-returns-in-None-room_by_packing-clause-one_stretch c =
-    subst (λ (m : Memory). MovesOneStretchAnd c.args.space.now.bytes m.bytes c.args.found.name.0) (sym c.in-None-room_by_packing.ensures.refused) (itself_alone c.args.space.now.bytes c.args.found.name.0)
+pub returns-then-relocate-clause-one_stretch : goal.returns-then-relocate-clause-one_stretch
+returns-then-relocate-clause-one_stretch c =
+    alone_one c.args.space.now.bytes c.relocate.new.self.bytes c.args.found.name.0
+    (resized_here c.args.space.now.bytes c.relocate.new.self.bytes c.args.found.name.0 c.args.count c.args.found c.requires.found
+    (run_resized c.args.space.now.bytes c.relocate.new.self.bytes c.args.found c.args.count c.requires.accepted c.requires.found c.requires.unlocked c.if-relocate.ensures.moved)).1

@@ -14,4 +14,8 @@ put_lock-requires-clause-inside c =
 
 pub returns-clause-made : goal.returns-clause-made
 returns-clause-made c =
-    relocked_there c.args.region.now.bytes c.put_lock.new.region.bytes c.args.found c.args.lock (with_lock_field (u32_at c.args.region.now.bytes (c.args.found.place.0 - 8 + 4)) c.args.lock) c.requires.accepted c.requires.found c.requires.movable c.requires.owned c.put_lock.ensures.relocked (ap (λ (m : Memory). m.bytes) c.put_lock.ensures.after)
+    (relocked_there c.args.region.now.bytes c.put_lock.new.region.bytes c.args.found c.args.lock (with_lock_field (u32_at c.args.region.now.bytes (c.args.found.place.0 - 8 + 4)) c.args.lock) c.requires.accepted c.requires.found c.requires.movable c.requires.owned c.put_lock.ensures.relocked (ap (λ (m : Memory). m.bytes) c.put_lock.ensures.after)).0
+
+pub returns-clause-plain : goal.returns-clause-plain
+returns-clause-plain c =
+    (relocked_there c.args.region.now.bytes c.put_lock.new.region.bytes c.args.found c.args.lock (with_lock_field (u32_at c.args.region.now.bytes (c.args.found.place.0 - 8 + 4)) c.args.lock) c.requires.accepted c.requires.found c.requires.movable c.requires.owned c.put_lock.ensures.relocked (ap (λ (m : Memory). m.bytes) c.put_lock.ensures.after)).1

@@ -14,4 +14,8 @@ put_owner-requires-clause-inside c =
 
 pub returns-clause-made : goal.returns-clause-made
 returns-clause-made c =
-    reowned_there c.args.region.now.bytes c.put_owner.new.region.bytes c.args.found c.args.owner (with_owner_field (u32_at c.args.region.now.bytes (c.args.found.place.0 - 8 + 4)) c.args.owner) c.requires.accepted c.requires.found c.requires.owner c.put_owner.ensures.reowned (ap (λ (m : Memory). m.bytes) c.put_owner.ensures.after)
+    (reowned_there c.args.region.now.bytes c.put_owner.new.region.bytes c.args.found c.args.owner (with_owner_field (u32_at c.args.region.now.bytes (c.args.found.place.0 - 8 + 4)) c.args.owner) c.requires.accepted c.requires.found c.requires.owner c.put_owner.ensures.reowned (ap (λ (m : Memory). m.bytes) c.put_owner.ensures.after)).0
+
+pub returns-clause-plain : goal.returns-clause-plain
+returns-clause-plain c =
+    (reowned_there c.args.region.now.bytes c.put_owner.new.region.bytes c.args.found c.args.owner (with_owner_field (u32_at c.args.region.now.bytes (c.args.found.place.0 - 8 + 4)) c.args.owner) c.requires.accepted c.requires.found c.requires.owner c.put_owner.ensures.reowned (ap (λ (m : Memory). m.bytes) c.put_owner.ensures.after)).1

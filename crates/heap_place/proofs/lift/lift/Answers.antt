@@ -1,7 +1,7 @@
 use Rattle.std.proofs.Common.{◌+◌, [], ap, arith}
 use Rattle.heap_model.specs.Memory.{Memory}
 use Rattle.heap_place.proofs.CopyLaws.{lift_bounds, carried_up}
-use Rattle.heap_place.proofs.LiftLaws.{lift_done, lift_plain}
+use Rattle.heap_place.proofs.LiftLaws.{lift_done}
 use Rattle.heap_place.proofs.lift.lift.Goals as goal
 
 pub slide-requires-clause-from : goal.slide-requires-clause-from
@@ -47,22 +47,11 @@ mend-requires c =
 pub returns-clause-lifted : goal.returns-clause-lifted
 returns-clause-lifted c = λ before mid after b.
     let to = b.to in
+    let bounds = lift_bounds c.args.region.now.bytes c.args.start c.args.end c.args.gap c.requires.accepted c.requires.behind in
+    let inside = bounds.inside in
+    let most = bounds.most in
     lift_done c.args.region.now.bytes c.mend.new.region.bytes before mid after c.args.gap (c.args.end + c.args.gap)
     (c.mend.ensures.mended c.args.region.now.bytes before [] mid after
     (carried_up c.args.region.now.bytes c.slide.new.self.bytes c.write.new.region.bytes before mid after c.args.start c.args.end c.args.gap c.requires.accepted b
     c.slide.ensures.bytes (ap (λ (m : Memory). m.bytes) c.write.ensures.after) c.write.ensures.spelled)
-    (omega (arith, to)))
-
-pub returns-clause-plain : goal.returns-clause-plain
-returns-clause-plain c =
-    let b = c.requires.behind in
-    let to = b.behind.to in
-    let bounds = lift_bounds c.args.region.now.bytes c.args.start c.args.end c.args.gap c.requires.accepted b in
-    let inside = bounds.inside in
-    let most = bounds.most in
-    lift_plain c.args.region.now.bytes c.mend.new.region.bytes b.before b.mid b.after c.args.gap (c.args.end + c.args.gap)
-    (c.mend.ensures.mended c.args.region.now.bytes b.before [] b.mid b.after
-    (carried_up c.args.region.now.bytes c.slide.new.self.bytes c.write.new.region.bytes b.before b.mid b.after c.args.start c.args.end c.args.gap c.requires.accepted b.behind
-    c.slide.ensures.bytes (ap (λ (m : Memory). m.bytes) c.write.ensures.after) c.write.ensures.spelled)
-    (omega (arith, to)))
-    (omega (arith, inside, most)) b.behind.live
+    (omega (arith, to))) (omega (arith, inside, most)) b.live

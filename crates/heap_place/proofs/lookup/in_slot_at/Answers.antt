@@ -4,8 +4,8 @@ use Rattle.master_table.specs.Table.{HoldsPlace}
 use Rattle.heap_place.proofs.LookupLaws.{slot_unread, low_holds_none, other_holds_none, elsewhere_holds_none, slot_one, movable_place}
 use Rattle.heap_place.proofs.lookup.in_slot_at.Goals as goal
 
-pub returns-then-place-lt8-clause-none : goal.returns-then-place-lt8-clause-none
-returns-then-place-lt8-clause-none c = low_holds_none c.args.region.now.bytes c.args.place.0 c.requires.accepted c.if-place-lt8.true
+pub returns-then-place-lt-HEADER_SIZE-clause-none : goal.returns-then-place-lt-HEADER_SIZE-clause-none
+returns-then-place-lt-HEADER_SIZE-clause-none c = low_holds_none c.args.region.now.bytes c.args.place.0 c.requires.accepted c.if-place-lt-HEADER_SIZE.true
 
 pub returns-in-None-clause-none : goal.returns-in-None-clause-none
 returns-in-None-clause-none c = λ name holds. slot_unread c.args.region.now.bytes name c.args.place.0 c.requires.accepted (sym c.in-None.is ∙ c.read.ensures.is) holds

@@ -1,8 +1,6 @@
 use Rattle.std.proofs.Common.{◌-◌, ◌+◌, arith}
 use Rattle.heap_model.specs.Packing.{lives}
-use Rattle.heap_place.proofs.StretchLaws.{stretch_run, among_stretch, moves_few, packed_frame, packed_plain, slot_then, table_then, numbers, room_behind, opened_some, opened_none}
-use Rattle.laws_heap.proofs.Becoming.{frame_then}
-use Rattle.laws_heap.proofs.Plain.{plain_then}
+use Rattle.heap_place.proofs.StretchLaws.{stretch_run, among_stretch, moves_few, packed_frame, slot_then, table_then, numbers, room_behind, opened_some, opened_none}
 use Rattle.heap_place.proofs.open.open_in.Goals as goal
 
 pub pack-room-requires-clause-run : goal.pack-room-requires-clause-run
@@ -49,22 +47,44 @@ lift-requires-clause-behind c =
     record { before = _; mid = lives c.requires.among.back; after = c.requires.among.after; behind = behind }
 
 pub returns-then-room-gt0-clause-opened : goal.returns-then-room-gt0-clause-opened
-returns-then-room-gt0-clause-opened c = opened_some c.args.region.now.bytes c.pack-room.new.region.bytes (c.args.found.place.0 - 8) c.args.found.name.0 c.args.found.length c.args.stretch c.pack-room.result.room c.requires.accepted c.requires.among c.pack-room.ensures.packed c.pack-room.ensures.room c.lift.new.region.bytes (omega arith) (c.lift.ensures.lifted _ _ _ (room_behind c.args.region.now.bytes c.pack-room.new.region.bytes (c.args.found.place.0 - 8) c.args.found.name.0 c.args.found.length c.args.stretch c.pack-room.result.room c.requires.accepted c.requires.among c.pack-room.ensures.packed c.pack-room.ensures.room (c.word_of-place.result - 8 + c.size_of_body.result) (omega arith) (let place = c.word_of-place.ensures in let size = c.size_of_body.ensures in omega (arith, place, size))))
+returns-then-room-gt0-clause-opened c =
+    (opened_some c.args.region.now.bytes c.pack-room.new.region.bytes (c.args.found.place.0 - 8) c.args.found.name.0 c.args.found.length c.args.stretch c.pack-room.result.room c.requires.accepted c.requires.among c.pack-room.ensures.packed c.pack-room.ensures.room c.lift.new.region.bytes (omega arith)
+    (c.lift.ensures.lifted _ _ _ (room_behind c.args.region.now.bytes c.pack-room.new.region.bytes (c.args.found.place.0 - 8) c.args.found.name.0 c.args.found.length c.args.stretch c.pack-room.result.room c.requires.accepted c.requires.among c.pack-room.ensures.packed c.pack-room.ensures.room (c.word_of-place.result - 8 + c.size_of_body.result) (omega arith)
+    (let place = c.word_of-place.ensures in let size = c.size_of_body.ensures in omega (arith, place, size))))).opened_behind
 
 pub returns-else-room-gt0-clause-opened : goal.returns-else-room-gt0-clause-opened
-returns-else-room-gt0-clause-opened c = opened_none c.args.region.now.bytes c.pack-room.new.region.bytes (c.args.found.place.0 - 8) c.args.found.name.0 c.args.found.length c.args.stretch c.pack-room.result.room c.requires.accepted c.requires.among c.pack-room.ensures.packed c.pack-room.ensures.room (omega arith)
+returns-else-room-gt0-clause-opened c =
+    (opened_none c.args.region.now.bytes c.pack-room.new.region.bytes (c.args.found.place.0 - 8) c.args.found.name.0 c.args.found.length c.args.stretch c.pack-room.result.room c.requires.accepted c.requires.among c.pack-room.ensures.packed c.pack-room.ensures.room (omega arith)).opened_behind
+
+pub returns-then-room-gt0-clause-exact : goal.returns-then-room-gt0-clause-exact
+returns-then-room-gt0-clause-exact c =
+    (opened_some c.args.region.now.bytes c.pack-room.new.region.bytes (c.args.found.place.0 - 8) c.args.found.name.0 c.args.found.length c.args.stretch c.pack-room.result.room c.requires.accepted c.requires.among c.pack-room.ensures.packed c.pack-room.ensures.room c.lift.new.region.bytes (omega arith)
+    (c.lift.ensures.lifted _ _ _ (room_behind c.args.region.now.bytes c.pack-room.new.region.bytes (c.args.found.place.0 - 8) c.args.found.name.0 c.args.found.length c.args.stretch c.pack-room.result.room c.requires.accepted c.requires.among c.pack-room.ensures.packed c.pack-room.ensures.room (c.word_of-place.result - 8 + c.size_of_body.result) (omega arith)
+    (let place = c.word_of-place.ensures in let size = c.size_of_body.ensures in omega (arith, place, size))))).exact
+
+pub returns-else-room-gt0-clause-exact : goal.returns-else-room-gt0-clause-exact
+returns-else-room-gt0-clause-exact c =
+    (opened_none c.args.region.now.bytes c.pack-room.new.region.bytes (c.args.found.place.0 - 8) c.args.found.name.0 c.args.found.length c.args.stretch c.pack-room.result.room c.requires.accepted c.requires.among c.pack-room.ensures.packed c.pack-room.ensures.room (omega arith)).exact
 
 pub returns-then-room-gt0-clause-frame : goal.returns-then-room-gt0-clause-frame
-returns-then-room-gt0-clause-frame c = frame_then _ _ _ (packed_frame c.args.region.now.bytes c.pack-room.new.region.bytes (c.args.found.place.0 - 8) c.args.found.name.0 c.args.found.length c.args.stretch c.pack-room.result.room c.requires.accepted c.requires.among c.pack-room.ensures.packed c.pack-room.ensures.room) (c.lift.ensures.lifted _ _ _ (room_behind c.args.region.now.bytes c.pack-room.new.region.bytes (c.args.found.place.0 - 8) c.args.found.name.0 c.args.found.length c.args.stretch c.pack-room.result.room c.requires.accepted c.requires.among c.pack-room.ensures.packed c.pack-room.ensures.room (c.word_of-place.result - 8 + c.size_of_body.result) (omega arith) (let place = c.word_of-place.ensures in let size = c.size_of_body.ensures in omega (arith, place, size)))).frame
+returns-then-room-gt0-clause-frame c =
+    (opened_some c.args.region.now.bytes c.pack-room.new.region.bytes (c.args.found.place.0 - 8) c.args.found.name.0 c.args.found.length c.args.stretch c.pack-room.result.room c.requires.accepted c.requires.among c.pack-room.ensures.packed c.pack-room.ensures.room c.lift.new.region.bytes (omega arith)
+    (c.lift.ensures.lifted _ _ _ (room_behind c.args.region.now.bytes c.pack-room.new.region.bytes (c.args.found.place.0 - 8) c.args.found.name.0 c.args.found.length c.args.stretch c.pack-room.result.room c.requires.accepted c.requires.among c.pack-room.ensures.packed c.pack-room.ensures.room (c.word_of-place.result - 8 + c.size_of_body.result) (omega arith)
+    (let place = c.word_of-place.ensures in let size = c.size_of_body.ensures in omega (arith, place, size))))).frame
 
 pub returns-else-room-gt0-clause-frame : goal.returns-else-room-gt0-clause-frame
-returns-else-room-gt0-clause-frame c = packed_frame c.args.region.now.bytes c.pack-room.new.region.bytes (c.args.found.place.0 - 8) c.args.found.name.0 c.args.found.length c.args.stretch c.pack-room.result.room c.requires.accepted c.requires.among c.pack-room.ensures.packed c.pack-room.ensures.room
+returns-else-room-gt0-clause-frame c =
+    (opened_none c.args.region.now.bytes c.pack-room.new.region.bytes (c.args.found.place.0 - 8) c.args.found.name.0 c.args.found.length c.args.stretch c.pack-room.result.room c.requires.accepted c.requires.among c.pack-room.ensures.packed c.pack-room.ensures.room (omega arith)).frame
 
 pub returns-then-room-gt0-clause-plain : goal.returns-then-room-gt0-clause-plain
-returns-then-room-gt0-clause-plain c = plain_then c.args.region.now.bytes c.pack-room.new.region.bytes c.lift.new.region.bytes (packed_plain c.args.region.now.bytes c.pack-room.new.region.bytes (c.args.found.place.0 - 8) c.args.found.name.0 c.args.found.length c.args.stretch c.pack-room.result.room c.requires.accepted c.requires.among c.pack-room.ensures.packed c.pack-room.ensures.room) c.lift.ensures.plain
+returns-then-room-gt0-clause-plain c =
+    (opened_some c.args.region.now.bytes c.pack-room.new.region.bytes (c.args.found.place.0 - 8) c.args.found.name.0 c.args.found.length c.args.stretch c.pack-room.result.room c.requires.accepted c.requires.among c.pack-room.ensures.packed c.pack-room.ensures.room c.lift.new.region.bytes (omega arith)
+    (c.lift.ensures.lifted _ _ _ (room_behind c.args.region.now.bytes c.pack-room.new.region.bytes (c.args.found.place.0 - 8) c.args.found.name.0 c.args.found.length c.args.stretch c.pack-room.result.room c.requires.accepted c.requires.among c.pack-room.ensures.packed c.pack-room.ensures.room (c.word_of-place.result - 8 + c.size_of_body.result) (omega arith)
+    (let place = c.word_of-place.ensures in let size = c.size_of_body.ensures in omega (arith, place, size))))).plain
 
 pub returns-else-room-gt0-clause-plain : goal.returns-else-room-gt0-clause-plain
-returns-else-room-gt0-clause-plain c = packed_plain c.args.region.now.bytes c.pack-room.new.region.bytes (c.args.found.place.0 - 8) c.args.found.name.0 c.args.found.length c.args.stretch c.pack-room.result.room c.requires.accepted c.requires.among c.pack-room.ensures.packed c.pack-room.ensures.room
+returns-else-room-gt0-clause-plain c =
+    (opened_none c.args.region.now.bytes c.pack-room.new.region.bytes (c.args.found.place.0 - 8) c.args.found.name.0 c.args.found.length c.args.stretch c.pack-room.result.room c.requires.accepted c.requires.among c.pack-room.ensures.packed c.pack-room.ensures.room (omega arith)).plain
 
 pub returns-then-room-gt0-clause-few : goal.returns-then-room-gt0-clause-few
 returns-then-room-gt0-clause-few c =

@@ -3,7 +3,7 @@ use Rattle.mem_manager.proofs.Recovering.{found_there, nowhere, managers_there}
 use Rattle.mem_manager.proofs.lookup.name_at.Goals as goal
 
 pub returns-in-Some-clause-there : goal.returns-in-Some-clause-there
-returns-in-Some-clause-there c = found_there c.args.space.now.bytes c.args.place.0 c.in-Some.found c.requires.accepted c.in-Some.ensures.found c.in-Some.ensures.there c.if-found-gt0.true
+returns-in-Some-clause-there c = found_there c.args.space.now.bytes c.args.place.0 c.in-Some.found c.requires.accepted c.in-Some.ensures.found c.in-Some.ensures.there (omega arith)
 
 pub returns-in_default-clause-none : goal.returns-in_default-clause-none
 returns-in_default-clause-none c = managers_there c.args.space.now.bytes c.args.place.0 c.in-Some.found c.requires.accepted c.in-Some.ensures.found c.in-Some.ensures.there (omega arith)

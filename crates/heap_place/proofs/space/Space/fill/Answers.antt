@@ -13,5 +13,10 @@ fill-requires c =
 
 pub returns-clause-made : goal.returns-clause-made
 returns-clause-made c =
-    filled_there c.args.self.now.bytes c.fill.new.self.bytes c.args.found c.args.at c.args.count c.args.byte c.requires.accepted c.requires.found c.requires.within
-    (ap (λ (m : Memory). m.bytes) c.fill.ensures.after ∙ ap (λ (m : Memory). overwritten m.bytes (c.args.found.place.0 + c.args.at) (replicate {A = ℕ} c.args.count c.args.byte)) c.self.view_is)
+    (filled_there c.args.self.now.bytes c.fill.new.self.bytes c.args.found c.args.at c.args.count c.args.byte c.requires.accepted c.requires.found c.requires.within
+    (ap (λ (m : Memory). m.bytes) c.fill.ensures.after ∙ ap (λ (m : Memory). overwritten m.bytes (c.args.found.place.0 + c.args.at) (replicate {A = ℕ} c.args.count c.args.byte)) c.self.view_is)).0
+
+pub returns-clause-plain : goal.returns-clause-plain
+returns-clause-plain c =
+    (filled_there c.args.self.now.bytes c.fill.new.self.bytes c.args.found c.args.at c.args.count c.args.byte c.requires.accepted c.requires.found c.requires.within
+    (ap (λ (m : Memory). m.bytes) c.fill.ensures.after ∙ ap (λ (m : Memory). overwritten m.bytes (c.args.found.place.0 + c.args.at) (replicate {A = ℕ} c.args.count c.args.byte)) c.self.view_is)).1

@@ -1,7 +1,14 @@
 use Rattle.std.proofs.Common.{subst}
+use Rattle.std.specs.Bool.{OnTrue}
 use Rattle.heap_model.specs.Memory.{Memory}
-use Rattle.heap_place.specs.Relocation.{RelocatesFound}
+use Rattle.heap_place.specs.Relocation.{RelocatesToRun}
+use Rattle.heap_place.proofs.RelocateLaws.{had_run}
 use Rattle.heap_place.proofs.space.Space.relocate.Goals as goal
 
 pub returns-clause-moved : goal.returns-clause-moved
-returns-clause-moved c f = subst (λ (m : Memory). RelocatesFound m.bytes c.relocate.new.region.bytes c.args.found c.args.room.at c.args.count) c.self.view_is c.relocate.ensures.moved f
+returns-clause-moved c = subst (λ (m : Memory). OnTrue c.relocate.result (RelocatesToRun m.bytes c.relocate.new.region.bytes c.args.found c.args.count)) c.self.view_is c.relocate.ensures.moved
+
+pub returns-clause-had_run : goal.returns-clause-had_run
+returns-clause-had_run c =
+    had_run c.args.self.now.bytes c.relocate.new.region.bytes c.args.found c.args.count c.relocate.result
+    (subst (λ (m : Memory). OnTrue c.relocate.result (RelocatesToRun m.bytes c.relocate.new.region.bytes c.args.found c.args.count)) c.self.view_is c.relocate.ensures.moved)

@@ -18,4 +18,8 @@ slide-requires-clause-to c =
 
 pub returns-clause-made : goal.returns-clause-made
 returns-clause-made c =
-    slid_there c.args.self.now c.self.inside.region c.slide.new.self.bytes c.args.found c.args.from c.args.to c.args.count c.self.view_is c.requires.accepted c.requires.found c.requires.from_within c.requires.to_within c.slide.ensures.bytes
+    (slid_there c.args.self.now c.self.inside.region c.slide.new.self.bytes c.args.found c.args.from c.args.to c.args.count c.self.view_is c.requires.accepted c.requires.found c.requires.from_within c.requires.to_within c.slide.ensures.bytes).0
+
+pub returns-clause-plain : goal.returns-clause-plain
+returns-clause-plain c =
+    (slid_there c.args.self.now c.self.inside.region c.slide.new.self.bytes c.args.found c.args.from c.args.to c.args.count c.self.view_is c.requires.accepted c.requires.found c.requires.from_within c.requires.to_within c.slide.ensures.bytes).1

@@ -15,3 +15,8 @@ pub returns-clause-made : goal.returns-clause-made
 returns-clause-made c =
     (written_there c.args.self.now.bytes c.write.new.self.bytes c.args.found c.args.at c.args.bytes.now c.requires.accepted c.requires.found c.requires.within
     (ap (λ (m : Memory). m.bytes) c.write.ensures.after ∙ ap (λ (m : Memory). overwritten m.bytes (c.args.found.place.0 + c.args.at) c.args.bytes.now) c.self.view_is)).0
+
+pub returns-clause-plain : goal.returns-clause-plain
+returns-clause-plain c =
+    (written_there c.args.self.now.bytes c.write.new.self.bytes c.args.found c.args.at c.args.bytes.now c.requires.accepted c.requires.found c.requires.within
+    (ap (λ (m : Memory). m.bytes) c.write.ensures.after ∙ ap (λ (m : Memory). overwritten m.bytes (c.args.found.place.0 + c.args.at) c.args.bytes.now) c.self.view_is)).1

@@ -20,6 +20,12 @@ fill-requires c =
 
 pub returns-clause-made : goal.returns-clause-made
 returns-clause-made c =
-    ended_there c.args.self.now.bytes c.write.new.self.bytes c.fill.new.self.bytes c.args.found c.args.at c.args.bytes.now c.requires.accepted c.requires.found c.requires.within
+    (ended_there c.args.self.now.bytes c.write.new.self.bytes c.fill.new.self.bytes c.args.found c.args.at c.args.bytes.now c.requires.accepted c.requires.found c.requires.within
     (ap (λ (m : Memory). m.bytes) c.write.ensures.after ∙ ap (λ (m : Memory). overwritten m.bytes (c.args.found.place.0 + c.args.at) c.args.bytes.now) c.self.view_is)
-    (ap (λ (m : Memory). m.bytes) c.fill.ensures.after)
+    (ap (λ (m : Memory). m.bytes) c.fill.ensures.after)).0
+
+pub returns-clause-plain : goal.returns-clause-plain
+returns-clause-plain c =
+    (ended_there c.args.self.now.bytes c.write.new.self.bytes c.fill.new.self.bytes c.args.found c.args.at c.args.bytes.now c.requires.accepted c.requires.found c.requires.within
+    (ap (λ (m : Memory). m.bytes) c.write.ensures.after ∙ ap (λ (m : Memory). overwritten m.bytes (c.args.found.place.0 + c.args.at) c.args.bytes.now) c.self.view_is)
+    (ap (λ (m : Memory). m.bytes) c.fill.ensures.after)).1

@@ -11,14 +11,14 @@ use Rattle.mem_manager.proofs.heap.Heap.sys_free.Goals as goal
 
 pub invariant_of-self : goal.invariant_of-self
 invariant_of-self c =
-    let f = c.in-Some.ensures.found in
+    let f = c.chunk-found.ensures in
     used_freed c.self.inside.space.bytes c.give_back.new.self.bytes c.self.inside.used c.used_without-self-inside.result c.args.name.0 c.self.invariant c.used_without-self-inside.ensures.fewer
     (subst (λ (m : Memory). NotAmong m.bytes c.used_without-self-inside.result c.args.name.0) c.region.ensures c.used_without-self-inside.ensures.apart)
-    (freed_changes c.self.inside.space.bytes c.give_back.new.self.bytes c.args.name.0 (c.in-Some.found.place.0 - 8) f.live f.chunk c.self.invariant.accepted f.finds c.give_back.ensures.gone)
+    (freed_changes c.self.inside.space.bytes c.give_back.new.self.bytes c.args.name.0 (c.chunk-found.result.place.0 - 8) f.live f.chunk c.self.invariant.accepted f.finds c.give_back.ensures.gone)
 
-pub returns-in-Some-clause-leaves : goal.returns-in-Some-clause-leaves
-returns-in-Some-clause-leaves c =
-    let f = c.in-Some.ensures.found in
+pub returns-clause-leaves : goal.returns-clause-leaves
+returns-clause-leaves c =
+    let f = c.chunk-found.ensures in
     subst (λ (m : Memory). Leaves m.bytes c.give_back.new.self.bytes (gone (held m.bytes) c.args.name.0)) c.self.view_is
     (leaves_gone c.self.inside.space.bytes c.give_back.new.self.bytes c.args.name.0
-    (freed_changes c.self.inside.space.bytes c.give_back.new.self.bytes c.args.name.0 (c.in-Some.found.place.0 - 8) f.live f.chunk c.self.invariant.accepted f.finds c.give_back.ensures.gone))
+    (freed_changes c.self.inside.space.bytes c.give_back.new.self.bytes c.args.name.0 (c.chunk-found.result.place.0 - 8) f.live f.chunk c.self.invariant.accepted f.finds c.give_back.ensures.gone))

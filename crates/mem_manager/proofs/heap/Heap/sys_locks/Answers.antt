@@ -1,5 +1,5 @@
 use Rattle.mem_manager.proofs.Managing.{lock_viewed}
 use Rattle.mem_manager.proofs.heap.Heap.sys_locks.Goals as goal
 
-pub returns-in-Some : goal.returns-in-Some
-returns-in-Some c live = lock_viewed c.self.inside.space c.args.self.now c.args.name.0 _ live c.self.view_is c.self.invariant.accepted c.in-Some.ensures.found
+pub returns : goal.returns
+returns c live = lock_viewed c.self.inside.space c.args.self.now c.args.name.0 _ live c.self.view_is c.self.invariant.accepted c.chunk.ensures

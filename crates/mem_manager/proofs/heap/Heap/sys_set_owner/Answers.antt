@@ -7,21 +7,24 @@ use Rattle.heap_model.specs.Leaving.{Leaves}
 use Rattle.mem_manager.specs.Lookup.{IsMovable}
 use Rattle.mem_manager.proofs.Altering.{reown_changes}
 use Rattle.mem_manager.proofs.Stepping.{used_altered, altered}
-use Rattle.mem_manager.proofs.Managing.{may_go_to}
+use Rattle.mem_manager.proofs.Managing.{may_go_to, movable_there}
 use Rattle.mem_manager.proofs.heap.Heap.sys_set_owner.Goals as goal
 
 pub reown-requires-clause-owner : goal.reown-requires-clause-owner
 reown-requires-clause-owner c =
-    may_go_to c.self.inside.space.bytes c.args.name.0 c.in-Some.found c.args.owner c.self.invariant.accepted c.in-Some.ensures.found (subst (λ (m : Memory). IsMovable m.bytes c.args.name.0) (sym c.self.view_is) c.requires.movable)
+    may_go_to c.self.inside.space.bytes c.args.name.0 c.chunk-found.result c.args.owner c.self.invariant.accepted c.chunk-found.ensures (subst (λ (m : Memory). IsMovable m.bytes c.args.name.0) (sym c.self.view_is) c.requires.movable)
     (subst (λ (m : Memory). c.args.name.0 ≢ directory_of m.bytes) (sym c.self.view_is) c.requires.no_directory) c.requires.some_owner c.requires.most_owner
 
 pub invariant_of-self : goal.invariant_of-self
 invariant_of-self c =
     used_altered c.self.inside.space.bytes c.reown.new.self.bytes c.self.inside.used c.args.name.0 _ _ c.self.invariant
-    (reown_changes c.self.inside.space.bytes c.reown.new.self.bytes c.args.name.0 c.in-Some.found c.args.owner c.self.invariant.accepted c.in-Some.ensures.found c.reown.ensures.made)
+    (reown_changes c.self.inside.space.bytes c.reown.new.self.bytes c.args.name.0 c.chunk-found.result c.args.owner c.self.invariant.accepted c.chunk-found.ensures c.reown.ensures.made)
 
-pub returns-in-Some-clause-leaves : goal.returns-in-Some-clause-leaves
-returns-in-Some-clause-leaves c =
+pub returns-clause-leaves : goal.returns-clause-leaves
+returns-clause-leaves c =
     subst (λ (m : Memory). Leaves m.bytes c.reown.new.self.bytes (reowned (held m.bytes) c.args.name.0 c.args.owner)) c.self.view_is
-    (altered c.self.inside.space c.reown.new.self c.args.name.0 c.in-Some.found (λ live. record live { owner = c.args.owner }) c.self.invariant.accepted c.in-Some.ensures.found
-    (reown_changes c.self.inside.space.bytes c.reown.new.self.bytes c.args.name.0 c.in-Some.found c.args.owner c.self.invariant.accepted c.in-Some.ensures.found c.reown.ensures.made) c.reown.ensures.rest).leaves
+    (altered c.self.inside.space c.reown.new.self c.args.name.0 c.chunk-found.result (λ live. record live { owner = c.args.owner }) c.self.invariant.accepted c.chunk-found.ensures
+    (reown_changes c.self.inside.space.bytes c.reown.new.self.bytes c.args.name.0 c.chunk-found.result c.args.owner c.self.invariant.accepted c.chunk-found.ensures c.reown.ensures.made) c.reown.ensures.rest).leaves
+
+pub chunk-found-requires-clause-there : goal.chunk-found-requires-clause-there
+chunk-found-requires-clause-there c = movable_there c.self.inside.space.bytes c.args.name.0 (subst (λ (m : Memory). IsMovable m.bytes c.args.name.0) (sym c.self.view_is) c.requires.movable)

@@ -4,18 +4,18 @@ use Rattle.mem_manager.proofs.Managing.{within_viewed, slide_changes, slid_viewe
 use Rattle.mem_manager.proofs.heap.Heap.sys_slide.Goals as goal
 
 pub slide_within-requires-clause-from_within : goal.slide_within-requires-clause-from_within
-slide_within-requires-clause-from_within c = within_viewed c.self.inside.space c.args.self.now c.args.name.0 c.in-Some.found (c.args.from + c.args.count) c.self.view_is c.self.invariant.accepted c.in-Some.ensures.found c.requires.from_within
+slide_within-requires-clause-from_within c = within_viewed c.self.inside.space c.args.self.now c.args.name.0 c.chunk-found.result (c.args.from + c.args.count) c.self.view_is c.self.invariant.accepted c.chunk-found.ensures c.requires.from_within
 
 pub slide_within-requires-clause-to_within : goal.slide_within-requires-clause-to_within
-slide_within-requires-clause-to_within c = within_viewed c.self.inside.space c.args.self.now c.args.name.0 c.in-Some.found (c.args.to + c.args.count) c.self.view_is c.self.invariant.accepted c.in-Some.ensures.found c.requires.to_within
+slide_within-requires-clause-to_within c = within_viewed c.self.inside.space c.args.self.now c.args.name.0 c.chunk-found.result (c.args.to + c.args.count) c.self.view_is c.self.invariant.accepted c.chunk-found.ensures c.requires.to_within
 
 pub invariant_of-self : goal.invariant_of-self
 invariant_of-self c =
     used_altered c.self.inside.space.bytes c.slide_within.new.self.bytes c.self.inside.used c.args.name.0 _ _ c.self.invariant
-    (slide_changes c.self.inside.space.bytes c.slide_within.new.self.bytes c.args.name.0 c.in-Some.found c.args.from c.args.to c.args.count c.self.invariant.accepted c.in-Some.ensures.found
-    (within_viewed c.self.inside.space c.args.self.now c.args.name.0 c.in-Some.found (c.args.from + c.args.count) c.self.view_is c.self.invariant.accepted c.in-Some.ensures.found c.requires.from_within)
-    (within_viewed c.self.inside.space c.args.self.now c.args.name.0 c.in-Some.found (c.args.to + c.args.count) c.self.view_is c.self.invariant.accepted c.in-Some.ensures.found c.requires.to_within) c.slide_within.ensures.made)
+    (slide_changes c.self.inside.space.bytes c.slide_within.new.self.bytes c.args.name.0 c.chunk-found.result c.args.from c.args.to c.args.count c.self.invariant.accepted c.chunk-found.ensures
+    (within_viewed c.self.inside.space c.args.self.now c.args.name.0 c.chunk-found.result (c.args.from + c.args.count) c.self.view_is c.self.invariant.accepted c.chunk-found.ensures c.requires.from_within)
+    (within_viewed c.self.inside.space c.args.self.now c.args.name.0 c.chunk-found.result (c.args.to + c.args.count) c.self.view_is c.self.invariant.accepted c.chunk-found.ensures c.requires.to_within) c.slide_within.ensures.made)
 
-pub returns-in-Some-clause-leaves : goal.returns-in-Some-clause-leaves
-returns-in-Some-clause-leaves c =
-    slid_viewed c.self.inside.space c.args.self.now c.slide_within.new.self c.args.name.0 c.in-Some.found c.args.from c.args.to c.args.count c.self.view_is c.self.invariant.accepted c.in-Some.ensures.found c.requires.from_within c.requires.to_within c.slide_within.ensures.made
+pub returns-clause-leaves : goal.returns-clause-leaves
+returns-clause-leaves c =
+    slid_viewed c.self.inside.space c.args.self.now c.slide_within.new.self c.args.name.0 c.chunk-found.result c.args.from c.args.to c.args.count c.self.view_is c.self.invariant.accepted c.chunk-found.ensures c.requires.from_within c.requires.to_within c.slide_within.ensures.made

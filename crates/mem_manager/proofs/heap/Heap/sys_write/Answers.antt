@@ -10,21 +10,21 @@ use Rattle.mem_manager.proofs.Managing.{within_viewed, write_viewed}
 use Rattle.mem_manager.proofs.heap.Heap.sys_write.Goals as goal
 
 pub write-requires-clause-within : goal.write-requires-clause-within
-write-requires-clause-within c = within_viewed c.self.inside.space c.args.self.now c.args.name.0 c.in-Some.found (c.args.at + length c.args.bytes.now) c.self.view_is c.self.invariant.accepted c.in-Some.ensures.found c.requires.within
+write-requires-clause-within c = within_viewed c.self.inside.space c.args.self.now c.args.name.0 c.chunk-found.result (c.args.at + length c.args.bytes.now) c.self.view_is c.self.invariant.accepted c.chunk-found.ensures c.requires.within
 
 pub invariant_of-self : goal.invariant_of-self
 invariant_of-self c =
     used_altered c.self.inside.space.bytes c.write.new.self.bytes c.self.inside.used c.args.name.0 _ _ c.self.invariant
-    (write_viewed c.self.inside.space c.args.self.now c.write.new.self.bytes c.args.name.0 c.in-Some.found c.args.at c.args.bytes.now c.self.view_is c.self.invariant.accepted c.in-Some.ensures.found c.requires.within c.write.ensures.made)
+    (write_viewed c.self.inside.space c.args.self.now c.write.new.self.bytes c.args.name.0 c.chunk-found.result c.args.at c.args.bytes.now c.self.view_is c.self.invariant.accepted c.chunk-found.ensures c.requires.within c.write.ensures.made)
 
-pub returns-in-Some-clause-leaves : goal.returns-in-Some-clause-leaves
-returns-in-Some-clause-leaves c =
+pub returns-clause-leaves : goal.returns-clause-leaves
+returns-clause-leaves c =
     subst (λ (m : Memory). Leaves m.bytes c.write.new.self.bytes (put (held m.bytes) c.args.name.0 c.args.at c.args.bytes.now)) c.self.view_is
-    (altered c.self.inside.space c.write.new.self c.args.name.0 c.in-Some.found (λ live. record live { bytes = overwritten live.bytes c.args.at c.args.bytes.now }) c.self.invariant.accepted c.in-Some.ensures.found
-    (write_viewed c.self.inside.space c.args.self.now c.write.new.self.bytes c.args.name.0 c.in-Some.found c.args.at c.args.bytes.now c.self.view_is c.self.invariant.accepted c.in-Some.ensures.found c.requires.within c.write.ensures.made) c.write.ensures.rest).leaves
+    (altered c.self.inside.space c.write.new.self c.args.name.0 c.chunk-found.result (λ live. record live { bytes = overwritten live.bytes c.args.at c.args.bytes.now }) c.self.invariant.accepted c.chunk-found.ensures
+    (write_viewed c.self.inside.space c.args.self.now c.write.new.self.bytes c.args.name.0 c.chunk-found.result c.args.at c.args.bytes.now c.self.view_is c.self.invariant.accepted c.chunk-found.ensures c.requires.within c.write.ensures.made) c.write.ensures.rest).leaves
 
-pub returns-in-Some-clause-unmoved : goal.returns-in-Some-clause-unmoved
-returns-in-Some-clause-unmoved c =
+pub returns-clause-unmoved : goal.returns-clause-unmoved
+returns-clause-unmoved c =
     subst (λ (m : Memory). MovesNothing m.bytes c.write.new.self.bytes) c.self.view_is
-    (stays_in_place c.self.inside.space.bytes c.write.new.self.bytes c.args.name.0 c.in-Some.found _ c.self.invariant.accepted c.in-Some.ensures.found
-    (write_viewed c.self.inside.space c.args.self.now c.write.new.self.bytes c.args.name.0 c.in-Some.found c.args.at c.args.bytes.now c.self.view_is c.self.invariant.accepted c.in-Some.ensures.found c.requires.within c.write.ensures.made))
+    (stays_in_place c.self.inside.space.bytes c.write.new.self.bytes c.args.name.0 c.chunk-found.result _ c.self.invariant.accepted c.chunk-found.ensures
+    (write_viewed c.self.inside.space c.args.self.now c.write.new.self.bytes c.args.name.0 c.chunk-found.result c.args.at c.args.bytes.now c.self.view_is c.self.invariant.accepted c.chunk-found.ensures c.requires.within c.write.ensures.made))

@@ -1,7 +1,7 @@
 use Rattle.std.proofs.Common.{◌≡◌, ◌+◌, Some, None, sym, ap, ◌∙◌, inl, inr}
 use Rattle.heap_model.specs.Memory.{Memory}
 use Rattle.heap_model.specs.Space.{free_slots}
-use Rattle.master_table.specs.declared.table.FreeSlot.{FreeSlot}
+use Rattle.master_table.specs.declared.table.EmptySlot.{EmptySlot}
 use Rattle.mem_manager.proofs.Making.{new_left, new_claimed, new_lowers, new_unheld, used_made, as_first}
 use Rattle.mem_manager.proofs.Moving.{nothing_slides, once_then, first_slid, made_moves_nothing, nothing_then, one_stretch_then, itself_one}
 use Rattle.mem_manager.proofs.heap.making.make_movable.Goals as goal
@@ -15,11 +15,11 @@ returns-in_err-slot-clause-once c = nothing_slides c.args.space.now c.requires.m
 pub claim-requires-clause-empty : goal.claim-requires-clause-empty
 claim-requires-clause-empty c =
     (first_slid c.args.space.now.bytes c.room_for.new.space.bytes c.in_ok-slot.slot.name.0 c.in_ok-slot.slot.before c.requires.managed.accepted c.room_for.ensures.slides
-    (as_first c.args.space.now c.region.result.now c.free_slot.result c.in_ok-slot.slot c.region.ensures c.in_ok-slot.ensures.ok_part c.free_slot.ensures.some)).empty
+    (as_first c.args.space.now c.region.result.now c.first_empty_slot.result c.in_ok-slot.slot c.region.ensures c.in_ok-slot.ensures.ok_part c.first_empty_slot.ensures.some)).empty
 
 pub returns-clause-made : goal.returns-clause-made
 returns-clause-made c =
-    let first = as_first c.args.space.now c.region.result.now c.free_slot.result c.in_ok-slot.slot c.region.ensures c.in_ok-slot.ensures.ok_part c.free_slot.ensures.some in
+    let first = as_first c.args.space.now c.region.result.now c.first_empty_slot.result c.in_ok-slot.slot c.region.ensures c.in_ok-slot.ensures.ok_part c.first_empty_slot.ensures.some in
     new_left c.args.space.now.bytes c.room_for.new.space.bytes c.claim.new.self.bytes c.args.size c.args.owner c.in_ok-slot.slot.name.0 (Some (c.in_ok-room.room.at + 8)) c.requires.managed.accepted
     (new_unheld c.args.space.now.bytes c.room_for.new.space.bytes c.in_ok-slot.slot.name.0 c.in_ok-slot.slot.before c.requires.managed.accepted c.room_for.ensures.slides first) c.room_for.ensures.slides
     (new_claimed c.args.space.now.bytes c.room_for.new.space.bytes c.claim.new.self.bytes c.in_ok-room.room.at c.in_ok-room.room.size c.args.size c.args.owner c.in_ok-slot.slot.name.0 c.in_ok-slot.slot.before c.requires.managed.accepted c.room_for.ensures.slides first c.in_ok-room.ensures.room
@@ -27,7 +27,7 @@ returns-clause-made c =
 
 pub returns-clause-in_use : goal.returns-clause-in_use
 returns-clause-in_use c =
-    let first = as_first c.args.space.now c.region.result.now c.free_slot.result c.in_ok-slot.slot c.region.ensures c.in_ok-slot.ensures.ok_part c.free_slot.ensures.some in
+    let first = as_first c.args.space.now c.region.result.now c.first_empty_slot.result c.in_ok-slot.slot c.region.ensures c.in_ok-slot.ensures.ok_part c.first_empty_slot.ensures.some in
     used_made c.room_for.new.space.bytes c.claim.new.self.bytes c.in_ok-slot.slot.name.0 c.in_ok-slot.slot.before _ _
     (first_slid c.args.space.now.bytes c.room_for.new.space.bytes c.in_ok-slot.slot.name.0 c.in_ok-slot.slot.before c.requires.managed.accepted c.room_for.ensures.slides first)
     (new_claimed c.args.space.now.bytes c.room_for.new.space.bytes c.claim.new.self.bytes c.in_ok-room.room.at c.in_ok-room.room.size c.args.size c.args.owner c.in_ok-slot.slot.name.0 c.in_ok-slot.slot.before c.requires.managed.accepted c.room_for.ensures.slides first c.in_ok-room.ensures.room
@@ -36,15 +36,15 @@ returns-clause-in_use c =
 pub returns-clause-had_room : goal.returns-clause-had_room
 returns-clause-had_room c short =
     elim short [
-      | inl none ↦ some_slot c.in_ok-slot.slot (sym c.in_ok-slot.ensures.ok_part ∙ c.free_slot.ensures.none.1 (ap (λ (m : Memory). free_slots m.bytes) c.region.ensures ∙ none))
+      | inl none ↦ some_slot c.in_ok-slot.slot (sym c.in_ok-slot.ensures.ok_part ∙ c.first_empty_slot.ensures.none.1 (ap (λ (m : Memory). free_slots m.bytes) c.region.ensures ∙ none))
       | inr none ↦ c.in_ok-room.ensures.not_short none
     ] where
-      some_slot : (s : FreeSlot) → Some s ≡ None → ⊥
+      some_slot : (s : EmptySlot) → Some s ≡ None → ⊥
       some_slot s e = absurd cc
 
 pub returns-clause-unmoved : goal.returns-clause-unmoved
 returns-clause-unmoved c run =
-    let first = as_first c.args.space.now c.region.result.now c.free_slot.result c.in_ok-slot.slot c.region.ensures c.in_ok-slot.ensures.ok_part c.free_slot.ensures.some in
+    let first = as_first c.args.space.now c.region.result.now c.first_empty_slot.result c.in_ok-slot.slot c.region.ensures c.in_ok-slot.ensures.ok_part c.first_empty_slot.ensures.some in
     nothing_then c.args.space.now c.room_for.new.space c.claim.new.self (c.room_for.ensures.unmoved run)
     (made_moves_nothing c.room_for.new.space.bytes c.claim.new.self.bytes c.in_ok-slot.slot.name.0 _ _ (new_unheld c.args.space.now.bytes c.room_for.new.space.bytes c.in_ok-slot.slot.name.0 c.in_ok-slot.slot.before c.requires.managed.accepted c.room_for.ensures.slides first)
     (new_claimed c.args.space.now.bytes c.room_for.new.space.bytes c.claim.new.self.bytes c.in_ok-room.room.at c.in_ok-room.room.size c.args.size c.args.owner c.in_ok-slot.slot.name.0 c.in_ok-slot.slot.before c.requires.managed.accepted c.room_for.ensures.slides first c.in_ok-room.ensures.room
@@ -52,7 +52,7 @@ returns-clause-unmoved c run =
 
 pub returns-clause-one_stretch : goal.returns-clause-one_stretch
 returns-clause-one_stretch c =
-    let first = as_first c.args.space.now c.region.result.now c.free_slot.result c.in_ok-slot.slot c.region.ensures c.in_ok-slot.ensures.ok_part c.free_slot.ensures.some in
+    let first = as_first c.args.space.now c.region.result.now c.first_empty_slot.result c.in_ok-slot.slot c.region.ensures c.in_ok-slot.ensures.ok_part c.first_empty_slot.ensures.some in
     one_stretch_then c.args.space.now.bytes c.room_for.new.space.bytes c.claim.new.self.bytes c.requires.managed.accepted c.room_for.ensures.slides
     (made_moves_nothing c.room_for.new.space.bytes c.claim.new.self.bytes c.in_ok-slot.slot.name.0 _ _ (new_unheld c.args.space.now.bytes c.room_for.new.space.bytes c.in_ok-slot.slot.name.0 c.in_ok-slot.slot.before c.requires.managed.accepted c.room_for.ensures.slides first)
     (new_claimed c.args.space.now.bytes c.room_for.new.space.bytes c.claim.new.self.bytes c.in_ok-room.room.at c.in_ok-room.room.size c.args.size c.args.owner c.in_ok-slot.slot.name.0 c.in_ok-slot.slot.before c.requires.managed.accepted c.room_for.ensures.slides first c.in_ok-room.ensures.room
@@ -60,13 +60,13 @@ returns-clause-one_stretch c =
 
 pub returns-clause-lowers : goal.returns-clause-lowers
 returns-clause-lowers c =
-    let first = as_first c.args.space.now c.region.result.now c.free_slot.result c.in_ok-slot.slot c.region.ensures c.in_ok-slot.ensures.ok_part c.free_slot.ensures.some in
+    let first = as_first c.args.space.now c.region.result.now c.first_empty_slot.result c.in_ok-slot.slot c.region.ensures c.in_ok-slot.ensures.ok_part c.first_empty_slot.ensures.some in
     new_lowers c.args.space.now.bytes c.room_for.new.space.bytes c.claim.new.self.bytes c.in_ok-room.room.at c.in_ok-room.room.size c.args.size c.args.owner c.in_ok-slot.slot.name.0 c.in_ok-slot.slot.before c.requires.managed.accepted c.room_for.ensures.slides first c.in_ok-room.ensures.room
     c.in_ok-room.ensures.enough c.claim.ensures.made
 
 pub returns-clause-once : goal.returns-clause-once
 returns-clause-once c =
-    let first = as_first c.args.space.now c.region.result.now c.free_slot.result c.in_ok-slot.slot c.region.ensures c.in_ok-slot.ensures.ok_part c.free_slot.ensures.some in
+    let first = as_first c.args.space.now c.region.result.now c.first_empty_slot.result c.in_ok-slot.slot c.region.ensures c.in_ok-slot.ensures.ok_part c.first_empty_slot.ensures.some in
     once_then c.args.space.now c.room_for.new.space c.claim.new.self c.in_ok-slot.slot.name.0 _ _ c.requires.managed.accepted c.room_for.ensures.slides
     (new_unheld c.args.space.now.bytes c.room_for.new.space.bytes c.in_ok-slot.slot.name.0 c.in_ok-slot.slot.before c.requires.managed.accepted c.room_for.ensures.slides first)
     (new_claimed c.args.space.now.bytes c.room_for.new.space.bytes c.claim.new.self.bytes c.in_ok-room.room.at c.in_ok-room.room.size c.args.size c.args.owner c.in_ok-slot.slot.name.0 c.in_ok-slot.slot.before c.requires.managed.accepted c.room_for.ensures.slides first c.in_ok-room.ensures.room

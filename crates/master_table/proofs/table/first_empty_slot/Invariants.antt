@@ -1,5 +1,5 @@
 use Rattle.master_table.specs.Table.{UsedBefore}
-use Rattle.master_table.proofs.table.free_slot.Given as goal
+use Rattle.master_table.proofs.table.first_empty_slot.Given as goal
 
 abbrev pub invariant-loop-number : goal.invariant-loop-number
 invariant-loop-number l = UsedBefore l.region.bytes l.number

@@ -1,7 +1,7 @@
 use Rattle.std.proofs.Common.{refl, arith}
 use Rattle.master_table.proofs.CountLaws.{none_free, some_free}
 use Rattle.master_table.proofs.TableLaws.{first_empty, used_more}
-use Rattle.master_table.proofs.table.free_slot.Goals as goal
+use Rattle.master_table.proofs.table.first_empty_slot.Goals as goal
 
 pub returns-in-Some-clause-some : goal.returns-in-Some-clause-some
 returns-in-Some-clause-some c = first_empty c.args.region.now.bytes c.loop-number.number c.in-Some.slot c.in-Some.ensures.some c.loop-number.invariant
