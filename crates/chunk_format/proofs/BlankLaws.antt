@@ -4,9 +4,10 @@ use Rattle.std.proofs.lemmas.List.{length-replicate}
 use Rattle.heap_model.specs.Memory.{Memory}
 use Rattle.heap_model.specs.Bytes.{u16_at, u32_at, u16_bytes, u32_bytes, overwritten}
 use Rattle.heap_model.specs.Chunk.{free, IsFree}
-use Rattle.heap_model.specs.Slots.{slot_count, table_end, head_end, area_start, start_behind}
+use Rattle.heap_model.specs.Slots.{slot_count, head_end, area_start, start_behind}
 use Rattle.heap_model.specs.Frame.{magic}
-use Rattle.heap_model.specs.Heap.{IsHead, IsHeap, IsBody}
+use Rattle.heap_model.specs.Heap.{IsHead, Tiles, IsHeap, IsBody}
+use Rattle.laws_heap.proofs.Slots.{slot_facts, slot_beside, start_counted}
 use Rattle.laws_heap.proofs.Plain.{plain_word}
 use Rattle.laws_heap.proofs.Frames.{SameBetween, SameBetween-within, SameBetween-then, u32_at-same, u16_at-same, length-overwritten, overwritten-below, overwritten-above, u32_at-written, u16_at-written, length-u32_bytes, length-u16_bytes, u32_at-below, u32_at-zeros, u16_at-zeros, slice_index-zeros, u16_at-below}
 use Rattle.laws_heap.proofs.Meanings.{held-is}
@@ -89,7 +90,7 @@ blank_heap size slots start word image plan word_is r =
     let size_whole = plan.size_right.whole in
     let len = r.len in
     let slots_are : slot_count image ≡ slots = r.slots_are in
-    let area : area_start image ≡ start = omega arith in
+    let area : area_start image ≡ start = start_counted image slots slots_are ∙ sym start_is in
     let zeros : List ℕ = replicate size 0 in
     let chunk = r.chunk in
     let head : IsHead image = record {
@@ -104,13 +105,15 @@ blank_heap size slots start word image plan word_is r =
       padding = λ ne. sym (u32_at-same (head_end image) zeros image 10 start r.front (omega arith) (omega arith)) ∙ u32_at-zeros (head_end image) size;
     } in
     let spelled : IsFree image (area_start image) (size - start) = rw area record { free_bit = omega arith; size_field = omega arith; header_fits = omega arith; whole = omega arith; inside = omega arith } in
+    let tiles : Tiles image (free (size - start) ∷ []) = record { head = head; area = (spelled, omega arith) } in
     record {
-      tiles = record { head = head; area = (spelled, omega arith) };
+      tiles = tiles;
       tied = λ slot place positive. (
         λ h.
-            let low : 16 ≤ slot = h.0.behind_head in
-            let high : slot < table_end image = h.0.in_table in
-            let whole : slot % 4 ≡ 0 = h.0.whole in
+            let facts = slot_facts image (free (size - start) ∷ []) slot tiles h.0 in
+            let low = facts.low in
+            let inside = facts.inside in
+            let front : slot + 4 ≤ area_start image = elim (slot_beside image [] (free (size - start) ∷ []) [] (area_start image) slot tiles tt (omega arith) h.0) [ inl before ↦ before | inr behind ↦ absurd (omega arith) ] in
             let empty : u32_at image slot ≡ 0 = sym (u32_at-same slot zeros image 10 start r.front (omega arith) (omega arith)) ∙ u32_at-zeros slot size in
             let same = h.1 in
             absurd (omega arith),

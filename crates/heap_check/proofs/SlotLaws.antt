@@ -10,9 +10,8 @@ use Rattle.heap_model.specs.Chunk.{Chunk}
 use Rattle.heap_model.specs.Slots.{IsSlot, StandsBehind, slots_of, first_slots, is_slot}
 use Rattle.heap_model.specs.Placed.{EveryOne, FirstOne}
 use Rattle.heap_model.specs.Pairing.{HoldsBody}
-use Rattle.laws_heap.proofs.Accepted.{Decides-slot}
 use Rattle.laws_heap.proofs.Deciding.{true_or_false}
-use Rattle.laws_heap.proofs.Slots.{slot_stands, stands_slot, same_number, same_slot, every_slot, first_slots-front}
+use Rattle.laws_heap.proofs.Slots.{Decides-slot, slot_stands, stands_slot, same_number, same_slot, every_slot, first_slots-front}
 use Rattle.laws_heap.proofs.Placed.{EveryOne-like, FirstOne-like}
 use Rattle.heap_check.specs.Survey.{AreMarks, AddsMarks, MarkedAt, IsHolder, IsMarked}
 

@@ -10,6 +10,10 @@ carried_size by (free size) = refl
 carried_size by (movable bytes lock owner slot) = refl
 carried_size by (fixed bytes owner) = refl
 
+pub carried_total : (by : ℕ) (cs : List Chunk) → total (all_carried by cs) ≡ total cs
+carried_total by [] = refl
+carried_total by (c ∷ cs) = let size = carried_size by c in let rest = carried_total by cs in omega arith
+
 pub Spelled-carried : (xs ys : List ℕ) (at by : ℕ) (c : Chunk) → Carries by at (at + size_of c) xs ys → at + by + size_of c ≤ length ys → Spelled xs at c → Spelled ys (at + by) (carried by c)
 Spelled-carried xs ys at by (free size) carry inside s = IsFree-carried xs ys at by size carry inside s
 Spelled-carried xs ys at by (movable bytes lock owner slot) carry inside s =

@@ -3,12 +3,13 @@
 use Rattle.std.proofs.Common.{◌≡◌, ℕ, ◌+◌, ◌-◌, ◌%◌, ◌^◌, ◌<◌, ◌≤◌, List, [], ◌∷◌, ◌++◌, length, take, drop, refl, sym, ap, subst, ◌∙◌, append_assoc, arith, inl, inr, length-take, length-drop}
 use Rattle.heap_model.specs.Bytes.{u32_at, u32_bytes, overwritten}
 use Rattle.heap_model.specs.Chunk.{Chunk, free, total, IsFree, SpelledAll}
-use Rattle.heap_model.specs.Slots.{table_end, area_start}
+use Rattle.heap_model.specs.Slots.{area_start}
 use Rattle.heap_model.specs.Heap.{IsHeap, HeapAccepted}
-use Rattle.laws_heap.proofs.Frames.{SameBetween, SameBetween-within, u32_at-same, u32_at-written}
-use Rattle.laws_heap.proofs.Chunks.{total-append, SpelledAll-split}
+use Rattle.laws_heap.proofs.Frames.{SameBetween, SameBetween-within, u32_at-written}
+use Rattle.laws_heap.proofs.Chunks.{total-append, SpelledAll-split, SameWords}
+use Rattle.laws_heap.proofs.Slots.{heap_hold_none}
 use Rattle.laws_heap.proofs.Replacing.{same_count, same_directory, replaced_tiles}
-use Rattle.laws_heap.proofs.Writing.{WroteWithin, wrote_part, wrote_word, wrote_wider, WroteArea, area_replaces, area_slots}
+use Rattle.laws_heap.proofs.Writing.{WroteWithin, wrote_part, wrote_word, wrote_wider, wrote_then, WroteArea, area_replaces, wrote_slot}
 use Rattle.chunk_format.specs.Header.{HasHeader}
 use Rattle.chunk_format.specs.declared.header.Header.TheVariants as headers
 use Rattle.heap_place.specs.Lifting.{all_carried, Lifting, FreeBehind, HasFreeBehind}
@@ -74,7 +75,9 @@ carried_up old mid new before moved after start end gap h b mid_is new_is header
       there = starts;
       fits = omega (arith, sizes, least);
     } in
-    let r = area_replaces old new before (moved ++ free gap ∷ []) (free gap ∷ all_carried gap moved) after start there inside w all in
+    let r = area_replaces old new before (moved ++ free gap ∷ []) (free gap ∷ all_carried gap moved) after start f.heap_in_two.tiles there inside w all in
+    let whole : WroteWithin old new start (start + total (moved ++ free gap ∷ [])) = wrote_then old mid new start (start + total (moved ++ free gap ∷ [])) w.area (wrote_wider mid new start (start + 4) start (start + total (moved ++ free gap ∷ [])) word (omega arith) (omega (arith, sizes, least))) in
+    let none = heap_hold_none old before (moved ++ free gap ∷ []) after f.heap_in_two in
     record {
       heap = f.heap;
       there = omega (arith, there);
@@ -83,12 +86,10 @@ carried_up old mid new before moved after start end gap h b mid_is new_is header
       count = same_count old new r.head;
       directory = same_directory old new r.head;
       lifted = λ slot s low high. absurd (omega (arith, low, high, there));
-      kept = λ slot s out. area_slots old new start (start + total (moved ++ free gap ∷ [])) slot w s (omega (arith, inside)) (λ is. let high : slot < table_end old = s.in_table in omega (arith, is, high, starts));
+      kept = λ slot s out. wrote_slot old new before (moved ++ free gap ∷ []) after start slot f.heap_in_two.tiles none there whole s;
       plain = subst (λ (k : ℕ). u32_at new k ≡ 2 ^ 31 + gap) there (ap (λ (image : List ℕ). u32_at image start) new_is ∙ u32_at-written (2 ^ 31 + gap) start mid (omega (arith, inside, sizes, len, least)) (omega (arith, inside, sizes, most)));
-      apart = λ k low out. sym (elim out [
-        | inl front ↦ u32_at-same k old new (area_start old) start r.front low (omega (arith, front, there))
-        | inr back ↦ let from = back.0 in u32_at-same k old new (start + total (moved ++ free gap ∷ [])) (length old) r.back (omega (arith, from, sizes)) back.1
-      ]);
+      front = r.front.words;
+      back = subst (λ (k : ℕ). SameWords old new k after) (let same : start + total (moved ++ free gap ∷ []) ≡ start + gap + total moved = omega (arith, sizes) in same) r.back.words;
     }
 
 -- the numbers of it

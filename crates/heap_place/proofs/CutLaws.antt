@@ -4,7 +4,7 @@ use Rattle.std.specs.Prelude.{slice_range}
 use Rattle.std.proofs.lemmas.List.{length-replicate, drop_all, append-nil}
 use Rattle.heap_model.specs.Bytes.{u32_at, u32_bytes, overwritten}
 use Rattle.heap_model.specs.Chunk.{Chunk, free, movable, fixed, fixed_lock, need, size_of, total, IsFree, IsLive, Spelled, SpelledAll}
-use Rattle.heap_model.specs.Slots.{IsSlot, area_start, table_end}
+use Rattle.heap_model.specs.Slots.{IsSlot, area_start, table_end, head_end}
 use Rattle.heap_model.specs.Heap.{HeapAccepted}
 use Rattle.heap_model.specs.Reading.{chunks_of}
 use Rattle.heap_model.specs.Placed.{AnyPlaced}
@@ -12,8 +12,9 @@ use Rattle.heap_model.specs.Layout.{merged, Becomes, Exchanges, gap, in_front, I
 use Rattle.laws_heap.proofs.Frames.{u32_at-written, slice-same, slice-overwritten, length-u32_bytes}
 use Rattle.laws_heap.proofs.Chunks.{Spelled-same}
 use Rattle.laws_heap.proofs.Runs.{chunks_of-tiled}
-use Rattle.laws_heap.proofs.Replacing.{SameHead, same_count, slot_there, Replaces, replaced_total, same_start, SameSlots}
-use Rattle.laws_heap.proofs.Writing.{WroteWithin, wrote_none, wrote_part, wrote_word, wrote_wider, wrote_then, wrote_apart, wrote_word_apart, WroteArea, area_replaces, area_slots}
+use Rattle.laws_heap.proofs.Slots.{slot_facts, free_hold_none, slot_beside}
+use Rattle.laws_heap.proofs.Replacing.{SameHead, same_count, slot_there, Replaces, replaced_total, same_start}
+use Rattle.laws_heap.proofs.Writing.{WroteWithin, wrote_none, wrote_part, wrote_word, wrote_wider, wrote_then, wrote_apart, wrote_word_apart, WroteArea, area_replaces, wrote_slots, area_slots, beside_same, beside_word}
 use Rattle.laws_heap.proofs.Freeing.{free_replaced, OtherSlots, claimed}
 use Rattle.laws_heap.proofs.Layouts.{merged-left, merged-right, runs-merged}
 use Rattle.laws_heap.proofs.Becoming.{becomes_heap, becomes_alike}
@@ -88,8 +89,8 @@ was_cut old mid new at room size accepted r least whole within wrote is header =
     let area : WroteArea old new at (at + room) = record { mid = new; slot = at; area = all; word = wrote_none new at (at + 4); is_slot = inl refl; there = omega arith; fits = omega arith } in
     let others : List Chunk = free size ∷ gap rest in
     let spelled : SpelledAll new at others (at + total r.run) = (has_free new at size header, gap_spelled old mid new at size (at + size) rest (at + total r.run) refl (omega arith) least (omega arith) (second.len) (wrote_wider mid new at (at + 4) at (at + 8) second (omega arith) (omega arith)) wrote) in
-    let replaces = area_replaces old new r.before r.run others r.after at r.there m.inside (subst (λ (n : ℕ). WroteArea old new at (at + n)) sums area) spelled in
-    let slots : SameSlots old new = record { same = λ slot s. let low_slot : slot < table_end old = s.in_table in let four : slot % 4 ≡ 0 = s.whole in wrote_word_apart old new at (at + room) slot all (inl (omega arith)) } in
+    let replaces = area_replaces old new r.before r.run others r.after at heap.tiles r.there m.inside (subst (λ (n : ℕ). WroteArea old new at (at + n)) sums area) spelled in
+    let slots = wrote_slots old new r.before r.run r.after at heap.tiles (free_hold_none r.run r.all_free) r.there (subst (λ (n : ℕ). WroteWithin old new at (at + n)) sums all) in
     let new_heap = free_replaced old new r.before r.run others r.after at heap replaces slots r.all_free (gap_free rest) in
     let sizes = replaced_total old new r.before r.run others r.after at replaces in
     let alike : merged (others ++ r.after) ≡ merged (r.run ++ r.after) = merged-left others r.run r.after (runs-merged others r.run (gap_free rest) r.all_free (omega arith) sizes) in
@@ -132,13 +133,6 @@ cut_facts image size at accepted r =
     let m = middle_of image r.before (free size ∷ []) r.after at (heap_in_parts image (r.before ++ free size ∷ r.after) accepted r.chunks) r.there in
     let inside = m.inside in
     (omega arith, omega arith, m.start_whole, m.most)
-
-pub slot_facts : (image : List ℕ) (slot : ℕ) → HeapAccepted image → IsSlot image slot → (slot + 4 ≤ area_start image) × (slot % 4 ≡ 0) × (area_start image ≤ length image) × (16 ≤ slot) × (length image ≤ 16777208) × (table_end image ≤ length image)
-slot_facts image slot accepted s =
-    let high : slot < table_end image = s.in_table in
-    let whole : slot % 4 ≡ 0 = s.whole in
-    let fits = accepted.1.tiles.head.a_chunk_fits in
-    (omega arith, whole, omega arith, s.behind_head, accepted.1.tiles.head.most, omega arith)
 
 pub header_movable : (count lock owner slot : ℕ) (c : Chunk) → headers.Movable count lock owner slot ≡ header_of c → (bytes : List ℕ) × ((c ≡ movable bytes lock owner slot) × (length bytes ≡ count))
 header_movable count lock owner slot (free n) e = absurd cc
@@ -198,7 +192,7 @@ pub wrote_head : (old new : List ℕ) (low high : ℕ) → WroteWithin old new l
 wrote_head old new low high w there inside = record {
   len = w.len;
   words = wrote_apart old new low high 0 16 w (inl (omega arith));
-  padding = wrote_apart old new low high (table_end old) (area_start old) w (inl there);
+  padding = wrote_apart old new low high (head_end old) (area_start old) w (inl there);
 }
 
 pub table_kept : (old new : List ℕ) (low high slot : ℕ) → HeapAccepted old → WroteWithin old new low high → area_start old ≤ low → low ≤ length old → IsSlot old slot → (table_end new ≤ length new) × IsSlot new slot
@@ -231,9 +225,8 @@ claimed_write old h z new at count owner slot accepted r s empty h_is header z_i
     let inside = facts.0 in
     let low = facts.1 in
     let most = facts.3 in
-    let sf = slot_facts old slot accepted s in
-    let sf0 = sf.0 in
-    let sf3 = sf.3 in
+    let slot_inside = (slot_facts old accepted.0 slot accepted.1.tiles s).inside in
+    let beside = slot_beside old r.before (free size ∷ []) r.after at slot heap.tiles tt r.there s in
     let eight = live_words_length count 0 owner (h_offset_to at slot) in
     let zeros : length (replicate {A = ℕ} count 0) ≡ count = length-replicate count 0 in
     let w1 : WroteWithin old h at (at + size) = wrote_wider old h at (at + length (live_words count 0 owner (h_offset_to at slot))) at (at + size) (wrote_part old h at (live_words count 0 owner (h_offset_to at slot)) h_is (omega arith)) (omega arith) (omega arith) in
@@ -244,19 +237,19 @@ claimed_write old h z new at count owner slot accepted r s empty h_is header z_i
     let area : WroteWithin old z at (at + size) = claimed_area old h z at count owner slot inside h_is z_is in
     let word : WroteWithin z new slot (slot + 4) = wrote_word z new slot (at + 8) new_is (omega arith) in
     let len_new = word.len in
-    let first : u32_at new at ≡ u32_at h at = wrote_word_apart z new slot (slot + 4) at word (inr (omega arith, omega arith)) ∙ wrote_word_apart h z (at + 8) (at + 8 + length (replicate {A = ℕ} count 0)) at w2' (inl (omega arith)) in
-    let second : u32_at new (at + 4) ≡ u32_at h (at + 4) = wrote_word_apart z new slot (slot + 4) (at + 4) word (inr (omega arith, omega arith)) ∙ wrote_word_apart h z (at + 8) (at + 8 + length (replicate {A = ℕ} count 0)) (at + 4) w2' (inl (omega arith)) in
+    let first : u32_at new at ≡ u32_at h at = beside_word z new slot at (at + (size + 0)) at word beside (omega arith) (omega arith) (omega arith) ∙ wrote_word_apart h z (at + 8) (at + 8 + length (replicate {A = ℕ} count 0)) at w2' (inl (omega arith)) in
+    let second : u32_at new (at + 4) ≡ u32_at h (at + 4) = beside_word z new slot at (at + (size + 0)) (at + 4) word beside (omega arith) (omega arith) (omega arith) ∙ wrote_word_apart h z (at + 8) (at + 8 + length (replicate {A = ℕ} count 0)) (at + 4) w2' (inl (omega arith)) in
     let body : slice_range new (at + 8) (at + 8 + count) ≡ replicate count 0 =
-    sym (slice-same (at + 8) (at + 8 + count) z new (wrote_apart z new slot (slot + 4) (at + 8) (at + 8 + count) word (inr (omega arith, omega arith))) (omega arith) (omega arith))
+    sym (slice-same (at + 8) (at + 8 + count) z new (beside_same z new slot at (at + (size + 0)) (at + 8) (at + 8 + count) word beside (omega arith) (omega arith) (omega arith)) (omega arith) (omega arith))
     ∙ ap (λ (x : List ℕ). take (at + 8 + count - (at + 8)) (drop (at + 8) x)) z_is ∙ slice-overwritten h (at + 8) (replicate count 0) count zeros (omega arith) in
     let spelled : Spelled new at (movable (replicate count 0) 0 owner slot) = zeroed h new at count 0 owner slot header (omega arith) first second body in
     let takes : need (length (replicate {A = ℕ} count 0)) ≡ size = ap need zeros in
     let is : at ≡ area_start old + total r.before = r.there in
     let wrote : WroteArea old new at (at + (size + 0)) = subst (λ (n : ℕ). WroteArea old new at (at + n)) (let e : size ≡ size + 0 = omega arith in e)
     record { mid = z; slot = slot; area = area; word = word; is_slot = inr s; there = omega arith; fits = omega arith } in
-    let replaces : Replaces old new r.before (free size ∷ []) (movable (replicate count 0) 0 owner slot ∷ []) r.after at = area_replaces old new r.before (free size ∷ []) (movable (replicate count 0) 0 owner slot ∷ []) r.after at is (omega arith) wrote (spelled, omega arith) in
+    let replaces : Replaces old new r.before (free size ∷ []) (movable (replicate count 0) 0 owner slot ∷ []) r.after at = area_replaces old new r.before (free size ∷ []) (movable (replicate count 0) 0 owner slot ∷ []) r.after at heap.tiles is (omega arith) wrote (spelled, omega arith) in
     let now : u32_at new slot ≡ at + 8 = ap (λ (x : List ℕ). u32_at x slot) new_is ∙ u32_at-written (at + 8) slot z (omega arith) (omega arith) in
-    let others : OtherSlots old new slot = record { same = λ t ts ne. area_slots old new at (at + (size + 0)) t wrote ts (omega arith) (λ e. ne (sym (slot_of e))) } in
+    let others : OtherSlots old new slot = record { same = λ t ts ne. area_slots old new r.before (free size ∷ []) r.after at t heap.tiles tt is wrote ts (λ e. ne (sym (slot_of e))) } in
     let c = claimed old new r.before r.after at (free size) (replicate count 0) owner slot tt heap replaces s empty now others in (
       claimed_front old new at size (movable (replicate count 0) 0 owner slot) accepted r takes (becomes_heap old new (r.before ++ movable (replicate count 0) 0 owner slot ∷ r.after) replaces.head c),
       replaced_plain old new r.before (free size ∷ []) (movable (replicate count 0) 0 owner slot ∷ []) r.after at r.chunks c replaces (lives_plain new at (movable (replicate count 0) 0 owner slot ∷ []) refl),
@@ -303,10 +296,10 @@ fixed_claimed old mid new at count owner h r some most mid_is header new_is =
     let takes : need (length (replicate {A = ℕ} count 0)) ≡ need count = ap need zeros in
     let there = r.there in
     let area : WroteArea old new at (at + (need count + 0)) = subst (λ (n : ℕ). WroteArea old new at (at + n)) (sym size) record { mid = new; slot = at; area = both; word = wrote_none new at (at + 4); is_slot = inl refl; there = omega arith; fits = omega arith } in
-    let replaces = area_replaces old new r.before (free (need count) ∷ []) (fixed (replicate count 0) owner ∷ []) r.after at (omega arith) (omega arith) area (spelled, omega arith) in
+    let replaces = area_replaces old new r.before (free (need count) ∷ []) (fixed (replicate count 0) owner ∷ []) r.after at heap.tiles r.there (omega arith) area (spelled, omega arith) in
     let c =
     claimed_fixed old new r.before r.after at (need count) (replicate count 0) owner heap replaces
-    (record { same = λ slot s. let high : slot < table_end old = s.in_table in let whole : slot % 4 ≡ 0 = s.whole in wrote_word_apart old new at (at + need count) slot both (inl (omega arith)) }) some most in (
+    (wrote_slots old new r.before (free (need count) ∷ []) r.after at heap.tiles tt r.there (subst (λ (n : ℕ). WroteWithin old new at (at + n)) (sym size) both)) some most in (
       claimed_front old new at (need count) (fixed (replicate count 0) owner) h r takes (becomes_heap old new (r.before ++ fixed (replicate count 0) owner ∷ r.after) replaces.head c),
       replaced_plain old new r.before (free (need count) ∷ []) (fixed (replicate count 0) owner ∷ []) r.after at r.chunks c replaces (lives_plain new at (fixed (replicate count 0) owner ∷ []) refl),
     )

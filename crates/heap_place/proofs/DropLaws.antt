@@ -4,7 +4,7 @@ use Rattle.std.proofs.lemmas.Bool.{cases_eq}
 use Rattle.std.specs.Prelude.{◌↔◌, slice_range}
 use Rattle.heap_model.specs.Bytes.{u32_at, u32_bytes, overwritten}
 use Rattle.heap_model.specs.Chunk.{Chunk, free, movable, need, size_of, total, IsFree, Spelled, SpelledAll}
-use Rattle.heap_model.specs.Slots.{IsSlot, table_end, area_start}
+use Rattle.heap_model.specs.Slots.{IsSlot, area_start}
 use Rattle.heap_model.specs.Heap.{BodyHere, IsBody, IsHeap, HeapAccepted}
 use Rattle.heap_model.specs.Reading.{chunks_of}
 use Rattle.heap_model.specs.Layout.{gap}
@@ -12,8 +12,9 @@ use Rattle.laws_heap.proofs.Frames.{slice-same, u32_at-written}
 use Rattle.laws_heap.proofs.Chunks.{total-append, Spelled-same, SpelledAll-split}
 use Rattle.laws_heap.proofs.Bodies.{IsBody-low, IsBody-high}
 use Rattle.laws_heap.proofs.Placed.{AnyPlaced-mid, AnyPlaced-split, AnyPlaced-left, AnyPlaced-right}
-use Rattle.laws_heap.proofs.Replacing.{replaced_heap, SameSlots, kept_directory}
-use Rattle.laws_heap.proofs.Writing.{WroteWithin, wrote_part, wrote_word, wrote_wider, wrote_then, wrote_none, wrote_apart, wrote_word_apart, WroteArea, area_replaces, area_slots}
+use Rattle.laws_heap.proofs.Slots.{SlotFacts, slot_facts, free_hold_none, IsBeside, slot_beside}
+use Rattle.laws_heap.proofs.Replacing.{replaced_heap, kept_directory}
+use Rattle.laws_heap.proofs.Writing.{WroteWithin, wrote_part, wrote_word, wrote_wider, wrote_then, wrote_none, wrote_apart, WroteArea, area_replaces, wrote_slots, area_slots, beside_same, beside_word}
 use Rattle.laws_heap.proofs.Runs.{chunks_of-tiled}
 use Rattle.laws_heap.proofs.Plain.{free_plain, replaced_plain}
 use Rattle.laws_heap.proofs.Freeing.{free_replaced}
@@ -39,7 +40,8 @@ pub record DropFacts (old : List ℕ) (before : List Chunk) (bytes : List ℕ) (
   pub is_free : IsFree old to room
   pub own : IsSlot old slot
   pub held : u32_at old slot ≡ at + 8
-  pub slot_end : slot + 4 ≤ area_start old
+  pub facts : SlotFacts old slot
+  pub beside : IsBeside slot to (to + total (free room ∷ movable bytes lock owner slot ∷ []))
   pub inside : to + room + need (length bytes) ≤ length old
 
 pub drop_facts : (old : List ℕ) (before : List Chunk) (bytes : List ℕ) (lock owner slot : ℕ) (after : List Chunk) (at room to : ℕ) → HeapAccepted old → Droppable old before bytes lock owner slot after at room → to ≡ at - room → DropFacts old before bytes lock owner slot after at room to
@@ -53,8 +55,6 @@ drop_facts old before bytes lock owner slot after at room to h d e =
     let here : IsBody (area_start old) (before ++ free room ∷ c ∷ after) slot (at + 8) =
     AnyPlaced-right (BodyHere slot (at + 8)) (area_start old) before (free room ∷ c ∷ after) (inr (inl (refl, omega (arith, there)))) in
     let tied = (heap.tied slot (at + 8) (omega arith)).1 here in
-    let high : slot < table_end old = tied.0.in_table in
-    let four : slot % 4 ≡ 0 = tied.0.whole in
     let inside = m.inside in
     record {
       heap = heap;
@@ -65,7 +65,8 @@ drop_facts old before bytes lock owner slot after at room to h d e =
       is_free = m.spelled.0;
       own = tied.0;
       held = tied.1;
-      slot_end = omega (arith, high, four);
+      facts = slot_facts old (before ++ free room ∷ c ∷ after) slot heap.tiles tied.0;
+      beside = slot_beside old before (free room ∷ c ∷ []) after to slot heap.tiles tt to_is tied.0;
       inside = omega (arith, inside);
     }
 
@@ -140,7 +141,7 @@ dropped old slid head hole new before bytes lock owner slot after at room to siz
     let to_is = f.to_is in
     let inside = f.inside in
     let least : 8 ≤ room = f.is_free.header_fits in
-    let slot_end = f.slot_end in
+    let slot_inside = f.facts.inside in
     let most = f.middle.most in
     let part : List ℕ = take (to + room + size - (to + room)) (drop (to + room) old) in
     let slid_2 : slid ≡ overwritten old to part = slid_is ∙ ap (λ (n : ℕ). overwritten old to (take (n + size - n) (drop n old))) at_is in
@@ -151,7 +152,7 @@ dropped old slid head hole new before bytes lock owner slot after at room to siz
     let len_2 = two.len in
     let three : WroteWithin head hole (to + size) (to + size + 4) = wrote_word head hole (to + size) (2 ^ 31 + room) hole_is (omega (arith, inside, size_is, least, len_1, len_2)) in
     let len_3 = three.len in
-    let four : WroteWithin hole new slot (slot + 4) = wrote_word hole new slot (to + 8) new_is (omega (arith, slot_end, to_is, inside, len_1, len_2, len_3)) in
+    let four : WroteWithin hole new slot (slot + 4) = wrote_word hole new slot (to + 8) new_is (omega (arith, slot_inside, len_1, len_2, len_3)) in
     let end : ℕ = to + total (free room ∷ c ∷ []) in
     let all : WroteWithin old hole to end = wrote_then old slid hole to end (wrote_wider old slid to (to + length part) to end one (omega arith) (omega (arith, many, size_is)))
     (wrote_then slid head hole to end (wrote_wider slid head to (to + 8) to end two (omega arith) (omega arith)) (wrote_wider head hole (to + size) (to + size + 4) to end three (omega arith) (omega (arith, size_is, least)))) in
@@ -168,19 +169,19 @@ dropped old slid head hole new before bytes lock owner slot after at room to siz
     ∙ sym moved ∙ sym (ap (λ (n : ℕ). take (n + length bytes - n) (drop n old)) e) ∙ s.1.body in
     let c_head : Spelled head to c = subst (λ (b : List ℕ). Spelled head to (movable b lock owner slot)) same t in
     let c_hole : Spelled hole to c = Spelled-same head hole to c (wrote_apart head hole (to + size) (to + size + 4) to (to + need (length bytes)) three (inl (omega (arith, size_is)))) len_3 c_head in
-    let c_new : Spelled new to c = Spelled-same hole new to c (wrote_apart hole new slot (slot + 4) to (to + need (length bytes)) four (inr (omega (arith, slot_end, to_is), omega (arith, inside, len_1, len_2, len_3)))) four.len c_hole in
+    let c_new : Spelled new to c = Spelled-same hole new to c (beside_same hole new slot to end to (to + need (length bytes)) four f.beside (omega arith) (omega arith) (omega (arith, inside, len_1, len_2, len_3))) four.len c_hole in
     let f_hole : IsFree hole (to + size) room = has_free hole (to + size) room rest in
-    let f_new : Spelled new (to + size) (free room) = Spelled-same hole new (to + size) (free room) (wrote_apart hole new slot (slot + 4) (to + size) (to + size + room) four (inr (omega (arith, slot_end, to_is), omega (arith, inside, size_is, len_1, len_2, len_3)))) four.len f_hole in
+    let f_new : Spelled new (to + size) (free room) = Spelled-same hole new (to + size) (free room) (beside_same hole new slot to end (to + size) (to + size + room) four f.beside (omega arith) (omega (arith, size_is)) (omega (arith, inside, size_is, len_1, len_2, len_3))) four.len f_hole in
     let spelled : SpelledAll new to (c ∷ free room ∷ []) end = (c_new, (subst (λ (n : ℕ). Spelled new (to + n) (free room)) size_is f_new, omega arith)) in
-    let r = area_replaces old new before (free room ∷ c ∷ []) (c ∷ free room ∷ []) after to to_is f.middle.inside w spelled in
-    let others : (other : ℕ) → IsSlot old other → other ≢ slot → u32_at new other ≡ u32_at old other = λ other o ne. area_slots old new to end other w o (omega (arith, inside)) (λ e. ne (sym e)) in
-    let own : u32_at new slot ≡ to + 8 = ap (λ (bs : List ℕ). u32_at bs slot) new_is ∙ u32_at-written (to + 8) slot hole (omega (arith, slot_end, to_is, inside, len_1, len_2, len_3)) (omega (arith, inside, most)) in
+    let r = area_replaces old new before (free room ∷ c ∷ []) (c ∷ free room ∷ []) after to f.heap.tiles to_is f.middle.inside w spelled in
+    let others : (other : ℕ) → IsSlot old other → other ≢ slot → u32_at new other ≡ u32_at old other = λ other o ne. area_slots old new before (free room ∷ c ∷ []) after to other f.heap.tiles tt to_is w o (λ e. ne (sym e)) in
+    let own : u32_at new slot ≡ to + 8 = ap (λ (bs : List ℕ). u32_at bs slot) new_is ∙ u32_at-written (to + 8) slot hole (omega (arith, slot_inside, len_1, len_2, len_3)) (omega (arith, inside, most)) in
     let heap : IsHeap new (before ++ ((c ∷ free room ∷ []) ++ after)) = replaced_heap old new before (free room ∷ c ∷ []) (c ∷ free room ∷ []) after to f.heap r record {
       ties = down_ties old new before bytes lock owner slot after at room to f own others;
       callers = (tt, (tt, tt));
       directory = kept_directory old new before (free room ∷ c ∷ []) (c ∷ free room ∷ []) after to f.heap r (λ m. elim m [ inl none ↦ absurd none | inr more ↦ elim more [ inl mine ↦ inl mine | inr none ↦ absurd none ] ]);
     } in
-    let hole_word : u32_at new (to + size) ≡ 2 ^ 31 + room = wrote_word_apart hole new slot (slot + 4) (to + size) four (inr (omega (arith, slot_end, to_is), omega (arith, inside, size_is, least, len_1, len_2, len_3))) ∙ ap (λ (bs : List ℕ). u32_at bs (to + size)) hole_is ∙ u32_at-written (2 ^ 31 + room) (to + size) head (omega (arith, inside, size_is, least, len_1, len_2)) (omega (arith, inside, most)) in
+    let hole_word : u32_at new (to + size) ≡ 2 ^ 31 + room = beside_word hole new slot to end (to + size) four f.beside (omega arith) (omega (arith, size_is, least)) (omega (arith, inside, size_is, least, len_1, len_2, len_3)) ∙ ap (λ (bs : List ℕ). u32_at bs (to + size)) hole_is ∙ u32_at-written (2 ^ 31 + room) (to + size) head (omega (arith, inside, size_is, least, len_1, len_2)) (omega (arith, inside, most)) in
     let plain = replaced_plain old new before (free room ∷ c ∷ []) (c ∷ free room ∷ []) after to (chunks_of-tiled old (before ++ free room ∷ c ∷ after) f.heap.tiles) heap r (λ there h. elim h [
       | inl none ↦ absurd none
       | inr more ↦ free_plain new (to + size_of c) room [] (subst (λ (n : ℕ). u32_at new (to + n) ≡ 2 ^ 31 + room) size_is hole_word) (omega (arith, inside, most)) (λ there none. absurd none) there more
@@ -226,8 +227,8 @@ joined old new before size after at room to f is header =
     let all : WroteWithin old new to (to + total mid) = wrote_wider old new to (to + 4) to (to + total mid) word (omega arith) (omega (arith, sizes, least)) in
     let w : WroteArea old new to (to + total mid) = record { mid = new; slot = to; area = all; word = wrote_none new to (to + 4); is_slot = inl refl; there = omega (arith, to_is); fits = omega (arith, sizes, least) } in
     let spelled : SpelledAll new to (free (room + size) ∷ []) (to + total mid) = (has_free new to (room + size) header, omega (arith, sizes)) in
-    let r = area_replaces old new before mid (free (room + size) ∷ []) after to to_is inside w spelled in
-    let slots : SameSlots old new = record { same = λ slot s. let high : slot < table_end old = s.in_table in let four : slot % 4 ≡ 0 = s.whole in wrote_word_apart old new to (to + total mid) slot all (inl (omega (arith, high, four, to_is))) } in
+    let r = area_replaces old new before mid (free (room + size) ∷ []) after to f.heap.tiles to_is inside w spelled in
+    let slots = wrote_slots old new before mid after to f.heap.tiles (free_hold_none mid (free_push (gap room) size (gap_free room))) to_is all in
     let heap = free_replaced old new before mid (free (room + size) ∷ []) after to f.heap r slots (free_push (gap room) size (gap_free room)) tt in
     let g : free (room + size) ∷ [] ≡ gap (room + size) = sym (gap_some (room + size) (omega (arith, least))) in
     let most = f.middle.most in

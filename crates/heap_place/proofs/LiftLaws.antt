@@ -4,7 +4,7 @@ use Rattle.std.specs.Prelude.{◌⊎◌, ◌↔◌}
 use Rattle.std.proofs.lemmas.Bool.{cases_eq}
 use Rattle.heap_model.specs.Bytes.{u32_at}
 use Rattle.heap_model.specs.Chunk.{Chunk, free, movable, fixed, need, size_of, total}
-use Rattle.heap_model.specs.Slots.{IsSlot, slot_count, table_end, area_start}
+use Rattle.heap_model.specs.Slots.{IsSlot, area_start}
 use Rattle.heap_model.specs.Heap.{BodyHere, IsBody, IsCallersIfFixed, ManagersHere, directory_of, HasDirectory, IsHeap}
 use Rattle.heap_model.specs.Placed.{EveryPlaced, AnyPlaced}
 use Rattle.heap_model.specs.Reading.{chunks_of}
@@ -12,7 +12,8 @@ use Rattle.heap_model.specs.Layout.{WritesPlain}
 use Rattle.heap_model.specs.Packing.{lives}
 use Rattle.laws_heap.proofs.Bodies.{IsBody-low, IsBody-high}
 use Rattle.laws_heap.proofs.Placed.{EveryPlaced-append, EveryPlaced-split, AnyPlaced-left, AnyPlaced-right, AnyPlaced-split}
-use Rattle.laws_heap.proofs.Chunks.{total-append}
+use Rattle.laws_heap.proofs.Chunks.{total-append, SameWords}
+use Rattle.laws_heap.proofs.Slots.{same_slots, slot_alike, start_alike}
 use Rattle.laws_heap.proofs.Plain.{free_plain, lives_plain, middle_plain}
 use Rattle.laws_heap.proofs.Runs.{chunks_of-tiled}
 use Rattle.heap_place.specs.Lifting.{Lifting}
@@ -72,9 +73,6 @@ pub body_front : (at : ℕ) (xs ys : List Chunk) (slot place : ℕ) → IsBody a
 body_front at xs ys slot place b = AnyPlaced-left (BodyHere slot place) at xs ys b
 
 -- ---- all are mended: the ties are whole again
-
-slot_of_old : (old image : List ℕ) (slot : ℕ) → slot_count image ≡ slot_count old → IsSlot image slot → IsSlot old slot
-slot_of_old old image slot count s = let high : slot < table_end image = s.in_table in record { behind_head = s.behind_head; in_table = omega arith; whole = s.whole }
 
 module _ (old image : List ℕ) (before moved after : List Chunk) (gap at : ℕ) (l : Lifting old image before moved [] after gap at) where
   start : ℕ
@@ -148,13 +146,13 @@ module _ (old image : List ℕ) (before moved after : List Chunk) (gap at : ℕ)
   ]
 
   new_start : area_start image ≡ area_start old
-  new_start = ap (λ (n : ℕ). 8 * ((16 + 4 * n + 7) / 8)) l.count
+  new_start = start_alike old image l.count
 
   slot_new : (slot : ℕ) → IsSlot old slot → IsSlot image slot
-  slot_new slot s =
-      let count = l.count in
-      let high : slot < table_end old = s.in_table in
-      record { behind_head = s.behind_head; in_table = omega arith; whole = s.whole }
+  slot_new slot s = slot_alike old image slot (same_slots old image l.count) s
+
+  slot_old : (slot : ℕ) → IsSlot image slot → IsSlot old slot
+  slot_old slot s = slot_alike image old slot (sym (same_slots old image l.count)) s
 
   place_new : (slot place : ℕ) → 0 < place → u32_at image slot ≡ place → IsSlot old slot → IsBody (area_start old) (before ++ free gap ∷ (moved ++ after)) slot place
   place_new slot place some e s = elim (cases_eq (u32_at old slot) 0) [
@@ -164,7 +162,7 @@ module _ (old image : List ℕ) (before moved after : List Chunk) (gap at : ℕ)
 
   tied_again : (slot place : ℕ) → 0 < place → ((IsSlot image slot × (u32_at image slot ≡ place)) ↔ IsBody (area_start image) (before ++ free gap ∷ (moved ++ after)) slot place)
   tied_again slot place some = (
-    λ s. subst (λ (n : ℕ). IsBody n (before ++ free gap ∷ (moved ++ after)) slot place) (sym new_start) (place_new slot place some s.1 (slot_of_old old image slot l.count s.0)),
+    λ s. subst (λ (n : ℕ). IsBody n (before ++ free gap ∷ (moved ++ after)) slot place) (sym new_start) (place_new slot place some s.1 (slot_old slot s.0)),
     λ b. let s = to_old slot place (subst (λ (n : ℕ). IsBody n (before ++ free gap ∷ (moved ++ after)) slot place) new_start b) in (slot_new slot s.0, s.1),
   )
 
@@ -206,8 +204,8 @@ module _ (old image : List ℕ) (before moved after : List Chunk) (gap at : ℕ)
       let was : chunks_of old ≡ before ++ ((moved ++ free gap ∷ []) ++ after) =
       chunks_of-tiled old (before ++ (moved ++ free gap ∷ after)) l.heap.tiles ∙ ap (λ (cs : List Chunk). before ++ cs) (sym (append_assoc moved (free gap ∷ []) after)) in
       let word : u32_at image start ≡ 2 ^ 31 + gap = subst (λ (k : ℕ). u32_at image k ≡ 2 ^ 31 + gap) (sym is_start) l.plain in
-      middle_plain old image before (moved ++ free gap ∷ []) (free gap ∷ moved) after start was l.tiles new_start is_start (omega (arith, sizes)) l.len
-      (λ there low out. l.apart there low (elim out [ inl front ↦ inl (omega (arith, front, is_start)) | inr back ↦ let from = back.0 in inr (omega (arith, from, sizes, end), back.1) ]))
+      middle_plain old image before (moved ++ free gap ∷ []) (free gap ∷ moved) after start was l.tiles new_start is_start (omega (arith, sizes)) l.front
+      (subst (λ (k : ℕ). SameWords old image k after) (let same : at + total [] ≡ start + total (moved ++ free gap ∷ []) = omega (arith, sizes, end) in same) l.back)
       (free_plain image start gap moved word small (lives_plain image (start + gap) moved live))
 
   pub lift_done : gap < 2 ^ 24 → lives moved ≡ moved → BecomesExactly old image (before ++ free gap ∷ (moved ++ after))

@@ -3,19 +3,21 @@ use Rattle.std.proofs.Common.{◌≡◌, ◌≢◌, ℕ, ◌+◌, ◌-◌, ◌*�
 use Rattle.std.proofs.lemmas.Bool.{cases_eq, cases_lt}
 use Rattle.heap_model.specs.Bytes.{u32_at, u32_bytes, overwritten}
 use Rattle.heap_model.specs.Chunk.{Chunk, free, movable, fixed, need, size_of, total, Spelled, SpelledAll}
-use Rattle.heap_model.specs.Slots.{IsSlot, slot_count, table_end, area_start}
+use Rattle.heap_model.specs.Slots.{IsSlot, table_end, area_start}
 use Rattle.heap_model.specs.Heap.{Tiles, BodyHere, IsBody, IsHeap}
-use Rattle.laws_heap.proofs.Frames.{u32_at-same, u32_at-written}
-use Rattle.laws_heap.proofs.Chunks.{total-append, Spelled-size, Spelled-same, Spelled-unique, SpelledAll-split}
+use Rattle.laws_heap.proofs.Frames.{u32_at-written}
+use Rattle.laws_heap.proofs.Chunks.{total-append, Spelled-size, Spelled-same, SameWords, words_then, Spelled-unique, SpelledAll-split}
+use Rattle.laws_heap.proofs.Slots.{same_slots, SlotFacts, slot_facts, IsBeside, slot_beside, slot_alike, start_alike}
 use Rattle.laws_heap.proofs.Bodies.{IsBody-low, IsBody-high}
-use Rattle.laws_heap.proofs.Placed.{AnyPlaced-mid, AnyPlaced-split}
+use Rattle.laws_heap.proofs.Placed.{EveryPlaced-split, AnyPlaced-mid, AnyPlaced-split}
 use Rattle.laws_heap.proofs.Replacing.{same_count, same_directory, slot_there, Replaces, replaced_tiles}
-use Rattle.laws_heap.proofs.Writing.{WroteWithin, wrote_word, wrote_wider, wrote_apart, WroteArea, area_replaces, area_slots}
+use Rattle.laws_heap.proofs.Writing.{WroteWithin, wrote_word, wrote_wider, WroteArea, area_replaces, area_slots, beside_same}
 use Rattle.chunk_format.specs.Header.{header_of, size_by, HasHeader, IsWritable, live_words, h_offset_to}
 use Rattle.chunk_format.specs.declared.header.Header.{Header}
 use Rattle.chunk_format.specs.declared.header.Header.TheVariants as headers
 use Rattle.heap_place.specs.Lifting.{carried, all_carried, Lifting}
 use Rattle.laws_heap.proofs.Altering.{body_stays}
+use Rattle.heap_place.proofs.CarriedLaws.{carried_total}
 use Rattle.heap_place.proofs.FoundLaws.{total_whole}
 use Rattle.heap_place.proofs.CutLaws.{header_movable, wrote_words, wrote_head}
 
@@ -61,7 +63,7 @@ next_of old image before done c rest after gap at l =
     let more = total-append before (free gap ∷ done) in
     let there = l.there in
     let count = l.count in
-    let starts : area_start image ≡ area_start old = ap (λ (n : ℕ). 8 * ((16 + 4 * n + 7) / 8)) count in
+    let starts = start_alike old image l.count in
     let at_is : at ≡ area_start image + total front = omega (arith, there, more, starts) in
     let tiles : Tiles image (front ++ carried gap c ∷ others) = subst (λ (cs : List Chunk). Tiles image cs) (sym (append_assoc before (free gap ∷ done) (carried gap c ∷ others))) l.tiles in
     let parts = SpelledAll-split image (area_start image) front (carried gap c ∷ others) (length image) tiles.area in
@@ -115,7 +117,8 @@ step_kept old image before done c rest after gap at same no_body l =
       ];
       kept = λ slot s out. l.kept slot s (elim out [ inl front ↦ inl front | inr beyond ↦ inr (omega (arith, beyond)) ]);
       plain = l.plain;
-      apart = λ there low out. l.apart there low (elim out [ inl front ↦ inl front | inr back ↦ let from = back.0 in inr (omega (arith, from), back.1) ]);
+      front = l.front;
+      back = subst (λ (k : ℕ). SameWords old image k after) (let next : at + total (c ∷ rest) ≡ at + size_of c + total rest = omega arith in next) l.back;
     }
 
 -- ---- a movable chunk
@@ -132,7 +135,9 @@ pub record Mendable (old image : List ℕ) (before done : List Chunk) (bytes : L
   pub next : NextOf old image before done (movable bytes lock owner slot) rest after gap at
   pub own : IsSlot old slot
   pub held : u32_at old slot ≡ next.was + 8
-  pub slot_end : slot + 4 ≤ area_start image
+  pub is_slot : IsSlot image slot
+  pub facts : SlotFacts image slot
+  pub beside : IsBeside slot at (at + need (length bytes))
   pub area : area_start image ≤ at
   pub unwound : (slot + gap) % 2 ^ 25 ≡ slot + gap
 
@@ -140,14 +145,29 @@ pub mendable : (old image : List ℕ) (before done : List Chunk) (bytes : List �
 mendable old image before done bytes lock owner slot rest after gap at l =
     let n = next_of old image before done (movable bytes lock owner slot) rest after gap at l in
     let o = own_slot old image before done bytes lock owner slot rest after gap at n in
-    let high : slot < table_end old = o.0.in_table in
-    let four : slot % 4 ≡ 0 = o.0.whole in
+    let front : List Chunk = before ++ free gap ∷ done in
+    let c : Chunk = carried gap (movable bytes lock owner slot) in
+    let others : List Chunk = all_carried gap rest ++ after in
+    let is_slot = slot_alike old image slot (same_slots old image l.count) o.0 in
+    let facts = slot_facts image (front ++ c ∷ others) slot n.tiles is_slot in
+    let slot_inside = facts.inside in
+    let size : at + total (c ∷ []) ≡ at + need (length bytes) = omega arith in
+    let beside = slot_beside image front (c ∷ []) others at slot n.tiles tt n.there is_slot in
     let starts = n.starts in
     let there = n.there in
     let at_is = n.at_is in
     let inside = n.inside in
     let most = n.most in
-    record { next = n; own = o.0; held = o.1; slot_end = omega (arith, high, four, starts); area = omega (arith, there); unwound = omega (arith, high, four, starts, there, at_is, inside, most) }
+    record {
+      next = n;
+      own = o.0;
+      held = o.1;
+      is_slot = is_slot;
+      facts = facts;
+      beside = subst (λ (k : ℕ). IsBeside slot at k) size beside;
+      area = omega (arith, there);
+      unwound = omega (arith, slot_inside, at_is, inside, most);
+    }
 
 pub step_mended : (old image mid new : List ℕ) (before done : List Chunk) (bytes : List ℕ) (lock owner slot : ℕ) (rest after : List Chunk) (gap at : ℕ) → Lifting old image before done (movable bytes lock owner slot ∷ rest) after gap at
     → mid ≡ overwritten image at (live_words (length bytes) lock owner (h_offset_to at slot)) → HasHeader mid at (headers.Movable (length bytes) lock owner slot) → new ≡ overwritten mid slot (u32_bytes (at + 8))
@@ -163,24 +183,20 @@ step_mended old image mid new before done bytes lock owner slot rest after gap a
     let start_is = n.start_is in
     let there = n.there in
     let starts = n.starts in
-    let least = n.least in
-    let image_len = l.len in
     let held = m.held in
     let inside : at + need (length bytes) ≤ length image = n.inside in
     let most = n.most in
-    let slot_end = m.slot_end in
+    let slot_inside = m.facts.inside in
     let area = m.area in
-    let count = l.count in
     let head : WroteWithin image mid at (at + 8) = wrote_words image mid at (length bytes) lock owner (h_offset_to at slot) inside mid_is in
     let len = head.len in
-    let word : WroteWithin mid new slot (slot + 4) = wrote_word mid new slot (at + 8) new_is (omega (arith, slot_end, area, inside, len)) in
-    let is_slot : IsSlot image slot = let high : slot < table_end old = m.own.in_table in record { behind_head = m.own.behind_head; in_table = omega (arith, high, count); whole = m.own.whole } in
+    let word : WroteWithin mid new slot (slot + 4) = wrote_word mid new slot (at + 8) new_is (omega (arith, slot_inside, len)) in
     let w : WroteArea image new at (at + total (carried gap c ∷ [])) = record {
       mid = mid;
       slot = slot;
       area = wrote_wider image mid at (at + 8) at (at + total (carried gap c ∷ [])) head (omega arith) (omega arith);
       word = word;
-      is_slot = inr is_slot;
+      is_slot = inr m.is_slot;
       there = area;
       fits = omega arith;
     } in
@@ -189,12 +205,17 @@ step_mended old image mid new before done bytes lock owner slot rest after gap a
     let s : Spelled image at (carried gap c) = n.spelled in
     let same : h.0 ≡ bytes = body_stays image mid at bytes h.0 lock owner s.0 lock owner t.0 s.1 t.1 h.1.1 head in
     let spelled_mid : Spelled mid at c = subst (λ (b : List ℕ). Spelled mid at (movable b lock owner slot)) same t in
-    let spelled_new : Spelled new at c = Spelled-same mid new at c (wrote_apart mid new slot (slot + 4) at (at + need (length bytes)) word (inr (omega (arith, slot_end, area), omega (arith, inside, len)))) word.len spelled_mid in
-    let r : Replaces image new front (carried gap c ∷ []) (c ∷ []) others at = area_replaces image new front (carried gap c ∷ []) (c ∷ []) others at there (omega (arith, inside)) w (spelled_new, omega arith) in
+    let spelled_new : Spelled new at c = Spelled-same mid new at c (beside_same mid new slot at (at + need (length bytes)) at (at + need (length bytes)) word m.beside (omega arith) (omega arith) (omega (arith, inside, len))) word.len spelled_mid in
+    let r : Replaces image new front (carried gap c ∷ []) (c ∷ []) others at = area_replaces image new front (carried gap c ∷ []) (c ∷ []) others at n.tiles there (omega (arith, inside)) w (spelled_new, omega arith) in
     let tiles = replaced_tiles image new front (carried gap c ∷ []) (c ∷ []) others at n.tiles r in
     let slots : (other : ℕ) → IsSlot old other → other ≢ slot → u32_at new other ≡ u32_at image other =
-    λ other o ne. area_slots image new at (at + total (carried gap c ∷ [])) other w (let high : other < table_end old = o.in_table in record { behind_head = o.behind_head; in_table = omega (arith, high, count); whole = o.whole }) (omega (arith, inside)) (λ e. ne (sym e)) in
-    let own : u32_at new slot ≡ at + 8 = ap (λ (bs : List ℕ). u32_at bs slot) new_is ∙ u32_at-written (at + 8) slot mid (omega (arith, slot_end, area, inside, len)) (omega (arith, inside, most)) in
+    λ other o ne. area_slots image new front (carried gap c ∷ []) others at other n.tiles tt there w (slot_alike old image other (same_slots old image l.count) o) (λ e. ne (sym e)) in
+    let own : u32_at new slot ≡ at + 8 = ap (λ (bs : List ℕ). u32_at bs slot) new_is ∙ u32_at-written (at + 8) slot mid (omega (arith, slot_inside, len)) (omega (arith, inside, most)) in
+    let in_front = EveryPlaced-split (λ there d. u32_at new there ≡ u32_at image there) (area_start image) before (free gap ∷ done) r.front.words in
+    let behind = EveryPlaced-split (λ there d. u32_at new there ≡ u32_at image there) (at + total (carried gap c ∷ [])) (all_carried gap rest) after r.back.words in
+    let sizes = carried_total gap rest in
+    let was : at + total (c ∷ rest) ≡ at + need (length bytes) + total rest = omega arith in
+    let is : at + total (carried gap c ∷ []) + total (all_carried gap rest) ≡ at + need (length bytes) + total rest = omega (arith, sizes) in
     record {
       heap = n.grown;
       there = grown_there old before done c gap at l.there;
@@ -213,14 +234,9 @@ step_mended old image mid new before done bytes lock owner slot rest after gap a
         | inl is ↦ let e = ap (u32_at old) is in absurd (elim out [ inl low ↦ omega (arith, low, held, start_is, e) | inr beyond ↦ omega (arith, beyond, held, at_is, e) ])
         | inr isnt ↦ slots other o isnt ∙ l.kept other o (elim out [ inl low ↦ inl low | inr beyond ↦ inr (omega (arith, beyond)) ])
       ];
-      plain = sym (u32_at-same (area_start old + total before) image new (area_start image) at r.front (omega (arith, starts)) (omega (arith, start_is, at_is, least))) ∙ l.plain;
-      apart = λ k low out. elim out [
-        | inl front_of ↦ sym (u32_at-same k image new (area_start image) at r.front (omega (arith, low, starts)) (omega (arith, front_of, start_is, at_is))) ∙ l.apart k low (inl front_of)
-        | inr back ↦
-            let from = back.0 in
-            let to = back.1 in
-            sym (u32_at-same k image new (at + total (carried gap c ∷ [])) (length image) r.back (omega (arith, from)) (omega (arith, to, image_len))) ∙ l.apart k low (inr (omega (arith, from), back.1))
-      ];
+      plain = subst (λ (k : ℕ). u32_at new (k + total before) ≡ u32_at image (k + total before)) starts in_front.1.0 ∙ l.plain;
+      front = words_then old image new (area_start old) before l.front (subst (λ (k : ℕ). SameWords image new k before) starts in_front.0);
+      back = words_then old image new (at + need (length bytes) + total rest) after (subst (λ (k : ℕ). SameWords old image k after) was l.back) (subst (λ (k : ℕ). SameWords image new k after) is behind.1);
     }
 
 -- ---- the header that is read
@@ -266,9 +282,9 @@ pub record CanMend (old image : List ℕ) (at count lock owner slot : ℕ) : Typ
   pub is_slot : IsSlot image slot
   pub table : table_end image ≤ at
 
-pub can_mend : (old image : List ℕ) (before done : List Chunk) (c : Chunk) (rest after : List Chunk) (gap at count lock owner named : ℕ) → slot_count image ≡ slot_count old → ReadsMovable old image before done c rest after gap at count lock owner named
+pub can_mend : (old image : List ℕ) (before done : List Chunk) (c : Chunk) (rest after : List Chunk) (gap at count lock owner named : ℕ) → ReadsMovable old image before done c rest after gap at count lock owner named
     → (gap ≤ named) × CanMend old image at count lock owner (named - gap)
-can_mend old image before done c rest after gap at count lock owner named counts r =
+can_mend old image before done c rest after gap at count lock owner named r =
     let m = r.mendable in
     let s : Spelled image at (carried gap (movable r.bytes lock owner r.slot)) = m.next.spelled in
     let n = r.count_is in
@@ -277,20 +293,18 @@ can_mend old image before done c rest after gap at count lock owner named counts
     let whole = m.next.whole in
     let inside : at + need (length r.bytes) ≤ length image = m.next.inside in
     let most = m.next.most in
-    let slot_end = m.slot_end in
+    let slot_inside = m.facts.inside in
     let area = m.area in
     let fits : need (length r.bytes) < 2 ^ 24 = s.1.size_fits in
-    let high : r.slot < table_end old = m.own.in_table in
-    let four : r.slot % 4 ≡ 0 = m.own.whole in
-    let first = m.own.behind_head in
+    let four = m.facts.whole in
     let back : named - gap ≡ r.slot = omega (arith, e) in
     let size : need count ≡ need (length r.bytes) = ap need n in (
       omega (arith, e),
       record {
-        writable = (omega (arith, size, fits), low, s.1.owner_fits, s.3, omega (arith, back, slot_end, area, inside, most), omega (arith, back, four, whole));
+        writable = (omega (arith, size, fits), low, s.1.owner_fits, s.3, omega (arith, back, slot_inside, most), omega (arith, back, four, whole));
         inside = omega (arith, size, inside);
         small = omega (arith, most);
-        is_slot = subst (λ (x : ℕ). IsSlot image x) (sym back) record { behind_head = first; in_table = omega (arith, high, counts); whole = four };
+        is_slot = subst (λ (x : ℕ). IsSlot image x) (sym back) m.is_slot;
         table = omega arith;
       },
     )

@@ -13,12 +13,13 @@ use Rattle.laws_heap.proofs.Frames.{u32_at-written}
 use Rattle.laws_heap.proofs.Chunks.{Spelled-size, Spelled-same}
 use Rattle.laws_heap.proofs.Shapes.{chunk_at-spelled, chunk_at-none}
 use Rattle.laws_heap.proofs.Runs.{chunks_of-tiled}
+use Rattle.laws_heap.proofs.Slots.{slot_facts, free_hold_none, named_hold_none, slot_beside}
 use Rattle.laws_heap.proofs.Replacing.{Replaces, same_start}
 use Rattle.laws_heap.proofs.Layouts.{merged-middle, runs-merged}
 use Rattle.laws_heap.proofs.Becoming.{becomes_heap, becomes_alike}
 use Rattle.laws_heap.proofs.Exchanging.{exchanges_parts}
 use Rattle.laws_heap.proofs.Changing.{named_live_chunk}
-use Rattle.laws_heap.proofs.Writing.{WroteWithin, wrote_none, wrote_word, wrote_wider, wrote_apart, wrote_word_apart, WroteArea, area_replaces, area_slots}
+use Rattle.laws_heap.proofs.Writing.{WroteWithin, wrote_none, wrote_word, wrote_wider, WroteArea, area_replaces, wrote_slot, area_slots, beside_same, beside_word}
 use Rattle.laws_heap.proofs.Plain.{free_plain, replaced_plain}
 use Rattle.laws_heap.proofs.Freeing.{OtherSlots, ClearsSlot, released}
 use Rattle.chunk_format.specs.declared.header.Header.TheVariants as headers
@@ -101,8 +102,9 @@ given old mid new at all name live (free size) accepted g f sums is header empti
 given old mid new at all name live (movable bytes lock owner slot) accepted g f sums is header emptied =
     let c : Chunk = movable bytes lock owner slot in
     let s : IsSlot old slot = own_slot old name at live bytes lock owner slot accepted f in
-    let high : slot < table_end old = s.in_table in
-    let four : slot % 4 ≡ 0 = s.whole in
+    let slot_inside = (slot_facts old accepted.0 slot accepted.1.tiles s).inside in
+    let none = free_hold_none g.run g.all_free in
+    let beside = slot_beside old g.before (c ∷ g.run) g.rest at slot g.heap.tiles none g.middle.there s in
     let inside = g.middle.inside in
     let there = g.middle.there in
     let least = (Spelled-size old at c g.spelled).0 in
@@ -113,12 +115,13 @@ given old mid new at all name live (movable bytes lock owner slot) accepted g f 
     record {
       area = area;
       clears = ap (λ (x : List ℕ). u32_at x slot) emptied ∙ u32_at-written 0 slot mid (omega arith) (omega arith);
-      others = record { same = λ t ts ne. area_slots old new at (at + total (c ∷ g.run)) t area ts (omega arith) (λ e. ne (sym e ∙ f.named.0)) };
-      spelled = Spelled-same mid new at (free all) (wrote_apart mid new slot (slot + 4) at (at + all) word (inr (omega arith, omega arith))) word.len (has_free mid at all header);
-      word = wrote_word_apart mid new slot (slot + 4) at word (inr (omega arith, omega arith)) ∙ first_is old mid at all is (omega arith) (omega arith);
+      others = record { same = λ t ts ne. area_slots old new g.before (c ∷ g.run) g.rest at t g.heap.tiles none g.middle.there area ts (λ e. ne (sym e ∙ f.named.0)) };
+      spelled = Spelled-same mid new at (free all) (beside_same mid new slot at (at + total (c ∷ g.run)) at (at + all) word beside (omega arith) (omega arith) (omega arith)) word.len (has_free mid at all header);
+      word = beside_word mid new slot at (at + total (c ∷ g.run)) at word beside (omega arith) (omega arith) (omega arith) ∙ first_is old mid at all is (omega arith) (omega arith);
     }
 given old mid new at all name live (fixed bytes owner) accepted g f sums is header emptied =
     let c : Chunk = fixed bytes owner in
+    let none = named_hold_none old g.before c g.run g.rest name live g.heap (subst (λ (n : ℕ). NamedHere name live n c) g.middle.there f.named) g.all_free in
     let inside = g.middle.inside in
     let there = g.middle.there in
     let least = (Spelled-size old at c g.spelled).0 in
@@ -127,12 +130,10 @@ given old mid new at all name live (fixed bytes owner) accepted g f sums is head
     record {
       area = area;
       clears = tt;
-      others = record { same = λ t ts ne. area_slots old new at (at + total (c ∷ g.run)) t area ts (omega arith) (λ e. beyond t ts e) };
+      others = record { same = λ t ts ne. wrote_slot old new g.before (c ∷ g.run) g.rest at t g.heap.tiles none g.middle.there first ts };
       spelled = subst (λ (image : List ℕ). Spelled image at (free all)) (sym emptied) (has_free mid at all header);
       word = ap (λ (x : List ℕ). u32_at x at) emptied ∙ first_is old mid at all is (omega arith) (omega arith);
-    } where
-      beyond : (t : ℕ) → IsSlot old t → at ≡ t → ⊥
-      beyond t ts e = let high : t < table_end old = ts.in_table in let there = g.middle.there in omega arith
+    }
 
 -- the chunk of another name is not the directory
 not_directory : (image : List ℕ) (at name : ℕ) (live : LiveChunk) (chunk : Chunk) → name ≢ directory_of image → NamedHere name live at chunk → ManagersHere (directory_of image) at chunk → ⊥
@@ -147,7 +148,7 @@ gave_back old mid new at all name live chunk accepted own f sums is header empti
     let behind_it = g.sums in
     let least = (Spelled-size old at chunk g.spelled).0 in
     let w = given old mid new at all name live chunk accepted g f (omega arith) is header emptied in
-    let replaces : Replaces old new g.before (chunk ∷ g.run) (free all ∷ []) g.rest at = area_replaces old new g.before (chunk ∷ g.run) (free all ∷ []) g.rest at g.middle.there g.middle.inside w.area (w.spelled, omega arith) in
+    let replaces : Replaces old new g.before (chunk ∷ g.run) (free all ∷ []) g.rest at = area_replaces old new g.before (chunk ∷ g.run) (free all ∷ []) g.rest at g.heap.tiles g.middle.there g.middle.inside w.area (w.spelled, omega arith) in
     let heap = released old new g.before chunk g.run g.rest at all name live g.heap replaces g.all_free f.named (not_directory old at name live chunk own f.named) w.clears w.others in
     let there = g.middle.there in
     let start : area_start new ≡ area_start old = same_start old new replaces.head in

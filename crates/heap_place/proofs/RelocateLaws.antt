@@ -24,7 +24,8 @@ use Rattle.laws_heap.proofs.Fitting.{room_is_run}
 use Rattle.laws_heap.proofs.Compacting.{slot_unheld}
 use Rattle.laws_heap.proofs.Chunks.{Spelled-same}
 use Rattle.laws_heap.proofs.Frames.{u32_at-written, length-overwritten}
-use Rattle.laws_heap.proofs.Writing.{WroteWithin, wrote_wider, wrote_word, wrote_apart, WroteArea, area_replaces, area_slots}
+use Rattle.laws_heap.proofs.Slots.{slot_facts, named_hold_none, slot_beside}
+use Rattle.laws_heap.proofs.Writing.{WroteWithin, wrote_wider, wrote_word, WroteArea, area_replaces, area_slots, beside_same}
 use Rattle.laws_heap.proofs.Freeing.{OtherSlots, claimed}
 use Rattle.laws_heap.proofs.Becoming.{becomes_heap, slot_kept}
 use Rattle.laws_heap.proofs.Plain.{lives_plain, replaced_plain}
@@ -35,7 +36,7 @@ use Rattle.heap_place.specs.declared.found.Found.{Found}
 use Rattle.heap_place.specs.Found.{IsOne}
 use Rattle.heap_place.specs.Relocation.{stand_in, KeepsFound, Copies, with_name, RelocatesToRun}
 use Rattle.heap_place.proofs.FoundLaws.{heap_in_parts, middle_of, found_inside, own_slot, one_held, when_movable}
-use Rattle.heap_place.proofs.CutLaws.{slot_facts, header_movable, wrote_words, table_kept}
+use Rattle.heap_place.proofs.CutLaws.{header_movable, wrote_words, table_kept}
 use Rattle.heap_place.proofs.AlterLaws.{changed_there, written_there}
 
 -- ---- what is held is found
@@ -110,8 +111,9 @@ named_write old mid new at name live bytes holder owner slot h f s empty mid_is 
     let m = middle_of old f.before (c ∷ []) f.after at heap f.there in
     let inside = m.inside in
     let there = f.there in
-    let sf = slot_facts old slot h s in
-    let low = sf.0 in
+    let slot_inside = (slot_facts old h.0 slot h.1.tiles s).inside in
+    let none = named_hold_none old f.before c [] f.after name live heap (subst (λ (n : ℕ). NamedHere name live n c) f.there f.named) tt in
+    let beside = slot_beside old f.before (c ∷ []) f.after at slot heap.tiles none f.there s in
     let first : WroteWithin old mid at (at + 8) = wrote_words old mid at (length bytes) 0 owner (h_offset_to at slot) (omega arith) mid_is in
     let len = first.len in
     let word : WroteWithin mid new slot (slot + 4) = wrote_word mid new slot (at + 8) new_is (omega arith) in
@@ -120,12 +122,12 @@ named_write old mid new at name live bytes holder owner slot h f s empty mid_is 
     let now : Spelled mid at (movable k.0 0 owner slot) = subst (λ (x : Chunk). Spelled mid at x) k.1.0 header.spelled in
     let same : k.0 ≡ bytes = body_stays old mid at bytes k.0 fixed_lock holder 0 0 owner now.0 was now.1 k.1.1 first in
     let spelled_mid : Spelled mid at d = subst (λ (x : List ℕ). Spelled mid at (movable x 0 owner slot)) same now in
-    let spelled : Spelled new at d = Spelled-same mid new at d (wrote_apart mid new slot (slot + 4) at (at + need (length bytes)) word (inr (omega arith, omega arith))) word.len spelled_mid in
+    let spelled : Spelled new at d = Spelled-same mid new at d (beside_same mid new slot at (at + (need (length bytes) + 0)) at (at + need (length bytes)) word beside (omega arith) (omega arith) (omega arith)) word.len spelled_mid in
     let all : WroteWithin old mid at (at + (need (length bytes) + 0)) = wrote_wider old mid at (at + 8) at (at + (need (length bytes) + 0)) first (omega arith) (omega arith) in
     let area : WroteArea old new at (at + (need (length bytes) + 0)) = record { mid = mid; slot = slot; area = all; word = word; is_slot = inr s; there = omega arith; fits = omega arith } in
-    let replaces = area_replaces old new f.before (c ∷ []) (d ∷ []) f.after at f.there m.inside area (spelled, omega arith) in
+    let replaces = area_replaces old new f.before (c ∷ []) (d ∷ []) f.after at heap.tiles f.there m.inside area (spelled, omega arith) in
     let holds : u32_at new slot ≡ at + 8 = ap (λ (x : List ℕ). u32_at x slot) new_is ∙ u32_at-written (at + 8) slot mid (omega arith) (omega arith) in
-    let others : OtherSlots old new slot = record { same = λ t ts ne. area_slots old new at (at + (need (length bytes) + 0)) t area ts (omega arith) (λ e. ne (sym e)) } in
+    let others : OtherSlots old new slot = record { same = λ t ts ne. area_slots old new f.before (c ∷ []) f.after at t heap.tiles none f.there area ts (λ e. ne (sym e)) } in
     let done = claimed old new f.before f.after at c bytes owner slot tt heap replaces s empty holds others in (
       becomes_heap old new (f.before ++ d ∷ f.after) replaces.head done,
       replaced_plain old new f.before (c ∷ []) (d ∷ []) f.after at f.chunks done replaces (lives_plain new at (d ∷ []) refl),
@@ -162,8 +164,8 @@ named_writable image there slot h one s =
     let m = middle_of image one.finds.before (one.chunk ∷ []) one.finds.after (there.place.0 - 8) (heap_in_parts image (one.finds.before ++ one.chunk ∷ one.finds.after) h one.finds.chunks) one.finds.there in
     let whole = m.start_whole in
     let most = m.most in
-    let sf = slot_facts image slot h s in
-    let low = sf.0 in let four = sf.1 in let area = sf.2 in
+    let facts = slot_facts image h.0 slot h.1.tiles s in
+    let slot_inside = facts.inside in let four = facts.whole in
     (omega arith, omega arith, omega arith)
 
 -- the header leaves the table where it is

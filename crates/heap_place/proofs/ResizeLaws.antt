@@ -31,7 +31,8 @@ use Rattle.heap_place.specs.Found.{IsOne}
 use Rattle.heap_place.specs.Search.{WroteRest}
 use Rattle.heap_place.specs.Resizes.{sized_header, RunBehind, Resizes}
 use Rattle.heap_place.proofs.FoundLaws.{heap_in_parts, Middle, middle_of, own_slot, Fields, fields_of, found_size, bytes_inside}
-use Rattle.heap_place.proofs.CutLaws.{slot_facts, gap_spelled, gap_plain, rest_within, header_movable, header_fixed, wrote_words}
+use Rattle.laws_heap.proofs.Slots.{slot_facts}
+use Rattle.heap_place.proofs.CutLaws.{gap_spelled, gap_plain, rest_within, header_movable, header_fixed, wrote_words}
 
 -- ---- where the chunk and the free ones behind it lie
 
@@ -82,8 +83,8 @@ writable_by : (image : List ℕ) (name at count : ℕ) (live : LiveChunk) (c : C
 writable_by image name at count live (free size) h f whole small = absurd f.named
 writable_by image name at count live (movable bytes lock owner slot) h f whole small =
     let s : Spelled image at (movable bytes lock owner slot) = finds_spelled image name live (movable bytes lock owner slot) at h f in
-    let n = slot_facts image slot h (own_slot image name at live bytes lock owner slot h f) in
-    let low = n.0 in let four = n.1 in let area = n.2 in let most = n.4 in
+    let facts = slot_facts image h.0 slot h.1.tiles (own_slot image name at live bytes lock owner slot h f) in
+    let slot_inside = facts.inside in let four = facts.whole in let most = h.1.tiles.head.most in
     let len = length-sized_to bytes count in
     (omega arith, s.2, s.1.owner_fits, s.3, omega arith, omega arith)
 writable_by image name at count live (fixed bytes owner) h f whole small =

@@ -7,7 +7,7 @@ use Rattle.std.specs.Bool.{Decides}
 use Rattle.std.specs.List.{list_all}
 use Rattle.heap_model.specs.Bytes.{u16_at, u32_at}
 use Rattle.heap_model.specs.Chunk.{Chunk, free, movable, fixed, total, SpelledAll}
-use Rattle.heap_model.specs.Slots.{IsSlot, slot_count, table_end, head_end, slots_of, area_start, is_slot}
+use Rattle.heap_model.specs.Slots.{slot_count, head_end, slots_of, area_start}
 use Rattle.heap_model.specs.Frame.{magic, most_size}
 use Rattle.heap_model.specs.Heap.{IsHead, Tiles, BodyHere, IsCallersIfFixed, ManagersHere, HasDirectory, directory_of, IsHeap, HeapAccepted}
 use Rattle.heap_model.specs.Placed.{EveryPlaced, AnyPlaced, EveryOne}
@@ -16,6 +16,7 @@ use Rattle.heap_model.specs.Reading.{chunks_of, head_tests, area_tests, is_body_
 use Rattle.laws_heap.proofs.Deciding.{Decides-nat_le}
 use Rattle.laws_heap.proofs.Chunks.{SpelledAll-end}
 use Rattle.laws_heap.proofs.Placed.{Decides-every, Decides-any, Decides-every_one}
+use Rattle.laws_heap.proofs.Slots.{Decides-slot}
 use Rattle.laws_heap.proofs.Runs.{chunks_from-spelled, chunks_of-tiled}
 use Rattle.laws_heap.proofs.Bodies.{tied_halves, halves_tied}
 
@@ -78,10 +79,6 @@ Decides-holds image slot = Decides-like _ (λ h used. elim h [ inl none ↦ absu
     (Decides-or _ _ (Decides-eqb (u32_at image slot) 0) (Decides-any _ _ (Decides-body slot (u32_at image slot)) (area_start image) (chunks_of image))) where
       holds : HoldsBody image (chunks_of image) slot → (u32_at image slot ≡ 0) ⊎ AnyPlaced (BodyHere slot (u32_at image slot)) (area_start image) (chunks_of image)
       holds h = elim (cases_eq (u32_at image slot) 0) [ inl none ↦ inl none | inr used ↦ inr (h used) ]
-
-pub Decides-slot : (image : List ℕ) (slot : ℕ) → Decides (is_slot image slot) (IsSlot image slot)
-Decides-slot image slot = Decides-like _ (λ h. record { behind_head = h.0.0; in_table = h.0.1; whole = h.1 }) (λ s. ((s.behind_head, s.in_table), s.whole))
-    (Decides-and _ _ (Decides-and _ _ (Decides-nat_le 16 slot) (Decides-ltb slot (table_end image))) (Decides-eqb (slot % 4) 0))
 
 pub Decides-names : (image : List ℕ) (at : ℕ) (c : Chunk) → Decides (names_its_slot image at c) (NamesItsSlot image at c)
 Decides-names image at (free size) = (λ e. tt, λ h. refl)

@@ -4,7 +4,7 @@ use Rattle.std.specs.Prelude.{◌↔◌, ◌==◌, slice_range}
 use Rattle.std.proofs.lemmas.Bool.{eq-eqb}
 use Rattle.heap_model.specs.Bytes.{overwritten}
 use Rattle.heap_model.specs.Chunk.{Chunk, free, movable, fixed, fixed_lock, need, size_of, total, IsLive, Spelled, SpelledAll}
-use Rattle.heap_model.specs.Slots.{table_end, area_start}
+use Rattle.heap_model.specs.Slots.{area_start}
 use Rattle.heap_model.specs.Heap.{BodyHere, IsCallersIfFixed, ManagersHere, directory_of, IsHeap, HeapAccepted}
 use Rattle.heap_model.specs.Placed.{AnyPlaced}
 use Rattle.heap_model.specs.Meaning.{LiveChunk, NamedHere}
@@ -24,7 +24,8 @@ use Rattle.laws_heap.proofs.Finding.{read_heap, finds_spelled}
 use Rattle.laws_heap.proofs.Frames.{length-overwritten, slice-same, slice-overwritten-within}
 use Rattle.laws_heap.proofs.Chunks.{total-append, Spelled-size, SpelledAll-end}
 use Rattle.laws_heap.proofs.Placed.{EveryPlaced-split}
-use Rattle.laws_heap.proofs.Writing.{WroteWithin, wrote_none, wrote_part, wrote_wider, wrote_apart, wrote_word_apart, WroteArea, area_replaces}
+use Rattle.laws_heap.proofs.Slots.{named_hold_none}
+use Rattle.laws_heap.proofs.Writing.{WroteWithin, wrote_none, wrote_part, wrote_wider, wrote_apart, wrote_word_apart, WroteArea, area_replaces, wrote_slots}
 
 -- ---- what is read of a chunk of a name
 
@@ -121,8 +122,8 @@ rewritten old new name at live c run d left rest h f parts free_run free_left w 
     let more = total-append (c ∷ run) rest in
     let least = (Spelled-size old at c (finds_spelled old name live c at h f)).0 in
     let area : WroteArea old new at (at + total (c ∷ run)) = record { mid = new; slot = at; area = w; word = wrote_none new at (at + 4); is_slot = inl refl; there = omega arith; fits = omega arith } in
-    let r = area_replaces old new f.before (c ∷ run) (d ∷ left) rest at there (omega arith) area spelled in
-    let slots : SameSlots old new = record { same = λ slot s. let high : slot < table_end old = s.in_table in let whole : slot % 4 ≡ 0 = s.whole in wrote_word_apart old new at (at + total (c ∷ run)) slot w (inl (omega arith)) } in
+    let r = area_replaces old new f.before (c ∷ run) (d ∷ left) rest at heap.tiles there (omega arith) area spelled in
+    let slots = wrote_slots old new f.before (c ∷ run) rest at heap.tiles (named_hold_none old f.before c run rest name live heap (subst (λ (n : ℕ). NamedHere name live n c) there f.named) free_run) there w in
     record { replaces = r; heap = altered_run old new f.before c run d left rest at heap r slots free_run free_left alike kept callers }
 
 -- bytes of the chunk alone were written, and now another chunk of its size and its name stands there

@@ -5,7 +5,7 @@ use Rattle.std.proofs.lemmas.Bool.{cases_eq}
 use Rattle.std.proofs.lemmas.List.Sums.{sum_by-cons}
 use Rattle.heap_model.specs.Bytes.{u32_at}
 use Rattle.heap_model.specs.Chunk.{Chunk, free_size}
-use Rattle.heap_model.specs.Slots.{IsSlot, table_end, area_start}
+use Rattle.heap_model.specs.Slots.{IsSlot, area_start}
 use Rattle.heap_model.specs.Heap.{BodyHere, IsBody, IsHeap, HeapAccepted}
 use Rattle.heap_model.specs.Placed.{EveryOne}
 use Rattle.heap_model.specs.Reading.{chunks_of, held, live_under}
@@ -14,6 +14,7 @@ use Rattle.heap_model.specs.Placing.{SameFrame}
 use Rattle.heap_model.specs.Layout.{merged, layout_of, Becomes}
 use Rattle.laws_heap.proofs.Finding.{read_heap}
 use Rattle.laws_heap.proofs.Runs.{chunks_of-tiled}
+use Rattle.laws_heap.proofs.Slots.{same_slots as listed_alike, slot_alike, start_alike}
 use Rattle.laws_heap.proofs.Replacing.{SameHead, same_count, same_directory}
 use Rattle.laws_heap.proofs.Layouts.{live_under-merged, place_under-merged, free_total-merged, rooms-merged, free_behind-merged, any-merged, no_run-layout}
 
@@ -52,7 +53,7 @@ pub becomes_alike : (old new : List ℕ) (cs ds : List Chunk) → merged cs ≡ 
 becomes_alike old new cs ds e b = record { frame = b.frame; layout = b.layout ∙ e }
 
 pub becomes_start : (old new : List ℕ) (cs : List Chunk) → Becomes old new cs → area_start new ≡ area_start old
-becomes_start old new cs b = ap (λ (n : ℕ). 8 * ((16 + 4 * n + 7) / 8)) b.frame.count
+becomes_start old new cs b = start_alike old new b.frame.count
 
 pub becomes_held : (old new : List ℕ) (cs : List Chunk) (name : ℕ) → Becomes old new cs → held new name ≡ live_under (area_start old) cs name
 becomes_held old new cs name b =
@@ -82,10 +83,7 @@ becomes_body old new cs slot place b =
     )
 
 pub slot_kept : (old new : List ℕ) (cs : List Chunk) (slot : ℕ) → Becomes old new cs → IsSlot old slot → IsSlot new slot
-slot_kept old new cs slot b s =
-    let count = b.frame.count in
-    let high : slot < table_end old = s.in_table in
-    record { behind_head = s.behind_head; in_table = omega arith; whole = s.whole }
+slot_kept old new cs slot b s = slot_alike old new slot (listed_alike old new b.frame.count) s
 
 -- a slot in use holds the place of the chunk that names it
 pub becomes_in_slot : (old new : List ℕ) (cs : List Chunk) (slot place : ℕ) → Becomes old new cs → IsSlot old slot → 0 < place → (u32_at new slot ≡ place) ↔ IsBody (area_start old) cs slot place

@@ -2,8 +2,8 @@
 use Rattle.std.proofs.Common.{◌≡◌, ◌≢◌, ℕ, ◌+◌, ◌-◌, ◌<◌, ◌≤◌, List, [], ◌∷◌, ◌++◌, length, Option, Some, None, refl, sym, ap, subst, ◌∙◌, arith, inl, inr}
 use Rattle.heap_model.specs.Bytes.{overwritten}
 use Rattle.heap_model.specs.Chunk.{Chunk, free, movable, fixed, fixed_lock, need, size_of, total}
-use Rattle.heap_model.specs.Slots.{table_end, area_start}
-use Rattle.heap_model.specs.Heap.{IsHeap, HeapAccepted}
+use Rattle.heap_model.specs.Slots.{area_start}
+use Rattle.heap_model.specs.Heap.{Tiles, IsHeap, HeapAccepted}
 use Rattle.heap_model.specs.Placed.{AnyPlaced}
 use Rattle.heap_model.specs.Meaning.{LiveChunk, NamedHere}
 use Rattle.heap_model.specs.Reading.{chunks_of, held}
@@ -12,6 +12,7 @@ use Rattle.heap_model.specs.Placing.{Finds}
 use Rattle.heap_model.specs.Layout.{merged, layout_of, Exchanges, Alters, gap, in_front, freed, with_lock, with_owner, with_bytes, IsRoom}
 use Rattle.laws_heap.proofs.Frames.{length-overwritten}
 use Rattle.laws_heap.proofs.Placed.{At, one_at, AnyPlaced-mid, SpelledAll-takes}
+use Rattle.laws_heap.proofs.Slots.{IsBeside, slot_beside}
 use Rattle.laws_heap.proofs.Meanings.{live_under-there, with_offset, slot_place, held-is}
 use Rattle.laws_heap.proofs.Altering.{named_live, named_place}
 use Rattle.laws_heap.proofs.Finding.{read_heap}
@@ -107,12 +108,19 @@ free_unheld image before size after h e = nothing (held image place) refl where
   not_free : (live : LiveChunk) (at : ℕ) (c : Chunk) → NamedHere place live at c → c ≡ free size → ⊥
   not_free live at c n e = subst (λ (d : Chunk). NamedHere place live at d) e n
 
+  parts : Tiles image (before ++ free size ∷ after)
+  parts = subst (λ (cs : List Chunk). Tiles image cs) e heap.tiles
+
+  no_slot : IsBeside place (area_start image + total before) (area_start image + total before + total (free size ∷ [])) → ⊥
+  no_slot (inl front) = omega arith
+  no_slot (inr back) = omega arith
+
   nothing : (x : Option LiveChunk) → held image place ≡ x → x ≡ None
   nothing None e = refl
   nothing (Some live) e =
       let o = with_offset place live (area_start image) (chunks_of image) (live_under-there (area_start image) (chunks_of image) place live (sym (held-is image (chunks_of image) place heap) ∙ e)) in
       elim o.kind [
-        | inl b ↦ let high : place < table_end image = (slot_place image (chunks_of image) place (o.at + 8) heap b).0.in_table in absurd (omega arith)
+        | inl b ↦ absurd (no_slot (slot_beside image before (free size ∷ []) after (area_start image + total before) place parts tt refl (slot_place image (chunks_of image) place (o.at + 8) heap b).0))
         | inr is ↦
             let same : o.at ≡ area_start image + total before = omega arith in
             let both = one_at (NamedHere place live) (λ at c. c ≡ free size) (area_start image + total before) (area_start image) (chunks_of image) (SpelledAll-takes image (area_start image) (chunks_of image) (length image) heap.tiles.area)

@@ -2,6 +2,7 @@
 use Rattle.std.proofs.Common.{◌≡◌, ℕ, ◌+◌, ◌-◌, ◌*◌, ◌%◌, ◌^◌, ◌<◌, ◌≤◌, List, [], ◌∷◌, ◌++◌, length, take, drop, refl, sym, ap, subst, ◌∙◌, arith}
 use Rattle.heap_model.specs.Bytes.{u32_at}
 use Rattle.heap_model.specs.Chunk.{Chunk, free, movable, fixed, need, size_of, total, slot_named, IsFree, IsLive, Spelled, SpelledAll}
+use Rattle.heap_model.specs.Placed.{EveryPlaced}
 use Rattle.laws_heap.proofs.Frames.{SameBetween, SameBetween-within, u32_at-same, slice-same}
 
 -- ---- sizes
@@ -75,6 +76,33 @@ SpelledAll-same xs ys at (c ∷ cs) end agree len s =
       Spelled-same xs ys at c (SameBetween-within at end at (at + size_of c) xs ys agree (omega arith) (omega arith)) len s.0,
       SpelledAll-same xs ys (at + size_of c) cs end (SameBetween-within at end (at + size_of c) end xs ys agree (omega arith) (omega arith)) len s.1,
     )
+
+-- ---- chunks that are spelled again
+
+-- the first words of their headers are as they were
+abbrev pub SameWords : List ℕ → List ℕ → ℕ → List Chunk → Type 0
+SameWords old new at cs = EveryPlaced (λ there c. u32_at new there ≡ u32_at old there) at cs
+
+-- chunks that begin at an offset are spelled there again
+pub record SpellsAgain (old new : List ℕ) (at : ℕ) (cs : List Chunk) : Type 0 where
+  pub spelled : SpelledAll new at cs (at + total cs)
+  pub words : SameWords old new at cs
+
+words_same : (old new : List ℕ) (at : ℕ) (cs : List Chunk) (end : ℕ) → SameBetween at end old new → SpelledAll old at cs end → SameWords old new at cs
+words_same old new at [] end agree s = tt
+words_same old new at (c ∷ cs) end agree s =
+    let least = (Spelled-size old at c s.0).0 in
+    let e : end ≡ at + size_of c + total cs = SpelledAll-end old (at + size_of c) cs end s.1 in (
+      sym (u32_at-same at old new at end agree (omega arith) (omega arith)),
+      words_same old new (at + size_of c) cs end (SameBetween-within at end (at + size_of c) end old new agree (omega arith) (omega arith)) s.1,
+    )
+
+pub spells_same : (old new : List ℕ) (at : ℕ) (cs : List Chunk) → SameBetween at (at + total cs) old new → length new ≡ length old → SpelledAll old at cs (at + total cs) → SpellsAgain old new at cs
+spells_same old new at cs agree len s = record { spelled = SpelledAll-same old new at cs (at + total cs) agree len s; words = words_same old new at cs (at + total cs) agree s }
+
+pub words_then : (old mid new : List ℕ) (at : ℕ) (cs : List Chunk) → SameWords old mid at cs → SameWords mid new at cs → SameWords old new at cs
+words_then old mid new at [] first second = tt
+words_then old mid new at (c ∷ cs) first second = (second.0 ∙ first.0, words_then old mid new (at + size_of c) cs first.1 second.1)
 
 -- ---- one chunk at most at an offset, and one run at most
 

@@ -5,7 +5,7 @@ use Rattle.std.specs.Prelude.{◌⊎◌}
 use Rattle.heap_model.specs.Bytes.{u32_at, u32_bytes, overwritten}
 use Rattle.heap_model.specs.Chunk.{Chunk, free, movable, fixed, total, SpelledAll}
 use Rattle.heap_model.specs.Frame.{directory_at}
-use Rattle.heap_model.specs.Slots.{IsSlot, slot_count, table_end, head_end, area_start, start_behind}
+use Rattle.heap_model.specs.Slots.{IsSlot, slot_count, head_end, area_start}
 use Rattle.heap_model.specs.Heap.{IsHead, IsBody, Tiles, Tied, IsCallersIfFixed, ManagersHere, HasDirectory, directory_of, IsHeap, HeapAccepted}
 use Rattle.heap_model.specs.Placed.{EveryPlaced, AnyPlaced}
 use Rattle.heap_model.specs.Meaning.{LiveChunk, NamedHere}
@@ -17,6 +17,7 @@ use Rattle.heap_model.specs.Store.{managers_owner, owner_of, owner_under}
 use Rattle.heap_model.specs.Leaving.{NamesDirectory}
 use Rattle.laws_heap.proofs.Frames.{SameBetween, SameBetween-within, u16_at-same, u32_at-same, u32_at-written}
 use Rattle.laws_heap.proofs.Chunks.{SpelledAll-same, SpelledAll-end}
+use Rattle.laws_heap.proofs.Slots.{slot_facts, same_slots, slot_alike, start_alike}
 use Rattle.laws_heap.proofs.Runs.{chunks_of-tiled}
 use Rattle.laws_heap.proofs.Placed.{EveryPlaced-split, AnyPlaced-mid, SpelledAll-takes}
 use Rattle.laws_heap.proofs.Finding.{read_heap, held_finds}
@@ -73,7 +74,7 @@ directory_written old new word h is fits may = (record { accepted = (cs, heap_ne
   count = sym (u16_at-same 8 old new 0 12 w.below (omega arith) (omega arith))
 
   start : area_start new ≡ area_start old
-  start = ap start_behind count
+  start = start_alike old new count
 
   behind : SameBetween (area_start old) (length old) old new
   behind = SameBetween-within 16 (length old) (area_start old) (length old) old new w.above (omega arith) (omega arith)
@@ -112,17 +113,15 @@ directory_written old new word h is fits may = (record { accepted = (cs, heap_ne
   map_same name = ap (λ (n : ℕ). live_under n (chunks_of new) name) start ∙ ap (λ (ds : List Chunk). live_under (area_start old) ds name) chunks_same
 
   slot_was : (slot : ℕ) → IsSlot new slot → IsSlot old slot
-  slot_was slot s = let high : slot < table_end new = s.in_table in record { behind_head = s.behind_head; in_table = omega (arith, high, count); whole = s.whole }
+  slot_was slot s = slot_alike new old slot (sym (same_slots old new count)) s
 
   slot_is : (slot : ℕ) → IsSlot old slot → IsSlot new slot
-  slot_is slot s = let high : slot < table_end old = s.in_table in record { behind_head = s.behind_head; in_table = omega (arith, high, count); whole = s.whole }
+  slot_is slot s = slot_alike old new slot (same_slots old new count) s
 
   slot_same : (slot : ℕ) → IsSlot old slot → u32_at new slot ≡ u32_at old slot
   slot_same slot s =
-      let low : 16 ≤ slot = s.behind_head in
-      let high : slot < table_end old = s.in_table in
-      let four : slot % 4 ≡ 0 = s.whole in
-      wrote_word_apart old new 12 16 slot w (inr (low, omega (arith, high, four, inside)))
+      let facts = slot_facts old cs slot heap.tiles s in
+      wrote_word_apart old new 12 16 slot w (inr (facts.low, facts.inside))
 
   tied_new : Tied new cs
   tied_new slot place some = (
@@ -151,7 +150,7 @@ directory_written old new word h is fits may = (record { accepted = (cs, heap_ne
 -- ---- where another directory is named
 
 pub named_start : (old new : List ℕ) (word : ℕ) → NamesDirectory old new word → area_start new ≡ area_start old
-named_start old new word n = ap start_behind n.count
+named_start old new word n = start_alike old new n.count
 
 pub named_finds : (old new : List ℕ) (word name : ℕ) (live : LiveChunk) (chunk : Chunk) (at : ℕ) → NamesDirectory old new word → Finds old name live chunk at → Finds new name live chunk at
 named_finds old new word name live chunk at n f = record { before = f.before; after = f.after; chunks = n.chunks ∙ f.chunks; there = f.there ∙ ap (λ (k : ℕ). k + total f.before) (sym (named_start old new word n)); named = f.named }

@@ -6,7 +6,7 @@ use Rattle.std.proofs.lemmas.Bool.Decides.{nat_tests}
 use Rattle.std.proofs.lemmas.List.Sums.{sum_by-cons}
 use Rattle.heap_model.specs.Bytes.{u32_at}
 use Rattle.heap_model.specs.Chunk.{Chunk, free, movable, fixed, need, size_of, total, free_size}
-use Rattle.heap_model.specs.Slots.{IsSlot, table_end, area_start}
+use Rattle.heap_model.specs.Slots.{IsSlot, area_start}
 use Rattle.heap_model.specs.Heap.{BodyHere, IsBody, IsCallersIfFixed, ManagersHere, directory_of, IsHeap}
 use Rattle.heap_model.specs.Placed.{EveryPlaced, AnyPlaced}
 use Rattle.heap_model.specs.Meaning.{LiveChunk, NamedHere}
@@ -15,6 +15,7 @@ use Rattle.heap_model.specs.Space.{AllFree, place_under, place_of}
 use Rattle.laws_heap.proofs.Deciding.{cond-false}
 use Rattle.laws_heap.proofs.Placed.{AnyPlaced-left, AnyPlaced-right, AnyPlaced-split}
 use Rattle.laws_heap.proofs.Runs.{chunks_of-tiled}
+use Rattle.laws_heap.proofs.Slots.{slot_no_place}
 use Rattle.laws_heap.proofs.Replacing.{Replaces, replaced_total, replaced_heap, any_replaced, SameSlots, kept_ties, kept_directory}
 use Rattle.laws_heap.proofs.Lives.{or_else, live_under-append, place_under-append, live_placed}
 use Rattle.laws_heap.proofs.Meanings.{live_under-there, named_once}
@@ -200,7 +201,7 @@ cleared : (old new : List ℕ) (before : List Chunk) (c : Chunk) (rest : List Ch
 cleared old new before (free size) rest name place live h n clear s e positive = n
 cleared old new before (movable bytes lock owner own) rest name place live h n clear s e positive = let z : u32_at new name ≡ 0 = ap (u32_at new) (sym n.0) ∙ clear in omega arith
 cleared old new before (fixed bytes owner) rest name place live h n clear s e positive =
-    let high : name < table_end old = s.in_table in let is = n.0 in omega arith
+    slot_no_place old before (fixed bytes owner) rest name name live h.tiles n s (sym n.0)
 
 pub other_name : (name other at : ℕ) (live : LiveChunk) (c : Chunk) (run : List Chunk) → NamedHere name live at c → other ≢ name → live_under at (c ∷ run) other ≡ live_under (at + size_of c) run other
 other_name name other at live (free size) run n apart = refl

@@ -5,7 +5,7 @@ use Rattle.std.specs.Prelude.{◌==◌}
 use Rattle.std.proofs.lemmas.Bool.{cases_eq, eq-eqb}
 use Rattle.std.proofs.lemmas.Bool.Decides.{nat_tests}
 use Rattle.heap_model.specs.Chunk.{Chunk, free, movable, fixed, fixed_lock, need, size_of, total, SpelledAll}
-use Rattle.heap_model.specs.Slots.{slot_count, IsSlot, area_start, table_end}
+use Rattle.heap_model.specs.Slots.{slot_count, IsSlot, area_start}
 use Rattle.heap_model.specs.Heap.{BodyHere, HeapAccepted}
 use Rattle.heap_model.specs.Placed.{AnyPlaced}
 use Rattle.heap_model.specs.Meaning.{LiveChunk}
@@ -16,6 +16,7 @@ use Rattle.heap_model.specs.Packing.{lives}
 use Rattle.laws_heap.proofs.Deciding.{cond-true, cond-false}
 use Rattle.laws_heap.proofs.Chunks.{total-append}
 use Rattle.laws_heap.proofs.Placed.{AnyPlaced-mid}
+use Rattle.laws_heap.proofs.Slots.{slot_facts, start_alike}
 use Rattle.laws_heap.proofs.Meanings.{slot_place, held-is}
 use Rattle.laws_heap.proofs.Finding.{read_heap}
 use Rattle.laws_heap.proofs.Exchanging.{named_beside}
@@ -109,7 +110,7 @@ apart_from image before (c ∷ cs) h e = by c e (apart_from image (before ++ c �
   behind d rest = let sum = total-append before (d ∷ []) in subst (λ (n : ℕ). NamedApart (length image + 1) n cs) (let there : area_start image + total (before ++ d ∷ []) ≡ here + size_of d = omega arith in there) rest
 
   slot_low : (slot : ℕ) → IsSlot image slot → slot < length image + 1
-  slot_low slot s = let high : slot < table_end image = s.in_table in let fits = (read_heap image h).tiles.head.a_chunk_fits in omega arith
+  slot_low slot s = let inside = (slot_facts image (chunks_of image) slot (read_heap image h).tiles s).inside in omega arith
 
   by : (d : Chunk) → chunks_of image ≡ before ++ d ∷ cs → NamedApart (length image + 1) (area_start image + total (before ++ d ∷ [])) cs → NamedApart (length image + 1) here (d ∷ cs)
   by (free size) e rest = behind (free size) rest
@@ -138,7 +139,7 @@ pub free_follows : (old new : List ℕ) → HeapAccepted old → HeapAccepted ne
 free_follows old new before after long count same =
     let was = area_shared old before in
     let is = area_shared new after in
-    let start : area_start new ≡ area_start old = omega arith in
+    let start = start_alike old new count in
     let bound : sum_below (λ name. taken (held new name)) (length new + 1) ≡ sum_below (λ name. taken (held new name)) (length old + 1) = ap (λ (n : ℕ). sum_below (λ name. taken (held new name)) (n + 1)) long in
     let names = same_below (λ name. taken (held new name)) (λ name. taken (held old name)) (length old + 1) (λ name. ap taken (same name)) in
     omega (arith, was, is, long, start, bound, names)

@@ -4,13 +4,14 @@ use Rattle.std.proofs.lemmas.Bool.{eqb-true, eq-eqb}
 use Rattle.std.specs.Prelude.{◌⊎◌, ◌↔◌, ◌==◌}
 use Rattle.heap_model.specs.Bytes.{u32_at}
 use Rattle.heap_model.specs.Chunk.{Chunk, free, movable, fixed, fixed_lock, need, size_of, total}
-use Rattle.heap_model.specs.Slots.{IsSlot, table_end, area_start}
-use Rattle.heap_model.specs.Heap.{BodyHere, IsBody, IsHeap, HeapAccepted}
+use Rattle.heap_model.specs.Slots.{IsSlot, area_start}
+use Rattle.heap_model.specs.Heap.{Tiles, BodyHere, IsBody, IsHeap, HeapAccepted}
 use Rattle.heap_model.specs.Placed.{AnyPlaced}
 use Rattle.heap_model.specs.Meaning.{LiveChunk, ChunkMap, NamedHere, Holds}
 use Rattle.heap_model.specs.Reading.{chunks_of, live_under, held}
 use Rattle.laws_heap.proofs.Deciding.{some, same_some, none_some}
-use Rattle.laws_heap.proofs.Placed.{At, one_at, SpelledAll-takes, AnyPlaced-left, AnyPlaced-right}
+use Rattle.laws_heap.proofs.Placed.{At, one_at, SpelledAll-takes, AnyPlaced-left, AnyPlaced-right, AnyPlaced-parts}
+use Rattle.laws_heap.proofs.Slots.{slot_facts, slot_no_place}
 use Rattle.laws_heap.proofs.Chunks.{total-append}
 use Rattle.laws_heap.proofs.Runs.{chunks_of-tiled, Tiles-unique}
 use Rattle.laws_heap.proofs.Bodies.{IsBody-low}
@@ -91,9 +92,12 @@ with_offset name live start (c ∷ cs) h = elim h [
 pub slot_place : (image : List ℕ) (cs : List Chunk) (name place : ℕ) → IsHeap image cs → IsBody (area_start image) cs name place → IsSlot image name × (u32_at image name ≡ place)
 slot_place image cs name place h b = let low = IsBody-low (area_start image) cs name place b in (h.tied name place (omega arith)).1 b
 
--- a slot stands in front of every place
-apart : (image : List ℕ) (name at : ℕ) → IsSlot image name → area_start image ≤ at → at + 8 ≡ name → ⊥
-apart image name at slot behind is = let high : name < table_end image = slot.in_table in omega arith
+-- a slot is no place of a named chunk
+apart : (image : List ℕ) (cs : List Chunk) (name : ℕ) (live : LiveChunk) → IsHeap image cs → IsSlot image name → (o : Offset name live (area_start image) cs) → o.at + 8 ≡ name → ⊥
+apart image cs name live h slot o is =
+    let p = AnyPlaced-parts (At o.at (NamedHere name live)) (area_start image) cs o.there in
+    let there : area_start image + total p.before ≡ o.at = p.holds.0 in
+    slot_no_place image p.before p.chunk p.after name name live (subst (λ (ds : List Chunk). Tiles image ds) p.parts h.tiles) p.holds.1 slot (omega arith)
 
 same_offset : (image : List ℕ) (cs : List Chunk) (name : ℕ) (x y : LiveChunk) → IsHeap image cs → (o : Offset name x (area_start image) cs) → (p : Offset name y (area_start image) cs) → o.at ≡ p.at
 same_offset image cs name x y h o p = elim o.kind [
@@ -101,10 +105,10 @@ same_offset image cs name x y h o p = elim o.kind [
       let s = slot_place image cs name (o.at + 8) h b in
       elim p.kind [
         | inl c ↦ let same : o.at + 8 ≡ p.at + 8 = sym s.1 ∙ (slot_place image cs name (p.at + 8) h c).1 in omega arith
-        | inr is ↦ absurd (apart image name p.at s.0 p.behind is)
+        | inr is ↦ absurd (apart image cs name y h s.0 p is)
       ]
   | inr mine ↦ elim p.kind [
-    | inl c ↦ absurd (apart image name o.at (slot_place image cs name (p.at + 8) h c).0 o.behind mine)
+    | inl c ↦ absurd (apart image cs name x h (slot_place image cs name (p.at + 8) h c).0 o mine)
     | inr is ↦ omega arith
   ]
 ]
@@ -222,7 +226,7 @@ held-zero image h = nothing (held image 0) refl where
   nothing (Some live) e =
       let o = with_offset 0 live (area_start image) m.chunks ((m.each 0 live).0 e) in
       elim o.kind [
-        | inl b ↦ let low : 16 ≤ 0 = (slot_place image m.chunks 0 (o.at + 8) m.heap b).0.behind_head in absurd (omega arith)
+        | inl b ↦ let low : 16 ≤ 0 = (slot_facts image m.chunks 0 m.heap.tiles (slot_place image m.chunks 0 (o.at + 8) m.heap b).0).low in absurd (omega arith)
         | inr is ↦ absurd (omega arith)
       ]
 
@@ -235,5 +239,5 @@ empty_unheld image cs slot h s empty = nothing (live_under (area_start image) cs
       let o = with_offset slot live (area_start image) cs (live_under-there (area_start image) cs slot live e) in
       elim o.kind [
         | inl b ↦ let held = (slot_place image cs slot (o.at + 8) h b).1 in absurd (omega arith)
-        | inr is ↦ absurd (apart image slot o.at s o.behind is)
+        | inr is ↦ absurd (apart image cs slot live h s o is)
       ]

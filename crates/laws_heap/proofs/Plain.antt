@@ -1,6 +1,5 @@
 -- First words of free chunks, after some chunks were replaced by others.
 use Rattle.std.proofs.Common.{◌≡◌, ℕ, ◌+◌, ◌^◌, ◌<◌, ◌≤◌, List, [], ◌∷◌, ◌++◌, length, refl, sym, subst, ◌∙◌, arith, inl, inr}
-use Rattle.std.specs.Prelude.{◌⊎◌}
 use Rattle.heap_model.specs.Bytes.{u32_at}
 use Rattle.heap_model.specs.Chunk.{Chunk, free, movable, fixed, need, size_of, total}
 use Rattle.heap_model.specs.Slots.{area_start}
@@ -9,10 +8,9 @@ use Rattle.heap_model.specs.Reading.{chunks_of}
 use Rattle.heap_model.specs.Placed.{EveryPlaced, AnyPlaced}
 use Rattle.heap_model.specs.Layout.{IsPlain, IsFreeAt, BeginsFree, WritesPlain}
 use Rattle.heap_model.specs.Packing.{lives}
-use Rattle.laws_heap.proofs.Frames.{u32_at-same}
-use Rattle.laws_heap.proofs.Chunks.{total-append, SpelledAll-end}
+use Rattle.laws_heap.proofs.Chunks.{SameWords}
 use Rattle.laws_heap.proofs.Runs.{chunks_of-tiled}
-use Rattle.laws_heap.proofs.Placed.{TakesBytes, SpelledAll-takes, EveryPlaced-split, AnyPlaced-left, AnyPlaced-right, AnyPlaced-split}
+use Rattle.laws_heap.proofs.Placed.{TakesBytes, AnyPlaced-left, AnyPlaced-right, AnyPlaced-split}
 use Rattle.laws_heap.proofs.Replacing.{Replaces, replaced_total, same_start}
 
 -- where it begins among chunks
@@ -62,22 +60,27 @@ plain_then old mid new first second at h = elim (second at h) [
   ]
 ]
 
--- Some chunks stand in place of others. Each free one of them has a plain first word, and the words in
--- front of them and behind them are as they were.
-pub middle_plain : (old new : List ℕ) (before mid others after : List Chunk) (at : ℕ) → chunks_of old ≡ before ++ (mid ++ after) → Tiles new (before ++ (others ++ after)) → area_start new ≡ area_start old → at ≡ area_start old + total before → total others ≡ total mid → length new ≡ length old
-    → ((there : ℕ) → area_start old ≤ there → (there + 4 ≤ at) ⊎ ((at + total mid ≤ there) × (there + 4 ≤ length old)) → u32_at new there ≡ u32_at old there) → ((there : ℕ) → AnyPlaced (IsFreeAt there) at others → IsPlain (u32_at new there)) → WritesPlain old new
-middle_plain old new before mid others after at was tiles now_start begins sums len words plain there h = elim (AnyPlaced-split (IsFreeAt there) start before (others ++ after) found) [
-  | inl front ↦
-      let f = free_inside there start before sizes.0 front in
-      let low = f.0 in let high = f.1 in
-      inr (were (AnyPlaced-left (IsFreeAt there) start before (mid ++ after) front), words there low (inl (omega arith)))
+-- a free chunk among chunks whose first words are as they were
+free_word : (old new : List ℕ) (there at : ℕ) (cs : List Chunk) → SameWords old new at cs → AnyPlaced (IsFreeAt there) at cs → u32_at new there ≡ u32_at old there
+free_word old new there at [] same h = absurd h
+free_word old new there at (free size ∷ cs) same h = elim h [ inl here ↦ subst (λ (k : ℕ). u32_at new k ≡ u32_at old k) here same.0 | inr later ↦ free_word old new there (at + size) cs same.1 later ]
+free_word old new there at (movable bytes lock owner slot ∷ cs) same h = elim h [ inl here ↦ absurd here | inr later ↦ free_word old new there (at + need (length bytes)) cs same.1 later ]
+free_word old new there at (fixed bytes owner ∷ cs) same h = elim h [ inl here ↦ absurd here | inr later ↦ free_word old new there (at + need (length bytes)) cs same.1 later ]
+
+-- Some chunks stand in place of others. Each free one of them has a plain first word, and the first words
+-- of those in front of them and behind them are as they were.
+pub middle_plain : (old new : List ℕ) (before mid others after : List Chunk) (at : ℕ) → chunks_of old ≡ before ++ (mid ++ after) → Tiles new (before ++ (others ++ after)) → area_start new ≡ area_start old → at ≡ area_start old + total before → total others ≡ total mid
+    → SameWords old new (area_start old) before → SameWords old new (at + total mid) after → ((there : ℕ) → AnyPlaced (IsFreeAt there) at others → IsPlain (u32_at new there)) → WritesPlain old new
+middle_plain old new before mid others after at was tiles now_start begins sums front_words back_words plain there h = elim (AnyPlaced-split (IsFreeAt there) start before (others ++ after) found) [
+  | inl front ↦ inr (were (AnyPlaced-left (IsFreeAt there) start before (mid ++ after) front), free_word old new there start before front_words front)
   | inr rest ↦ elim (AnyPlaced-split (IsFreeAt there) (start + total before) others after rest) [
     | inl these ↦ inl (plain there (subst (λ (n : ℕ). AnyPlaced (IsFreeAt there) n others) (sym begins) these))
     | inr back ↦
-        let f = free_inside there (start + total before + total others) after behind.1 back in
-        let low = f.0 in let high = f.1 in let end = ends in
         let moved : AnyPlaced (IsFreeAt there) (start + total before + total mid) after = subst (λ (n : ℕ). AnyPlaced (IsFreeAt there) (start + total before + n) after) sums back in
-        inr (were (AnyPlaced-right (IsFreeAt there) start before (mid ++ after) (AnyPlaced-right (IsFreeAt there) (start + total before) mid after moved)), words there (omega arith) (inr (omega arith, omega arith)))
+        inr (
+          were (AnyPlaced-right (IsFreeAt there) start before (mid ++ after) (AnyPlaced-right (IsFreeAt there) (start + total before) mid after moved)),
+          free_word old new there (at + total mid) after back_words (subst (λ (n : ℕ). AnyPlaced (IsFreeAt there) (n + total mid) after) (sym begins) moved),
+        )
   ]
 ] where
   start : ℕ
@@ -89,24 +92,7 @@ middle_plain old new before mid others after at was tiles now_start begins sums 
   were : AnyPlaced (IsFreeAt there) (area_start old) (before ++ (mid ++ after)) → BeginsFree old there
   were a = subst (λ (cs : List Chunk). AnyPlaced (IsFreeAt there) (area_start old) cs) (sym was) a
 
-  sizes : EveryPlaced TakesBytes (area_start old) before × EveryPlaced TakesBytes (area_start old + total before) (others ++ after)
-  sizes = EveryPlaced-split TakesBytes (area_start old) before (others ++ after) (subst (λ (n : ℕ). EveryPlaced TakesBytes n (before ++ (others ++ after))) now_start (SpelledAll-takes new (area_start new) (before ++ (others ++ after)) (length new) tiles.area))
-
-  behind : EveryPlaced TakesBytes (area_start old + total before) others × EveryPlaced TakesBytes (area_start old + total before + total others) after
-  behind = EveryPlaced-split TakesBytes (area_start old + total before) others after sizes.1
-
-  ends : length old ≡ area_start old + total before + total others + total after
-  ends =
-      let all = SpelledAll-end new (area_start new) (before ++ (others ++ after)) (length new) tiles.area in
-      let front = total-append before (others ++ after) in
-      let back = total-append others after in
-      omega (arith, now_start)
-
 pub replaced_plain : (old new : List ℕ) (before mid others after : List Chunk) (at : ℕ) → chunks_of old ≡ before ++ (mid ++ after) → IsHeap new (before ++ (others ++ after)) → Replaces old new before mid others after at
     → ((there : ℕ) → AnyPlaced (IsFreeAt there) at others → IsPlain (u32_at new there)) → WritesPlain old new
 replaced_plain old new before mid others after at was now r plain =
-    middle_plain old new before mid others after at was now.tiles (same_start old new r.head) r.there (replaced_total old new before mid others after at r) r.head.len
-    (λ there low apart. elim apart [
-      | inl front ↦ sym (u32_at-same there old new (area_start old) at r.front low front)
-      | inr back ↦ sym (u32_at-same there old new (at + total mid) (length old) r.back back.0 back.1)
-    ]) plain
+    middle_plain old new before mid others after at was now.tiles (same_start old new r.head) r.there (replaced_total old new before mid others after at r) r.front.words r.back.words plain

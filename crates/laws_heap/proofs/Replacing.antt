@@ -3,11 +3,12 @@ use Rattle.std.proofs.Common.{◌≡◌, ◌≢◌, ℕ, ◌+◌, ◌<◌, List,
 use Rattle.std.specs.Prelude.{◌⊎◌, ◌↔◌}
 use Rattle.heap_model.specs.Bytes.{u32_at}
 use Rattle.heap_model.specs.Chunk.{Chunk, total, SpelledAll}
-use Rattle.heap_model.specs.Slots.{IsSlot, slot_count, table_end, head_end, area_start, start_behind}
+use Rattle.heap_model.specs.Slots.{IsSlot, slot_count, slots_of, head_end, area_start}
 use Rattle.heap_model.specs.Heap.{IsHead, Tiles, BodyHere, IsBody, IsCallersIfFixed, ManagersHere, directory_of, IsHeap}
 use Rattle.heap_model.specs.Placed.{EveryPlaced, AnyPlaced}
 use Rattle.laws_heap.proofs.Frames.{SameBetween, u16_at-same, u32_at-same}
-use Rattle.laws_heap.proofs.Chunks.{SpelledAll-append, SpelledAll-split, SpelledAll-end, SpelledAll-same}
+use Rattle.laws_heap.proofs.Slots.{same_slots, slot_alike, start_alike}
+use Rattle.laws_heap.proofs.Chunks.{SpelledAll-append, SpelledAll-split, SpelledAll-end, SpellsAgain}
 use Rattle.laws_heap.proofs.Placed.{EveryPlaced-append, EveryPlaced-split, AnyPlaced-left, AnyPlaced-right, AnyPlaced-split}
 
 -- ---- the head
@@ -21,23 +22,20 @@ pub record SameHead (old new : List ℕ) : Type 0 where
 pub same_count : (old new : List ℕ) → SameHead old new → slot_count new ≡ slot_count old
 same_count old new same = sym (u16_at-same 8 old new 0 16 same.words (omega arith) (omega arith))
 
+pub head_slots : (old new : List ℕ) → SameHead old new → slots_of new ≡ slots_of old
+head_slots old new same = same_slots old new (same_count old new same)
+
 pub same_start : (old new : List ℕ) → SameHead old new → area_start new ≡ area_start old
-same_start old new same = let count = same_count old new same in ap start_behind count
+same_start old new same = start_alike old new (same_count old new same)
 
 pub same_directory : (old new : List ℕ) → SameHead old new → directory_of new ≡ directory_of old
 same_directory old new same = sym (u32_at-same 12 old new 0 16 same.words (omega arith) (omega arith))
 
 pub slot_there : (old new : List ℕ) (slot : ℕ) → SameHead old new → IsSlot old slot → IsSlot new slot
-slot_there old new slot same s =
-    let count = same_count old new same in
-    let high : slot < table_end old = s.in_table in
-    record { behind_head = s.behind_head; in_table = omega arith; whole = s.whole }
+slot_there old new slot same s = slot_alike old new slot (head_slots old new same) s
 
 pub slot_back : (old new : List ℕ) (slot : ℕ) → SameHead old new → IsSlot new slot → IsSlot old slot
-slot_back old new slot same s =
-    let count = same_count old new same in
-    let high : slot < table_end new = s.in_table in
-    record { behind_head = s.behind_head; in_table = omega arith; whole = s.whole }
+slot_back old new slot same s = slot_alike new old slot (sym (head_slots old new same)) s
 
 pub head_same : (old new : List ℕ) → SameHead old new → IsHead old → IsHead new
 head_same old new same h =
@@ -63,12 +61,13 @@ head_same old new same h =
 
 -- ---- the chunks
 
--- what is the same, and what is spelled in the place of the middle chunks, which begin at an offset
+-- What is the same, and what is spelled in the place of the middle chunks, which begin at an offset. The
+-- chunks in front and behind are spelled where they were.
 pub record Replaces (old new : List ℕ) (before mid others after : List Chunk) (at : ℕ) : Type 0 where
   pub there : at ≡ area_start old + total before
   pub head : SameHead old new
-  pub front : SameBetween (area_start old) at old new
-  pub back : SameBetween (at + total mid) (length old) old new
+  pub front : SpellsAgain old new (area_start old) before
+  pub back : SpellsAgain old new (at + total mid) after
   pub spelled : SpelledAll new at others (at + total mid)
 
 pub replaced_total : (old new : List ℕ) (before mid others after : List Chunk) (at : ℕ) → Replaces old new before mid others after at → total others ≡ total mid
@@ -82,10 +81,11 @@ replaced_area old new before mid others after at r s =
     let first = SpelledAll-split old start before (mid ++ after) (length old) s in
     let second = SpelledAll-split old (start + total before) mid after (length old) first.1 in
     let there : start + total before ≡ at = sym r.there in
-    let front = SpelledAll-same old new start before (start + total before) (subst (λ (n : ℕ). SameBetween start n old new) r.there r.front) len first.0 in
-    let back = SpelledAll-same old new (at + total mid) after (length old) r.back len (subst (λ (n : ℕ). SpelledAll old (n + total mid) after (length old)) there second.1) in
+    let end = SpelledAll-end old (start + total before + total mid) after (length old) second.1 in
+    let ends : at + total mid + total after ≡ length old = omega arith in
     subst (λ (n : ℕ). SpelledAll new start (before ++ (others ++ after)) n) (sym len)
-    (SpelledAll-append new start before (others ++ after) at (length old) (subst (λ (n : ℕ). SpelledAll new start before n) there front) (SpelledAll-append new at others after (at + total mid) (length old) r.spelled back))
+    (SpelledAll-append new start before (others ++ after) at (length old) (subst (λ (n : ℕ). SpelledAll new start before n) there r.front.spelled)
+    (SpelledAll-append new at others after (at + total mid) (length old) r.spelled (subst (λ (n : ℕ). SpelledAll new (at + total mid) after n) ends r.back.spelled)))
 
 pub replaced_tiles : (old new : List ℕ) (before mid others after : List Chunk) (at : ℕ) → Tiles old (before ++ (mid ++ after)) → Replaces old new before mid others after at → Tiles new (before ++ (others ++ after))
 replaced_tiles old new before mid others after at t r = record {

@@ -1,9 +1,21 @@
--- The slots of an image: by their number, which is how many stand before one, and one after the other.
-use Rattle.std.proofs.Common.{◌≡◌, ℕ, zero, suc, ◌+◌, ◌-◌, ◌*◌, ◌/◌, ◌<◌, ◌≤◌, List, ◌∷◌, ◌++◌, length, take, refl, sym, ap, subst, ◌∙◌, arith, [], append_assoc, length-append}
+-- The slots of an image: by their number, which is how many stand before one, and one after the other;
+-- and where they lie beside its chunks. No other file takes a slot apart.
+use Rattle.std.proofs.Common.{◌≡◌, ◌≢◌, ℕ, zero, suc, ◌+◌, ◌-◌, ◌*◌, ◌/◌, ◌%◌, ◌<◌, ◌≤◌, List, ◌∷◌, ◌++◌, length, slice_index, take, refl, sym, ap, subst, ◌∙◌, arith, [], append_assoc, length-append, inl, inr}
+use Rattle.std.proofs.lemmas.Bool.{cases_lt}
+use Rattle.std.proofs.lemmas.Bool.Decides.{Decides-and, Decides-eqb, Decides-ltb, Decides-like}
 use Rattle.std.proofs.lemmas.List.{take_all, take_at}
+use Rattle.std.specs.Bool.{Decides}
+use Rattle.std.specs.Prelude.{◌⊎◌}
 use Rattle.heap_model.specs.Memory.{Memory, IsWithin}
-use Rattle.heap_model.specs.Slots.{HasTable, slot_count, table_end, slots_in_row, slots_of, first_slots, StandsBehind, IsSlot}
-use Rattle.heap_model.specs.Placed.{EveryOne}
+use Rattle.heap_model.specs.Chunk.{Chunk, free, movable, fixed, need, total, SpelledAll}
+use Rattle.heap_model.specs.Slots.{HasTable, slot_count, table_end, head_end, area_start, start_behind, slots_in_row, slots_of, first_slots, StandsBehind, IsSlot, is_slot}
+use Rattle.heap_model.specs.Heap.{Tiles, IsCallersIfFixed, IsHeap}
+use Rattle.heap_model.specs.Meaning.{LiveChunk, NamedHere}
+use Rattle.heap_model.specs.Placed.{EveryPlaced, EveryOne}
+use Rattle.heap_model.specs.Space.{AllFree}
+use Rattle.laws_heap.proofs.Deciding.{Decides-nat_le}
+use Rattle.laws_heap.proofs.Chunks.{SpelledAll-split, SpellsAgain, spells_same}
+use Rattle.laws_heap.proofs.Placed.{EveryPlaced-split}
 
 -- ---- where they are
 
@@ -190,3 +202,106 @@ every_first-more P image slot k s every here =
       push : (xs : List ℕ) → EveryOne P xs → EveryOne P (xs ++ slot ∷ [])
       push [] h = (here, tt)
       push (x ∷ xs) h = (h.0, push xs h.1)
+
+-- ---- where they lie
+
+-- the bytes of a slot
+pub record SlotFacts (image : List ℕ) (slot : ℕ) : Type 0 where
+  pub low : 16 ≤ slot
+  pub whole : slot % 4 ≡ 0
+  pub inside : slot + 4 ≤ length image
+  pub in_head : (slot + 4 ≤ head_end image) ⊎ (area_start image + 12 ≤ slot)
+
+pub slot_facts : (image : List ℕ) (cs : List Chunk) (slot : ℕ) → Tiles image cs → IsSlot image slot → SlotFacts image slot
+slot_facts image cs slot t s =
+    let high : slot < table_end image = s.in_table in
+    let whole : slot % 4 ≡ 0 = s.whole in
+    let fits = t.head.a_chunk_fits in
+    record { low = s.behind_head; whole = whole; inside = omega arith; in_head = inl (omega arith) }
+
+-- two slots have no byte in common
+pub slots_apart : (image : List ℕ) (cs : List Chunk) (slot other : ℕ) → Tiles image cs → IsSlot image slot → IsSlot image other → slot ≢ other → (slot + 4 ≤ other) ⊎ (other + 4 ≤ slot)
+slots_apart image cs slot other t s o ne =
+    let first = (slot_facts image cs slot t s).whole in
+    let second = (slot_facts image cs other t o).whole in
+    elim (cases_lt slot other) [ inl below ↦ inl (omega arith) | inr above ↦ inr (omega arith) ]
+
+-- no slot lies in the bodies of these chunks: none of them is a fixed one of the manager's
+abbrev pub HoldNoSlots : List Chunk → Type 0
+HoldNoSlots [] = Unit {0}
+HoldNoSlots (free size ∷ cs) = HoldNoSlots cs
+HoldNoSlots (movable bytes lock owner slot ∷ cs) = HoldNoSlots cs
+HoldNoSlots (fixed bytes owner ∷ cs) = (0 < owner) × HoldNoSlots cs
+
+pub free_hold_none : (cs : List Chunk) → AllFree cs → HoldNoSlots cs
+free_hold_none [] f = tt
+free_hold_none (free size ∷ cs) f = free_hold_none cs f
+free_hold_none (movable bytes lock owner slot ∷ cs) f = absurd f
+free_hold_none (fixed bytes owner ∷ cs) f = absurd f
+
+callers_hold_none : (at : ℕ) (cs : List Chunk) → EveryPlaced IsCallersIfFixed at cs → HoldNoSlots cs
+callers_hold_none at [] every = tt
+callers_hold_none at (free size ∷ cs) every = callers_hold_none (at + size) cs every.1
+callers_hold_none at (movable bytes lock owner slot ∷ cs) every = callers_hold_none (at + need (length bytes)) cs every.1
+callers_hold_none at (fixed bytes owner ∷ cs) every = (every.0.0, callers_hold_none (at + need (length bytes)) cs every.1)
+
+pub heap_hold_none : (image : List ℕ) (before mid after : List Chunk) → IsHeap image (before ++ (mid ++ after)) → HoldNoSlots mid
+heap_hold_none image before mid after h =
+    let behind = (EveryPlaced-split IsCallersIfFixed (area_start image) before (mid ++ after) h.fixed_are_callers).1 in
+    callers_hold_none (area_start image + total before) mid (EveryPlaced-split IsCallersIfFixed (area_start image + total before) mid after behind).0
+
+-- a chunk that has a name, and free ones behind it
+pub named_hold_none : (image : List ℕ) (before : List Chunk) (c : Chunk) (run after : List Chunk) (name : ℕ) (live : LiveChunk) → IsHeap image (before ++ ((c ∷ run) ++ after)) → NamedHere name live (area_start image + total before) c → AllFree run → HoldNoSlots (c ∷ run)
+named_hold_none image before (free size) run after name live h named f = absurd named
+named_hold_none image before (movable bytes lock owner slot) run after name live h named f = free_hold_none run f
+named_hold_none image before (fixed bytes owner) run after name live h named f =
+    let every = (EveryPlaced-split IsCallersIfFixed (area_start image) before (fixed bytes owner ∷ (run ++ after)) h.fixed_are_callers).1 in
+    (every.0.0, free_hold_none run f)
+
+-- a slot lies in front of some bytes, or behind a header and a word that follow them
+abbrev pub IsBeside : ℕ → ℕ → ℕ → Type 0
+IsBeside slot low high = (slot + 4 ≤ low) ⊎ (high + 12 ≤ slot)
+
+-- each slot lies beside such chunks
+pub slot_beside : (image : List ℕ) (before mid after : List Chunk) (at slot : ℕ) → Tiles image (before ++ (mid ++ after)) → HoldNoSlots mid → at ≡ area_start image + total before → IsSlot image slot → IsBeside slot at (at + total mid)
+slot_beside image before mid after at slot t none there s =
+    let high : slot < table_end image = s.in_table in
+    let whole : slot % 4 ≡ 0 = s.whole in
+    inl (omega arith)
+
+-- where a slot alone was written among them, chunks are spelled again
+pub spells_beside : (old new : List ℕ) (front cs back : List Chunk) (at slot : ℕ) → Tiles old (front ++ (cs ++ back)) → at ≡ area_start old + total front → IsSlot old slot
+    → ((k : ℕ) → at ≤ k → k < at + total cs → (k < slot) ⊎ (slot + 4 ≤ k) → slice_index old k ≡ slice_index new k) → length new ≡ length old → SpellsAgain old new at cs
+spells_beside old new front cs back at slot t there s same len =
+    let high : slot < table_end old = s.in_table in
+    let whole : slot % 4 ≡ 0 = s.whole in
+    let behind = (SpelledAll-split old (area_start old) front (cs ++ back) (length old) t.area).1 in
+    let spelled = (SpelledAll-split old (area_start old + total front) cs back (length old) behind).0 in
+    spells_same old new at cs (record { same = λ k low high_k. same k low high_k (inr (omega arith)) }) len (subst (λ (n : ℕ). SpelledAll old n cs (n + total cs)) (sym there) spelled)
+
+-- no slot is the place of a chunk that has a name
+pub slot_no_place : (image : List ℕ) (before : List Chunk) (c : Chunk) (after : List Chunk) (name slot : ℕ) (live : LiveChunk) → Tiles image (before ++ c ∷ after) → NamedHere name live (area_start image + total before) c → IsSlot image slot → slot ≢ area_start image + total before + 8
+slot_no_place image before c after name slot live t named s = let high : slot < table_end image = s.in_table in omega arith
+
+-- ---- where the chunks begin
+
+pub start_counted : (image : List ℕ) (count : ℕ) → slot_count image ≡ count → area_start image ≡ start_behind count
+start_counted image count is = ap start_behind is
+
+-- ---- in two images
+
+-- where they have as many, their chunks begin at one offset
+pub start_alike : (old new : List ℕ) → slot_count new ≡ slot_count old → area_start new ≡ area_start old
+start_alike old new count = start_counted new (slot_count old) count
+
+-- where they have the same slots
+pub slot_alike : (old new : List ℕ) (slot : ℕ) → slots_of new ≡ slots_of old → IsSlot old slot → IsSlot new slot
+slot_alike old new slot same s =
+    let k = slot_stands old slot s in
+    stands_slot new slot k.0 record { front = k.1.front; rest = k.1.rest; parts = same ∙ k.1.parts; before = k.1.before }
+
+-- ---- the test
+
+pub Decides-slot : (image : List ℕ) (slot : ℕ) → Decides (is_slot image slot) (IsSlot image slot)
+Decides-slot image slot = Decides-like _ (λ h. record { behind_head = h.0.0; in_table = h.0.1; whole = h.1 }) (λ s. ((s.behind_head, s.in_table), s.whole))
+    (Decides-and _ _ (Decides-and _ _ (Decides-nat_le 16 slot) (Decides-ltb slot (table_end image))) (Decides-eqb (slot % 4) 0))

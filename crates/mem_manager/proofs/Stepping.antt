@@ -6,7 +6,7 @@ use Rattle.std.specs.Prelude.{◌⊎◌, if◌then◌else◌, IsSome, Result, Ok
 use Rattle.std.specs.Result.{IsErr, IsErrAnd}
 use Rattle.std.specs.Bool.{OnTrue}
 use Rattle.heap_model.specs.Memory.{Memory}
-use Rattle.heap_model.specs.Slots.{IsSlot, slot_count, table_end}
+use Rattle.heap_model.specs.Slots.{IsSlot, slot_count}
 use Rattle.heap_model.specs.Heap.{HeapAccepted}
 use Rattle.heap_model.specs.Meaning.{LiveChunk}
 use Rattle.heap_model.specs.Reading.{chunks_of, held}
@@ -20,7 +20,7 @@ use Rattle.heap_model.specs.declared.call.Reply.{Reply}
 use Rattle.heap_model.specs.declared.call.Reply.TheVariants.{Refused}
 use Rattle.heap_model.specs.declared.refusal.Refusal.{Refusal}
 use Rattle.laws_heap.proofs.Meanings.{held-is, empty_unheld}
-use Rattle.laws_heap.proofs.Slots.{same_slots}
+use Rattle.laws_heap.proofs.Slots.{same_slots, slot_alike}
 use Rattle.laws_heap.proofs.Accepted.{heap_of_read}
 use Rattle.laws_heap.proofs.Finding.{callers_some}
 use Rattle.laws_heap.proofs.Becoming.{same_frame}
@@ -130,9 +130,7 @@ altered old new name found change h f ch rest = record {
 -- ---- the slots in use
 
 pub slot_as : (old new : List ℕ) (slot : ℕ) → slot_count new ≡ slot_count old → IsSlot old slot → IsSlot new slot
-slot_as old new slot count s =
-    let high : slot < table_end old = s.in_table in
-    record { behind_head = s.behind_head; in_table = omega arith; whole = s.whole }
+slot_as old new slot count s = slot_alike old new slot (same_slots old new count) s
 
 -- the slots that are in use stay so where a name stands for something afterwards
 pub used_altered : (old new : List ℕ) (used name : ℕ) (now : LiveChunk) (there : Option ℕ) → IsManaged old used → ChangesName old new name (Some now) there → IsManaged new used

@@ -1,7 +1,8 @@
 use Rattle.std.proofs.Common.{◌+◌, ap, inl, refl, arith}
 use Rattle.heap_model.specs.Memory.{Memory}
 use Rattle.heap_model.specs.Chunk.{need}
-use Rattle.heap_place.proofs.CutLaws.{cut_facts, slot_facts, claimed_area, table_kept, claimed_write}
+use Rattle.laws_heap.proofs.Slots.{slot_facts}
+use Rattle.heap_place.proofs.CutLaws.{cut_facts, claimed_area, table_kept, claimed_write}
 use Rattle.heap_place.proofs.claim.claim_movable.Goals as goal
 
 pub write-requires-clause-inside : goal.write-requires-clause-inside
@@ -10,9 +11,9 @@ write-requires-clause-inside c = (cut_facts c.args.region.now.bytes (need c.args
 pub write-requires-clause-writable : goal.write-requires-clause-writable
 write-requires-clause-writable c =
     let f = cut_facts c.args.region.now.bytes (need c.args.count) c.args.at c.requires.accepted c.requires.cut in
-    let s = slot_facts c.args.region.now.bytes c.args.slot.0 c.requires.accepted c.requires.slot in
+    let s = slot_facts c.args.region.now.bytes c.requires.accepted.0 c.args.slot.0 c.requires.accepted.1.tiles c.requires.slot in
     let inside = f.0 in let whole = f.2 in let most = f.3 in
-    let low = s.0 in let four = s.1 in let area = s.2 in
+    let slot_inside = s.inside in let four = s.whole in
     (omega arith, omega arith, omega arith, inl refl, omega arith, omega arith)
 
 pub set-requires-clause-table : goal.set-requires-clause-table

@@ -21,7 +21,7 @@ overflow_sub-slot c =
     let r = c.requires in
     let image = c.args.region.now.bytes in
     let header = subst (λ (h : Header). HasHeader image c.args.at h) c.in-Movable.is c.at_with_size-header.ensures.header in
-    (can_mend r.old image r.before r.done r.chunk r.rest r.after c.args.gap c.args.at _ _ _ c.in-Movable.slot r.lifting.count
+    (can_mend r.old image r.before r.done r.chunk r.rest r.after c.args.gap c.args.at _ _ _ c.in-Movable.slot
     (reads_movable r.old image r.before r.done r.chunk r.rest r.after c.args.gap c.args.at _ _ _ c.in-Movable.slot r.lifting header)).0
 
 pub write-requires-clause-writable : goal.write-requires-clause-writable
@@ -29,7 +29,7 @@ write-requires-clause-writable c =
     let r = c.requires in
     let image = c.args.region.now.bytes in
     let header = subst (λ (h : Header). HasHeader image c.args.at h) c.in-Movable.is c.at_with_size-header.ensures.header in
-    (can_mend r.old image r.before r.done r.chunk r.rest r.after c.args.gap c.args.at _ _ _ c.in-Movable.slot r.lifting.count
+    (can_mend r.old image r.before r.done r.chunk r.rest r.after c.args.gap c.args.at _ _ _ c.in-Movable.slot
     (reads_movable r.old image r.before r.done r.chunk r.rest r.after c.args.gap c.args.at _ _ _ c.in-Movable.slot r.lifting header)).1.writable
 
 pub set-requires-clause-table : goal.set-requires-clause-table
@@ -39,7 +39,7 @@ set-requires-clause-table c =
     let header = subst (λ (h : Header). HasHeader image c.args.at h) c.in-Movable.is c.at_with_size-header.ensures.header in
     let read = reads_movable r.old image r.before r.done r.chunk r.rest r.after c.args.gap c.args.at _ _ _ c.in-Movable.slot r.lifting header in
     (table_there r.old image c.write.new.region.bytes c.args.at _ _ _ (c.in-Movable.slot - c.args.gap)
-    (can_mend r.old image r.before r.done r.chunk r.rest r.after c.args.gap c.args.at _ _ _ c.in-Movable.slot r.lifting.count read).1
+    (can_mend r.old image r.before r.done r.chunk r.rest r.after c.args.gap c.args.at _ _ _ c.in-Movable.slot read).1
     (ap (λ (m : Memory). m.bytes) c.write.ensures.after) read.mendable.area).0
 
 pub set-requires-clause-slot : goal.set-requires-clause-slot
@@ -49,7 +49,7 @@ set-requires-clause-slot c =
     let header = subst (λ (h : Header). HasHeader image c.args.at h) c.in-Movable.is c.at_with_size-header.ensures.header in
     let read = reads_movable r.old image r.before r.done r.chunk r.rest r.after c.args.gap c.args.at _ _ _ c.in-Movable.slot r.lifting header in
     (table_there r.old image c.write.new.region.bytes c.args.at _ _ _ (c.in-Movable.slot - c.args.gap)
-    (can_mend r.old image r.before r.done r.chunk r.rest r.after c.args.gap c.args.at _ _ _ c.in-Movable.slot r.lifting.count read).1
+    (can_mend r.old image r.before r.done r.chunk r.rest r.after c.args.gap c.args.at _ _ _ c.in-Movable.slot read).1
     (ap (λ (m : Memory). m.bytes) c.write.ensures.after) read.mendable.area).1
 
 pub returns-in-Movable-clause-mended : goal.returns-in-Movable-clause-mended
