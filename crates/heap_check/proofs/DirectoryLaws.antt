@@ -12,7 +12,7 @@ use Rattle.laws_heap.proofs.Chunks.{SpelledAll-split}
 use Rattle.laws_heap.proofs.Shapes.{chunk_at-spelled}
 use Rattle.laws_heap.proofs.Slots.{each_slot}
 use Rattle.laws_heap.proofs.Placed.{PlacedParts, AnyPlaced-parts, AnyPlaced-mid, every_any}
-use Rattle.heap_check.specs.Survey.{IsPaired, ManagersAt}
+use Rattle.heap_check.specs.Survey.{IsPaired, ManagersAt, IsManagersBody}
 
 -- the chunk of which something holds is the one that is read where it stands
 parts_read : (P : ℕ → Chunk → Type 0) (image : List ℕ) (cs : List Chunk) → Tiles image cs → (p : PlacedParts P (area_start image) cs) → chunk_at image (area_start image + total p.before) ≡ Some p.chunk
@@ -57,11 +57,7 @@ managers_parts image slot paired m =
 pub directory_slot : (image : List ℕ) (slot : ℕ) → IsPaired image → AnyPlaced (ManagersHere slot) (area_start image) (chunks_of image) → IsSlot image slot
 directory_slot image slot paired m = (managers_parts image slot paired m).holds.0
 
--- the chunk at its place decides
-abbrev pub DirectoryChunk : List ℕ → ℕ → Type 0
-DirectoryChunk image place = (8 ≤ place) × ManagersAt (chunk_at image (place - 8))
-
-there : (image : List ℕ) (slot place : ℕ) → IsPaired image → IsSlot image slot → place ≡ u32_at image slot → DirectoryChunk image place → AnyPlaced (ManagersHere slot) (area_start image) (chunks_of image)
+there : (image : List ℕ) (slot place : ℕ) → IsPaired image → IsSlot image slot → place ≡ u32_at image slot → IsManagersBody image place → AnyPlaced (ManagersHere slot) (area_start image) (chunks_of image)
 there image slot place paired s is d =
     let start : ℕ = area_start image in
     let cs : List Chunk = chunks_of image in
@@ -74,7 +70,7 @@ there image slot place paired s is d =
     let m : ManagersHere slot (start + total p.before) p.chunk = managers_here slot (u32_at image slot) (start + total p.before) p.chunk p.holds (subst (λ (c : Option Chunk). ManagersAt c) read d.1) in
     subst (λ (xs : List Chunk). AnyPlaced (ManagersHere slot) start xs) (sym p.parts) (AnyPlaced-mid (ManagersHere slot) start p.before p.chunk p.after m)
 
-back : (image : List ℕ) (slot place : ℕ) → IsPaired image → place ≡ u32_at image slot → AnyPlaced (ManagersHere slot) (area_start image) (chunks_of image) → DirectoryChunk image place
+back : (image : List ℕ) (slot place : ℕ) → IsPaired image → place ≡ u32_at image slot → AnyPlaced (ManagersHere slot) (area_start image) (chunks_of image) → IsManagersBody image place
 back image slot place paired is m =
     let start : ℕ = area_start image in
     let p = managers_parts image slot paired m in
@@ -83,7 +79,7 @@ back image slot place paired is m =
     let read : chunk_at image (place - 8) ≡ Some p.chunk = ap (chunk_at image) at ∙ parts_read (Both image slot) image (chunks_of image) paired.tiles p in
     (omega arith, subst (λ (c : Option Chunk). ManagersAt c) (sym read) (managers_at slot (start + total p.before) p.chunk p.holds.2))
 
-pub directory_decided : (image : List ℕ) (word place : ℕ) → IsPaired image → word ≡ directory_of image → word ≢ 0 → IsSlot image word → place ≡ u32_at image word → (DirectoryChunk image place ↔ HasDirectory image (chunks_of image))
+pub directory_decided : (image : List ℕ) (word place : ℕ) → IsPaired image → word ≡ directory_of image → word ≢ 0 → IsSlot image word → place ≡ u32_at image word → (IsManagersBody image place ↔ HasDirectory image (chunks_of image))
 directory_decided image word place paired is some s at = (
   λ d. inr (subst (λ (w : ℕ). AnyPlaced (ManagersHere w) (area_start image) (chunks_of image)) is (there image word place paired s at d)),
   λ h. elim h [

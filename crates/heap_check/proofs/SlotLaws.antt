@@ -1,35 +1,31 @@
 -- Marked slots are those that hold the place of a chunk.
 use Rattle.std.proofs.Common.{◌≡◌, ◌≢◌, ℕ, zero, suc, ◌+◌, ◌<◌, Bool, true, false, List, length, replicate, set, refl, sym, ap, subst, ◌∙◌, inl, inr}
-use Rattle.std.specs.Prelude.{◌↔◌, ◌==◌, ◌&&◌, slice_index_or}
+use Rattle.std.specs.Prelude.{◌↔◌, slice_index_or}
 use Rattle.std.specs.Bool.{Decides}
 use Rattle.std.proofs.lemmas.Bool.{cases_eq}
 use Rattle.std.proofs.lemmas.Bool.Decides.{Decides-and, Decides-eqb}
 use Rattle.std.proofs.lemmas.List.{get_or-set_same, get_or-set_other}
 use Rattle.heap_model.specs.Bytes.{u32_at}
 use Rattle.heap_model.specs.Chunk.{Chunk}
-use Rattle.heap_model.specs.Slots.{IsSlot, StandsBehind, slots_of, first_slots, is_slot}
+use Rattle.heap_model.specs.Slots.{IsSlot, StandsBehind, slots_of, first_slots}
 use Rattle.heap_model.specs.Placed.{EveryOne, FirstOne}
 use Rattle.heap_model.specs.Pairing.{HoldsBody}
 use Rattle.laws_heap.proofs.Deciding.{true_or_false}
 use Rattle.laws_heap.proofs.Slots.{Decides-slot, slot_stands, stands_slot, same_number, same_slot, every_slot, first_slots-front}
 use Rattle.laws_heap.proofs.Placed.{EveryOne-like, FirstOne-like}
-use Rattle.heap_check.specs.Survey.{AreMarks, AddsMarks, MarkedAt, IsHolder, IsMarked}
+use Rattle.heap_check.specs.Survey.{holds_place, AreMarks, AddsMarks, MarkedAt, IsHolder, IsMarked}
 
 -- ---- one mark more
 
--- whether a slot holds the place of the chunk at an offset, by the test of it
-abbrev pub holds : List ℕ → ℕ → ℕ → Bool
-holds image slot at = is_slot image slot && (u32_at image slot == at + 8)
+Decides-holds_place : (image : List ℕ) (slot at : ℕ) → Decides (holds_place image slot at) (IsSlot image slot × (u32_at image slot ≡ at + 8))
+Decides-holds_place image slot at = Decides-and _ _ (Decides-slot image slot) (Decides-eqb (u32_at image slot) (at + 8))
 
-Decides-holds : (image : List ℕ) (slot at : ℕ) → Decides (holds image slot at) (IsSlot image slot × (u32_at image slot ≡ at + 8))
-Decides-holds image slot at = Decides-and _ _ (Decides-slot image slot) (Decides-eqb (u32_at image slot) (at + 8))
+pub holds_true : (image : List ℕ) (slot at : ℕ) → IsSlot image slot → u32_at image slot ≡ at + 8 → true ≡ holds_place image slot at
+holds_true image slot at s here = sym ((Decides-holds_place image slot at).1 (s, here))
 
-pub holds_true : (image : List ℕ) (slot at : ℕ) → IsSlot image slot → u32_at image slot ≡ at + 8 → true ≡ holds image slot at
-holds_true image slot at s here = sym ((Decides-holds image slot at).1 (s, here))
-
-pub holds_false : (image : List ℕ) (slot at : ℕ) → (IsSlot image slot → u32_at image slot ≢ at + 8) → false ≡ holds image slot at
-holds_false image slot at none = elim (true_or_false (holds image slot at)) [
-  | inl here ↦ let both = (Decides-holds image slot at).0 here in absurd (none both.0 both.1)
+pub holds_false : (image : List ℕ) (slot at : ℕ) → (IsSlot image slot → u32_at image slot ≢ at + 8) → false ≡ holds_place image slot at
+holds_false image slot at none = elim (true_or_false (holds_place image slot at)) [
+  | inl here ↦ let both = (Decides-holds_place image slot at).0 here in absurd (none both.0 both.1)
   | inr apart ↦ sym apart
 ]
 

@@ -18,7 +18,7 @@ use Rattle.chunk_format.specs.declared.header.Header.{Header}
 use Rattle.chunk_format.specs.Header.{header_of, size_by, HasHeader}
 use Rattle.chunk_format.proofs.HeaderLaws.{size_by-header_of}
 use Rattle.heap_check.specs.declared.survey.Survey.{Survey}
-use Rattle.heap_check.specs.Survey.{movable_by, fixed_by, free_by, names_by, callers_by, BodyBy, noted, IsFirstWithout, Surveys, HasSurveyed, IsSurvey, AddsMarks}
+use Rattle.heap_check.specs.Survey.{movable_by, fixed_by, free_by, names_by, callers_by, BodyBy, noted, IsFirstWithout, Surveys, HasSurveyed, IsSurvey, MarksBody}
 
 -- ---- what is read off a header is so of its chunk
 
@@ -58,8 +58,6 @@ counts_within (free size) s = omega arith
 counts_within (movable bytes lock owner slot) s = omega arith
 counts_within (fixed bytes owner) s = omega arith
 
--- ---- no chunk
-
 -- ---- one chunk more
 
 count_push : (test : Chunk → Bool) (cs : List Chunk) (c : Chunk) → count_by test (cs ++ c ∷ []) ≡ count_by test cs + count_by test (c ∷ [])
@@ -78,7 +76,7 @@ pub record Adds (image : List ℕ) (at : ℕ) (header : Header) (old new : Surve
   pub free : new.free ≡ old.free + free_by header
   pub without_slot : new.without_slot ≡ noted old.without_slot at (names_by image at header)
   pub bad_owner : new.bad_owner ≡ noted old.bad_owner at (callers_by header)
-  pub marked : AddsMarks image (λ slot. BodyBy slot (u32_at image slot) at header) before_marks after_marks
+  pub marked : MarksBody image at header before_marks after_marks
 
 pub surveys_more : (image : List ℕ) (before : List Chunk) (c : Chunk) (at : ℕ) (header : Header) (old new : Survey) (before_marks after_marks : List Bool) → at ≡ area_start image + total before → header ≡ header_of c
     → Surveys image before old before_marks → Adds image at header old new before_marks after_marks → Surveys image (before ++ c ∷ []) new after_marks

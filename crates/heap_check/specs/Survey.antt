@@ -1,12 +1,12 @@
 -- What a walk over chunks has found, and what one header adds to it.
-use Rattle.std.specs.Prelude.{◌≡◌, ◌≢◌, ◌+◌, ◌==◌, ◌&&◌, ◌↔◌, ◌⊎◌, ◌≤◌, nat_lt, ℕ, Bool, true, false, List, length, slice_index_or, count_by, sum_by, Option, Some, None, MatchOption}
+use Rattle.std.specs.Prelude.{◌≡◌, ◌≢◌, ◌+◌, ◌-◌, ◌==◌, ◌&&◌, ◌↔◌, ◌⊎◌, ◌≤◌, nat_lt, ℕ, Bool, true, false, List, length, slice_index_or, count_by, sum_by, Option, Some, None, MatchOption}
 use Rattle.heap_model.specs.Bytes.{u32_at}
 use Rattle.heap_model.specs.Chunk.{Chunk, free, movable, fixed, SpelledAll, is_movable, is_fixed, free_size}
-use Rattle.heap_model.specs.Placed.{EveryPlaced, FirstWithout, EveryOne}
+use Rattle.heap_model.specs.Placed.{EveryPlaced, FirstWithout, EveryOne, FirstOne}
 use Rattle.heap_model.specs.Slots.{area_start, is_slot, slots_of, StandsBehind}
 use Rattle.heap_model.specs.Heap.{Tiles, IsBody, IsCallersIfFixed}
 use Rattle.heap_model.specs.Pairing.{HoldsBody, NamesItsSlot}
-use Rattle.heap_model.specs.Reading.{chunks_of}
+use Rattle.heap_model.specs.Reading.{chunk_at, chunks_of}
 use Rattle.chunk_format.specs.declared.header.Header.{Header}
 use Rattle.chunk_format.specs.declared.header.Header.TheVariants as headers
 use Rattle.heap_check.specs.declared.survey.Survey.{Survey}
@@ -28,10 +28,14 @@ free_by (headers.Free size) = size
 free_by (headers.Movable length lock owner slot) = 0
 free_by (headers.Fixed length owner) = 0
 
+-- whether a slot stands there, and holds the place of the chunk at an offset
+abbrev pub holds_place : List ℕ → ℕ → ℕ → Bool
+holds_place image slot at = is_slot image slot && (u32_at image slot == at + 8)
+
 -- the chunk, where it is movable, names a slot that holds its place
 abbrev pub names_by : List ℕ → ℕ → Header → Bool
 names_by image at (headers.Free size) = true
-names_by image at (headers.Movable length lock owner slot) = is_slot image slot && (u32_at image slot == at + 8)
+names_by image at (headers.Movable length lock owner slot) = holds_place image slot at
 names_by image at (headers.Fixed length owner) = true
 
 -- the chunk, where it is fixed, is a caller's
@@ -70,6 +74,11 @@ AddsMarks image P old new = (slot number : ℕ) → StandsBehind image slot numb
 abbrev pub IsHolder : List ℕ → ℕ → ℕ → ℕ → Type 0
 IsHolder image named at slot = (named ≡ slot) × (at + 8 ≡ u32_at image slot)
 
+-- of the slots those are marked that were, and the one that the chunk with this header names, if it
+-- holds the place of that chunk
+abbrev pub MarksBody : List ℕ → ℕ → Header → List Bool → List Bool → Type 0
+MarksBody image at header old new = AddsMarks image (λ slot. BodyBy slot (u32_at image slot) at header) old new
+
 -- the first chunk without something, if there is one
 abbrev pub IsFirstWithout : (ℕ → Chunk → Type 0) → ℕ → List Chunk → Option ℕ → Type 0
 IsFirstWithout P at chunks found = MatchOption found (EveryPlaced P at chunks) (λ there. FirstWithout P at chunks there)
@@ -86,6 +95,14 @@ pub record Surveys (image : List ℕ) (chunks : List Chunk) (survey : Survey) (m
 -- a slot in use is marked
 abbrev pub IsMarked : List ℕ → List Bool → ℕ → Type 0
 IsMarked image marks slot = u32_at image slot ≢ 0 → (number : ℕ) → StandsBehind image slot number → MarkedAt marks number
+
+-- each slot in use is marked
+abbrev pub AllMarked : List ℕ → List Bool → Type 0
+AllMarked image marks = EveryOne (IsMarked image marks) (slots_of image)
+
+-- this is the first slot that is in use and not marked
+abbrev pub IsFirstUnmarked : List ℕ → List Bool → ℕ → Type 0
+IsFirstUnmarked image marks slot = FirstOne (IsMarked image marks) (slots_of image) slot
 
 -- the chunks reach the end, and the survey and the marks are those of them all
 pub record IsSurvey (image : List ℕ) (survey : Survey) (marks : List Bool) : Type 0 where
@@ -112,3 +129,7 @@ ManagersAt None = ⊥
 ManagersAt (Some (free size)) = ⊥
 ManagersAt (Some (movable bytes lock owner slot)) = owner ≡ 0
 ManagersAt (Some (fixed bytes owner)) = ⊥
+
+-- a chunk has its body at this place, and is a movable one of the manager's
+abbrev pub IsManagersBody : List ℕ → ℕ → Type 0
+IsManagersBody image place = (8 ≤ place) × ManagersAt (chunk_at image (place - 8))

@@ -1,13 +1,13 @@
 //! The directory word.
 
-ghost use Rattle.std.specs.Prelude.{◌≤◌, ◌<◌, ◌-◌, ◌^◌, ◌↔◌, length, IsTrue};
+ghost use Rattle.std.specs.Prelude.{◌<◌, ◌^◌, ◌↔◌, length, IsTrue};
 ghost use Rattle.heap_model.specs.Slots.{HasTable};
 ghost use Rattle.heap_model.specs.Heap.{HasDirectory};
-ghost use Rattle.heap_model.specs.Reading.{chunk_at, chunks_of};
+ghost use Rattle.heap_model.specs.Reading.{chunks_of};
 ghost use Rattle.master_table.specs.Table.{IsTable};
-ghost use Rattle.heap_check.specs.Survey.{IsPaired, ManagersAt};
+ghost use Rattle.heap_check.specs.Survey.{IsPaired, IsManagersBody};
 
-use chunk_format::{Header, directory};
+use chunk_format::{Header, MANAGERS_OWNER, directory};
 use master_table::Table;
 use raw_region::Region;
 
@@ -32,13 +32,13 @@ pub(crate) fn has_directory(region: &Region, table: Table) -> bool
 /// Whether a chunk has its body at this place, and is a movable one of the manager's.
 fn is_managers(region: &Region, place: u32) -> bool
     requires small { length region.now.bytes < 2 ^ 24 }
-    ensures { IsTrue result ↔ ((8 ≤ place) × ManagersAt (chunk_at region.now.bytes (place - 8))) }
+    ensures { IsTrue result ↔ IsManagersBody region.now.bytes place }
 {
     if place < 8 {
         return false;
     }
     match Header::read(region, place - 8) {
-        Some(Header::Movable { owner, .. }) => owner == 0,
+        Some(Header::Movable { owner, .. }) => owner == MANAGERS_OWNER,
         _ => false,
     }
 }

@@ -1,10 +1,9 @@
 //! Whether each slot in use has its chunk.
 
 ghost use Rattle.std.specs.Prelude.{◌≡◌, ◌≤◌, ◌<◌, ◌↔◌, length, IsTrue, IfSome, IfNone};
-ghost use Rattle.heap_model.specs.Slots.{HasTable, StandsBehind, slots_of};
-ghost use Rattle.heap_model.specs.Placed.{EveryOne, FirstOne};
+ghost use Rattle.heap_model.specs.Slots.{HasTable, StandsBehind, slot_count};
 ghost use Rattle.master_table.specs.Table.{IsTable};
-ghost use Rattle.heap_check.specs.Survey.{IsMarked};
+ghost use Rattle.heap_check.specs.Survey.{IsMarked, AllMarked, IsFirstUnmarked};
 
 use master_table::Table;
 use raw_region::Region;
@@ -24,9 +23,9 @@ fn is_marked(region: &Region, slot: u32, number: u32, marks: &[bool]) -> bool
 pub(crate) fn find_unmarked(region: &Region, table: Table, marks: &[bool]) -> Option<u32>
     requires has_table { HasTable region.now }
     requires table { IsTable region.now.bytes table }
-    requires room { table.count ≤ length marks.now }
-    ensures none { IfNone result (EveryOne (IsMarked region.now.bytes marks.now) (slots_of region.now.bytes)) }
-    ensures some { IfSome result (FirstOne (IsMarked region.now.bytes marks.now) (slots_of region.now.bytes)) }
+    requires room { slot_count region.now.bytes ≤ length marks.now }
+    ensures none { IfNone result (AllMarked region.now.bytes marks.now) }
+    ensures some { IfSome result (IsFirstUnmarked region.now.bytes marks.now) }
 {
     for number in 0..table.count() {
         let slot = table.slot(number);

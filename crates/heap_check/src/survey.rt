@@ -1,13 +1,13 @@
 //! The one walk over the chunks.
 
-ghost use Rattle.std.specs.Prelude.{◌≡◌, ◌≢◌, ◌≤◌, ◌<◌, ◌+◌, ◌^◌, ◌==◌, ◌&&◌, ℕ, false, length, slice_index_or, IfSome, IfNone, OnSome, IfOk, IfErr};
+ghost use Rattle.std.specs.Prelude.{◌≡◌, ◌≢◌, ◌≤◌, ◌<◌, ◌+◌, ◌^◌, ℕ, false, length, slice_index_or, IfSome, IfNone, OnSome, IfOk, IfErr};
 ghost use Rattle.heap_model.specs.Bytes.{u32_at};
-ghost use Rattle.heap_model.specs.Slots.{HasTable, IsSlot, StandsBehind, area_start as model_start, is_slot};
+ghost use Rattle.heap_model.specs.Slots.{HasTable, IsSlot, StandsBehind, slot_count, area_start as model_start};
 ghost use Rattle.heap_check.specs.Faults.{IsBadChunk};
 ghost use Rattle.master_table.specs.Table.{IsTable};
-ghost use Rattle.heap_check.specs.Survey.{noted, AddsMarks, IsHolder, IsSurvey};
+ghost use Rattle.heap_check.specs.Survey.{noted, holds_place, AddsMarks, IsHolder, IsSurvey};
 
-use chunk_format::{Header, area_start};
+use chunk_format::{DATA_OWNER, Header, MANAGERS_OWNER, area_start};
 use master_table::Table;
 use raw_region::Region;
 
@@ -50,7 +50,7 @@ fn holder_of(region: &Region, table: Table, slot: u32, at: u32) -> Option<u32>
     requires has_table { HasTable region.now }
     requires table { IsTable region.now.bytes table }
     requires small { at < 2 ^ 24 }
-    ensures below { IfSome result (λ number. number < table.count) }
+    ensures below { IfSome result (λ number. number < slot_count region.now.bytes) }
     ensures number { IfSome result (StandsBehind region.now.bytes slot) }
     ensures holds { OnSome result (u32_at region.now.bytes slot ≡ at + 8) }
     ensures none { IfNone result (IsSlot region.now.bytes slot → u32_at region.now.bytes slot ≢ at + 8) }
@@ -69,8 +69,8 @@ fn mark_holder(region: &Region, table: Table, slot: u32, at: u32, marks: &mut [b
     requires has_table { HasTable region.now }
     requires table { IsTable region.now.bytes table }
     requires small { at < 2 ^ 24 }
-    requires room { table.count ≤ length marks.old }
-    ensures holds { result ≡ (is_slot region.now.bytes slot && (u32_at region.now.bytes slot == at + 8)) }
+    requires room { slot_count region.now.bytes ≤ length marks.old }
+    ensures holds { result ≡ holds_place region.now.bytes slot at }
     ensures marked { AddsMarks region.now.bytes (IsHolder region.now.bytes slot at) marks.old marks.new }
 {
     match holder_of(region, table, slot, at) {
@@ -83,7 +83,7 @@ fn mark_holder(region: &Region, table: Table, slot: u32, at: u32, marks: &mut [b
 }
 
 impl Survey {
-    ghost use Rattle.heap_check.specs.Survey.{movable_by, fixed_by, free_by, names_by, callers_by, BodyBy, Surveys};
+    ghost use Rattle.heap_check.specs.Survey.{movable_by, fixed_by, free_by, names_by, callers_by, MarksBody, Surveys};
     ghost use Rattle.std.specs.Prelude.{[], None};
 
     /// Of no chunks.
@@ -110,13 +110,14 @@ impl Survey {
         requires table { IsTable region.now.bytes table }
         requires small { at < 2 ^ 24 }
         requires counts { self.old.movable + self.old.fixed + self.old.free + free_by header < 2 ^ 25 }
-        requires room { table.count ≤ length marks.old }
+        requires room { slot_count region.now.bytes ≤ length marks.old }
         ensures movable { self.new.movable ≡ self.old.movable + movable_by header }
         ensures fixed { self.new.fixed ≡ self.old.fixed + fixed_by header }
         ensures free { self.new.free ≡ self.old.free + free_by header }
-        ensures without_slot { self.new.without_slot ≡ noted self.old.without_slot at (names_by region.now.bytes at header) }
+        ensures without_slot { self.new.without_slot
+            ≡ noted self.old.without_slot at (names_by region.now.bytes at header) }
         ensures bad_owner { self.new.bad_owner ≡ noted self.old.bad_owner at (callers_by header) }
-        ensures marked { AddsMarks region.now.bytes (λ slot. BodyBy slot (u32_at region.now.bytes slot) at header) marks.old marks.new }
+        ensures marked { MarksBody region.now.bytes at header marks.old marks.new }
     {
         match header {
             Header::Free { size } => self.free += size,
@@ -127,7 +128,11 @@ impl Survey {
             }
             Header::Fixed { owner, .. } => {
                 self.fixed += 1;
-                self.bad_owner = note(self.bad_owner, at, 0 < owner && owner < 15);
+                self.bad_owner = note(
+                    self.bad_owner,
+                    at,
+                    MANAGERS_OWNER < owner && owner < DATA_OWNER,
+                );
             }
         }
     }
@@ -144,7 +149,7 @@ pub(crate) fn survey_chunks(
     requires small { length region.now.bytes < 2 ^ 24 }
     requires table { IsTable region.now.bytes table }
     requires inside { model_start region.now.bytes ≤ length region.now.bytes }
-    requires room { table.count ≤ length marks.old }
+    requires room { slot_count region.now.bytes ≤ length marks.old }
     requires clear { (k : ℕ) → slice_index_or marks.old k false ≡ false }
     ensures surveyed { IfOk result (λ survey. IsSurvey region.now.bytes survey marks.new) }
     ensures stuck { IfErr result (IsBadChunk region.now.bytes) }

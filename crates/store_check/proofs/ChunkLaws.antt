@@ -1,13 +1,13 @@
 -- What passes over the marks find.
 use Rattle.std.proofs.Common.{◌≡◌, ℕ, ◌+◌, ◌<◌, ◌≤◌, List, refl, subst, arith, inl}
-use Rattle.std.specs.Prelude.{◌⊎◌, slice_index}
+use Rattle.std.specs.Prelude.{slice_index}
 use Rattle.heap_model.specs.Slots.{StandsBehind, slot_count}
-use Rattle.heap_model.specs.Store.{managers_owner, data_owner, owner_under}
 use Rattle.laws_heap.proofs.Slots.{stands_below, same_slot}
 use Rattle.heap_check.specs.Faults.{FirstBrought}
 use Rattle.store_check.specs.declared.fault.StoreFault.TheVariants.{SharedChunk, StrayChunk}
 use Rattle.store_check.specs.Faults.{shared_faults, stray_faults, NoneBrought}
 use Rattle.store_check.specs.Naming.{AreNamed, accounted, AreMarks, IsMarkedTwice, IsUnmarked}
+use Rattle.store_check.specs.Owners.{IsOurs}
 use Rattle.store_check.proofs.Counting.{least_shared, none_shared, least_stray, none_stray}
 use Rattle.store_check.proofs.PassLaws.{none_more}
 
@@ -25,9 +25,6 @@ shared_none image marks number n m all none =
     (λ fault row. shared row.0 row.1.here, tt)
 
 -- ---- not marked
-
-abbrev pub IsOurs : List ℕ → ℕ → Type 0
-IsOurs image slot = (owner_under image slot ≡ managers_owner) ⊎ (owner_under image slot ≡ data_owner)
 
 pub stray_first : (image marks : List ℕ) (number slot : ℕ) → AreNamed image → AreMarks image (accounted image) marks → StandsBehind image slot number → slice_index marks number ≡ 0 → IsOurs image slot → ((k : ℕ) → k < number → IsUnmarked image marks k → ⊥) → FirstBrought (stray_faults image) (StrayChunk slot)
 stray_first image marks number slot n m s zero_is ours none = inl (slot, least_stray image marks slot number n m s zero_is ours (record { here = (slot, s, zero_is, ours); none_below = none }), refl)

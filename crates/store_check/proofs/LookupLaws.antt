@@ -1,9 +1,9 @@
 -- What a look-up of a slot finds, and what the directory and the headers are.
 use Rattle.std.proofs.Common.{◌≡◌, ◌≢◌, ℕ, ◌+◌, ◌-◌, ◌*◌, ◌<◌, ◌≤◌, List, [], length, Option, Some, None, MatchOption, refl, sym, ap, subst, ◌∙◌, arith, inl, inr}
-use Rattle.std.specs.Prelude.{◌⊎◌, slice_range}
+use Rattle.std.specs.Prelude.{◌⊎◌, slice_range, IsSome, IfNone}
 use Rattle.std.specs.Option.{option_map}
 use Rattle.heap_model.specs.Bytes.{u32_at}
-use Rattle.heap_model.specs.Chunk.{movable}
+use Rattle.heap_model.specs.Chunk.{Chunk, movable, HasChunk}
 use Rattle.heap_model.specs.Slots.{IsSlot}
 use Rattle.heap_model.specs.Heap.{HeapAccepted, directory_of}
 use Rattle.heap_model.specs.Meaning.{LiveChunk}
@@ -11,14 +11,17 @@ use Rattle.heap_model.specs.Reading.{chunk_at, chunks_of, held}
 use Rattle.heap_model.specs.Store.{managers_owner, bytes_of, owner_of, bytes_under, owner_under, directory_bytes}
 use Rattle.heap_model.specs.declared.names.Place.{Place}
 use Rattle.laws_heap.proofs.Meanings.{held-is, held-zero, empty_unheld}
+use Rattle.laws_heap.proofs.Shapes.{chunk_at-spelled}
 use Rattle.laws_heap.proofs.Finding.{read_heap, InSlot, in_slot, finds_held, finds_spelled, finds_read}
 use Rattle.laws_store.proofs.Owners.{directory_owner, owned_slot}
 use Rattle.chunk_format.specs.declared.header.Header.{Header}
 use Rattle.chunk_format.specs.declared.header.Header.TheVariants as headers
-use Rattle.chunk_format.specs.Header.{header_of}
+use Rattle.chunk_format.specs.Header.{header_of, HasHeader}
 use Rattle.master_table.specs.Table.{HoldsPlace, HoldsNothing}
 use Rattle.store_check.specs.Listing.{listed_at, listed_count, header_at, IsListing}
-use Rattle.store_check.specs.Lookup.{IsMovable, NotOurs, movable_by}
+use Rattle.store_check.specs.Lookup.{IsMovable, movable_by}
+use Rattle.store_check.specs.Owners.{IsOurs, NotOurs}
+use Rattle.store_check.specs.declared.lookup.Movable.{Movable}
 
 slot_header : (image : List ℕ) (name place : ℕ) → HeapAccepted image → (s : InSlot image name place) → option_map header_of (chunk_at image (place - 8)) ≡ Some (headers.Movable (length s.live.bytes) s.live.lock s.live.owner s.named)
 slot_header image name place h s = ap (option_map header_of) (finds_read image name s.live (movable s.live.bytes s.live.lock s.live.owner s.named) (place - 8) h s.finds)
@@ -45,13 +48,26 @@ slot_found image slot place header h read holds =
       same : (s : InSlot image slot place.0) → Some header ≡ Some (headers.Movable (length s.live.bytes) s.live.lock s.live.owner s.named) → header ≡ headers.Movable (length s.live.bytes) s.live.lock s.live.owner s.named
       same s e = cc
 
-pub slot_unread : (image : List ℕ) (slot place : ℕ) → HeapAccepted image → None ≡ option_map header_of (chunk_at image (place - 8)) → HoldsPlace image slot place → ⊥
-slot_unread image slot place h read holds = let s = in_slot image slot place h holds.is_slot holds.held holds.some in let e = read ∙ slot_header image slot place h s in absurd cc
+-- a header that stands there is the one that is read
+pub header_read : (image : List ℕ) (at : ℕ) (header : Header) → HasHeader image at header → Some header ≡ option_map header_of (chunk_at image at)
+header_read image at header h = ap (λ (x : Header). Some x) h.header_is ∙ sym (ap (option_map header_of) (chunk_at-spelled image at h.chunk h.spelled))
 
 pub slot_behind : (image : List ℕ) (slot : ℕ) (place : Option Place) (found : Place) → HeapAccepted image → MatchOption place (HoldsNothing image slot) (λ place. HoldsPlace image slot place.0) → place ≡ Some found → 8 ≤ found.0
 slot_behind image slot place found h holds is =
     let here : HoldsPlace image slot found.0 = subst (λ (p : Option Place). MatchOption p (HoldsNothing image slot) (λ place. HoldsPlace image slot place.0)) is holds in
     (in_slot image slot found.0 h here.is_slot here.held here.some).behind_header
+
+pub slot_chunk : (image : List ℕ) (slot : ℕ) (place : Option Place) (found : Place) → HeapAccepted image → MatchOption place (HoldsNothing image slot) (λ place. HoldsPlace image slot place.0) → place ≡ Some found → HasChunk image (found.0 - 8)
+slot_chunk image slot place found h holds is =
+    let here : HoldsPlace image slot found.0 = subst (λ (p : Option Place). MatchOption p (HoldsNothing image slot) (λ place. HoldsPlace image slot place.0)) is holds in
+    let s = in_slot image slot found.0 h here.is_slot here.held here.some in
+    let chunk : Chunk = movable s.live.bytes s.live.lock s.live.owner s.named in
+    record { chunk = chunk; spelled = finds_spelled image slot s.live chunk (found.0 - 8) h s.finds }
+
+-- where the slot has a chunk of ours, it is found
+pub ours_found : (image : List ℕ) (slot : ℕ) (found : Option Movable) → IfNone found (NotOurs image slot) → IsOurs image slot → IsSome found
+ours_found image slot None none own = absurd (none own)
+ours_found image slot (Some chunk) none own = refl
 
 -- an empty slot has no chunk of the manager's, and none for data
 pub empty_not_ours : (image : List ℕ) (slot : ℕ) → HeapAccepted image → HoldsNothing image slot → NotOurs image slot

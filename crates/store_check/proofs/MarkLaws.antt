@@ -1,12 +1,17 @@
 -- Marks: what one more does, and what they say of a slot.
-use Rattle.std.proofs.Common.{◌≡◌, ℕ, ◌+◌, ◌<◌, ◌≤◌, List, [], ◌∷◌, ◌++◌, length, get_or, set, sym, ap, subst, ◌∙◌, arith, inl, inr}
+use Rattle.std.proofs.Common.{◌≡◌, ℕ, ◌+◌, ◌<◌, ◌≤◌, List, [], ◌∷◌, ◌++◌, Option, Some, length, get_or, set, sym, ap, subst, ◌∙◌, arith, inl, inr}
 use Rattle.std.proofs.lemmas.Bool.{cases_eq}
 use Rattle.std.proofs.lemmas.List.{get_or-set_same, get_or-set_other}
+use Rattle.std.specs.Prelude.{IfSome}
 use Rattle.heap_model.specs.Slots.{IsSlot, StandsBehind}
 use Rattle.heap_model.specs.Lists.{same, times}
 use Rattle.laws_heap.proofs.Slots.{same_number, same_slot, stands_slot}
 use Rattle.laws_store.proofs.Listing.{same-yes, same-no, times-cons, times-append}
 use Rattle.store_check.specs.Naming.{AreMarks}
+
+-- the number that was found
+pub number_found : (image : List ℕ) (slot : ℕ) (found : Option ℕ) (number : ℕ) → IfSome found (StandsBehind image slot) → found ≡ Some number → StandsBehind image slot number
+number_found image slot found number stands e = subst (λ (o : Option ℕ). IfSome o (StandsBehind image slot)) e stands
 
 -- one more
 pub times-push : (q x : ℕ) (xs : List ℕ) → times q (xs ++ x ∷ []) ≡ times q xs + same x q

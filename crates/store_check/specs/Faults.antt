@@ -42,6 +42,9 @@ IsBadHeader image db = (db < listed_count image) × (HasHeader image (header_at 
 abbrev pub HasBadEntry : List ℕ → List ℕ → ℕ → Type 0
 HasBadEntry image bytes index = (index < entry_count_in bytes) × (HasData image (entry_in bytes index) → ⊥)
 
+abbrev pub HasGoodEntries : List ℕ → List ℕ → Type 0
+HasGoodEntries image bytes = (index : ℕ) → HasBadEntry image bytes index → ⊥
+
 abbrev pub IsBadEntry : List ℕ → ℕ → ℕ → Type 0
 IsBadEntry image db index = (db < listed_count image) × HasBadEntry image (header_at image db) index
 
@@ -65,6 +68,9 @@ abbrev pub HasBadId : List ℕ → ℕ → Type 0
 HasBadId bytes index =
     (index < entry_count_in bytes)
     × ((id_at bytes index ≡ Some 0) ⊎ ((id earlier : ℕ) × (earlier < index) × (id_at bytes earlier ≡ Some id) × (id_at bytes index ≡ Some id)))
+
+abbrev pub HasGoodIds : List ℕ → Type 0
+HasGoodIds bytes = (index : ℕ) → HasBadId bytes index → ⊥
 
 abbrev pub IsBadId : List ℕ → ℕ → ℕ → Type 0
 IsBadId image db index = (db < listed_count image) × HasBadId (header_at image db) index

@@ -1,3 +1,4 @@
+pub mod Owners
 pub mod Listing
 pub mod Faults
 pub mod Laws

@@ -1,9 +1,9 @@
 -- The databases of an image by their indexes in the directory.
-use Rattle.std.specs.Prelude.{◌≡◌, ◌≤◌, ◌<◌, ◌*◌, ◌/◌, ℕ, List, length}
+use Rattle.std.specs.Prelude.{◌≡◌, ◌≤◌, ◌<◌, ◌*◌, ◌/◌, ℕ, List, length, map}
 use Rattle.heap_model.specs.Bytes.{u32_at}
 use Rattle.heap_model.specs.Heap.{HeapAccepted}
 use Rattle.heap_model.specs.Lists.{numbered}
-use Rattle.heap_model.specs.Database.{Entry, entry_in, entry_count_in}
+use Rattle.heap_model.specs.Database.{Entry, entry_data, entry_in, entry_count_in}
 use Rattle.heap_model.specs.Store.{bytes_under, directory_bytes, most_databases, IsHeaderSlot}
 use Rattle.db_format.specs.Headers.{IsWhole}
 
@@ -22,6 +22,10 @@ header_at image db = bytes_under image (listed_at image db)
 -- the entries that are read off the bytes of a header
 abbrev pub entries_in : List ℕ → List (Entry ℕ)
 entries_in bytes = numbered (entry_in bytes) (entry_count_in bytes)
+
+-- the slots of their data
+abbrev pub entry_slots : List ℕ → List ℕ
+entry_slots bytes = map entry_data (entries_in bytes)
 
 -- These are the bytes of the directory in an accepted heap, and each of its words is a right one: what
 -- is known where no slot of it is bad.

@@ -1,9 +1,10 @@
 -- What a look-up of a slot finds.
-use Rattle.std.specs.Prelude.{◌≡◌, ◌≤◌, ◌+◌, ◌⊎◌, ℕ, List, length, slice_range, Option, Some, None}
+use Rattle.std.specs.Prelude.{◌≡◌, ◌≤◌, ◌+◌, ℕ, List, length, slice_range, Option, Some, None, MatchOption}
 use Rattle.heap_model.specs.declared.names.Place.{Place}
-use Rattle.heap_model.specs.Store.{managers_owner, data_owner, bytes_under, owner_under}
+use Rattle.heap_model.specs.Store.{bytes_under, owner_under}
 use Rattle.chunk_format.specs.declared.header.Header.{Header}
 use Rattle.chunk_format.specs.declared.header.Header.TheVariants as headers
+use Rattle.master_table.specs.Table.{HoldsPlace}
 use Rattle.store_check.specs.declared.lookup.Movable.{Movable}
 
 -- the slot's chunk has this owner, and for its body these bytes of the image
@@ -12,9 +13,9 @@ pub record IsMovable (image : List ℕ) (slot : ℕ) (chunk : Movable) : Type 0 
   pub body : bytes_under image slot ≡ slice_range image chunk.place.0 (chunk.place.0 + chunk.length)
   pub inside : chunk.place.0 + chunk.length ≤ length image
 
--- the slot has no chunk of the manager's, and none for data
-abbrev pub NotOurs : List ℕ → ℕ → Type 0
-NotOurs image slot = (owner_under image slot ≡ managers_owner) ⊎ (owner_under image slot ≡ data_owner) → ⊥
+-- what is found is the chunk of each slot that holds this place
+abbrev pub SlotsFind : List ℕ → ℕ → Option Movable → Type 0
+SlotsFind image place found = (slot : ℕ) → HoldsPlace image slot place → MatchOption found ⊥ (IsMovable image slot)
 
 -- the movable chunk with this header, whose body is at a place
 abbrev pub movable_by : Header → Place → Option Movable

@@ -1,10 +1,11 @@
 -- How often slots are listed and named.
-use Rattle.std.specs.Prelude.{◌≡◌, ◌≢◌, ◌<◌, ◌≤◌, ◌++◌, ◌⊎◌, ℕ, List, ◌∷◌, slice_index, min, All}
+use Rattle.std.specs.Prelude.{◌≡◌, ◌≢◌, ◌<◌, ◌≤◌, ◌++◌, ℕ, List, [], ◌∷◌, slice_index, min, All}
 use Rattle.heap_model.specs.Slots.{StandsBehind}
 use Rattle.heap_model.specs.Heap.{HeapAccepted, directory_of}
 use Rattle.heap_model.specs.Lists.{times, Distinct, numbered}
-use Rattle.heap_model.specs.Store.{managers_owner, data_owner, owner_under, listed, named, IsHeaderSlot}
+use Rattle.heap_model.specs.Store.{data_owner, owner_under, listed, named, IsHeaderSlot}
 use Rattle.store_check.specs.Listing.{listed_at}
+use Rattle.store_check.specs.Owners.{IsOurs}
 
 -- Each header that is listed is a chunk of the manager's and listed once, and all that databases name
 -- are chunks for data: what is known where no slot of the directory, no header and no entry is bad.
@@ -19,6 +20,10 @@ pub record AreNamed (image : List ℕ) : Type 0 where
 abbrev pub accounted : List ℕ → List ℕ
 accounted image = directory_of image ∷ (listed image ++ named image)
 
+-- the first of these, which are the manager's
+abbrev pub managers_slots : List ℕ → List ℕ
+managers_slots image = directory_of image ∷ listed image
+
 -- the first of these, up to the word of an index in the directory
 abbrev pub met : List ℕ → ℕ → List ℕ
 met image index = directory_of image ∷ numbered (listed_at image) index
@@ -27,6 +32,14 @@ met image index = directory_of image ∷ numbered (listed_at image) index
 abbrev pub AreMarks : List ℕ → List ℕ → List ℕ → Type 0
 AreMarks image xs marks = (slot number : ℕ) → StandsBehind image slot number → slice_index marks number ≡ min (times slot xs) 2
 
+-- no slot of any image is marked
+abbrev pub HasNoMarks : List ℕ → Type 0
+HasNoMarks marks = (image : List ℕ) → AreMarks image [] marks
+
+-- what were the marks of a list are those of that list with these slots behind it
+abbrev pub AddsMarks : List ℕ → List ℕ → List ℕ → List ℕ → Type 0
+AddsMarks image slots old new = (xs : List ℕ) → AreMarks image xs old → AreMarks image (xs ++ slots) new
+
 -- the slot behind so many others has the mark 2
 abbrev pub IsMarkedTwice : List ℕ → List ℕ → ℕ → Type 0
 IsMarkedTwice image marks number = (slot : ℕ) × StandsBehind image slot number × (2 ≤ slice_index marks number)
@@ -34,4 +47,4 @@ IsMarkedTwice image marks number = (slot : ℕ) × StandsBehind image slot numbe
 -- the slot behind so many others has no mark, and yet a chunk for data or of the manager's
 abbrev pub IsUnmarked : List ℕ → List ℕ → ℕ → Type 0
 IsUnmarked image marks number =
-    (slot : ℕ) × StandsBehind image slot number × (slice_index marks number ≡ 0) × ((owner_under image slot ≡ managers_owner) ⊎ (owner_under image slot ≡ data_owner))
+    (slot : ℕ) × StandsBehind image slot number × (slice_index marks number ≡ 0) × IsOurs image slot

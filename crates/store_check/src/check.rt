@@ -1,15 +1,14 @@
 //! The check of a whole image.
 
 ghost use Rattle.std.specs.Prelude.{◌≡◌, ◌≤◌, ◌⊎◌, ℕ, [], ◌∷◌, List, length, IfOk, IfErr, OnOk};
-ghost use Rattle.heap_model.specs.Slots.{slot_count};
+ghost use Rattle.heap_model.specs.Slots.{slot_count as model_count};
 ghost use Rattle.heap_model.specs.Bytes.{AreBytes};
 ghost use Rattle.heap_model.specs.Heap.{HeapAccepted, directory_of};
 ghost use Rattle.heap_model.specs.Store.{directory_bytes, listed, Accepted};
 ghost use Rattle.heap_check.specs.Faults.{FirstBrought};
-ghost use Rattle.master_table.specs.Table.{IsTable};
 ghost use Rattle.store_check.specs.Listing.{IsListing, HaveHeaders};
 ghost use Rattle.store_check.specs.Faults.{store_faults, NoneBrought};
-ghost use Rattle.store_check.specs.Naming.{AreNamed, accounted, AreMarks};
+ghost use Rattle.store_check.specs.Naming.{AreNamed, managers_slots, accounted, AreMarks, HasNoMarks};
 ghost use Rattle.bit_sets.specs.Sets.{HasNone};
 ghost use Rattle.store_check.specs.Ids.{id_set_size};
 ghost use Rattle.store_check.specs.Checks.{IsFirstOr, IsRefusal, Summarizes, IsAnswered, listed_faults, chunk_faults, marked_faults, own_faults};
@@ -25,9 +24,10 @@ use crate::names::{find_bad_name, find_same_name};
 use crate::slots::find_bad_slot;
 use crate::summary::StoreSummary;
 use crate::uses::mark_databases;
+use crate::words::listed_count;
+use chunk_format::slot_count;
 use heap_check::check_heap;
 use heap_model::Allowance;
-use master_table::Table;
 use raw_region::Region;
 use std::alloc::{AllocError, Global};
 
@@ -73,7 +73,7 @@ fn check_databases<A: Allowance>(memory: &A, region: &Region) -> Result<u32, Sto
     let directory = directory_in(region);
     check_marks(memory, region, directory)?;
     check_ids_and_names(memory, region, directory)?;
-    Ok((directory.len() / 4) as u32)
+    Ok(listed_count(directory) as u32)
 }
 
 /// The numbers in a region are bytes: it is known of those that a slice has.
@@ -96,31 +96,24 @@ fn check_marks<A: Allowance>(
     ensures listing { OnOk result (IsListing region.now.bytes directory.now) }
     ensures headers { OnOk result (HaveHeaders region.now.bytes) }
 {
-    let table = Table::of(region);
-    let Ok(mut marks) = marks_for(memory, table) else {
+    let Ok(mut marks) = marks_for(memory, slot_count(region)) else {
         return Err(StoreFault::OutOfMemory);
     };
-    check_with_marks(region, table, directory, &mut marks)
+    check_with_marks(region, directory, &mut marks)
 }
 
-/// A mark for each slot, and none is set.
-fn marks_for<A: Allowance>(memory: &A, table: Table) -> Result<Vec<u8>, AllocError>
-    ensures len { IfOk result (λ marks. length marks.items ≡ table.count) }
-    ensures clear { IfOk result (λ marks. (image : List ℕ) → AreMarks image [] marks.items) }
+/// A mark for each of so many slots, and none is set.
+fn marks_for<A: Allowance>(memory: &A, slots: u16) -> Result<Vec<u8>, AllocError>
+    ensures len { IfOk result (λ marks. length marks.items ≡ slots) }
+    ensures clear { IfOk result (λ marks. HasNoMarks marks.items) }
 {
-    no_marks(memory.grant()?, table)
+    no_marks(memory.grant()?, slots)
 }
 
 /// Looks for the faults that are found by these marks for slots, none of which is set yet.
-fn check_with_marks(
-    region: &Region,
-    table: Table,
-    directory: &[u8],
-    marks: &mut [u8],
-) -> Result<(), StoreFault>
+fn check_with_marks(region: &Region, directory: &[u8], marks: &mut [u8]) -> Result<(), StoreFault>
     requires accepted { HeapAccepted region.now.bytes }
-    requires table { IsTable region.now.bytes table }
-    requires room { table.count ≤ length marks.old }
+    requires room { model_count region.now.bytes ≤ length marks.old }
     requires directory { directory.now ≡ directory_bytes region.now.bytes }
     requires clear { AreMarks region.now.bytes [] marks.old }
     ensures fault { IfErr result (FirstBrought (marked_faults region.now.bytes)) }
@@ -128,23 +121,17 @@ fn check_with_marks(
     ensures listing { OnOk result (IsListing region.now.bytes directory.now) }
     ensures headers { OnOk result (HaveHeaders region.now.bytes) }
 {
-    mark(table, chunk_format::directory(region), marks);
-    check_listed(region, table, directory, marks)?;
-    mark_databases(region, table, directory, marks);
+    mark(region, chunk_format::directory(region), marks);
+    check_listed(region, directory, marks)?;
+    mark_databases(region, directory, marks);
     check_chunks(region, marks)
 }
 
 /// Looks for the faults of what the directory lists, whose own slot is marked. All that it lists is then
 /// marked too.
-fn check_listed(
-    region: &Region,
-    table: Table,
-    directory: &[u8],
-    marks: &mut [u8],
-) -> Result<(), StoreFault>
+fn check_listed(region: &Region, directory: &[u8], marks: &mut [u8]) -> Result<(), StoreFault>
     requires accepted { HeapAccepted region.now.bytes }
-    requires table { IsTable region.now.bytes table }
-    requires room { table.count ≤ length marks.old }
+    requires room { model_count region.now.bytes ≤ length marks.old }
     requires directory { directory.now ≡ directory_bytes region.now.bytes }
     requires marks { AreMarks region.now.bytes (directory_of region.now.bytes ∷ []) marks.old }
     ensures fault { IfErr result (FirstBrought (listed_faults region.now.bytes)) }
@@ -152,9 +139,9 @@ fn check_listed(
     ensures listing { OnOk result (IsListing region.now.bytes directory.now) }
     ensures headers { OnOk result (HaveHeaders region.now.bytes) }
     ensures named { OnOk result (AreNamed region.now.bytes) }
-    ensures marked { OnOk result (AreMarks region.now.bytes (directory_of region.now.bytes ∷ listed region.now.bytes) marks.new) }
+    ensures marked { OnOk result (AreMarks region.now.bytes (managers_slots region.now.bytes) marks.new) }
 {
-    if let Some(fault) = find_bad_slot(region, table, directory, marks) {
+    if let Some(fault) = find_bad_slot(region, directory, marks) {
         return Err(fault);
     }
     if let Some(fault) = find_bad_header(region, directory) {
@@ -169,7 +156,7 @@ fn check_listed(
 /// Looks for chunks that are named twice and for those that nothing names, where all that must be named
 /// is marked.
 fn check_chunks(region: &Region, marks: &[u8]) -> Result<(), StoreFault>
-    requires room { slot_count region.now.bytes ≤ length marks.now }
+    requires room { model_count region.now.bytes ≤ length marks.now }
     requires named { AreNamed region.now.bytes }
     requires marks { AreMarks region.now.bytes (accounted region.now.bytes) marks.now }
     ensures fault { IfErr result (FirstBrought (chunk_faults region.now.bytes)) }
@@ -224,7 +211,7 @@ fn check_with_set(region: &Region, directory: &[u8], seen: &mut [u8]) -> Result<
     if let Some(fault) = find_bad_name(region, directory) {
         return Err(fault);
     }
-    match find_same_name(region, directory) {
+    match find_same_name(region, directory, seen) {
         Some(fault) => Err(fault),
         None => Ok(()),
     }

@@ -1,6 +1,6 @@
 //! The entries of databases, and the chunks of their data.
 
-ghost use Rattle.std.specs.Prelude.{◌<◌, ◌↔◌, ℕ, IsTrue, IfSome, IfNone};
+ghost use Rattle.std.specs.Prelude.{◌<◌, ◌↔◌, IsTrue, IfSome, IfNone};
 ghost use Rattle.heap_model.specs.Heap.{HeapAccepted};
 ghost use Rattle.heap_model.specs.Lists.{Least};
 ghost use Rattle.heap_model.specs.Database.{entry_in, entry_count_in};
@@ -9,10 +9,11 @@ ghost use Rattle.heap_check.specs.Faults.{FirstBrought};
 ghost use Rattle.db_format.specs.Headers.{IsWhole};
 ghost use Rattle.db_format.specs.EitherEntry.{entry_of};
 ghost use Rattle.store_check.specs.Listing.{IsListing, HaveHeaders};
-ghost use Rattle.store_check.specs.Faults.{HasBadEntry, entry_faults, NoneBrought};
+ghost use Rattle.store_check.specs.Faults.{HasBadEntry, HasGoodEntries, entry_faults, NoneBrought};
 
 use crate::fault::StoreFault;
 use crate::lookup::{header_of, is_for_data};
+use crate::words::listed_count;
 use db_format::{DbEntry, entry_count};
 use raw_region::Region;
 
@@ -34,7 +35,7 @@ fn find_bad_entry_in(region: &Region, header: &[u8]) -> Option<u16>
     requires accepted { HeapAccepted region.now.bytes }
     requires whole { IsWhole header.now }
     ensures some { IfSome result (Least (HasBadEntry region.now.bytes header.now)) }
-    ensures none { IfNone result ((index : ℕ) → HasBadEntry region.now.bytes header.now index → ⊥) }
+    ensures none { IfNone result (HasGoodEntries region.now.bytes header.now) }
 {
     for index in 0..entry_count(header) {
         if !has_data(region, DbEntry::read(header, index)) {
@@ -51,7 +52,7 @@ pub(crate) fn find_bad_entry(region: &Region, directory: &[u8]) -> Option<StoreF
     ensures some { IfSome result (FirstBrought (entry_faults region.now.bytes)) }
     ensures none { IfNone result (NoneBrought (entry_faults region.now.bytes)) }
 {
-    for db in 0..directory.len() / 4 {
+    for db in 0..listed_count(directory) {
         if let Some(index) = find_bad_entry_in(region, header_of(region, directory, db)) {
             return Some(StoreFault::BadEntry(db as u32, index as u32));
         }

@@ -9,6 +9,7 @@ ghost use Rattle.store_check.specs.Faults.{HasHeader, header_faults, NoneBrought
 
 use crate::fault::StoreFault;
 use crate::lookup::{header_of, is_for_data};
+use crate::words::listed_count;
 use db_format::{app_info, is_whole, sort_info};
 use raw_region::Region;
 
@@ -37,7 +38,7 @@ pub(crate) fn find_bad_header(region: &Region, directory: &[u8]) -> Option<Store
     ensures none { IfNone result (NoneBrought (header_faults region.now.bytes)) }
     ensures headers { IfNone result (HaveHeaders region.now.bytes) }
 {
-    for db in 0..directory.len() / 4 {
+    for db in 0..listed_count(directory) {
         if !has_header(region, header_of(region, directory, db)) {
             return Some(StoreFault::BadHeader(db as u32));
         }

@@ -1,17 +1,18 @@
 //! The unique IDs of records, each database for itself.
 
-ghost use Rattle.std.specs.Prelude.{◌≡◌, ◌<◌, ◌^◌, ℕ, Some, false, length, IfOk, IfSome, IfNone};
+ghost use Rattle.std.specs.Prelude.{◌≡◌, ◌<◌, ◌^◌, Some, false, length, IfOk, IfSome, IfNone};
 ghost use Rattle.heap_model.specs.Lists.{Least};
 ghost use Rattle.heap_model.specs.Database.{resources_in, entry_count_in};
 ghost use Rattle.heap_check.specs.Faults.{FirstBrought};
 ghost use Rattle.bit_sets.specs.Sets.{HasNone};
 ghost use Rattle.db_format.specs.Headers.{IsWhole};
 ghost use Rattle.store_check.specs.Listing.{IsListing, HaveHeaders};
-ghost use Rattle.store_check.specs.Faults.{id_at, HasBadId, id_faults, NoneBrought};
+ghost use Rattle.store_check.specs.Faults.{id_at, HasBadId, HasGoodIds, id_faults, NoneBrought};
 ghost use Rattle.store_check.specs.Ids.{id_set_size, HasIdsWithin};
 
 use crate::fault::StoreFault;
 use crate::lookup::header_of;
+use crate::words::listed_count;
 use db_format::{entry_count, has_resources};
 use raw_region::Region;
 use std::alloc::{AllocError, Global};
@@ -48,7 +49,7 @@ fn find_bad_id_among(header: &[u8], seen: &mut [u8]) -> Option<u16>
     requires room { length seen.old ≡ id_set_size }
     requires empty { HasNone seen.old }
     ensures some { IfSome result (Least (HasBadId header.now)) }
-    ensures none { IfNone result ((index : ℕ) → HasBadId header.now index → ⊥) }
+    ensures none { IfNone result (HasGoodIds header.now) }
     ensures within { IfNone result (HasIdsWithin header.now seen.new 0 (entry_count_in header.now)) }
 {
     for index in 0..entry_count(header) {
@@ -81,7 +82,7 @@ fn find_bad_id_in(header: &[u8], seen: &mut [u8]) -> Option<u16>
     requires room { length seen.old ≡ id_set_size }
     requires empty { HasNone seen.old }
     ensures some { IfSome result (Least (HasBadId header.now)) }
-    ensures none { IfNone result ((index : ℕ) → HasBadId header.now index → ⊥) }
+    ensures none { IfNone result (HasGoodIds header.now) }
     ensures empty { IfNone result (HasNone seen.new) }
 {
     if has_resources(header) {
@@ -103,7 +104,7 @@ pub(crate) fn find_bad_id(region: &Region, directory: &[u8], seen: &mut [u8]) ->
     ensures some { IfSome result (FirstBrought (id_faults region.now.bytes)) }
     ensures none { IfNone result (NoneBrought (id_faults region.now.bytes)) }
 {
-    for db in 0..directory.len() / 4 {
+    for db in 0..listed_count(directory) {
         if let Some(index) = find_bad_id_in(header_of(region, directory, db), seen) {
             return Some(StoreFault::BadId(db as u32, index as u32));
         }

@@ -1,13 +1,14 @@
 //! The chunks of databases and of the manager, by their slots.
 
-ghost use Rattle.std.specs.Prelude.{◌≡◌, ◌≤◌, ◌<◌, ◌/◌, ◌↔◌, ℕ, length, IsTrue, IfSome, IfNone, MatchOption};
+ghost use Rattle.std.specs.Prelude.{◌≡◌, ◌≤◌, ◌<◌, ◌-◌, ◌↔◌, IsTrue, IfSome, IfNone};
+ghost use Rattle.heap_model.specs.Chunk.{HasChunk};
 ghost use Rattle.heap_model.specs.Heap.{HeapAccepted};
 ghost use Rattle.heap_model.specs.Store.{managers_owner, data_owner, bytes_under, owner_under, directory_bytes};
-ghost use Rattle.master_table.specs.Table.{HoldsPlace};
-ghost use Rattle.store_check.specs.Listing.{listed_count, header_at, IsListing};
-ghost use Rattle.store_check.specs.Lookup.{IsMovable, NotOurs, movable_by};
+ghost use Rattle.store_check.specs.Listing.{listed_count as model_count, header_at, IsListing};
+ghost use Rattle.store_check.specs.Lookup.{IsMovable, SlotsFind, movable_by};
+ghost use Rattle.store_check.specs.Owners.{IsOurs, NotOurs};
 
-use crate::words::u32_in;
+use crate::words::word_at;
 use chunk_format::{DATA_OWNER, Header, MANAGERS_OWNER, directory};
 use heap_model::{Name, Place};
 use master_table::resolve;
@@ -34,17 +35,15 @@ fn movable_under(region: &Region, slot: u32) -> Option<Movable>
     }
 }
 
-/// The movable chunk whose body is at a place.
+/// The movable chunk whose body is at a place, in front of which a chunk stands.
 #[inline]
 fn movable_at(region: &Region, place: Place) -> Option<Movable>
     requires accepted { HeapAccepted region.now.bytes }
     requires behind_header { 8 ≤ place.0 }
-    ensures { (slot : ℕ) → HoldsPlace region.now.bytes slot place.0 → MatchOption result ⊥ (IsMovable region.now.bytes slot) }
+    requires chunk { HasChunk region.now.bytes (place.0 - 8) }
+    ensures { SlotsFind region.now.bytes place.0 result }
 {
-    match Header::read(region, place.0 - 8) {
-        Some(header) => as_movable(header, place),
-        None => None,
-    }
+    as_movable(Header::at(region, place.0 - 8), place)
 }
 
 /// The chunk with this header, if it is a movable one.
@@ -60,6 +59,14 @@ fn as_movable(header: Header, place: Place) -> Option<Movable>
         }),
         _ => None,
     }
+}
+
+/// Whether a slot has a chunk of the manager's or one for data.
+pub(crate) fn is_ours(region: &Region, slot: u32) -> bool
+    requires { HeapAccepted region.now.bytes }
+    ensures { IsTrue result ↔ IsOurs region.now.bytes slot }
+{
+    is_managers(region, slot) || is_for_data(region, slot)
 }
 
 /// Whether a slot has a chunk of the manager's.
@@ -91,10 +98,8 @@ fn body_under(region: &Region, slot: u32) -> &[u8]
     requires managers { owner_under region.now.bytes slot ≡ managers_owner }
     ensures { result.now ≡ bytes_under region.now.bytes slot }
 {
-    match movable_under(region, slot) {
-        Some(chunk) => region.slice(chunk.place.0 as usize, chunk.length as usize),
-        None => region.slice(0, 0),
-    }
+    let chunk = movable_under(region, slot).unwrap();
+    region.slice(chunk.place.0 as usize, chunk.length as usize)
 }
 
 /// The bytes of the directory. There are none where the directory word is 0.
@@ -112,8 +117,8 @@ pub(crate) fn directory_in(region: &Region) -> &[u8]
 /// The bytes of the header of the database of an index, and of its entries.
 pub(crate) fn header_of<'a>(region: &'a Region, directory: &[u8], db: usize) -> &'a [u8]
     requires listing { IsListing region.now.bytes directory.now }
-    requires below { db < listed_count region.now.bytes }
+    requires below { db < model_count region.now.bytes }
     ensures { result.now ≡ header_at region.now.bytes db }
 {
-    body_under(region, u32_in(directory, 4 * db))
+    body_under(region, word_at(directory, db))
 }

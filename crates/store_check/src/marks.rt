@@ -1,30 +1,33 @@
 //! Marks for the slots of a table: how often each was met, two standing for more.
 
-ghost use Rattle.std.specs.Prelude.{◌≡◌, ◌≤◌, ◌<◌, ◌++◌, ◌↔◌, ℕ, [], ◌∷◌, List, length, IsTrue, IfOk};
-ghost use Rattle.heap_model.specs.Slots.{IsSlot};
+ghost use Rattle.std.specs.Prelude.{◌≡◌, ◌≤◌, ◌<◌, ◌↔◌, ℕ, [], ◌∷◌, List, length, IsTrue, IfOk};
+ghost use Rattle.heap_model.specs.Frame.{HasFrame};
+ghost use Rattle.heap_model.specs.Slots.{IsSlot, slot_count};
 ghost use Rattle.heap_model.specs.Lists.{times};
-ghost use Rattle.master_table.specs.Table.{IsTable};
-ghost use Rattle.store_check.specs.Naming.{AreMarks};
+ghost use Rattle.store_check.specs.Naming.{AreMarks, AddsMarks, HasNoMarks};
 
-use master_table::Table;
+use heap_model::Name;
+use master_table::slots_before;
+use raw_region::Region;
 use std::alloc::{AllocError, Global};
 
-/// A mark for each slot, and none is set. The only error is that memory was refused.
-pub(crate) fn no_marks(alloc: Global, table: Table) -> Result<Vec<u8>, AllocError>
-    ensures len { IfOk result (λ marks. length marks.items ≡ table.count) }
-    ensures clear { IfOk result (λ marks. (image : List ℕ) → AreMarks image [] marks.items) }
+/// A mark for each of so many slots, and none is set. The only error is that memory was refused.
+pub(crate) fn no_marks(alloc: Global, slots: u16) -> Result<Vec<u8>, AllocError>
+    ensures len { IfOk result (λ marks. length marks.items ≡ slots) }
+    ensures clear { IfOk result (λ marks. HasNoMarks marks.items) }
 {
-    let marks = vec![in alloc; 0u8; table.count() as usize]?;
+    let marks = vec![in alloc; 0u8; slots as usize]?;
     Ok(marks)
 }
 
 /// Marks a slot once more. What is no slot has no mark.
 #[inline]
-pub(crate) fn mark(table: Table, slot: u32, marks: &mut [u8])
-    requires room { table.count ≤ length marks.old }
-    ensures { (image xs : List ℕ) → IsTable image table → AreMarks image xs marks.old → AreMarks image (xs ++ slot ∷ []) marks.new }
+pub(crate) fn mark(region: &Region, slot: u32, marks: &mut [u8])
+    requires frame { HasFrame region.now }
+    requires room { slot_count region.now.bytes ≤ length marks.old }
+    ensures { AddsMarks region.now.bytes (slot ∷ []) marks.old marks.new }
 {
-    if let Some(number) = table.number(slot) {
+    if let Some(number) = slots_before(region, Name(slot)) {
         if marks[number as usize] < 2 {
             marks[number as usize] += 1;
         }
@@ -33,12 +36,13 @@ pub(crate) fn mark(table: Table, slot: u32, marks: &mut [u8])
 
 /// Whether a slot is marked.
 #[inline]
-pub(crate) fn is_marked(table: Table, slot: u32, marks: &[u8]) -> bool
-    requires room { table.count ≤ length marks.now }
-    ensures { (image xs : List ℕ) → IsTable image table → AreMarks image xs marks.now → IsSlot image slot → (IsTrue result ↔ (0 < times slot xs)) }
+pub(crate) fn is_marked(region: &Region, slot: u32, marks: &[u8]) -> bool
+    requires frame { HasFrame region.now }
+    requires slot { IsSlot region.now.bytes slot }
+    requires room { slot_count region.now.bytes ≤ length marks.now }
+    ensures { (xs : List ℕ) → AreMarks region.now.bytes xs marks.now
+        → (IsTrue result ↔ (0 < times slot xs)) }
 {
-    match table.number(slot) {
-        Some(number) => marks[number as usize] != 0,
-        None => false,
-    }
+    let number = slots_before(region, Name(slot)).unwrap();
+    marks[number as usize] != 0
 }

@@ -1,15 +1,17 @@
 //! The names of databases.
 
-ghost use Rattle.std.specs.Prelude.{◌≡◌, ◌≤◌, ◌<◌, ◌↔◌, ℕ, length, IsTrue, IfSome, IfNone};
+ghost use Rattle.std.specs.Prelude.{◌≡◌, ◌≤◌, ◌<◌, ◌/◌, ◌↔◌, length, IsTrue, IfSome, IfNone};
 ghost use Rattle.heap_model.specs.DatabaseFields.{name_size};
 ghost use Rattle.heap_model.specs.Database.{HasName, name_in};
 ghost use Rattle.heap_check.specs.Faults.{FirstBrought};
-ghost use Rattle.store_check.specs.Listing.{listed_count, header_at, IsListing, HaveHeaders};
+ghost use Rattle.store_check.specs.Listing.{listed_count as model_count, header_at, IsListing, HaveHeaders};
 ghost use Rattle.store_check.specs.Faults.{IsSameName, name_faults, same_name_faults, NoneBrought};
-ghost use Rattle.store_check.specs.Names.{HaveNames};
+ghost use Rattle.store_check.specs.Ids.{id_set_size};
+ghost use Rattle.store_check.specs.Names.{HaveNames, HasNamesBefore, name_number, name_numbers};
 
 use crate::fault::StoreFault;
 use crate::lookup::header_of;
+use crate::words::{listed_count, word_at};
 use db_format::{NAME_SIZE, has_name};
 use raw_region::Region;
 
@@ -21,12 +23,34 @@ pub(crate) fn find_bad_name(region: &Region, directory: &[u8]) -> Option<StoreFa
     ensures none { IfNone result (NoneBrought (name_faults region.now.bytes)) }
     ensures names { IfNone result (HaveNames region.now.bytes) }
 {
-    for db in 0..directory.len() / 4 {
+    for db in 0..listed_count(directory) {
         if !has_name(header_of(region, directory, db)) {
             return Some(StoreFault::BadName(db as u32));
         }
     }
     None
+}
+
+/// How many numbers there are for names: a prime, so that names which differ in one of their words alone
+/// seldom share one.
+const NAME_NUMBERS: u64 = 262_139;
+
+/// A number that all fields for a name with the same bytes have.
+fn number_of_name(header: &[u8]) -> u32
+    requires { name_size ≤ length header.now }
+    ensures is { result ≡ name_number header.now }
+    ensures below { result < name_numbers }
+{
+    let field = &header[..NAME_SIZE];
+    let front = word_at(field, 0) as u64
+        + 3 * word_at(field, 1) as u64
+        + 5 * word_at(field, 2) as u64
+        + 7 * word_at(field, 3) as u64;
+    let back = 11 * word_at(field, 4) as u64
+        + 13 * word_at(field, 5) as u64
+        + 17 * word_at(field, 6) as u64
+        + 19 * word_at(field, 7) as u64;
+    ((front + back) % NAME_NUMBERS) as u32
 }
 
 /// Whether two databases have the same name, where each has one.
@@ -45,7 +69,7 @@ fn has_earlier_name(region: &Region, directory: &[u8], db: usize) -> bool
     requires listing { IsListing region.now.bytes directory.now }
     requires headers { HaveHeaders region.now.bytes }
     requires names { HaveNames region.now.bytes }
-    requires below { db < listed_count region.now.bytes }
+    requires below { db < model_count region.now.bytes }
     ensures { IsTrue result ↔ IsSameName region.now.bytes db }
 {
     let header = header_of(region, directory, db);
@@ -57,18 +81,43 @@ fn has_earlier_name(region: &Region, directory: &[u8], db: usize) -> bool
     false
 }
 
-/// The first database with the name of an earlier one.
-pub(crate) fn find_same_name(region: &Region, directory: &[u8]) -> Option<StoreFault>
+/// Whether an earlier database has the name of the one of an index, by the numbers of the names in front.
+fn has_same_name(region: &Region, directory: &[u8], db: usize, number: u32, seen: &[u8]) -> bool
     requires listing { IsListing region.now.bytes directory.now }
     requires headers { HaveHeaders region.now.bytes }
     requires names { HaveNames region.now.bytes }
+    requires below { db < model_count region.now.bytes }
+    requires number { number ≡ name_number (header_at region.now.bytes db) }
+    requires room { number / 8 < length seen.now }
+    requires seen { HasNamesBefore region.now.bytes seen.now db }
+    ensures { IsTrue result ↔ IsSameName region.now.bytes db }
+{
+    if !bit_sets::has(seen, number) {
+        return false;
+    }
+    has_earlier_name(region, directory, db)
+}
+
+/// The first database with the name of an earlier one. The set gets the numbers of all names in front,
+/// so that names are compared only where the number is in it: the fewer others are, the fewer are.
+pub(crate) fn find_same_name(
+    region: &Region,
+    directory: &[u8],
+    seen: &mut [u8],
+) -> Option<StoreFault>
+    requires listing { IsListing region.now.bytes directory.now }
+    requires headers { HaveHeaders region.now.bytes }
+    requires names { HaveNames region.now.bytes }
+    requires room { length seen.old ≡ id_set_size }
     ensures some { IfSome result (FirstBrought (same_name_faults region.now.bytes)) }
     ensures none { IfNone result (NoneBrought (same_name_faults region.now.bytes)) }
 {
-    for db in 0..directory.len() / 4 {
-        if has_earlier_name(region, directory, db) {
+    for db in 0..listed_count(directory) {
+        let number = number_of_name(header_of(region, directory, db));
+        if has_same_name(region, directory, db, number, seen) {
             return Some(StoreFault::SameName(db as u32));
         }
+        bit_sets::add(seen, number);
     }
     None
 }

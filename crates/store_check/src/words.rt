@@ -1,15 +1,26 @@
-//! The words of the directory.
+//! Bytes as words.
 
-ghost use Rattle.std.specs.Prelude.{◌≡◌, ◌+◌, ◌≤◌, length};
+ghost use Rattle.std.specs.Prelude.{◌≡◌, ◌+◌, ◌*◌, ◌/◌, ◌≤◌, length};
 ghost use Rattle.heap_model.specs.Bytes.{u32_at};
+ghost use Rattle.heap_model.specs.Slots.{slot_size};
 
 use byteorder::{BigEndian, ByteOrder};
+use chunk_format::SLOT_SIZE;
 
-/// The number in the four bytes at `at`.
+/// How many slots the bytes of a directory list: its whole words.
 #[inline]
-pub(crate) fn u32_in(bytes: &[u8], at: usize) -> u32
-    requires { at + 4 ≤ length bytes.now }
-    ensures { result ≡ u32_at bytes.now at }
+pub(crate) fn listed_count(directory: &[u8]) -> usize
+    ensures { result ≡ length directory.now / slot_size }
 {
-    BigEndian::read_u32(&bytes[at..at + 4])
+    directory.len() / SLOT_SIZE as usize
+}
+
+/// The word of an index in these bytes: of a directory a slot.
+#[inline]
+pub(crate) fn word_at(bytes: &[u8], index: usize) -> u32
+    requires { slot_size * index + slot_size ≤ length bytes.now }
+    ensures { result ≡ u32_at bytes.now (slot_size * index) }
+{
+    let at = SLOT_SIZE as usize * index;
+    BigEndian::read_u32(&bytes[at..at + SLOT_SIZE as usize])
 }

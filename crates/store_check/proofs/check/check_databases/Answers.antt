@@ -1,4 +1,4 @@
-use Rattle.std.proofs.Common.{◌≡◌}
+use Rattle.std.proofs.Common.{◌≡◌, ◌∙◌}
 use Rattle.std.specs.Prelude.{◌⊎◌}
 use Rattle.heap_model.specs.Store.{Accepted}
 use Rattle.store_check.specs.declared.fault.StoreFault.TheVariants.{OutOfMemory}
@@ -20,4 +20,4 @@ pub returns-clause-accepted : goal.returns-clause-accepted
 returns-clause-accepted g c = none_accepted c.args.region.now.bytes c.requires c.know_bytes.ensures c.in_ok-check_marks.ensures.none c.in_ok-check_ids_and_names.ensures.none
 
 pub returns-clause-count : goal.returns-clause-count
-returns-clause-count g c = listed_length c.args.region.now.bytes c.directory_in-directory.result.now _ c.in_ok-check_marks.ensures.listing c.in_ok-check_marks.ensures.listing.count
+returns-clause-count g c = listed_length c.args.region.now.bytes c.directory_in-directory.result.now _ c.in_ok-check_marks.ensures.listing (c.listed_count.ensures ∙ c.in_ok-check_marks.ensures.listing.count)

@@ -10,9 +10,9 @@ pub loop-index-preserved : goal.loop-index-preserved
 loop-index-preserved c =
     let image : List ℕ = c.args.region.now.bytes in
     let len = ap length c.requires.directory in
-    let is : c.u32_in.result ≡ listed_at image c.loop-index.index = c.u32_in.ensures ∙ ap (λ (b : List ℕ). u32_at b (4 * c.loop-index.index)) c.requires.directory in
-    slots_more image c.loop-index.marks c.mark.new.marks c.loop-index.index c.u32_in.result is (omega arith) (λ bad. false≢true (c.if-is_bad_slot.ensures.1 bad))
-    (c.mark.ensures image (met image c.loop-index.index) c.requires.table c.loop-index.invariant.marked) c.loop-index.invariant
+    let is : c.word_at.result ≡ listed_at image c.loop-index.index = c.word_at.ensures ∙ ap (λ (b : List ℕ). u32_at b (4 * c.loop-index.index)) c.requires.directory in
+    slots_more image c.loop-index.marks c.mark.new.marks c.loop-index.index c.word_at.result is (omega arith) (λ bad. false≢true (c.if-is_bad_slot.ensures.1 bad))
+    (c.mark.ensures (met image c.loop-index.index) c.loop-index.invariant.marked) c.loop-index.invariant
 
 pub returns-clause-marked : goal.returns-clause-marked
 returns-clause-marked c =

@@ -16,7 +16,7 @@ loop-db-init c xs m = same_marks c.args.region.now.bytes xs _ _ (sym (append-nil
 pub loop-db-preserved : goal.loop-db-preserved
 loop-db-preserved c xs m =
     same_marks c.args.region.now.bytes _ _ c.mark_database.new.marks (named_more c.args.region.now.bytes xs c.header_of.result.now c.loop-db.db c.header_of.ensures)
-    (c.mark_database.ensures c.args.region.now.bytes (xs ++ named_below c.args.region.now.bytes c.loop-db.db) c.requires.table (c.loop-db.invariant xs m))
+    (c.mark_database.ensures (xs ++ named_below c.args.region.now.bytes c.loop-db.db) (c.loop-db.invariant xs m))
 
 pub returns : goal.returns
 returns c xs m = same_marks c.args.region.now.bytes _ _ c.loop-db.marks (named_all c.args.region.now.bytes xs c.loop-db.db (let count = c.requires.listing.count in omega arith)) (c.loop-db.invariant xs m)

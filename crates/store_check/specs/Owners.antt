@@ -1,0 +1,11 @@
+-- The chunks that belong to databases, by their owners.
+use Rattle.std.specs.Prelude.{◌≡◌, ◌⊎◌, ℕ, List}
+use Rattle.heap_model.specs.Store.{managers_owner, data_owner, owner_under}
+
+-- the slot has a chunk of the manager's, or one for data
+abbrev pub IsOurs : List ℕ → ℕ → Type 0
+IsOurs image slot = (owner_under image slot ≡ managers_owner) ⊎ (owner_under image slot ≡ data_owner)
+
+-- the slot has neither
+abbrev pub NotOurs : List ℕ → ℕ → Type 0
+NotOurs image slot = IsOurs image slot → ⊥
