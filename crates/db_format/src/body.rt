@@ -6,6 +6,7 @@ ghost use Rattle.heap_model.specs.DatabaseFields.{header_size, attributes_at, ap
 ghost use Rattle.heap_model.specs.Database.{resources_in, entry_count_in};
 ghost use Rattle.db_format.specs.Headers.{IsWhole};
 
+use crate::database_attributes::DbAttrs;
 use crate::fields::{
     APP_INFO_AT, ATTRIBUTES_AT, ENTRY_COUNT_AT, HEADER_SIZE, NEXT_LIST_AT, SEED_AT, SORT_INFO_AT,
     entry_offset,
@@ -36,7 +37,7 @@ pub fn has_resources(bytes: &[u8]) -> bool
     requires { header_size ≤ length bytes.now }
     ensures { result ≡ resources_in bytes.now }
 {
-    attributes(bytes) & RESOURCE_DATABASE == RESOURCE_DATABASE
+    DbAttrs(attributes(bytes)).has_resources()
 }
 
 /// The slot of the AppInfo block, or 0.

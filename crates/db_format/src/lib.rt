@@ -19,6 +19,7 @@
 #![tactic(auto)]
 
 mod body;
+mod database_attributes;
 mod db_entry;
 mod entries;
 mod entry_bytes;
@@ -32,6 +33,7 @@ pub use body::{
     MOST_DATABASES, READ_ONLY, RESOURCE_DATABASE, app_info, attributes, entry_count, has_resources,
     is_whole, seed, sort_info,
 };
+pub use database_attributes::DbAttrs;
 pub use db_entry::DbEntry;
 pub use entries::{RecordEntry, ResourceEntry, entry_slot, record_id};
 pub use entry_bytes::EntryBytes;
