@@ -17,6 +17,10 @@ pub record AddsNumber (old new : List ℕ) (number : ℕ) : Type 0 where
   pub here : HasNumber new number
   pub others : (other : ℕ) → other ≢ number → (HasNumber new other ↔ HasNumber old other)
 
+-- each number is still in the set that has its bit in another byte than this one
+abbrev pub KeepsOtherBytes : List ℕ → List ℕ → ℕ → Type 0
+KeepsOtherBytes old new number = (other : ℕ) → other / 8 ≢ number / 8 → HasNumber old other → HasNumber new other
+
 -- this is the least number that isn't in the set
 abbrev pub IsFirstMissing : List ℕ → ℕ → Type 0
 IsFirstMissing set number = Least (λ other. HasNumber set other → ⊥) number

@@ -1,7 +1,7 @@
 //! Numbers put into a set, and asked of it.
 
-ghost use Rattle.std.specs.Prelude.{◌<◌, ◌/◌, ◌^◌, ◌↔◌, ◌≢◌, ℕ, length, IsTrue};
-ghost use Rattle.bit_sets.specs.Sets.{HasNumber, AddsNumber, IsFirstMissing};
+ghost use Rattle.std.specs.Prelude.{◌<◌, ◌/◌, ◌^◌, ◌≡◌, ◌↔◌, ℕ, length, IsTrue};
+ghost use Rattle.bit_sets.specs.Sets.{HasNumber, AddsNumber, KeepsOtherBytes, IsFirstMissing};
 
 /// Whether a number is in the set.
 #[inline]
@@ -25,9 +25,9 @@ pub fn add(set: &mut [u8], number: u32)
 #[inline]
 pub fn remove_byte(set: &mut [u8], number: u32)
     requires { number / 8 < length set.old }
-    ensures gone { HasNumber set.new number → ⊥ }
+    ensures gone { (other : ℕ) → other / 8 ≡ number / 8 → HasNumber set.new other → ⊥ }
     ensures none_comes { (other : ℕ) → HasNumber set.new other → HasNumber set.old other }
-    ensures others { (other : ℕ) → other / 8 ≢ number / 8 → HasNumber set.old other → HasNumber set.new other }
+    ensures others { KeepsOtherBytes set.old set.new number }
 {
     set[(number / 8) as usize] = 0;
 }

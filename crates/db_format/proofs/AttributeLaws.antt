@@ -1,15 +1,35 @@
--- Bits of a record's attributes.
-use Rattle.std.proofs.Common.{◌≡◌, ℕ, zero, suc, ◌*◌, ◌<◌, refl, ap, ◌∙◌, arith}
+-- Bits of attributes, tested by masks.
+use Rattle.std.proofs.Common.{◌≡◌, ℕ, zero, suc, ◌+◌, ◌*◌, ◌^◌, ◌<◌, Bool, refl, ap, ◌∙◌, arith}
+use Rattle.std.proofs.lemmas.Bool.{eq-eqb, ne_eqb}
 use Rattle.std.proofs.lemmas.Nat.Bits.{and_pow, bit_at-lt}
-use Rattle.std.specs.Prelude.{Bool, ◌==◌}
+use Rattle.std.specs.Prelude.{◌==◌}
 use Rattle.std.specs.Int.{bit_at}
 use Rattle.std.specs.Int.RustNames.{bit_and}
-use Rattle.heap_model.specs.Database.{is_deleted}
+use Rattle.heap_model.specs.Database.{is_deleted, has_resources}
+use Rattle.heap_model.specs.RecordSteps.{is_read_only}
 
-same_test : (bit : ℕ) → bit < 2 → (bit * 128 == 128) ≡ (bit == 1)
-same_test zero below = refl
-same_test (suc zero) below = refl
-same_test (suc (suc bit)) below = absurd (omega arith)
+none_of : (m : ℕ) → 0 * m ≡ 0
+none_of m = omega arith
+
+one_of : (m : ℕ) → 1 * m ≡ m
+one_of m = omega arith
+
+same_test : (bit more : ℕ) → bit < 2 → (bit * (more + 1) == more + 1) ≡ (bit == 1)
+same_test zero more below = ap (λ (n : ℕ). n == more + 1) (none_of (more + 1)) ∙ ne_eqb 0 (more + 1) (λ e. omega arith)
+same_test (suc zero) more below = eq-eqb (1 * (more + 1)) (more + 1) (one_of (more + 1))
+same_test (suc (suc bit)) more below = absurd (omega arith)
+
+-- a bit is set where its mask leaves the mask
+by_mask : (k more attributes : ℕ) → 2 ^ k ≡ more + 1 → (bit_and attributes (2 ^ k) == more + 1) ≡ (bit_at attributes k == 1)
+by_mask k more attributes is =
+    ap (λ (x : ℕ). x == more + 1) (and_pow attributes k) ∙ ap (λ (m : ℕ). bit_at attributes k * m == more + 1) is
+    ∙ same_test (bit_at attributes k) more (bit_at-lt attributes k)
 
 pub deleted_by_mask : (deleted : Bool) (attributes : ℕ) → deleted ≡ (bit_and attributes 128 == 128) → deleted ≡ is_deleted attributes
-deleted_by_mask deleted attributes is = is ∙ ap (λ (x : ℕ). x == 128) (and_pow attributes 7) ∙ same_test (bit_at attributes 7) (bit_at-lt attributes 7)
+deleted_by_mask deleted attributes is = is ∙ by_mask 7 127 attributes refl
+
+pub resources_by_mask : (resources : Bool) (attributes : ℕ) → resources ≡ (bit_and attributes 1 == 1) → resources ≡ has_resources attributes
+resources_by_mask resources attributes is = is ∙ by_mask 0 0 attributes refl
+
+pub read_only_by_mask : (read_only : Bool) (attributes : ℕ) → read_only ≡ (bit_and attributes 2 == 2) → read_only ≡ is_read_only attributes
+read_only_by_mask read_only attributes is = is ∙ by_mask 1 1 attributes refl

@@ -49,11 +49,12 @@ fields h app sort count =
 unfoldable pub bytes_by : DatabaseHeader → ℕ → ℕ → ℕ → List ℕ
 bytes_by h app sort count = name_field h.name ++ concat (fields h app sort count)
 
+pub bytes_same : (g h : DatabaseHeader) (a b s t m n : ℕ) → g ≡ h → a ≡ b → s ≡ t → m ≡ n → bytes_by g a s m ≡ bytes_by h b t n
+bytes_same g h a b s t m n p q r u = cc
+
 pub header_spelled : (d : Database ℕ) (h : DbHeader) (bytes : List ℕ) → bytes ≡ bytes_by (header_of h) h.app_info h.sort_info h.entry_count → HasHeader d h → bytes ≡ header_bytes d
 unfolding header_bytes bytes_by fields
-header_spelled d h bytes is has = is ∙ same (header_of h) d.header h.app_info d.app_info h.sort_info d.sort_info h.entry_count (length d.entries) has.values has.app_info has.sort_info has.entry_count where
-  same : (g h : DatabaseHeader) (a b s t m n : ℕ) → g ≡ h → a ≡ b → s ≡ t → m ≡ n → bytes_by g a s m ≡ bytes_by h b t n
-  same g h a b s t m n p q r u = cc
+header_spelled d h bytes is has = is ∙ bytes_same (header_of h) d.header h.app_info d.app_info h.sort_info d.sort_info h.entry_count (length d.entries) has.values has.app_info has.sort_info has.entry_count
 
 -- the numbers of a header that is written have room in their fields
 pub record NumbersFit (h : DbHeader) : Type 0 where

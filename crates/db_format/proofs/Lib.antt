@@ -3,3 +3,4 @@ pub mod AttributeLaws
 pub mod EntryLaws
 pub mod NameLaws
 pub mod HeaderLaws
+pub mod FieldLaws

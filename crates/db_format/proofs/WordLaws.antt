@@ -73,6 +73,10 @@ u8_put [] at byte within = absurd (omega arith)
 u8_put (x ∷ old) zero byte within = refl
 u8_put (x ∷ old) (suc at) byte within = let e : suc at + 1 ≡ suc (at + 1) = omega arith in ap (λ (k : ℕ). take k (x ∷ slice_set old at byte)) e ∙ ap (λ (xs : List ℕ). x ∷ xs) (u8_put old at byte (omega arith))
 
+-- a number that was put at the front, up to the end
+pub put_alone : (new part : List ℕ) (count : ℕ) → take count new ≡ part → length new ≡ count → new ≡ part
+put_alone new part count front len = sym (take_all count new (omega arith)) ∙ front
+
 -- numbers that were put one behind the other, up to the end
 pub put_twice : (b1 b2 : List ℕ) (i j : ℕ) (xs ys : List ℕ) → take i b1 ≡ xs → take j b2 ≡ take i b1 ++ ys → length b2 ≡ j → b2 ≡ xs ++ ys
 put_twice b1 b2 i j xs ys one two len = sym (take_all j b2 (omega arith)) ∙ two ∙ ap (λ (zs : List ℕ). zs ++ ys) one

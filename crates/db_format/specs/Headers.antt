@@ -2,7 +2,7 @@
 use Rattle.std.specs.Prelude.{◌≡◌, ◌≤◌, ℕ, List, length}
 use Rattle.heap_model.specs.Bytes.{u32_at, overwritten}
 use Rattle.heap_model.specs.DatabaseFields.{header_size, next_list_at}
-use Rattle.heap_model.specs.Database.{DatabaseHeader, Database, has_resources, IsSpelled, resources_in, entry_count_in, entry_offset}
+use Rattle.heap_model.specs.Database.{DatabaseHeader, Database, IsDatabaseName, header_bytes, has_resources, IsSpelled, resources_in, entry_count_in, entry_offset}
 use Rattle.db_format.specs.declared.header.DbHeader.{DbHeader}
 
 -- what a header says of the database alone
@@ -37,6 +37,31 @@ abbrev pub WritesHeader : DbHeader → List ℕ → Type 0
 WritesHeader header bytes =
     (database : Database ℕ) (body : List ℕ) → IsSpelled database body → header.entry_count ≡ length database.entries → has_resources header.attributes ≡ has_resources database.header.attributes
     → IsSpelled (with_header database header) (overwritten body 0 bytes)
+
+-- the one database has this header and so many entries, and the info blocks of the other
+pub record TakesHeader (was now : Database ℕ) (header : DatabaseHeader) (entry_count : ℕ) : Type 0 where
+  pub values : now.header ≡ header
+  pub app_info : now.app_info ≡ was.app_info
+  pub sort_info : now.sort_info ≡ was.sort_info
+  pub entries : length now.entries ≡ entry_count
+
+-- the header of the one is that of the other but for its modification number, its seed, or how many entries
+-- there are
+abbrev pub HasModificationNumber : ℕ → Database ℕ → Database ℕ → Type 0
+HasModificationNumber number was now = TakesHeader was now (record was.header { modification_number = number }) (length was.entries)
+
+abbrev pub HasSeed : ℕ → Database ℕ → Database ℕ → Type 0
+HasSeed seed was now = TakesHeader was now (record was.header { seed = seed }) (length was.entries)
+
+abbrev pub HasEntryCount : ℕ → Database ℕ → Database ℕ → Type 0
+HasEntryCount count was now = TakesHeader was now was.header count
+
+-- Written there over the header of a database, these bytes make it the header of each that differs from that
+-- one so, and in nothing else that a header says.
+abbrev pub WritesField : ℕ → List ℕ → (Database ℕ → Database ℕ → Type 0) → Type 0
+WritesField at bytes Differs =
+    (was now : Database ℕ) → IsDatabaseName was.header.name → Differs was now
+    → overwritten (header_bytes was) at bytes ≡ header_bytes now
 
 -- There is a header, the list of entries goes on nowhere, and the bytes end behind as many entries as
 -- the header says. What is in shape has a name besides.

@@ -2,13 +2,14 @@
 
 ghost use Rattle.std.specs.Prelude.{◌≡◌, ◌≤◌, ◌↔◌, length, IsTrue};
 ghost use Rattle.heap_model.specs.Bytes.{u16_at, u32_at};
-ghost use Rattle.heap_model.specs.DatabaseFields.{header_size, attributes_at, app_info_at, sort_info_at, seed_at};
+ghost use Rattle.heap_model.specs.DatabaseFields.{header_size, attributes_at, modification_number_at, app_info_at, sort_info_at, seed_at};
 ghost use Rattle.heap_model.specs.Database.{resources_in, entry_count_in};
 ghost use Rattle.db_format.specs.Headers.{IsWhole};
 
+use crate::database_attributes::DbAttrs;
 use crate::fields::{
-    APP_INFO_AT, ATTRIBUTES_AT, ENTRY_COUNT_AT, HEADER_SIZE, NEXT_LIST_AT, SEED_AT, SORT_INFO_AT,
-    entry_offset,
+    APP_INFO_AT, ATTRIBUTES_AT, ENTRY_COUNT_AT, HEADER_SIZE, MODIFICATION_NUMBER_AT, NEXT_LIST_AT,
+    SEED_AT, SORT_INFO_AT, entry_offset,
 };
 use crate::words::{u16_in, u32_in};
 
@@ -36,7 +37,7 @@ pub fn has_resources(bytes: &[u8]) -> bool
     requires { header_size ≤ length bytes.now }
     ensures { result ≡ resources_in bytes.now }
 {
-    attributes(bytes) & RESOURCE_DATABASE == RESOURCE_DATABASE
+    DbAttrs(attributes(bytes)).has_resources()
 }
 
 /// The slot of the AppInfo block, or 0.
@@ -64,6 +65,15 @@ pub fn seed(bytes: &[u8]) -> u32
     ensures { result ≡ u32_at bytes.now seed_at }
 {
     u32_in(bytes, SEED_AT)
+}
+
+/// The modification number.
+#[inline]
+pub fn modification_number(bytes: &[u8]) -> u32
+    requires { header_size ≤ length bytes.now }
+    ensures { result ≡ u32_at bytes.now modification_number_at }
+{
+    u32_in(bytes, MODIFICATION_NUMBER_AT)
 }
 
 /// How many entries there are.

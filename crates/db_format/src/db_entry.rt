@@ -34,6 +34,17 @@ impl DbEntry {
         }
     }
 
+    /// Whether the entry is a resource's, and else a record's.
+    #[inline]
+    pub fn is_resource(self) -> bool
+        ensures { result ≡ is_resource self }
+    {
+        match self {
+            DbEntry::Record(_) => false,
+            DbEntry::Resource(_) => true,
+        }
+    }
+
     /// The slot of the entry's data.
     #[inline]
     pub fn slot(self) -> u32

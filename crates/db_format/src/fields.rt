@@ -19,7 +19,7 @@ pub(crate) const MODIFICATION_DATE_AT: usize = 40;
 
 pub(crate) const BACKUP_DATE_AT: usize = 44;
 
-pub(crate) const MODIFICATION_NUMBER_AT: usize = 48;
+pub const MODIFICATION_NUMBER_AT: usize = 48;
 
 pub(crate) const APP_INFO_AT: usize = 52;
 
@@ -29,11 +29,11 @@ pub(crate) const KIND_AT: usize = 60;
 
 pub(crate) const CREATOR_AT: usize = 64;
 
-pub(crate) const SEED_AT: usize = 68;
+pub const SEED_AT: usize = 68;
 
 pub(crate) const NEXT_LIST_AT: usize = 72;
 
-pub(crate) const ENTRY_COUNT_AT: usize = 76;
+pub const ENTRY_COUNT_AT: usize = 76;
 
 /// What a header takes: the entries begin behind it.
 pub const HEADER_SIZE: usize = 78;

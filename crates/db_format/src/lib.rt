@@ -19,23 +19,30 @@
 #![tactic(auto)]
 
 mod body;
+mod database_attributes;
 mod db_entry;
 mod entries;
 mod entry_bytes;
 mod fields;
 mod header;
+mod header_fields;
 mod name;
 mod record_attributes;
 mod words;
 
 pub use body::{
     MOST_DATABASES, READ_ONLY, RESOURCE_DATABASE, app_info, attributes, entry_count, has_resources,
-    is_whole, seed, sort_info,
+    is_whole, modification_number, seed, sort_info,
 };
+pub use database_attributes::DbAttrs;
 pub use db_entry::DbEntry;
 pub use entries::{RecordEntry, ResourceEntry, entry_slot, record_id};
 pub use entry_bytes::EntryBytes;
-pub use fields::{HEADER_SIZE, NAME_SIZE, RECORD_SIZE, RESOURCE_SIZE, entry_offset, entry_size};
+pub use fields::{
+    ENTRY_COUNT_AT, HEADER_SIZE, MODIFICATION_NUMBER_AT, NAME_SIZE, RECORD_SIZE, RESOURCE_SIZE,
+    SEED_AT, entry_offset, entry_size,
+};
 pub use header::DbHeader;
+pub use header_fields::{entry_count_bytes, modification_number_bytes, seed_bytes};
 pub use name::{NameField, has_name, is_name, name_in};
 pub use record_attributes::{CATEGORIES, RecordAttrs};

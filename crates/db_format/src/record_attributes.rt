@@ -1,7 +1,8 @@
 //! The attributes of a record.
 
-ghost use Rattle.std.specs.Prelude.{⊤, ◌≡◌, ◌<◌, ◌/◌, ◌%◌, [], ◌∷◌, codes};
+ghost use Rattle.std.specs.Prelude.{⊤, ◌≡◌, ◌<◌, ◌/◌, ◌%◌};
 ghost use Rattle.heap_model.specs.Database as databases;
+ghost use Rattle.db_format.specs.Attributes.{record_bits};
 ghost use Rattle.db_format.specs.Entries.{categories};
 
 use bitflags::{Flag, Flags, bitflag_items};
@@ -12,7 +13,7 @@ pub const CATEGORIES: u8 = 16;
 /// The attributes of a record: four bits, and in the low four its category (Palm OS File Format
 /// Specification, "PDB Format"). They are a set by the methods of `bitflags::Flags`.
 #[derive(Clone, Copy, PartialEq, Eq, Debug)]
-pub struct RecordAttrs(u8);
+pub struct RecordAttrs(pub u8);
 
 bitflag_items! {
     impl RecordAttrs: u8 {
@@ -34,7 +35,7 @@ impl Flags for RecordAttrs {
 
     ghost exact = { ⊤ };
 
-    ghost table = { (codes "DELETE", 0x80) ∷ (codes "DIRTY", 0x40) ∷ (codes "BUSY", 0x20) ∷ (codes "SECRET", 0x10) ∷ (codes "CATEGORY", 0x0F) ∷ [] };
+    ghost table = { record_bits };
 
     ghost set_of = { λ attributes. attributes.0 };
 

@@ -1,0 +1,7 @@
+use Rattle.std.proofs.Common.{arith}
+use Rattle.db_format.proofs.FieldLaws.{number_written}
+use Rattle.db_format.proofs.WordLaws.{put_alone}
+use Rattle.db_format.proofs.header_fields.modification_number_bytes.Goals as goal
+
+pub returns : goal.returns
+returns c = number_written c.args.number c.put_u32.new.bytes (put_alone _ _ 4 c.put_u32.ensures.front (omega arith))

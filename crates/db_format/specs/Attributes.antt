@@ -1,0 +1,20 @@
+-- The attributes of databases and of records: their bits with names, and numbers in them.
+use Rattle.std.specs.Prelude.{◌+◌, ◌*◌, ◌/◌, ◌%◌, ℕ, List, [], ◌∷◌, codes}
+
+-- the bits of a database's attributes that have a name
+abbrev pub database_bits : List (List ℕ × ℕ)
+database_bits = (codes "RESOURCE", 0x0001) ∷ (codes "READ_ONLY", 0x0002) ∷ []
+
+-- the bits of a record's
+abbrev pub record_bits : List (List ℕ × ℕ)
+record_bits =
+    (codes "DELETE", 0x80)
+    ∷ (codes "DIRTY", 0x40)
+    ∷ (codes "BUSY", 0x20)
+    ∷ (codes "SECRET", 0x10)
+    ∷ (codes "CATEGORY", 0x0F)
+    ∷ []
+
+-- the attributes of a database, but the lowest bit, which says whether there are resources, is that of others
+abbrev pub with_kind_from : ℕ → ℕ → ℕ
+with_kind_from other attributes = 2 * (attributes / 2) + other % 2

@@ -1,0 +1,75 @@
+//! The attributes of a database.
+
+ghost use Rattle.std.specs.Prelude.{⊤, ◌≡◌, [], ◌∷◌, codes};
+ghost use Rattle.heap_model.specs.Database as databases;
+ghost use Rattle.heap_model.specs.RecordSteps as records;
+ghost use Rattle.db_format.specs.Attributes.{database_bits, with_kind_from};
+
+use bitflags::{Flag, Flags, bitflag_items};
+
+/// How many kinds of databases there are: the lowest bit of the attributes says which.
+const KINDS: u16 = 2;
+
+/// The attributes of a database (Palm OS File Format Specification, "PDB Format"). They are a set by the
+/// methods of `bitflags::Flags`, and bits that have no name here are kept.
+#[derive(Clone, Copy, PartialEq, Eq, Debug)]
+pub struct DbAttrs(pub u16);
+
+bitflag_items! {
+    impl DbAttrs: u16 {
+        /// The entries are resources, and else records.
+        const RESOURCE = 0x0001;
+        /// The database is read and not written.
+        const READ_ONLY = 0x0002;
+    }
+}
+
+impl Flags for DbAttrs {
+    type Bits = u16;
+
+    ghost exact = { ⊤ };
+
+    ghost table = { database_bits };
+
+    ghost set_of = { λ attributes. attributes.0 };
+
+    fn flags<'a>() -> &'a [Flag<DbAttrs>] {
+        DbAttrs::FLAGS
+    }
+
+    fn bits(&self) -> u16 {
+        self.0
+    }
+
+    fn from_bits_retain(bits: u16) -> DbAttrs {
+        DbAttrs(bits)
+    }
+}
+
+impl DbAttrs {
+    /// Whether the entries are resources, and else records.
+    #[inline]
+    #[tactic(auto, using(crate::proofs::AttributeLaws::resources_by_mask))]
+    pub fn has_resources(self) -> bool
+        ensures { result ≡ databases.has_resources self.0 }
+    {
+        self.contains(DbAttrs::RESOURCE)
+    }
+
+    /// Whether the database is read and not written.
+    #[inline]
+    #[tactic(auto, using(crate::proofs::AttributeLaws::read_only_by_mask))]
+    pub fn is_read_only(self) -> bool
+        ensures { result ≡ records.is_read_only self.0 }
+    {
+        self.contains(DbAttrs::READ_ONLY)
+    }
+
+    /// These attributes, but whether there are resources is as in others.
+    pub fn with_kind_of(self, other: DbAttrs) -> DbAttrs
+        ensures { result.0 ≡ with_kind_from other.0 self.0 }
+    {
+        let kind = other.0 % KINDS;
+        DbAttrs(self.0 / KINDS * KINDS + kind)
+    }
+}
