@@ -178,6 +178,6 @@ impl Chunks {
             bytes.extend_from_slice(&(left | 0x8000_0000).to_be_bytes())?;
         }
         bytes.resize(size as usize, 0)?;
-        Ok(Region::of_bytes(bytes))
+        Region::from_bytes(alloc, bytes.as_slice())
     }
 }

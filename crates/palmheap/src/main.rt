@@ -98,12 +98,12 @@ fn new<R: Files + Print + Eprint + AllocGlobal>(
 
 /// Runs `check`.
 fn check<R: Files + Print + Eprint + AllocGlobal>(rt: &R, path: &str) -> Status {
-    let image = match read_file(rt, path) {
+    let image = match read_image(rt, path) {
         Ok(image) => image,
         Err(status) => return status,
     };
     let mut out = Counted::new(Noted::new(io::writer(rt)));
-    let status = check_region(rt.alloc(), &Region::of_bytes(image), &mut out);
+    let status = check_region(rt.alloc(), &image, &mut out);
     let (_, fault) = out.into_inner().into_parts();
     report_outcome(rt, status, &[(STANDARD_OUTPUT, fault)]);
     status
@@ -116,7 +116,7 @@ fn run_script<R: Files + Print + Eprint + AllocGlobal>(
     script: &str,
     path: &str,
 ) -> Status {
-    let image = match read_file(rt, image) {
+    let image = match read_image(rt, image) {
         Ok(image) => image,
         Err(status) => return status,
     };
@@ -134,7 +134,7 @@ fn run_script<R: Files + Print + Eprint + AllocGlobal>(
     let mut files = Vec::new(rt.alloc());
     let status = run_region(
         rt.alloc(),
-        Region::of_bytes(image),
+        image,
         script.as_slice(),
         &[],
         &mut image_out,
@@ -148,6 +148,12 @@ fn run_script<R: Files + Print + Eprint + AllocGlobal>(
     let (_, fault) = out.into_parts();
     report_outcome(rt, status, &[(path, image_fault), (STANDARD_OUTPUT, fault)]);
     status
+}
+
+/// All of a file, in a region. What keeps it from being read is on standard error then.
+fn read_image<R: Files + Eprint + AllocGlobal>(rt: &R, path: &str) -> Result<Region, Status> {
+    let bytes = read_file(rt, path)?;
+    Region::from_bytes(rt.alloc(), bytes.as_slice()).map_err(|_| fail(rt, Status::NoMemory))
 }
 
 /// All of a file. What keeps it from being read is on standard error then.

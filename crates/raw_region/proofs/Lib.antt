@@ -1,1 +1,6 @@
+mod Bytes
+mod Fields
+mod Loans
 mod PartLaws
+mod Values
+mod Walks

@@ -1,21 +1,27 @@
 //! The type of a region, whose methods call the functions of `words` on its bytes.
 
-ghost use Rattle.std.specs.Prelude.{◌≡◌, ◌+◌, length, slice_range, replicate, IfOk};
+ghost use Rattle.std.specs.Prelude.{◌≡◌, ◌+◌, ◌<◌, ◌^◌, length, slice_range, replicate, IfOk};
 ghost use Rattle.heap_model.specs.Memory.{IsWithin};
 ghost use Rattle.heap_model.specs.Bytes.{AreBytes, u16_at, u32_at, u16_bytes, u32_bytes, overwritten};
 
+use crate::room::{Lease, Room};
+use crate::run::Run;
 use crate::words;
 use heap_model::Tally;
 use std::alloc::{AllocError, Global};
 use std::marker::Model;
+use std::mem::ManuallyDrop;
 
-/// A run of bytes whose length never changes.
+/// A run of bytes whose length never changes. They lie in one block of memory, which is freed once,
+/// when the region ends; a region of no bytes has no block.
 ///
 /// Offsets count bytes from its start. Numbers are big-endian and may lie at any offset, odd ones
 /// too. The caller of each method shows that the bytes it names are within the region.
-#[derive(Drop)]
 pub struct Region {
-    bytes: Vec<u8>,
+    run: Run,
+    alloc: Global,
+    /// The right to free the block of the bytes, if there is one.
+    lease: Option<Lease<Global>>,
     /// How many bytes were slid.
     slid: Tally,
 }
@@ -25,7 +31,13 @@ impl Model for Region {
 
     ghost Value = { Memory };
 
-    ghost view = { λ region. record { bytes = region.bytes.items; slid = region.slid.total } };
+    ghost view = { λ region. record { bytes = region.run.bytes; slid = region.slid.total } };
+
+    ghost use Rattle.std.specs.Prelude.{◌≡◌, ◌<◌, MatchOption};
+
+    ghost invariant = { λ region. MatchOption region.lease (region.run.len ≡ 0) (λ lease.
+        (0 < lease.size) × (lease.alloc ≡ region.alloc)
+        × (lease.ptr ≡ region.run.ptr) × (lease.size ≡ region.run.len)) };
 }
 
 impl Region {
@@ -34,28 +46,40 @@ impl Region {
         ensures bytes { IfOk result (λ region. region.bytes ≡ replicate size 0) }
         ensures len { IfOk result (λ region. length region.bytes ≡ size) }
     {
-        let bytes = vec![in alloc; 0u8; size as usize]?;
-        Ok(Region {
-            bytes,
-            slid: Tally::new(),
-        })
-    }
-
-    /// A region of these very bytes. It takes no memory.
-    pub fn of_bytes(bytes: Vec<u8>) -> Region
-        ensures { result.bytes ≡ bytes.items }
-    {
-        Region {
-            bytes,
-            slid: Tally::new(),
-        }
+        Region::of_zeros(alloc, size as usize)
     }
 
     /// A region that is a copy of `bytes`. The only error is that memory was refused.
     pub fn from_bytes(alloc: Global, bytes: &[u8]) -> Result<Region, AllocError>
         ensures { IfOk result (λ region. region.bytes ≡ bytes.now) }
     {
-        Ok(Region::of_bytes(Vec::from_slice(alloc, bytes)?))
+        let mut region = Region::of_zeros(alloc, bytes.len())?;
+        region.run.as_mut_slice().copy_from_slice(bytes);
+        Ok(region)
+    }
+
+    /// A region of so many zeros, in a block of its own if there are any.
+    fn of_zeros(alloc: Global, size: usize) -> Result<Region, AllocError>
+        requires { size < 2 ^ 63 }
+        ensures { IfOk result (λ region. region.bytes ≡ replicate size 0) }
+    {
+        if size == 0 {
+            return Ok(Region {
+                run: Run::empty(),
+                alloc,
+                lease: None,
+                slid: Tally::new(),
+            });
+        }
+        let Some((room, lease)) = Room::new(&alloc, size) else {
+            return Err(AllocError);
+        };
+        Ok(Region {
+            run: room.zeroed(),
+            alloc,
+            lease: Some(lease),
+            slid: Tally::new(),
+        })
     }
 
     /// How many bytes the region has.
@@ -63,7 +87,7 @@ impl Region {
     pub fn len(&self) -> usize
         ensures { result ≡ length self.now.bytes }
     {
-        self.bytes.len()
+        self.run.len()
     }
 
     /// All bytes of the region, in order.
@@ -72,7 +96,7 @@ impl Region {
         ensures is { result.now ≡ self.now.bytes }
         ensures bytes { AreBytes self.now.bytes }
     {
-        words::all(&self.bytes)
+        words::all(self.run.as_slice())
     }
 
     /// The number in the two bytes at `at`.
@@ -81,7 +105,7 @@ impl Region {
         requires { IsWithin self.now at 2 }
         ensures { result ≡ u16_at self.now.bytes at }
     {
-        words::get_u16(&self.bytes, at)
+        words::get_u16(self.run.as_slice(), at)
     }
 
     /// The number in the four bytes at `at`.
@@ -90,7 +114,7 @@ impl Region {
         requires { IsWithin self.now at 4 }
         ensures { result ≡ u32_at self.now.bytes at }
     {
-        words::get_u32(&self.bytes, at)
+        words::get_u32(self.run.as_slice(), at)
     }
 
     /// The `n` bytes at `at`.
@@ -99,56 +123,78 @@ impl Region {
         requires { IsWithin self.now at n }
         ensures { result.now ≡ slice_range self.now.bytes at (at + n) }
     {
-        &self.bytes.as_slice()[at..at + n]
+        &self.run.as_slice()[at..at + n]
     }
 
     /// Writes a number into the two bytes at `at`.
     #[inline]
     pub fn put_u16(&mut self, at: usize, n: u16)
         requires { IsWithin self.old at 2 }
-        ensures after { self.new ≡ record self.old { bytes = overwritten self.old.bytes at (u16_bytes n) } }
+        ensures after { self.new
+            ≡ record self.old { bytes = overwritten self.old.bytes at (u16_bytes n) } }
         ensures len { length self.new.bytes ≡ length self.old.bytes }
     {
-        words::put_u16(&mut self.bytes, at, n);
+        words::put_u16(self.run.as_mut_slice(), at, n);
     }
 
     /// Writes a number into the four bytes at `at`.
     #[inline]
     pub fn put_u32(&mut self, at: usize, n: u32)
         requires { IsWithin self.old at 4 }
-        ensures after { self.new ≡ record self.old { bytes = overwritten self.old.bytes at (u32_bytes n) } }
+        ensures after { self.new
+            ≡ record self.old { bytes = overwritten self.old.bytes at (u32_bytes n) } }
         ensures len { length self.new.bytes ≡ length self.old.bytes }
     {
-        words::put_u32(&mut self.bytes, at, n);
+        words::put_u32(self.run.as_mut_slice(), at, n);
     }
 
     /// Copies `bytes` into the region, the first of them to `at`.
     pub fn write(&mut self, at: usize, bytes: &[u8])
         requires { IsWithin self.old at (length bytes.now) }
-        ensures after { self.new ≡ record self.old { bytes = overwritten self.old.bytes at bytes.now } }
+        ensures after { self.new
+            ≡ record self.old { bytes = overwritten self.old.bytes at bytes.now } }
         ensures len { length self.new.bytes ≡ length self.old.bytes }
     {
-        words::write(&mut self.bytes, at, bytes);
+        words::write(self.run.as_mut_slice(), at, bytes);
     }
 
     /// Makes each of the `n` bytes at `at` the byte `byte`.
     pub fn fill(&mut self, at: usize, n: usize, byte: u8)
         requires { IsWithin self.old at n }
-        ensures after { self.new ≡ record self.old { bytes = overwritten self.old.bytes at (replicate n byte) } }
+        ensures after { self.new
+            ≡ record self.old { bytes = overwritten self.old.bytes at (replicate n byte) } }
         ensures len { length self.new.bytes ≡ length self.old.bytes }
     {
-        words::fill(&mut self.bytes, at, n, byte);
+        words::fill(self.run.as_mut_slice(), at, n, byte);
     }
 
     /// Copies the `n` bytes at `from` to `to`, as they were before, also where the two parts overlap.
     pub fn slide(&mut self, from: usize, to: usize, n: usize)
         requires from { IsWithin self.old from n }
         requires to { IsWithin self.old to n }
-        ensures bytes { self.new.bytes ≡ overwritten self.old.bytes to (slice_range self.old.bytes from (from + n)) }
+        ensures bytes { self.new.bytes
+            ≡ overwritten self.old.bytes to (slice_range self.old.bytes from (from + n)) }
         ensures slid { self.new.slid ≡ self.old.slid + n }
         ensures len { length self.new.bytes ≡ length self.old.bytes }
     {
-        words::slide(&mut self.bytes, from, to, n);
+        words::slide(self.run.as_mut_slice(), from, to, n);
         self.slid.add(n);
+    }
+}
+
+impl Drop for Region {
+    fn drop(self) {
+        let Region {
+            run,
+            alloc,
+            lease,
+            slid: _,
+        } = self;
+        match lease {
+            Some(lease) => run.into_room().free(lease, &alloc),
+            None => {
+                let _no_block = unsafe { ManuallyDrop::new_unchecked(run) };
+            }
+        }
     }
 }

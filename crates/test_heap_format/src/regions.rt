@@ -55,3 +55,26 @@ fn slides_bytes_where_they_overlap(rt: HostRuntime) -> Result<(), Fail> {
     }
     Ok(())
 }
+
+#[test]
+fn slides_by_one_byte_up_and_down(rt: HostRuntime) -> Result<(), Fail> {
+    let mut region = Region::from_bytes(rt.alloc(), &[0, 1, 2, 3])?;
+    region.slide(0, 1, 3);
+    assert_eq!(rt; region.slice(0, 4), [0, 0, 1, 2].as_slice());
+    let mut region = Region::from_bytes(rt.alloc(), &[0, 1, 2, 3])?;
+    region.slide(1, 0, 3);
+    assert_eq!(rt; region.slice(0, 4), [1, 2, 3, 3].as_slice());
+    Ok(())
+}
+
+#[test]
+fn has_no_bytes(rt: HostRuntime) -> Result<(), Fail> {
+    let mut region = Region::zeroed(rt.alloc(), 0)?;
+    region.slide(0, 0, 0);
+    assert_eq!(rt; region.len(), 0);
+    assert_eq!(rt;
+        Region::from_bytes(rt.alloc(), b"")?.as_slice(),
+        b"".as_slice()
+    );
+    Ok(())
+}

@@ -1,0 +1,75 @@
+//! A block from the allocator in which nothing lies yet, and the way back.
+//!
+//! Here and in `run` alone a pointer is used, and the proof of each function that does so is written
+//! by hand. What the allocator promises is its contract, which std has.
+
+ghost use Rattle.std.specs.Prelude.{◌≡◌, ◌<◌, ◌^◌, ℕ, IfSome, replicate};
+ghost use Rattle.raw_region.specs.Ownership.{room_of, bytes_type};
+ghost use denote.RawPtr.{Ptr};
+
+use crate::run::Run;
+use std::alloc::Allocator;
+use std::marker::{Model, PhantomData};
+
+/// A block of `size` bytes in which nothing lies. It can't be dropped.
+pub(crate) struct Room {
+    pub(crate) ptr: *mut u8,
+    pub(crate) size: usize,
+    ghost fits: { size < 2 ^ 63 },
+}
+
+impl Model for Room {
+    ghost also_owns = { λ room. room_of room.ptr room.size };
+}
+
+/// The right to free one block, once. It takes no space, and can't be dropped.
+pub(crate) struct Lease<A: Allocator> {
+    marker: PhantomData<A>,
+    pub(crate) ghost alloc: { A },
+    pub(crate) ghost ptr: { Ptr },
+    pub(crate) ghost size: { ℕ },
+}
+
+impl<A: Allocator> Model for Lease<A> {
+    ghost also_owns = { λ lease. A.dealloc_token lease.alloc (bytes_type lease.size) lease.ptr };
+}
+
+impl Room {
+    /// A block of so many bytes, or `None` where memory is refused.
+    pub(crate) fn new<A: Allocator>(alloc: &A, size: usize) -> Option<(Room, Lease<A>)>
+        requires { (0 < size) × (size < 2 ^ 63) }
+        ensures { IfSome result (λ made. (made.0.size ≡ size) × (made.1.alloc ≡ alloc.now)
+            × (made.1.ptr ≡ made.0.ptr) × (made.1.size ≡ size)) }
+    {
+        match alloc.allocate(size, 1) {
+            Ok(ptr) => {
+                let marker = PhantomData;
+                Some((Room { ptr, size }, Lease { marker }))
+            }
+            Err(_) => None,
+        }
+    }
+
+    /// Frees the block.
+    pub(crate) fn free<A: Allocator>(self, lease: Lease<A>, alloc: &A)
+        requires { (lease.alloc ≡ alloc.now) × (lease.ptr ≡ self.ptr)
+            × (lease.size ≡ self.size) }
+    {
+        let Room { ptr, size } = self;
+        let Lease { marker: _ } = lease;
+        unsafe { alloc.deallocate(ptr, size, 1) }
+    }
+
+    /// The same block, with zeros in it.
+    pub(crate) fn zeroed(self) -> Run
+        ensures { (result.ptr ≡ self.ptr) × (result.bytes ≡ replicate self.size 0) }
+    {
+        let Room { ptr, size } = self;
+        let mut i = 0;
+        while i < size {
+            unsafe { ptr.add(i).write(0) };
+            i += 1;
+        }
+        Run { ptr, len: size }
+    }
+}

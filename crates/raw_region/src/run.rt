@@ -1,0 +1,76 @@
+//! Bytes in a row behind a raw pointer.
+//!
+//! A run knows nothing of where its block begins or ends, so a part of a block is a run too. That is
+//! how a part of a region can be lent: the bytes of a run are those before a part, the part and those
+//! behind it, each a run of its own, and put together again they are what the three hold by then.
+//! The laws `cut_at` and `joined_at` of `proofs/Loans.antt` say so of what a run owns. The right to
+//! free the block stays with the region meanwhile, and can't be used before the parts are joined.
+
+ghost use Rattle.std.specs.Prelude.{◌≡◌, ◌<◌, ◌^◌, ℕ, List, [], length};
+ghost use Rattle.raw_region.specs.Ownership.{bytes_at, bytes_lent};
+
+use crate::room::Room;
+use std::marker::Model;
+use std::slice;
+
+/// Bytes that nothing else can reach. It can't be dropped, and frees nothing.
+pub(crate) struct Run {
+    pub(crate) ptr: *mut u8,
+    pub(crate) len: usize,
+    pub(crate) ghost bytes: { List ℕ },
+    ghost ok: { (len ≡ length bytes) × (len < 2 ^ 63) },
+}
+
+impl Model for Run {
+    ghost also_owns = { λ run. bytes_at run.ptr run.len run.bytes };
+
+    ghost also_shares = { λ run _ κ. bytes_lent run.ptr run.len run.bytes κ };
+}
+
+impl Run {
+    ghost use Rattle.std.specs.Borrow.{sem};
+    ghost use Rattle.raw_region.specs.Lends.{lends_bytes};
+
+    #[inline]
+    pub(crate) fn len(&self) -> usize
+        ensures { result ≡ length self.now.bytes }
+    {
+        self.as_slice().len()
+    }
+
+    /// The bytes, to be read.
+    #[inline]
+    pub(crate) fn as_slice(&self) -> &[u8]
+        ensures { result.now ≡ self.now.bytes }
+    {
+        unsafe { slice::from_raw_parts(self.ptr, self.len) }
+    }
+
+    /// The bytes, to be written.
+    #[inline]
+    pub(crate) fn as_mut_slice(&mut self) -> &mut [u8]
+        ensures* writes_back { sem 𝓛 (lends_bytes self.entry result) }
+        ensures value { result.now ≡ self.old.bytes }
+    {
+        unsafe { slice::from_raw_parts_mut(self.ptr, self.len) }
+    }
+
+    /// The same part of memory, of whose bytes nothing is known any more.
+    pub(crate) fn into_room(self) -> Room
+        ensures { (result.ptr ≡ self.ptr) × (result.size ≡ self.len) }
+    {
+        let Run { ptr, len } = self;
+        Room { ptr, size: len }
+    }
+
+    /// No bytes, in no block.
+    pub(crate) fn empty() -> Run
+        ensures { result.bytes ≡ [] }
+    {
+        let mut none: [u8; 0] = [];
+        Run {
+            ptr: &raw mut none as *mut u8,
+            len: 0,
+        }
+    }
+}
