@@ -8,7 +8,8 @@ use Rattle.heap_model.specs.Meaning.{LiveChunk, ChunkMap}
 use Rattle.heap_model.specs.Reading.{held}
 use Rattle.heap_model.specs.Maps.{changed, changed_at, put, sized}
 use Rattle.heap_model.specs.Store.{managers_owner, bytes_of, owner_of, bytes_under, owner_under}
-use Rattle.heap_model.specs.Leaving.{Leaves, rewritten}
+use Rattle.heap_model.specs.Database.{Database, spelled}
+use Rattle.heap_model.specs.Leaving.{Leaves, Respells, rewritten}
 use Rattle.laws_heap.proofs.Deciding.{cond-true, cond-false, same_some}
 use Rattle.laws_heap.proofs.Frames.{length-overwritten}
 use Rattle.laws_store.proofs.Creating.{managers_loose}
@@ -111,6 +112,11 @@ written old new db at part m l = rebodied old new db (λ bytes. overwritten byte
 pub resized : (old new : List ℕ) (db size : ℕ) → IsManagers old db → Leaves old new (sized (held old) db size) → Rebodies old new db (sized_to (bytes_under old db) size)
 unfolding with_bytes
 resized old new db size m l = rebodied old new db (λ bytes. sized_to bytes size) m l
+
+-- the bytes of another database
+pub respelled : (old new : List ℕ) (db : ℕ) (database : Database ℕ) → IsManagers old db → Respells old new db database → Rebodies old new db (spelled database)
+unfolding with_bytes
+respelled old new db database m r = rebodied old new db (λ bytes. spelled database) m r
 
 -- ---- one change behind the other
 

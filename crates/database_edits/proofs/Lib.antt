@@ -7,3 +7,5 @@ pub mod Opening
 pub mod Crossing
 pub mod Crossed
 pub mod Pieces
+pub mod HeadersHere
+pub mod Counting

@@ -1,20 +1,12 @@
 -- Lists of bytes in pieces: one piece is written over another, and slides past others.
 use Rattle.std.proofs.Common.{◌≡◌, ℕ, ◌+◌, ◌-◌, ◌≤◌, List, [], ◌++◌, length, take, drop, replicate, refl, sym, ap, ◌∙◌, append_assoc, arith, length-append, length-take, length-drop}
 use Rattle.std.proofs.Math.Seq.{take-append_seam, drop-append-add}
-use Rattle.std.proofs.lemmas.List.{append-nil, take-append-drop, take_all, drop_at, length-replicate}
+use Rattle.std.proofs.lemmas.List.{append-nil, take-append-drop, take_all, length-replicate}
 use Rattle.std.specs.Prelude.{slice_range}
 use Rattle.heap_model.specs.Bytes.{overwritten, sized_to}
 use Rattle.laws_store.proofs.Numbers.{take_both}
 use Rattle.laws_store.proofs.Deleting.{closed_up}
-
--- a piece is written over another of its length
-pub over_piece : (front piece back new : List ℕ) (at : ℕ) → at ≡ length front → length piece ≡ length new → overwritten (front ++ (piece ++ back)) at new ≡ front ++ (new ++ back)
-unfolding overwritten
-over_piece front piece back new at at_is same =
-    ap (λ (k : ℕ). take k (front ++ (piece ++ back)) ++ new ++ drop (k + length new) (front ++ (piece ++ back))) at_is
-    ∙ ap (λ (xs : List ℕ). xs ++ new ++ drop (length front + length new) (front ++ (piece ++ back))) (take-append_seam front (piece ++ back))
-    ∙ ap (λ (xs : List ℕ). front ++ new ++ xs) (drop-append-add front (piece ++ back) (length new) ∙ drop_at piece back (length new) same)
-    ∙ append_assoc front new back
+use Rattle.db_format.proofs.FieldLaws.{over_piece}
 
 -- the piece between two others
 pub piece_of : (front piece back : List ℕ) (from end : ℕ) → from ≡ length front → end ≡ length front + length piece → slice_range (front ++ (piece ++ back)) from end ≡ piece

@@ -1,1 +1,3 @@
 pub mod Managers
+pub mod Edits
+pub mod Headings

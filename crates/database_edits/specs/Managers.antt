@@ -1,5 +1,8 @@
 -- The chunk of a database whose bytes change: what it spells may be none on the way.
-use Rattle.std.specs.Prelude.{◌≡◌, ℕ, List}
+use Rattle.std.specs.Prelude.{◌≡◌, ◌≤◌, ℕ, List, length, take}
+use Rattle.heap_model.specs.Bytes.{overwritten}
+use Rattle.heap_model.specs.DatabaseFields.{header_size}
+use Rattle.heap_model.specs.Database.{Database, IsDatabaseName, header_bytes}
 use Rattle.heap_model.specs.Heap.{HeapAccepted}
 use Rattle.heap_model.specs.Reading.{held}
 use Rattle.heap_model.specs.Store.{managers_owner, bytes_under, owner_under}
@@ -15,3 +18,16 @@ pub record Rebodies (old new : List ℕ) (db : ℕ) (bytes : List ℕ) : Type 0 
   pub leaves : Leaves old new (rewritten (held old) db bytes)
   pub managers : IsManagers new db
   pub body : bytes_under new db ≡ bytes
+
+-- the bytes under the slot begin with the header of this database
+pub record HasHeaderOf (image : List ℕ) (db : ℕ) (database : Database ℕ) : Type 0 where
+  pub name : IsDatabaseName database.header.name
+  pub inside : header_size ≤ length (bytes_under image db)
+  pub front : take header_size (bytes_under image db) ≡ header_bytes database
+
+-- The header of a database that differs so from the one whose header is there is written over that. All other
+-- bytes, and all other chunks, are as they were.
+abbrev pub PutsHeader : List ℕ → List ℕ → ℕ → (Database ℕ → Database ℕ → Type 0) → Type 0
+PutsHeader old new db Differs =
+    (was now : Database ℕ) → HasHeaderOf old db was → Differs was now
+    → Rebodies old new db (overwritten (bytes_under old db) 0 (header_bytes now))

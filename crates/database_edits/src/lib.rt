@@ -6,15 +6,19 @@
 //! were. What the entries name isn't looked at.
 #![tactic(auto)]
 
+pub mod alone;
 mod bodies;
+mod headers;
 mod inserting;
+mod insertion;
 mod moving;
 mod raising;
+mod removal;
 mod removing;
+mod replacement;
 mod writing;
 
-pub use inserting::insert_entry;
-pub use moving::move_entry;
+pub use insertion::insert_entry;
 pub use raising::raise_modification;
-pub use removing::remove_entry;
-pub use writing::write_entry;
+pub use removal::remove_entry;
+pub use replacement::{move_entry, write_entry};

@@ -4,7 +4,7 @@ ghost use Rattle.std.specs.Prelude.{◌≡◌, ◌<◌, ◌≤◌, ◌+◌, leng
 ghost use Rattle.heap_model.specs.Lists.{moved};
 ghost use Rattle.heap_model.specs.Leaving.{SpellsHere, Respells, database_here};
 
-use crate::bodies::{entry_here, put_entry, resources_here, slide_entries};
+use crate::bodies::{entry_here, put_entry, slide_entries};
 use heap_model::Db;
 use mem_manager::Heap;
 
@@ -32,8 +32,8 @@ fn move_to_front(heap: &mut Heap, db: Db, from: u16, to: u16)
     ensures respells { Respells heap.old.bytes heap.new.bytes db.0 (record (database_here heap.old.bytes db.0) { entries = moved (database_here heap.old.bytes db.0).entries from to }) }
     ensures rest { heap.new ≡ record heap.old { bytes = heap.new.bytes; slid = heap.new.slid } }
 {
-    let resources = resources_here(heap, db);
     let entry = entry_here(heap, db, from);
+    let resources = entry.is_resource();
     slide_entries(heap, db, to, from, to + 1, resources);
     put_entry(heap, db, to, entry, resources);
 }
@@ -46,8 +46,8 @@ fn move_to_back(heap: &mut Heap, db: Db, from: u16, to: u16)
     ensures respells { Respells heap.old.bytes heap.new.bytes db.0 (record (database_here heap.old.bytes db.0) { entries = moved (database_here heap.old.bytes db.0).entries from to }) }
     ensures rest { heap.new ≡ record heap.old { bytes = heap.new.bytes; slid = heap.new.slid } }
 {
-    let resources = resources_here(heap, db);
     let entry = entry_here(heap, db, from);
+    let resources = entry.is_resource();
     slide_entries(heap, db, from + 1, to, from, resources);
     put_entry(heap, db, to - 1, entry, resources);
 }

@@ -2,25 +2,35 @@
 
 ghost use Rattle.std.specs.Prelude.{◌≡◌};
 ghost use Rattle.heap_model.specs.Space.{MovesNothing};
-ghost use Rattle.heap_model.specs.Leaving.{SpellsHere, Respells, database_here};
-ghost use Rattle.heap_model.specs.EntrySteps.{raised_header};
+ghost use Rattle.heap_model.specs.Leaving.{SpellsHere, database_here};
+ghost use Rattle.database_edits.specs.Edits.{Changes, counted, counted_if};
 
-use crate::bodies::{header_here, put_header};
-use db_format::DbHeader;
+use crate::headers::{heading_here, put_modification_number};
 use heap_model::Db;
 use mem_manager::Heap;
 
 /// Raises the modification number by 1, modulo 2^32.
 pub fn raise_modification(heap: &mut Heap, db: Db)
     requires spells { SpellsHere heap.old.bytes db.0 }
-    ensures respells { Respells heap.old.bytes heap.new.bytes db.0 (record (database_here heap.old.bytes db.0) { header = raised_header (database_here heap.old.bytes db.0).header }) }
+    ensures counted { Changes heap.old.bytes heap.new.bytes db.0 counted }
+    ensures spells { SpellsHere heap.new.bytes db.0 }
+    ensures now { database_here heap.new.bytes db.0 ≡ counted (database_here heap.old.bytes db.0) }
     ensures unmoved { MovesNothing heap.old.bytes heap.new.bytes }
     ensures rest { heap.new ≡ record heap.old { bytes = heap.new.bytes } }
 {
-    let header = header_here(heap, db);
-    let raised = DbHeader {
-        modification_number: header.modification_number.wrapping_add(1),
-        ..header
-    };
-    put_header(heap, db, &raised);
+    let heading = heading_here(heap, db);
+    put_modification_number(heap, db, heading.modification_number.wrapping_add(1));
+}
+
+/// Raises it where that is asked, and else leaves the heap as it is.
+pub(crate) fn raise_if(heap: &mut Heap, db: Db, counts: bool)
+    requires spells { SpellsHere heap.old.bytes db.0 }
+    ensures counted { Changes heap.old.bytes heap.new.bytes db.0 (counted_if counts) }
+    ensures spells { SpellsHere heap.new.bytes db.0 }
+    ensures now { database_here heap.new.bytes db.0 ≡ counted_if counts (database_here heap.old.bytes db.0) }
+    ensures rest { heap.new ≡ record heap.old { bytes = heap.new.bytes } }
+{
+    if counts {
+        raise_modification(heap, db);
+    }
 }

@@ -6,7 +6,7 @@ ghost use Rattle.heap_model.specs.Leaving.{SpellsHere, Respells, database_here};
 ghost use Rattle.db_format.specs.EitherEntry.{entry_of, is_resource, HasFittingId};
 ghost use Rattle.db_format.specs.Entries.{with_entry};
 
-use crate::bodies::{put_entry, resources_here};
+use crate::bodies::put_entry;
 use db_format::DbEntry;
 use heap_model::Db;
 use mem_manager::Heap;
@@ -20,6 +20,5 @@ pub fn write_entry(heap: &mut Heap, db: Db, index: u16, entry: DbEntry)
     ensures respells { Respells heap.old.bytes heap.new.bytes db.0 (with_entry (database_here heap.old.bytes db.0) index (entry_of entry)) }
     ensures rest { heap.new ≡ record heap.old { bytes = heap.new.bytes } }
 {
-    let resources = resources_here(heap, db);
-    put_entry(heap, db, index, entry, resources);
+    put_entry(heap, db, index, entry, entry.is_resource());
 }

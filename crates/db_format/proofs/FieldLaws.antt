@@ -1,10 +1,12 @@
 -- Fields of a header, written alone.
-use Rattle.std.proofs.Common.{◌≡◌, ℕ, List, [], ◌++◌, length, take, drop, refl, sym, ap, ◌∙◌, append_assoc, arith, length-append}
+use Rattle.std.proofs.Common.{◌≡◌, ℕ, ◌+◌, ◌≤◌, List, [], ◌++◌, length, take, drop, refl, sym, ap, ◌∙◌, append_assoc, arith, length-append}
 use Rattle.std.proofs.Math.Seq.{take-append_seam, drop-append-add}
-use Rattle.std.proofs.lemmas.List.{drop_at}
+use Rattle.std.proofs.lemmas.List.{drop_at, take-append-le, take-append-drop, drop-append-le}
 use Rattle.heap_model.specs.Bytes.{overwritten, u16_bytes, u32_bytes}
 use Rattle.heap_model.specs.Database.{DatabaseHeader, Database, IsDatabaseName, name_field, header_bytes}
+use Rattle.laws_heap.proofs.Frames.{length-overwritten}
 use Rattle.laws_store.proofs.Names.{length-name_field}
+use Rattle.laws_store.proofs.Spellings.{length-header_bytes}
 use Rattle.db_format.specs.Headers.{TakesHeader, HasModificationNumber, HasSeed, HasEntryCount, WritesField}
 use Rattle.db_format.proofs.HeaderLaws.{fields, bytes_by, bytes_same}
 
@@ -113,3 +115,27 @@ pub count_written : (count : ℕ) (bytes : List ℕ) → bytes ≡ u16_bytes cou
 count_written count bytes is was now name takes =
     ap (overwritten (header_bytes was) 76) is ∙ ap (λ (xs : List ℕ). overwritten xs 76 (u16_bytes count)) (begins was)
     ∙ count_over was.header was.app_info was.sort_info (length was.entries) count name ∙ becomes was now was.header count takes
+
+-- ---- over the header of some bytes
+
+-- a part is written within the first of some bytes
+over_front : (front back part : List ℕ) (at : ℕ) → at + length part ≤ length front → overwritten (front ++ back) at part ≡ overwritten front at part ++ back
+unfolding overwritten
+over_front front back part at inside =
+    ap (λ (xs : List ℕ). xs ++ part ++ drop (at + length part) (front ++ back)) (take-append-le at front back (omega arith))
+    ∙ ap (λ (xs : List ℕ). take at front ++ part ++ xs) (drop-append-le (at + length part) front back inside)
+    ∙ sym (append_assoc (take at front ++ part) (drop (at + length part) front) back)
+
+-- a part that makes the header another is that other, written over it
+pub header_over : (body bytes : List ℕ) (at : ℕ) (was now : Database ℕ) → take 78 body ≡ header_bytes was → IsDatabaseName was.header.name → at + length bytes ≤ 78 → overwritten (header_bytes was) at bytes ≡ header_bytes now
+    → overwritten body at bytes ≡ overwritten body 0 (header_bytes now)
+header_over body bytes at was now front name inside writes =
+    let rest : List ℕ = drop 78 body in
+    let len = length-header_bytes was name in
+    let split : body ≡ header_bytes was ++ rest = sym (take-append-drop 78 body) ∙ ap (λ (xs : List ℕ). xs ++ rest) front in
+    let same : length (header_bytes was) ≡ length (header_bytes now) = sym (length-overwritten (header_bytes was) at bytes (omega arith)) ∙ ap length writes in
+    ap (λ (xs : List ℕ). overwritten xs at bytes) split
+    ∙ over_front (header_bytes was) rest bytes at (omega arith)
+    ∙ ap (λ (xs : List ℕ). xs ++ rest) writes
+    ∙ sym (over_piece [] (header_bytes was) rest (header_bytes now) 0 refl same)
+    ∙ sym (ap (λ (xs : List ℕ). overwritten xs 0 (header_bytes now)) split)

@@ -17,7 +17,8 @@ ghost use Rattle.store_entries.specs.Labels.{labelled, CanHave, HasFittingLabel,
 
 use crate::asking::read_entry;
 use bitflags::Flags;
-use database_edits::{move_entry, raise_modification, remove_entry, write_entry};
+use database_edits::alone::{move_entry, remove_entry, write_entry};
+use database_edits::raise_modification;
 use db_format::{DbEntry, RecordAttrs, RecordEntry, ResourceEntry};
 use heap_model::{Db, Name};
 use mem_manager::Heap;

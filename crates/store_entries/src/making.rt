@@ -18,7 +18,7 @@ ghost use Rattle.store_entries.specs.Putting.{PutsIn};
 
 use crate::asking::entry_count;
 use bitflags::Flags;
-use database_edits::insert_entry;
+use database_edits::alone::insert_entry;
 use db_format::{DbEntry, RecordAttrs, RecordEntry, ResourceEntry};
 use fresh_ids::fresh_id;
 use heap_model::{Db, Name, Refusal};

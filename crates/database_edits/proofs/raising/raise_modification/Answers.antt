@@ -1,9 +1,28 @@
--- The header that is written is that of the database with another modification number.
-use Rattle.database_edits.proofs.Databases.{header_inside, raised}
+-- The header that is written is that of the database with its number raised.
+use Rattle.std.proofs.Common.{refl}
+use Rattle.heap_model.specs.StoreWords.{next_modification}
+use Rattle.heap_model.specs.Leaving.{database_here}
+use Rattle.database_edits.specs.Edits.{counted}
+use Rattle.database_edits.proofs.Databases.{header_inside, counted_fits}
+use Rattle.database_edits.proofs.Counting.{raised, spells_now, database_now}
 use Rattle.database_edits.proofs.raising.raise_modification.Goals as goal
 
-pub put_header-requires-clause-inside : goal.put_header-requires-clause-inside
-put_header-requires-clause-inside c = header_inside c.args.heap.now.bytes c.args.db.0 c.requires.spells
+pub put_modification_number-requires-clause-inside : goal.put_modification_number-requires-clause-inside
+put_modification_number-requires-clause-inside c = header_inside c.args.heap.now.bytes c.args.db.0 c.requires.spells
 
-pub returns-clause-respells : goal.returns-clause-respells
-returns-clause-respells c = raised c.args.heap.now.bytes c.put_header.new.heap.bytes c.args.db.0 c.header_here-header.result c.requires.spells c.header_here-header.ensures.header c.put_header.ensures.writes
+pub returns-clause-counted : goal.returns-clause-counted
+returns-clause-counted c =
+    (raised c.args.heap.now.bytes c.put_modification_number.new.heap.bytes c.args.db.0 c.heading_here-heading.result.modification_number (next_modification c.heading_here-heading.result.modification_number) c.requires.spells c.heading_here-heading.ensures.modification_number refl
+    c.put_modification_number.ensures.puts).leaves
+
+pub returns-clause-spells : goal.returns-clause-spells
+returns-clause-spells c =
+    spells_now c.args.heap.now.bytes c.put_modification_number.new.heap.bytes c.args.db.0 (counted (database_here c.args.heap.now.bytes c.args.db.0)) (counted_fits (database_here c.args.heap.now.bytes c.args.db.0) c.requires.spells.spelled.fits)
+    (raised c.args.heap.now.bytes c.put_modification_number.new.heap.bytes c.args.db.0 c.heading_here-heading.result.modification_number (next_modification c.heading_here-heading.result.modification_number) c.requires.spells c.heading_here-heading.ensures.modification_number refl
+    c.put_modification_number.ensures.puts)
+
+pub returns-clause-now : goal.returns-clause-now
+returns-clause-now c =
+    database_now c.args.heap.now.bytes c.put_modification_number.new.heap.bytes c.args.db.0 (counted (database_here c.args.heap.now.bytes c.args.db.0)) (counted_fits (database_here c.args.heap.now.bytes c.args.db.0) c.requires.spells.spelled.fits)
+    (raised c.args.heap.now.bytes c.put_modification_number.new.heap.bytes c.args.db.0 c.heading_here-heading.result.modification_number (next_modification c.heading_here-heading.result.modification_number) c.requires.spells c.heading_here-heading.ensures.modification_number refl
+    c.put_modification_number.ensures.puts)

@@ -1,7 +1,9 @@
 -- What stands behind the entry slides over it.
-use Rattle.std.proofs.Common.{refl, ◌+◌, ◌-◌, arith}
+use Rattle.heap_model.specs.Database.{Database}
+use Rattle.heap_model.specs.Leaving.{database_here}
+use Rattle.std.proofs.Common.{ℕ, refl, ◌+◌, ◌-◌, arith}
 use Rattle.database_edits.proofs.Entries.{inside_body}
-use Rattle.database_edits.proofs.Closing.{removed}
+use Rattle.database_edits.proofs.Closing.{without, fewer_has, removed}
 use Rattle.database_edits.proofs.removing.remove_entry.Goals as goal
 
 pub slide_entries-requires-clause-from_inside : goal.slide_entries-requires-clause-from_inside
@@ -24,6 +26,11 @@ shrink-requires-clause-inside c =
     omega (arith, len, at, inside)
 
 pub returns-clause-respells : goal.returns-clause-respells
+unfolding without
 returns-clause-respells c =
-    removed c.args.heap.now.bytes c.slide_entries.new.heap.bytes c.shrink.new.heap.bytes c.put_header.new.heap.bytes c.args.db.0 c.args.index c.entry_offset.result (c.header_here-header.result.entry_count - 1) c.header_here-header.result c.resources_here-resources.result c.requires.spells c.requires.inside
-    c.resources_here-resources.ensures.kind c.header_here-header.ensures.header c.slide_entries.ensures.slides refl c.entry_offset.ensures c.shrink.ensures.shrinks c.put_header.ensures.writes
+    let d : Database ℕ = database_here c.args.heap.now.bytes c.args.db.0 in
+    let has = c.header_here-header.ensures.header in
+    removed c.args.heap.now.bytes c.slide_entries.new.heap.bytes c.shrink.new.heap.bytes c.put_header.new.heap.bytes c.args.db.0 c.args.index c.entry_offset.result (c.header_here-header.result.entry_count - 1) c.header_here-header.result.entry_count
+    (without d c.args.index) c.resources_here-resources.result c.requires.spells c.requires.inside
+    c.resources_here-resources.ensures.kind has.entry_count c.slide_entries.ensures.slides refl c.entry_offset.ensures c.shrink.ensures.shrinks refl c.requires.spells.spelled.fits.name
+    (c.put_header.ensures.writes (without d c.args.index) (fewer_has d c.args.index (c.header_here-header.result.entry_count - 1) c.header_here-header.result c.requires.inside has refl))

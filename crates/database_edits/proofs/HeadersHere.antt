@@ -1,0 +1,124 @@
+-- The header of a database in the bytes under a slot: read, kept, and written field by field.
+use Rattle.std.proofs.Common.{◌≡◌, ℕ, ◌+◌, ◌-◌, ◌≤◌, List, [], ◌++◌, length, take, drop, replicate, refl, sym, ap, subst, ◌∙◌, append_assoc, arith, length-append, length-take}
+use Rattle.std.proofs.lemmas.List.{take-append-le, take-take, take_at}
+use Rattle.heap_model.specs.Bytes.{overwritten, sized_to, u32_at}
+use Rattle.heap_model.specs.Database.{Database, IsDatabaseName, header_bytes, spelled, resources_in, entry_count_in, header_in, database_in}
+use Rattle.heap_model.specs.Leaving.{SpellsHere, Leaves, database_here}
+use Rattle.heap_model.specs.Maps.{put}
+use Rattle.heap_model.specs.Reading.{held}
+use Rattle.heap_model.specs.Store.{bytes_under}
+use Rattle.laws_heap.proofs.Frames.{length-overwritten}
+use Rattle.laws_heap.proofs.Resizings.{length-sized_to}
+use Rattle.laws_store.proofs.Spellings.{length-header_bytes, count_read}
+use Rattle.db_format.specs.Headers.{WritesField}
+use Rattle.db_format.proofs.FieldLaws.{over_piece, header_over}
+use Rattle.database_edits.specs.Managers.{IsManagers, Rebodies, HasHeaderOf, PutsHeader}
+use Rattle.database_edits.specs.declared.headers.Heading.{Heading}
+use Rattle.database_edits.specs.Headings.{IsHeading}
+use Rattle.database_edits.proofs.Chunks.{written, through}
+use Rattle.database_edits.proofs.Databases.{kind_read, header_inside}
+
+-- ---- what is read of it
+
+pub is_heading : (image : List ℕ) (db : ℕ) (heading : Heading) → SpellsHere image db → heading.resources ≡ resources_in (bytes_under image db) → heading.entry_count ≡ entry_count_in (bytes_under image db)
+    → heading.modification_number ≡ u32_at (bytes_under image db) 48 → heading.seed ≡ u32_at (bytes_under image db) 68 → IsHeading heading (database_here image db)
+unfolding database_in header_in
+is_heading image db heading s kind count number seed = record {
+  kind = kind ∙ kind_read image db s;
+  entry_count = count ∙ ap entry_count_in s.spelled.bytes_are ∙ count_read (database_here image db) s.spelled.fits;
+  modification_number = number;
+  seed = seed;
+}
+
+pub heading_spelled : (image : List ℕ) (db : ℕ) → SpellsHere image db → HasHeaderOf image db (database_here image db)
+unfolding spelled
+heading_spelled image db s =
+    let d : Database ℕ = database_here image db in
+    record {
+      name = s.spelled.fits.name;
+      inside = header_inside image db s;
+      front = ap (take 78) s.spelled.bytes_are ∙ take_at (header_bytes d) _ 78 (length-header_bytes d s.spelled.fits.name);
+    }
+
+-- ---- what keeps it
+
+-- bytes written behind it
+pub kept_below : (old new : List ℕ) (db at : ℕ) (part : List ℕ) (d : Database ℕ) → HasHeaderOf old db d → 78 ≤ at → Rebodies old new db (overwritten (bytes_under old db) at part) → HasHeaderOf new db d
+unfolding overwritten
+kept_below old new db at part d has behind r =
+    let body : List ℕ = bytes_under old db in
+    let inside = has.inside in
+    let first = length-take at body in
+    let all = ap length r.body ∙ length-append (take at body ++ part) (drop (at + length part) body) in
+    let some = length-append (take at body) part in
+    record {
+      name = has.name;
+      inside = omega (arith, all, some, first, inside);
+      front =
+          ap (take 78) (r.body ∙ append_assoc (take at body) part (drop (at + length part) body))
+          ∙ take-append-le 78 (take at body) (part ++ drop (at + length part) body) (omega (arith, first, inside))
+          ∙ take-take 78 at body behind ∙ has.front;
+    }
+
+-- another length, if it stays inside
+pub kept_sized : (old new : List ℕ) (db size : ℕ) (d : Database ℕ) → HasHeaderOf old db d → 78 ≤ size → Rebodies old new db (sized_to (bytes_under old db) size) → HasHeaderOf new db d
+kept_sized old new db size d has inside r =
+    let body : List ℕ = bytes_under old db in
+    let was = has.inside in
+    let first = length-take size body in
+    let all : length (bytes_under new db) ≡ size = ap length r.body ∙ length-sized_to body size in
+    record {
+      name = has.name;
+      inside = omega (arith, all, inside);
+      front =
+          ap (take 78) r.body
+          ∙ take-append-le 78 (take size body) (replicate (size - length body) 0) (omega (arith, first, was))
+          ∙ take-take 78 size body inside ∙ has.front;
+    }
+
+-- ---- written
+
+pub field_put : (old new : List ℕ) (db at : ℕ) (bytes : List ℕ) (Differs : Database ℕ → Database ℕ → Type 0) → IsManagers old db → at + length bytes ≤ 78 → WritesField at bytes Differs → Leaves old new (put (held old) db at bytes) → PutsHeader old new db Differs
+field_put old new db at bytes Differs m inside writes leaves was now has differs =
+    subst (λ (body : List ℕ). Rebodies old new db body)
+    (header_over (bytes_under old db) bytes at was now has.front has.name inside (writes was now has.name differs))
+    (written old new db at bytes m leaves)
+
+-- the chunk is the manager's as before, and as long
+pub put_managers : (old new : List ℕ) (db at : ℕ) (bytes : List ℕ) → IsManagers old db → Leaves old new (put (held old) db at bytes) → IsManagers new db
+put_managers old new db at bytes m leaves = let r = written old new db at bytes m leaves in r.managers
+
+pub put_inside : (old new : List ℕ) (db at : ℕ) (bytes : List ℕ) → IsManagers old db → 78 ≤ length (bytes_under old db) → at + length bytes ≤ 78 → Leaves old new (put (held old) db at bytes) → 78 ≤ length (bytes_under new db)
+put_inside old new db at bytes m inside within leaves =
+    let r = written old new db at bytes m leaves in
+    let same = ap length r.body ∙ length-overwritten (bytes_under old db) at bytes (omega arith) in
+    omega (arith, same, inside)
+
+-- the header that was written is there
+pub header_put : (old new : List ℕ) (db : ℕ) (was now : Database ℕ) → HasHeaderOf old db was → IsDatabaseName now.header.name → Rebodies old new db (overwritten (bytes_under old db) 0 (header_bytes now)) → HasHeaderOf new db now
+unfolding overwritten
+header_put old new db was now has name r =
+    let body : List ℕ = bytes_under old db in
+    let len = length-header_bytes now name in
+    let inside = has.inside in
+    record {
+      name = name;
+      inside = (let all = ap length r.body ∙ length-overwritten body 0 (header_bytes now) (omega arith) in omega (arith, all));
+      front = ap (take 78) r.body ∙ take_at (header_bytes now) (drop (0 + length (header_bytes now)) body) 78 len;
+    }
+
+-- one header is written, and another over that
+pub header_put_twice : (old mid new : List ℕ) (db : ℕ) (first second : Database ℕ) → IsManagers old db → 78 ≤ length (bytes_under old db) → IsDatabaseName first.header.name → IsDatabaseName second.header.name
+    → Rebodies old mid db (overwritten (bytes_under old db) 0 (header_bytes first)) → Rebodies mid new db (overwritten (bytes_under mid db) 0 (header_bytes second))
+    → Rebodies old new db (overwritten (bytes_under old db) 0 (header_bytes second))
+unfolding overwritten
+header_put_twice old mid new db first second m inside one two a b =
+    let body : List ℕ = bytes_under old db in
+    let one_len = length-header_bytes first one in
+    let two_len = length-header_bytes second two in
+    let same : length (header_bytes first) ≡ length (header_bytes second) = one_len ∙ sym two_len in
+    subst (λ (bytes : List ℕ). Rebodies old new db bytes)
+    (ap (λ (xs : List ℕ). overwritten xs 0 (header_bytes second)) a.body
+    ∙ over_piece [] (header_bytes first) (drop (0 + length (header_bytes first)) body) (header_bytes second) 0 refl same
+    ∙ ap (λ (n : ℕ). header_bytes second ++ drop (0 + n) body) same)
+    (through old mid new db (overwritten body 0 (header_bytes first)) (overwritten (bytes_under mid db) 0 (header_bytes second)) m a b)

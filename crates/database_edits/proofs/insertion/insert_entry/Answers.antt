@@ -1,0 +1,33 @@
+-- The chunk has the room of an entry more, those behind slide into it, and the header is written field by field.
+use Rattle.std.proofs.Common.{ℕ, Bool, ◌+◌, refl, sym, ap, subst, ◌∙◌}
+use Rattle.heap_model.specs.Database.{Entry, Database}
+use Rattle.heap_model.specs.Leaving.{database_here}
+use Rattle.heap_model.specs.StoreWords.{next_modification}
+use Rattle.db_format.specs.EitherEntry.{entry_of, is_resource}
+use Rattle.laws_heap.proofs.Results.{on_err}
+use Rattle.database_edits.specs.Edits.{HasNoRoomFor, entry_inserted}
+use Rattle.database_edits.proofs.HeadersHere.{heading_spelled}
+use Rattle.database_edits.proofs.Opening.{short_of, same_name, inserted, inserted_header, inserted_kept}
+use Rattle.database_edits.proofs.insertion.insert_entry.Goals as goal
+
+pub returns-in_err-grow-clause-no_room : goal.returns-in_err-grow-clause-no_room
+returns-in_err-grow-clause-no_room c =
+    on_err (HasNoRoomFor c.args.heap.now.bytes c.args.db.0 (is_resource c.args.entry)) c.from_residual.result
+    (subst (λ (resources : Bool). HasNoRoomFor c.args.heap.now.bytes c.args.db.0 resources) (sym c.requires.kind)
+    (short_of c.args.heap.now.bytes c.args.db.0 c.entry_offset.result c.heading_here-heading.result.entry_count c.is_resource-resources.result c.requires.spells (c.is_resource-resources.ensures ∙ c.requires.kind) c.heading_here-heading.ensures.entry_count c.entry_offset.ensures c.in_err-grow.ensures.no_room))
+
+pub returns-clause-inserted : goal.returns-clause-inserted
+returns-clause-inserted c =
+    let d : Database ℕ = database_here c.args.heap.now.bytes c.args.db.0 in
+    let entry : Entry ℕ = entry_of c.args.entry in
+    let count = c.heading_here-heading.ensures.entry_count in
+    let has = inserted_kept c.args.heap.now.bytes c.grow.new.heap.bytes c.slide_entries.new.heap.bytes c.put_entry.new.heap.bytes c.args.db.0 c.args.index c.entry_offset.result c.heading_here-heading.result.entry_count c.is_resource-resources.result entry d
+    (heading_spelled c.args.heap.now.bytes c.args.db.0 c.requires.spells) c.entry_offset.ensures c.in_ok-grow.ensures.grows c.slide_entries.ensures.slides c.put_entry.ensures.writes in
+    inserted c.args.heap.now.bytes c.grow.new.heap.bytes c.slide_entries.new.heap.bytes c.put_entry.new.heap.bytes c.put_modification_number.new.heap.bytes c.args.db.0 c.args.index c.entry_offset.result c.heading_here-heading.result.entry_count
+    (entry_inserted c.args.index entry d) c.is_resource-resources.result c.args.entry c.requires.spells c.requires.inside
+    (sym c.is_resource-resources.ensures) (c.is_resource-resources.ensures ∙ c.requires.kind) count c.entry_offset.ensures c.in_ok-grow.ensures.grows c.slide_entries.ensures.slides c.put_entry.ensures.writes refl
+    (same_name d c.args.index entry c.requires.spells.spelled.fits.name)
+    (inserted_header c.put_entry.new.heap.bytes c.put_entry_count.new.heap.bytes c.put_seed.new.heap.bytes c.put_modification_number.new.heap.bytes c.args.db.0 c.args.index (c.heading_here-heading.result.entry_count + 1) c.heading_here-heading.result.modification_number
+    (next_modification c.heading_here-heading.result.modification_number) c.seed_after.result entry d c.put_entry.ensures.writes.managers has c.requires.inside (ap (λ (n : ℕ). n + 1) count)
+    (c.seed_after.ensures d.header (sym c.heading_here-heading.ensures.seed)) c.heading_here-heading.ensures.modification_number refl
+    c.put_entry_count.ensures.puts c.put_seed.ensures.puts c.put_modification_number.ensures.puts)

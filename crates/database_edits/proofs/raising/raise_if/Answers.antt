@@ -1,0 +1,17 @@
+-- Where nothing is asked, nothing changes.
+use Rattle.std.proofs.Common.{Bool, sym, subst}
+use Rattle.heap_model.specs.Database.{spelled}
+use Rattle.heap_model.specs.Leaving.{Respells, database_here}
+use Rattle.database_edits.specs.Edits.{counted_if}
+use Rattle.database_edits.proofs.Chunks.{unchanged}
+use Rattle.database_edits.proofs.Databases.{managers}
+use Rattle.database_edits.proofs.raising.raise_if.Goals as goal
+
+pub returns-then-counts-clause-counted : goal.returns-then-counts-clause-counted
+returns-then-counts-clause-counted c =
+    subst (λ (counts : Bool). Respells c.args.heap.now.bytes c.raise_modification.new.heap.bytes c.args.db.0 (counted_if counts (database_here c.args.heap.now.bytes c.args.db.0))) (sym c.if-counts.true) c.raise_modification.ensures.counted
+
+pub returns-else-counts-clause-counted : goal.returns-else-counts-clause-counted
+returns-else-counts-clause-counted c =
+    subst (λ (counts : Bool). Respells c.args.heap.now.bytes c.args.heap.now.bytes c.args.db.0 (counted_if counts (database_here c.args.heap.now.bytes c.args.db.0))) (sym c.if-counts.false)
+    (unchanged c.args.heap.now.bytes c.args.db.0 (spelled (database_here c.args.heap.now.bytes c.args.db.0)) (managers c.args.heap.now.bytes c.args.db.0 c.requires.spells) c.requires.spells.spelled.bytes_are)

@@ -1,0 +1,26 @@
+-- The number is raised first, and the entry is written then.
+use Rattle.std.proofs.Common.{◌<◌, ℕ, List, length, sym, ap, subst, ◌∙◌}
+use Rattle.heap_model.specs.Database.{Entry, Database, has_resources}
+use Rattle.heap_model.specs.Leaving.{Respells, database_here}
+use Rattle.db_format.specs.EitherEntry.{entry_of}
+use Rattle.db_format.specs.Entries.{with_entry}
+use Rattle.database_edits.specs.Edits.{counted_if, entry_written}
+use Rattle.database_edits.proofs.Counting.{respells_twice, counted_entries, counted_attributes, counted_entry}
+use Rattle.database_edits.proofs.replacement.write_entry.Goals as goal
+
+pub write_entry-requires-clause-inside : goal.write_entry-requires-clause-inside
+write_entry-requires-clause-inside c =
+    subst (λ (entries : List (Entry ℕ)). c.args.index < length entries)
+    (sym (ap (λ (d : Database ℕ). d.entries) c.raise_if.ensures.now ∙ counted_entries c.args.counts (database_here c.args.heap.now.bytes c.args.db.0))) c.requires.inside
+
+pub write_entry-requires-clause-kind : goal.write_entry-requires-clause-kind
+write_entry-requires-clause-kind c =
+    c.requires.kind ∙ ap has_resources (sym (ap (λ (d : Database ℕ). d.header.attributes) c.raise_if.ensures.now ∙ counted_attributes c.args.counts (database_here c.args.heap.now.bytes c.args.db.0)))
+
+pub returns-clause-written : goal.returns-clause-written
+returns-clause-written c =
+    let d : Database ℕ = database_here c.args.heap.now.bytes c.args.db.0 in
+    let entry : Entry ℕ = entry_of c.args.entry in
+    respells_twice c.args.heap.now.bytes c.raise_if.new.heap.bytes c.write_entry.new.heap.bytes c.args.db.0 (counted_if c.args.counts d) (entry_written c.args.counts c.args.index entry d) c.requires.spells c.raise_if.ensures.counted
+    (subst (λ (e : Database ℕ). Respells c.raise_if.new.heap.bytes c.write_entry.new.heap.bytes c.args.db.0 e)
+    (ap (λ (e : Database ℕ). with_entry e c.args.index entry) c.raise_if.ensures.now ∙ counted_entry c.args.counts c.args.index entry d) c.write_entry.ensures.respells)

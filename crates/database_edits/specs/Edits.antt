@@ -1,0 +1,50 @@
+-- The database of a chunk, with its entries edited and its modification number raised.
+use Rattle.std.specs.Prelude.{◌≡◌, ◌+◌, ℕ, Bool, true, false, List, length}
+use Rattle.std.specs.List.{remove}
+use Rattle.heap_model.specs.Chunk.{need}
+use Rattle.heap_model.specs.Space.{ShortFor}
+use Rattle.heap_model.specs.Lists.{moved}
+use Rattle.heap_model.specs.DatabaseFields.{entry_size}
+use Rattle.heap_model.specs.Database.{Entry, Database, has_resources}
+use Rattle.heap_model.specs.Store.{bytes_under}
+use Rattle.heap_model.specs.EntrySteps.{with_entry_at, raised_header}
+use Rattle.heap_model.specs.Leaving.{Respells, database_here}
+use Rattle.db_format.specs.Entries.{with_entry}
+
+-- The chunk under the slot spells the database that it spelled, with this change. All other chunks are as
+-- they were.
+abbrev pub Changes : List ℕ → List ℕ → ℕ → (Database ℕ → Database ℕ) → Type 0
+Changes old new db change = Respells old new db (change (database_here old db))
+
+-- the modification number counts a call more
+abbrev pub counted : Database ℕ → Database ℕ
+counted database = record database { header = raised_header database.header }
+
+-- it does where that is asked
+abbrev pub counted_if : Bool → Database ℕ → Database ℕ
+counted_if true database = counted database
+counted_if false database = database
+
+-- an entry comes to stand at an index, and the call is counted
+abbrev pub entry_inserted : ℕ → Entry ℕ → Database ℕ → Database ℕ
+entry_inserted index entry database = counted (with_entry_at index entry database)
+
+-- the entry of an index goes
+abbrev pub entry_removed : ℕ → Database ℕ → Database ℕ
+entry_removed index database = counted (record database { entries = remove database.entries index })
+
+-- an entry moves in front of the one that stands at another index, or behind the last
+abbrev pub entry_moved : ℕ → ℕ → Database ℕ → Database ℕ
+entry_moved from to database = counted (record database { entries = moved database.entries from to })
+
+-- an entry takes the place of the one at an index, and the call is counted where that is asked
+abbrev pub entry_written : Bool → ℕ → Entry ℕ → Database ℕ → Database ℕ
+entry_written counts index entry database = counted_if counts (with_entry database index entry)
+
+-- the database under the slot has resources, or else records
+abbrev pub HasKindHere : List ℕ → ℕ → Bool → Type 0
+HasKindHere image db resources = resources ≡ has_resources (database_here image db).header.attributes
+
+-- the chunk under the slot can't have the bytes of one entry more
+abbrev pub HasNoRoomFor : List ℕ → ℕ → Bool → Type 0
+HasNoRoomFor image db resources = ShortFor image db (need (length (bytes_under image db) + entry_size resources))

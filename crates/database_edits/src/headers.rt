@@ -1,0 +1,82 @@
+//! What edits read of a header and write in it, where it stands.
+
+ghost use Rattle.std.specs.Prelude.{◌≡◌, ◌≤◌, length};
+ghost use Rattle.heap_model.specs.DatabaseFields.{header_size};
+ghost use Rattle.heap_model.specs.Database as databases;
+ghost use Rattle.heap_model.specs.Space.{MovesNothing};
+ghost use Rattle.heap_model.specs.Leaving.{SpellsHere, database_here};
+ghost use Rattle.heap_model.specs.Store.{bytes_under};
+ghost use Rattle.db_format.specs.Headers.{HasModificationNumber, HasSeed, HasEntryCount};
+ghost use Rattle.database_edits.specs.Managers.{IsManagers, PutsHeader};
+ghost use Rattle.database_edits.specs.Headings.{IsHeading};
+
+use db_format::{
+    ENTRY_COUNT_AT, MODIFICATION_NUMBER_AT, SEED_AT, entry_count, entry_count_bytes, has_resources,
+    modification_number, modification_number_bytes, seed, seed_bytes,
+};
+use heap_model::{Db, Name};
+use mem_manager::Heap;
+
+/// What edits need of the header of a database.
+#[derive(Clone, Copy, PartialEq, Eq, Debug)]
+pub(crate) struct Heading {
+    /// Whether the entries are resources, and else records.
+    pub resources: bool,
+    pub entry_count: u16,
+    pub modification_number: u32,
+    /// The field of the seed, with the bits above it.
+    pub seed: u32,
+}
+
+/// The heading of a database.
+#[inline]
+pub(crate) fn heading_here(heap: &Heap, db: Db) -> Heading
+    requires spells { SpellsHere heap.now.bytes db.0 }
+    ensures { IsHeading result (database_here heap.now.bytes db.0) }
+{
+    let body = heap.sys_body(Name(db.0));
+    Heading {
+        resources: has_resources(body),
+        entry_count: entry_count(body),
+        modification_number: modification_number(body),
+        seed: seed(body),
+    }
+}
+
+/// Writes the modification number in a header.
+pub(crate) fn put_modification_number(heap: &mut Heap, db: Db, number: u32)
+    requires managers { IsManagers heap.old.bytes db.0 }
+    requires inside { header_size ≤ length (bytes_under heap.old.bytes db.0) }
+    ensures puts { PutsHeader heap.old.bytes heap.new.bytes db.0 (HasModificationNumber number) }
+    ensures unmoved { MovesNothing heap.old.bytes heap.new.bytes }
+    ensures rest { heap.new ≡ record heap.old { bytes = heap.new.bytes } }
+{
+    let bytes = modification_number_bytes(number);
+    heap.sys_write(Name(db.0), MODIFICATION_NUMBER_AT as u32, &bytes);
+}
+
+/// Writes the field of the seed in a header.
+pub(crate) fn put_seed(heap: &mut Heap, db: Db, seed: u32)
+    requires managers { IsManagers heap.old.bytes db.0 }
+    requires inside { header_size ≤ length (bytes_under heap.old.bytes db.0) }
+    ensures puts { PutsHeader heap.old.bytes heap.new.bytes db.0 (HasSeed seed) }
+    ensures managers { IsManagers heap.new.bytes db.0 }
+    ensures inside { header_size ≤ length (bytes_under heap.new.bytes db.0) }
+    ensures rest { heap.new ≡ record heap.old { bytes = heap.new.bytes } }
+{
+    let bytes = seed_bytes(seed);
+    heap.sys_write(Name(db.0), SEED_AT as u32, &bytes);
+}
+
+/// Writes the number of entries in a header.
+pub(crate) fn put_entry_count(heap: &mut Heap, db: Db, count: u16)
+    requires managers { IsManagers heap.old.bytes db.0 }
+    requires inside { header_size ≤ length (bytes_under heap.old.bytes db.0) }
+    ensures puts { PutsHeader heap.old.bytes heap.new.bytes db.0 (HasEntryCount count) }
+    ensures managers { IsManagers heap.new.bytes db.0 }
+    ensures inside { header_size ≤ length (bytes_under heap.new.bytes db.0) }
+    ensures rest { heap.new ≡ record heap.old { bytes = heap.new.bytes } }
+{
+    let bytes = entry_count_bytes(count);
+    heap.sys_write(Name(db.0), ENTRY_COUNT_AT as u32, &bytes);
+}

@@ -1,0 +1,65 @@
+//! An entry put in, as a call that is counted.
+
+ghost use Rattle.std.specs.Prelude.{◌≡◌, ◌<◌, ◌≤◌, length, OnOk, OnErr, IfErr};
+ghost use Rattle.heap_model.specs.Database.{DatabaseHeader};
+ghost use Rattle.heap_model.specs.EntrySteps.{seeded_by, most_entries};
+ghost use Rattle.heap_model.specs.UniqueIds.{greatest_id, with_seed};
+ghost use Rattle.heap_model.specs.Leaving.{SpellsHere, database_here};
+ghost use Rattle.db_format.specs.EitherEntry.{entry_of, is_resource, HasFittingId};
+ghost use Rattle.database_edits.specs.Edits.{Changes, HasKindHere, HasNoRoomFor, entry_inserted};
+
+use crate::bodies::{grow, put_entry, slide_entries};
+use crate::headers::{heading_here, put_entry_count, put_modification_number, put_seed};
+use db_format::{DbEntry, entry_offset};
+use heap_model::{Db, Refusal};
+use mem_manager::Heap;
+
+/// How many seeds there are: one is in the low 24 bits of its field.
+const SEEDS: u32 = 0x100_0000;
+
+/// Puts an entry in at an index; the entries from there on move up by one. The ID of a record becomes the
+/// seed, and the modification number is raised. The chunk grows, and other chunks may move for it.
+///
+/// Refused `NotEnoughSpace` alone, and then nothing has changed.
+pub fn insert_entry(heap: &mut Heap, db: Db, index: u16, entry: DbEntry) -> Result<(), Refusal>
+    requires spells { SpellsHere heap.old.bytes db.0 }
+    requires inside { index ≤ length (database_here heap.old.bytes db.0).entries }
+    requires few { length (database_here heap.old.bytes db.0).entries < most_entries }
+    requires kind { HasKindHere heap.old.bytes db.0 (is_resource entry) }
+    requires id { HasFittingId entry }
+    ensures inserted { OnOk result (Changes heap.old.bytes heap.new.bytes db.0 (entry_inserted index (entry_of entry))) }
+    ensures no_room { OnErr result (HasNoRoomFor heap.old.bytes db.0 (is_resource entry)) }
+    ensures refusal { IfErr result (λ refusal. refusal ≡ Refusal.NotEnoughSpace) }
+    ensures refused { OnErr result (heap.new ≡ heap.old) }
+    ensures rest { heap.new ≡ record heap.old { bytes = heap.new.bytes; slid = heap.new.slid } }
+{
+    let heading = heading_here(heap, db);
+    let count = heading.entry_count;
+    let resources = entry.is_resource();
+    grow(heap, db, entry_offset(resources, count + 1) as u32)?;
+    slide_entries(heap, db, index, count, index + 1, resources);
+    put_entry(heap, db, index, entry, resources);
+    put_entry_count(heap, db, count + 1);
+    put_seed(heap, db, seed_after(heading.seed, entry));
+    put_modification_number(heap, db, heading.modification_number.wrapping_add(1));
+    Ok(())
+}
+
+/// The field of a seed once an entry has come.
+fn seed_after(field: u32, entry: DbEntry) -> u32
+    requires { HasFittingId entry }
+    ensures { (header : DatabaseHeader) → header.seed ≡ field → seeded_by (entry_of entry) header ≡ record header { seed = result } }
+{
+    match entry {
+        DbEntry::Record(record) => seeded(field, record.id),
+        DbEntry::Resource(_) => field,
+    }
+}
+
+/// The field of a seed with another one.
+fn seeded(field: u32, seed: u32) -> u32
+    requires { seed ≤ greatest_id }
+    ensures { result ≡ with_seed field seed }
+{
+    field / SEEDS * SEEDS + seed
+}

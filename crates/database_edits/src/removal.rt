@@ -1,0 +1,33 @@
+//! An entry taken out, as a call that is counted.
+
+ghost use Rattle.std.specs.Prelude.{◌≡◌, ◌<◌, length};
+ghost use Rattle.heap_model.specs.Leaving.{SpellsHere, database_here};
+ghost use Rattle.database_edits.specs.Edits.{Changes, entry_removed};
+
+use crate::bodies::{shrink, slide_entries};
+use crate::headers::{heading_here, put_entry_count, put_modification_number};
+use db_format::entry_offset;
+use heap_model::Db;
+use mem_manager::Heap;
+
+/// Takes the entry at an index out; those behind it move down by one. The modification number is raised.
+pub fn remove_entry(heap: &mut Heap, db: Db, index: u16)
+    requires spells { SpellsHere heap.old.bytes db.0 }
+    requires inside { index < length (database_here heap.old.bytes db.0).entries }
+    ensures removed { Changes heap.old.bytes heap.new.bytes db.0 (entry_removed index) }
+    ensures rest { heap.new ≡ record heap.old { bytes = heap.new.bytes; slid = heap.new.slid } }
+{
+    let heading = heading_here(heap, db);
+    let left = heading.entry_count - 1;
+    slide_entries(
+        heap,
+        db,
+        index + 1,
+        heading.entry_count,
+        index,
+        heading.resources,
+    );
+    shrink(heap, db, entry_offset(heading.resources, left) as u32);
+    put_entry_count(heap, db, left);
+    put_modification_number(heap, db, heading.modification_number.wrapping_add(1));
+}

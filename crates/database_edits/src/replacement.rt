@@ -1,0 +1,38 @@
+//! An entry written in place of another, and an entry moved, as calls that may be counted.
+
+ghost use Rattle.std.specs.Prelude.{◌≡◌, ◌<◌, ◌≤◌, length};
+ghost use Rattle.heap_model.specs.Leaving.{SpellsHere, database_here};
+ghost use Rattle.db_format.specs.EitherEntry.{entry_of, is_resource, HasFittingId};
+ghost use Rattle.database_edits.specs.Edits.{Changes, HasKindHere, entry_written, entry_moved};
+
+use crate::raising::{raise_if, raise_modification};
+use crate::{moving, writing};
+use db_format::DbEntry;
+use heap_model::Db;
+use mem_manager::Heap;
+
+/// Writes an entry in place of the one at an index. The modification number is raised if `counts` says so.
+pub fn write_entry(heap: &mut Heap, db: Db, index: u16, entry: DbEntry, counts: bool)
+    requires spells { SpellsHere heap.old.bytes db.0 }
+    requires inside { index < length (database_here heap.old.bytes db.0).entries }
+    requires kind { HasKindHere heap.old.bytes db.0 (is_resource entry) }
+    requires id { HasFittingId entry }
+    ensures written { Changes heap.old.bytes heap.new.bytes db.0 (entry_written counts index (entry_of entry)) }
+    ensures rest { heap.new ≡ record heap.old { bytes = heap.new.bytes } }
+{
+    raise_if(heap, db, counts);
+    writing::write_entry(heap, db, index, entry);
+}
+
+/// Moves the entry at an index in front of the one that stands at another, or behind the last: `to` counts
+/// the entries as they stand before. The modification number is raised.
+pub fn move_entry(heap: &mut Heap, db: Db, from: u16, to: u16)
+    requires spells { SpellsHere heap.old.bytes db.0 }
+    requires from_inside { from < length (database_here heap.old.bytes db.0).entries }
+    requires to_inside { to ≤ length (database_here heap.old.bytes db.0).entries }
+    ensures moved { Changes heap.old.bytes heap.new.bytes db.0 (entry_moved from to) }
+    ensures rest { heap.new ≡ record heap.old { bytes = heap.new.bytes; slid = heap.new.slid } }
+{
+    raise_modification(heap, db);
+    moving::move_entry(heap, db, from, to);
+}
