@@ -53,7 +53,8 @@ fn holder_of(region: &Region, table: Table, slot: u32, at: u32) -> Option<u32>
     ensures below { IfSome result (λ number. number < slot_count region.now.bytes) }
     ensures number { IfSome result (StandsBehind region.now.bytes slot) }
     ensures holds { OnSome result (u32_at region.now.bytes slot ≡ at + 8) }
-    ensures none { IfNone result (IsSlot region.now.bytes slot → u32_at region.now.bytes slot ≢ at + 8) }
+    ensures none { IfNone result (IsSlot region.now.bytes slot
+        → u32_at region.now.bytes slot ≢ at + 8) }
 {
     let number = table.number(slot)?;
     if region.get_u32(slot as usize) != at + 8 {
@@ -71,7 +72,8 @@ fn mark_holder(region: &Region, table: Table, slot: u32, at: u32, marks: &mut [b
     requires small { at < 2 ^ 24 }
     requires room { slot_count region.now.bytes ≤ length marks.old }
     ensures holds { result ≡ holds_place region.now.bytes slot at }
-    ensures marked { AddsMarks region.now.bytes (IsHolder region.now.bytes slot at) marks.old marks.new }
+    ensures marked { AddsMarks region.now.bytes
+        (IsHolder region.now.bytes slot at) marks.old marks.new }
 {
     match holder_of(region, table, slot, at) {
         Some(number) => {
@@ -109,7 +111,8 @@ impl Survey {
         requires has_table { HasTable region.now }
         requires table { IsTable region.now.bytes table }
         requires small { at < 2 ^ 24 }
-        requires counts { self.old.movable + self.old.fixed + self.old.free + free_by header < 2 ^ 25 }
+        requires counts { self.old.movable + self.old.fixed + self.old.free + free_by header
+            < 2 ^ 25 }
         requires room { slot_count region.now.bytes ≤ length marks.old }
         ensures movable { self.new.movable ≡ self.old.movable + movable_by header }
         ensures fixed { self.new.fixed ≡ self.old.fixed + fixed_by header }

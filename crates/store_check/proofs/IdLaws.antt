@@ -1,11 +1,11 @@
 -- Sets of unique IDs, and walks over the records of databases.
-use Rattle.std.proofs.Common.{◌≡◌, ℕ, ◌+◌, ◌<◌, List, sym, subst, arith, inl, inr}
+use Rattle.std.proofs.Common.{◌≡◌, ℕ, ◌+◌, ◌/◌, ◌^◌, ◌<◌, ◌≤◌, List, Some, sym, ap, subst, ◌∙◌, arith, inl, inr, lit<}
 use Rattle.std.proofs.lemmas.Bool.{cases_lt}
 use Rattle.heap_model.specs.Lists.{Least, LeastPair}
 use Rattle.store_check.specs.Listing.{listed_count, header_at}
-use Rattle.store_check.specs.Faults.{HasBadId, IsBadId}
+use Rattle.store_check.specs.Faults.{id_at, HasBadId, IsBadId}
 use Rattle.bit_sets.specs.Sets.{HasNone}
-use Rattle.store_check.specs.Ids.{HasIdsBefore}
+use Rattle.store_check.specs.Ids.{HasIdsUpTo, HasRoomForIds, HasRoomForAll, HasIdsBefore}
 
 -- ---- a walk over records
 
@@ -13,6 +13,58 @@ use Rattle.store_check.specs.Ids.{HasIdsBefore}
 pub record Walked (bytes seen : List ℕ) (index : ℕ) : Type 0 where
   pub none_bad : (earlier : ℕ) → earlier < index → HasBadId bytes earlier → ⊥
   pub ids : HasIdsBefore bytes seen index
+
+-- ---- the greatest ID
+
+-- the greatest of an ID and those of the records so far
+pub record GreatestIn (bytes : List ℕ) (least index greatest : ℕ) : Type 0 where
+  pub ids : (earlier id : ℕ) → earlier < index → id_at bytes earlier ≡ Some id → id ≤ greatest
+  pub above : least ≤ greatest
+  pub small : greatest < 2 ^ 24
+
+pub greatest_in : (bytes : List ℕ) (least index greatest id new : ℕ) → Some id ≡ id_at bytes index → id < 2 ^ 24 → id ≤ new → greatest ≤ new → new < 2 ^ 24 → GreatestIn bytes least index greatest → GreatestIn bytes least (index + 1) new
+greatest_in bytes least index greatest id new is fits here there small g = record {
+  ids = λ earlier other below e. elim (cases_lt earlier index) [
+    | inl less ↦ let most = g.ids earlier other less e in omega arith
+    | inr last ↦ let at : index ≡ earlier = omega arith in
+        let same : Some id ≡ Some other = is ∙ ap (id_at bytes) at ∙ e in
+        let one : id ≡ other = cc in
+        omega arith
+  ];
+  above = let low = g.above in omega arith;
+  small = small;
+}
+
+-- the greatest ID of the databases so far
+pub record GreatestSoFar (image : List ℕ) (db greatest : ℕ) : Type 0 where
+  pub ids : (earlier : ℕ) → earlier < db → HasIdsUpTo (header_at image earlier) greatest
+  pub small : greatest < 2 ^ 24
+
+pub no_greatest : (image : List ℕ) → GreatestSoFar image 0 0
+no_greatest image = record { ids = λ earlier below. absurd (omega arith); small = lit< tt }
+
+pub greatest_more : (image bytes : List ℕ) (db greatest new : ℕ) → bytes ≡ header_at image db → HasIdsUpTo bytes new → greatest ≤ new → new < 2 ^ 24 → GreatestSoFar image db greatest → GreatestSoFar image (db + 1) new
+greatest_more image bytes db greatest new is up low small g = record {
+  ids = λ earlier below index id inside e. elim (cases_lt earlier db) [
+    | inl less ↦ let most = g.ids earlier less index id inside e in omega arith
+    | inr last ↦ let at : db ≡ earlier = omega arith in
+        let here : HasIdsUpTo (header_at image earlier) new = subst (λ (b : List ℕ). HasIdsUpTo b new) (is ∙ ap (header_at image) at) up in
+        here index id inside e
+  ];
+  small = small;
+}
+
+pub greatest_all : (image : List ℕ) (db greatest : ℕ) → db ≡ listed_count image → GreatestSoFar image db greatest → (earlier : ℕ) → earlier < listed_count image → HasIdsUpTo (header_at image earlier) greatest
+greatest_all image db greatest all g earlier below = g.ids earlier (omega arith)
+
+-- ---- room in a set
+
+-- where no ID is above the greatest, a set that has room for that has room for all
+pub room_for_all : (image : List ℕ) (greatest size : ℕ) → ((db : ℕ) → db < listed_count image → HasIdsUpTo (header_at image db) greatest) → greatest / 8 < size → HasRoomForAll image size
+room_for_all image greatest size up room db below index id inside e = let most = up db below index id inside e in omega arith
+
+pub room_here : (image bytes : List ℕ) (db size : ℕ) → bytes ≡ header_at image db → db < listed_count image → HasRoomForAll image size → HasRoomForIds bytes size
+room_here image bytes db size is below room = subst (λ (b : List ℕ). HasRoomForIds b size) (sym is) (room db below)
 
 -- ---- all databases
 

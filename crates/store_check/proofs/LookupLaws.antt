@@ -40,7 +40,7 @@ movable_in image slot place h s =
       inside = omega arith;
     }
 
-pub slot_found : (image : List ℕ) (slot : ℕ) (place : Place) (header : Header) → HeapAccepted image → Some header ≡ option_map header_of (chunk_at image (place.0 - 8)) → HoldsPlace image slot place.0 → MatchOption (movable_by header place) ⊥ (IsMovable image slot)
+slot_found : (image : List ℕ) (slot : ℕ) (place : Place) (header : Header) → HeapAccepted image → Some header ≡ option_map header_of (chunk_at image (place.0 - 8)) → HoldsPlace image slot place.0 → MatchOption (movable_by header place) ⊥ (IsMovable image slot)
 slot_found image slot place header h read holds =
     let s = in_slot image slot place.0 h holds.is_slot holds.held holds.some in
     subst (λ (x : Header). MatchOption (movable_by x place) ⊥ (IsMovable image slot)) (sym (same s (read ∙ slot_header image slot place.0 h s)))
@@ -48,18 +48,32 @@ slot_found image slot place header h read holds =
       same : (s : InSlot image slot place.0) → Some header ≡ Some (headers.Movable (length s.live.bytes) s.live.lock s.live.owner s.named) → header ≡ headers.Movable (length s.live.bytes) s.live.lock s.live.owner s.named
       same s e = cc
 
+pub slot_movable : (image : List ℕ) (slot : ℕ) (place : Place) (header : Header) (found : Option Movable) → HeapAccepted image → Some header ≡ option_map header_of (chunk_at image (place.0 - 8)) → found ≡ movable_by header place → HoldsPlace image slot place.0 → MatchOption found ⊥ (IsMovable image slot)
+slot_movable image slot place header found h read is holds = subst (λ (o : Option Movable). MatchOption o ⊥ (IsMovable image slot)) (sym is) (slot_found image slot place header h read holds)
+
+-- what holds of the value that is there
+pub is_some_matched : (P : Movable → Type 0) (found : Option Movable) → MatchOption found ⊥ P → IsSome found
+is_some_matched P None m = absurd m
+is_some_matched P (Some chunk) m = refl
+
+pub matched_value : (P : Movable → Type 0) (found : Option Movable) (chunk : Movable) → found ≡ Some chunk → MatchOption found ⊥ P → P chunk
+matched_value P found chunk e m = subst (λ (o : Option Movable). MatchOption o ⊥ P) e m
+
 -- a header that stands there is the one that is read
 pub header_read : (image : List ℕ) (at : ℕ) (header : Header) → HasHeader image at header → Some header ≡ option_map header_of (chunk_at image at)
 header_read image at header h = ap (λ (x : Header). Some x) h.header_is ∙ sym (ap (option_map header_of) (chunk_at-spelled image at h.chunk h.spelled))
 
+pub slot_holds : (image : List ℕ) (slot : ℕ) (place : Option Place) (found : Place) → MatchOption place (HoldsNothing image slot) (λ place. HoldsPlace image slot place.0) → place ≡ Some found → HoldsPlace image slot found.0
+slot_holds image slot place found holds is = subst (λ (p : Option Place). MatchOption p (HoldsNothing image slot) (λ place. HoldsPlace image slot place.0)) is holds
+
 pub slot_behind : (image : List ℕ) (slot : ℕ) (place : Option Place) (found : Place) → HeapAccepted image → MatchOption place (HoldsNothing image slot) (λ place. HoldsPlace image slot place.0) → place ≡ Some found → 8 ≤ found.0
 slot_behind image slot place found h holds is =
-    let here : HoldsPlace image slot found.0 = subst (λ (p : Option Place). MatchOption p (HoldsNothing image slot) (λ place. HoldsPlace image slot place.0)) is holds in
+    let here = slot_holds image slot place found holds is in
     (in_slot image slot found.0 h here.is_slot here.held here.some).behind_header
 
 pub slot_chunk : (image : List ℕ) (slot : ℕ) (place : Option Place) (found : Place) → HeapAccepted image → MatchOption place (HoldsNothing image slot) (λ place. HoldsPlace image slot place.0) → place ≡ Some found → HasChunk image (found.0 - 8)
 slot_chunk image slot place found h holds is =
-    let here : HoldsPlace image slot found.0 = subst (λ (p : Option Place). MatchOption p (HoldsNothing image slot) (λ place. HoldsPlace image slot place.0)) is holds in
+    let here = slot_holds image slot place found holds is in
     let s = in_slot image slot found.0 h here.is_slot here.held here.some in
     let chunk : Chunk = movable s.live.bytes s.live.lock s.live.owner s.named in
     record { chunk = chunk; spelled = finds_spelled image slot s.live chunk (found.0 - 8) h s.finds }

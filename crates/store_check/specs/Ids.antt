@@ -1,11 +1,21 @@
 -- Sets of unique IDs, as the bits of a list of bytes.
-use Rattle.std.specs.Prelude.{◌≡◌, ◌<◌, ◌≤◌, ◌↔◌, ℕ, List, Some}
+use Rattle.std.specs.Prelude.{◌≡◌, ◌<◌, ◌≤◌, ◌/◌, ◌↔◌, ℕ, List, Some}
+use Rattle.heap_model.specs.Database.{entry_count_in}
 use Rattle.bit_sets.specs.Sets.{HasNumber}
+use Rattle.store_check.specs.Listing.{listed_count, header_at}
 use Rattle.store_check.specs.Faults.{id_at}
 
--- how many bytes a set takes: each has the bits of eight IDs, the least in its lowest bit
-abbrev pub id_set_size : ℕ
-id_set_size = 2097152
+-- no record has an ID above this one
+abbrev pub HasIdsUpTo : List ℕ → ℕ → Type 0
+HasIdsUpTo bytes greatest = (index id : ℕ) → index < entry_count_in bytes → id_at bytes index ≡ Some id → id ≤ greatest
+
+-- a set of so many bytes has room for the IDs of the records: each byte has the bits of eight
+abbrev pub HasRoomForIds : List ℕ → ℕ → Type 0
+HasRoomForIds bytes size = (index id : ℕ) → index < entry_count_in bytes → id_at bytes index ≡ Some id → id / 8 < size
+
+-- and for those of all databases that are listed
+abbrev pub HasRoomForAll : List ℕ → ℕ → Type 0
+HasRoomForAll image size = (db : ℕ) → db < listed_count image → HasRoomForIds (header_at image db) size
 
 -- the IDs of the records in front of an index are in the set, and no others
 abbrev pub HasIdsBefore : List ℕ → List ℕ → ℕ → Type 0

@@ -1,5 +1,5 @@
 -- What a look-up of a slot finds.
-use Rattle.std.specs.Prelude.{◌≡◌, ◌≤◌, ◌+◌, ℕ, List, length, slice_range, Option, Some, None, MatchOption}
+use Rattle.std.specs.Prelude.{◌≡◌, ◌≤◌, ◌+◌, ℕ, List, length, slice_range, Option, Some, None}
 use Rattle.heap_model.specs.declared.names.Place.{Place}
 use Rattle.heap_model.specs.Store.{bytes_under, owner_under}
 use Rattle.chunk_format.specs.declared.header.Header.{Header}
@@ -14,8 +14,12 @@ pub record IsMovable (image : List ℕ) (slot : ℕ) (chunk : Movable) : Type 0 
   pub inside : chunk.place.0 + chunk.length ≤ length image
 
 -- what is found is the chunk of each slot that holds this place
-abbrev pub SlotsFind : List ℕ → ℕ → Option Movable → Type 0
-SlotsFind image place found = (slot : ℕ) → HoldsPlace image slot place → MatchOption found ⊥ (IsMovable image slot)
+abbrev pub SlotsFind : List ℕ → ℕ → Movable → Type 0
+SlotsFind image place found = (slot : ℕ) → HoldsPlace image slot place → IsMovable image slot found
+
+-- a slot holds this place
+abbrev pub IsHeld : List ℕ → ℕ → Type 0
+IsHeld image place = (slot : ℕ) × HoldsPlace image slot place
 
 -- the movable chunk with this header, whose body is at a place
 abbrev pub movable_by : Header → Place → Option Movable

@@ -1,6 +1,6 @@
 //! The check of a whole image.
 
-ghost use Rattle.std.specs.Prelude.{◌≡◌, ◌≤◌, ◌⊎◌, ℕ, [], ◌∷◌, List, length, IfOk, IfErr, OnOk};
+ghost use Rattle.std.specs.Prelude.{◌≡◌, ◌≤◌, ◌*◌, ◌⊎◌, [], ◌∷◌, List, length, IfOk, IfErr, OnOk};
 ghost use Rattle.heap_model.specs.Slots.{slot_count as model_count};
 ghost use Rattle.heap_model.specs.Bytes.{AreBytes};
 ghost use Rattle.heap_model.specs.Heap.{HeapAccepted, directory_of};
@@ -10,17 +10,18 @@ ghost use Rattle.store_check.specs.Listing.{IsListing, HaveHeaders};
 ghost use Rattle.store_check.specs.Faults.{store_faults, NoneBrought};
 ghost use Rattle.store_check.specs.Naming.{AreNamed, managers_slots, accounted, AreMarks, HasNoMarks};
 ghost use Rattle.bit_sets.specs.Sets.{HasNone};
-ghost use Rattle.store_check.specs.Ids.{id_set_size};
+ghost use Rattle.store_check.specs.Ids.{HasRoomForAll};
+ghost use Rattle.store_check.specs.Names.{name_numbers};
 ghost use Rattle.store_check.specs.Checks.{IsFirstOr, IsRefusal, Summarizes, IsAnswered, listed_faults, chunk_faults, marked_faults, own_faults};
 
 use crate::chunks::{find_shared, find_stray};
 use crate::entries::find_bad_entry;
 use crate::fault::StoreFault;
 use crate::headers::find_bad_header;
-use crate::ids::{ID_SET_SIZE, empty_set, find_bad_id};
+use crate::ids::{empty_set, find_bad_id, greatest_id};
 use crate::lookup::directory_in;
 use crate::marks::{mark, no_marks};
-use crate::names::{find_bad_name, find_same_name};
+use crate::names::{NAME_NUMBERS, find_bad_name, find_same_name};
 use crate::slots::find_bad_slot;
 use crate::summary::StoreSummary;
 use crate::uses::mark_databases;
@@ -32,8 +33,9 @@ use raw_region::Region;
 use std::alloc::{AllocError, Global};
 
 /// Whether the bytes of a region are an accepted heap with databases: its counts, or else its first
-/// fault. It takes memory for a mark for each slot, and then 2 MiB for the IDs of a database, and changes
-/// nothing. Only where memory is refused does it answer `OutOfMemory`.
+/// fault. It takes memory for a mark for each slot, and then a bit for each number up to the greatest ID,
+/// 32 KiB at least and 2 MiB at most, and changes nothing. Only where memory is refused does it answer
+/// `OutOfMemory`.
 pub fn check_store(alloc: Global, region: &Region) -> Result<StoreSummary, StoreFault>
     ensures accepted { OnOk result (Accepted region.now.bytes) }
     ensures summary { IfOk result (Summarizes region.now.bytes) }
@@ -139,7 +141,8 @@ fn check_listed(region: &Region, directory: &[u8], marks: &mut [u8]) -> Result<(
     ensures listing { OnOk result (IsListing region.now.bytes directory.now) }
     ensures headers { OnOk result (HaveHeaders region.now.bytes) }
     ensures named { OnOk result (AreNamed region.now.bytes) }
-    ensures marked { OnOk result (AreMarks region.now.bytes (managers_slots region.now.bytes) marks.new) }
+    ensures marked { OnOk result (AreMarks region.now.bytes
+        (managers_slots region.now.bytes) marks.new) }
 {
     if let Some(fault) = find_bad_slot(region, directory, marks) {
         return Err(fault);
@@ -171,7 +174,18 @@ fn check_chunks(region: &Region, marks: &[u8]) -> Result<(), StoreFault>
     }
 }
 
-/// Looks for the faults of IDs and names, with a set of IDs of its own.
+/// How many bytes a set takes that has room for all IDs, and for the numbers of names.
+fn set_size(region: &Region, directory: &[u8]) -> usize
+    requires listing { IsListing region.now.bytes directory.now }
+    requires headers { HaveHeaders region.now.bytes }
+    ensures ids { HasRoomForAll region.now.bytes result }
+    ensures names { name_numbers ≤ 8 * result }
+{
+    let greatest = greatest_id(region, directory);
+    greatest.max(NAME_NUMBERS) as usize / 8 + 1
+}
+
+/// Looks for the faults of IDs and names, with a set of numbers of its own.
 fn check_ids_and_names<A: Allowance>(
     memory: &A,
     region: &Region,
@@ -182,13 +196,13 @@ fn check_ids_and_names<A: Allowance>(
     ensures fault { IfErr result (IsFirstOr (own_faults region.now.bytes)) }
     ensures none { OnOk result (NoneBrought (own_faults region.now.bytes)) }
 {
-    let Ok(mut seen) = set_for(memory, ID_SET_SIZE) else {
+    let Ok(mut seen) = set_for(memory, set_size(region, directory)) else {
         return Err(StoreFault::OutOfMemory);
     };
     check_with_set(region, directory, &mut seen)
 }
 
-/// A set of so many bytes with no ID in it.
+/// A set of so many bytes with no number in it.
 fn set_for<A: Allowance>(memory: &A, size: usize) -> Result<Vec<u8>, AllocError>
     ensures len { IfOk result (λ seen. length seen.items ≡ size) }
     ensures empty { IfOk result (λ seen. HasNone seen.items) }
@@ -196,11 +210,12 @@ fn set_for<A: Allowance>(memory: &A, size: usize) -> Result<Vec<u8>, AllocError>
     empty_set(memory.grant()?, size)
 }
 
-/// Looks for the faults of IDs and names, with this set of IDs, which is empty.
+/// Looks for the faults of IDs and names, with this set of numbers, which is empty.
 fn check_with_set(region: &Region, directory: &[u8], seen: &mut [u8]) -> Result<(), StoreFault>
     requires listing { IsListing region.now.bytes directory.now }
     requires headers { HaveHeaders region.now.bytes }
-    requires room { length seen.old ≡ id_set_size }
+    requires ids { HasRoomForAll region.now.bytes (length seen.old) }
+    requires names { name_numbers ≤ 8 * length seen.old }
     requires empty { HasNone seen.old }
     ensures fault { IfErr result (FirstBrought (own_faults region.now.bytes)) }
     ensures none { OnOk result (NoneBrought (own_faults region.now.bytes)) }

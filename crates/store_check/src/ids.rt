@@ -1,14 +1,14 @@
 //! The unique IDs of records, each database for itself.
 
-ghost use Rattle.std.specs.Prelude.{◌≡◌, ◌<◌, ◌^◌, Some, false, length, IfOk, IfSome, IfNone};
+ghost use Rattle.std.specs.Prelude.{◌≡◌, ◌≤◌, ◌<◌, ◌^◌, ℕ, Some, false, length, IfOk, IfSome, IfNone};
 ghost use Rattle.heap_model.specs.Lists.{Least};
 ghost use Rattle.heap_model.specs.Database.{resources_in, entry_count_in};
 ghost use Rattle.heap_check.specs.Faults.{FirstBrought};
 ghost use Rattle.bit_sets.specs.Sets.{HasNone};
 ghost use Rattle.db_format.specs.Headers.{IsWhole};
-ghost use Rattle.store_check.specs.Listing.{IsListing, HaveHeaders};
+ghost use Rattle.store_check.specs.Listing.{listed_count as model_count, header_at, IsListing, HaveHeaders};
 ghost use Rattle.store_check.specs.Faults.{id_at, HasBadId, HasGoodIds, id_faults, NoneBrought};
-ghost use Rattle.store_check.specs.Ids.{id_set_size, HasIdsWithin};
+ghost use Rattle.store_check.specs.Ids.{HasIdsUpTo, HasRoomForIds, HasRoomForAll, HasIdsWithin};
 
 use crate::fault::StoreFault;
 use crate::lookup::header_of;
@@ -16,9 +16,6 @@ use crate::words::listed_count;
 use db_format::{entry_count, has_resources};
 use raw_region::Region;
 use std::alloc::{AllocError, Global};
-
-/// What a set of IDs takes, a bit for each ID of 24 bits.
-pub(crate) const ID_SET_SIZE: usize = 2_097_152;
 
 /// A set of so many bytes with no ID in it. The only error is that memory was refused.
 pub(crate) fn empty_set(alloc: Global, size: usize) -> Result<Vec<u8>, AllocError>
@@ -41,16 +38,50 @@ fn record_id(header: &[u8], index: u16) -> u32
     db_format::record_id(header, index)
 }
 
+/// The greatest of an ID and those of a database's records, if it has records.
+fn greatest_id_in(header: &[u8], least: u32) -> u32
+    requires whole { IsWhole header.now }
+    requires small { least < 2 ^ 24 }
+    ensures ids { HasIdsUpTo header.now result }
+    ensures least { least ≤ result }
+    ensures small { result < 2 ^ 24 }
+{
+    let mut greatest = least;
+    if has_resources(header) {
+        return greatest;
+    }
+    for index in 0..entry_count(header) {
+        greatest = greatest.max(record_id(header, index));
+    }
+    greatest
+}
+
+/// The greatest ID of all records, 0 where there is none.
+pub(crate) fn greatest_id(region: &Region, directory: &[u8]) -> u32
+    requires listing { IsListing region.now.bytes directory.now }
+    requires headers { HaveHeaders region.now.bytes }
+    ensures ids { (db : ℕ) → db < model_count region.now.bytes
+        → HasIdsUpTo (header_at region.now.bytes db) result }
+    ensures small { result < 2 ^ 24 }
+{
+    let mut greatest = 0;
+    for db in 0..listed_count(directory) {
+        greatest = greatest_id_in(header_of(region, directory, db), greatest);
+    }
+    greatest
+}
+
 /// The first record of a database whose ID is 0 or an earlier one's. Where there is none, the set has
 /// their IDs.
 fn find_bad_id_among(header: &[u8], seen: &mut [u8]) -> Option<u16>
     requires whole { IsWhole header.now }
     requires records { resources_in header.now ≡ false }
-    requires room { length seen.old ≡ id_set_size }
+    requires room { HasRoomForIds header.now (length seen.old) }
     requires empty { HasNone seen.old }
     ensures some { IfSome result (Least (HasBadId header.now)) }
     ensures none { IfNone result (HasGoodIds header.now) }
-    ensures within { IfNone result (HasIdsWithin header.now seen.new 0 (entry_count_in header.now)) }
+    ensures within { IfNone result
+        (HasIdsWithin header.now seen.new 0 (entry_count_in header.now)) }
 {
     for index in 0..entry_count(header) {
         let id = record_id(header, index);
@@ -66,7 +97,7 @@ fn find_bad_id_among(header: &[u8], seen: &mut [u8]) -> Option<u16>
 fn forget_ids(header: &[u8], seen: &mut [u8])
     requires whole { IsWhole header.now }
     requires records { resources_in header.now ≡ false }
-    requires room { length seen.old ≡ id_set_size }
+    requires room { HasRoomForIds header.now (length seen.old) }
     requires within { HasIdsWithin header.now seen.old 0 (entry_count_in header.now) }
     ensures { HasNone seen.new }
 {
@@ -79,7 +110,7 @@ fn forget_ids(header: &[u8], seen: &mut [u8])
 /// none, the set is empty again.
 fn find_bad_id_in(header: &[u8], seen: &mut [u8]) -> Option<u16>
     requires whole { IsWhole header.now }
-    requires room { length seen.old ≡ id_set_size }
+    requires room { HasRoomForIds header.now (length seen.old) }
     requires empty { HasNone seen.old }
     ensures some { IfSome result (Least (HasBadId header.now)) }
     ensures none { IfNone result (HasGoodIds header.now) }
@@ -99,7 +130,7 @@ fn find_bad_id_in(header: &[u8], seen: &mut [u8]) -> Option<u16>
 pub(crate) fn find_bad_id(region: &Region, directory: &[u8], seen: &mut [u8]) -> Option<StoreFault>
     requires listing { IsListing region.now.bytes directory.now }
     requires headers { HaveHeaders region.now.bytes }
-    requires room { length seen.old ≡ id_set_size }
+    requires room { HasRoomForAll region.now.bytes (length seen.old) }
     requires empty { HasNone seen.old }
     ensures some { IfSome result (FirstBrought (id_faults region.now.bytes)) }
     ensures none { IfNone result (NoneBrought (id_faults region.now.bytes)) }

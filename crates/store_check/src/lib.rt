@@ -2,11 +2,10 @@
 //! first fault.
 //!
 //! `check_store` has the heap checked, and then looks for each fault in all databases before it looks for
-//! the next. A mark for each slot, counted up to two, says how often slots are listed and named: so the
-//! directory, the headers and all entries are gone over once each. A set with a bit for each ID serves the
-//! databases in turn, and names are compared pair by pair, of which there are few. `specs/Faults.antt`
-//! says what each fault means and in which order they are looked for; `heap_model` says what an accepted
-//! image is.
+//! the next. A mark for each slot, counted up to two, says how often slots are listed and named. A set of
+//! numbers, a bit for each, tells whether an ID was met before; it serves the databases in turn, and then
+//! the names, which are compared only where their numbers meet. `specs/Faults.antt` says what each fault
+//! means and in which order they are looked for; `heap_model` says what an accepted image is.
 #![tactic(auto)]
 
 mod check;

@@ -5,7 +5,7 @@ ghost use Rattle.heap_model.specs.Chunk.{HasChunk};
 ghost use Rattle.heap_model.specs.Heap.{HeapAccepted};
 ghost use Rattle.heap_model.specs.Store.{managers_owner, data_owner, bytes_under, owner_under, directory_bytes};
 ghost use Rattle.store_check.specs.Listing.{listed_count as model_count, header_at, IsListing};
-ghost use Rattle.store_check.specs.Lookup.{IsMovable, SlotsFind, movable_by};
+ghost use Rattle.store_check.specs.Lookup.{IsMovable, IsHeld, SlotsFind, movable_by};
 ghost use Rattle.store_check.specs.Owners.{IsOurs, NotOurs};
 
 use crate::words::word_at;
@@ -30,20 +30,21 @@ fn movable_under(region: &Region, slot: u32) -> Option<Movable>
     ensures none { IfNone result (NotOurs region.now.bytes slot) }
 {
     match resolve(region, Name(slot)) {
-        Some(place) => movable_at(region, place),
+        Some(place) => Some(movable_at(region, place)),
         None => None,
     }
 }
 
-/// The movable chunk whose body is at a place, in front of which a chunk stands.
+/// The movable chunk whose body is at a place that a slot holds: its header stands in front of it.
 #[inline]
-fn movable_at(region: &Region, place: Place) -> Option<Movable>
+fn movable_at(region: &Region, place: Place) -> Movable
     requires accepted { HeapAccepted region.now.bytes }
+    requires held { IsHeld region.now.bytes place.0 }
     requires behind_header { 8 ≤ place.0 }
     requires chunk { HasChunk region.now.bytes (place.0 - 8) }
     ensures { SlotsFind region.now.bytes place.0 result }
 {
-    as_movable(Header::at(region, place.0 - 8), place)
+    as_movable(Header::at(region, place.0 - 8), place).unwrap()
 }
 
 /// The chunk with this header, if it is a movable one.

@@ -1,12 +1,11 @@
 //! The names of databases.
 
-ghost use Rattle.std.specs.Prelude.{◌≡◌, ◌≤◌, ◌<◌, ◌/◌, ◌↔◌, length, IsTrue, IfSome, IfNone};
+ghost use Rattle.std.specs.Prelude.{◌≡◌, ◌≤◌, ◌<◌, ◌*◌, ◌/◌, ◌↔◌, length, IsTrue, IfSome, IfNone};
 ghost use Rattle.heap_model.specs.DatabaseFields.{name_size};
 ghost use Rattle.heap_model.specs.Database.{HasName, name_in};
 ghost use Rattle.heap_check.specs.Faults.{FirstBrought};
 ghost use Rattle.store_check.specs.Listing.{listed_count as model_count, header_at, IsListing, HaveHeaders};
 ghost use Rattle.store_check.specs.Faults.{IsSameName, name_faults, same_name_faults, NoneBrought};
-ghost use Rattle.store_check.specs.Ids.{id_set_size};
 ghost use Rattle.store_check.specs.Names.{HaveNames, HasNamesBefore, name_number, name_numbers};
 
 use crate::fault::StoreFault;
@@ -33,7 +32,7 @@ pub(crate) fn find_bad_name(region: &Region, directory: &[u8]) -> Option<StoreFa
 
 /// How many numbers there are for names: a prime, so that names which differ in one of their words alone
 /// seldom share one.
-const NAME_NUMBERS: u64 = 262_139;
+pub(crate) const NAME_NUMBERS: u32 = 262_139;
 
 /// A number that all fields for a name with the same bytes have.
 fn number_of_name(header: &[u8]) -> u32
@@ -50,7 +49,7 @@ fn number_of_name(header: &[u8]) -> u32
         + 13 * word_at(field, 5) as u64
         + 17 * word_at(field, 6) as u64
         + 19 * word_at(field, 7) as u64;
-    ((front + back) % NAME_NUMBERS) as u32
+    ((front + back) % NAME_NUMBERS as u64) as u32
 }
 
 /// Whether two databases have the same name, where each has one.
@@ -108,7 +107,7 @@ pub(crate) fn find_same_name(
     requires listing { IsListing region.now.bytes directory.now }
     requires headers { HaveHeaders region.now.bytes }
     requires names { HaveNames region.now.bytes }
-    requires room { length seen.old ≡ id_set_size }
+    requires room { name_numbers ≤ 8 * length seen.old }
     ensures some { IfSome result (FirstBrought (same_name_faults region.now.bytes)) }
     ensures none { IfNone result (NoneBrought (same_name_faults region.now.bytes)) }
 {

@@ -49,7 +49,8 @@ pub(crate) fn find_bad_slot(
     ensures some { IfSome result (FirstBrought (slot_faults region.now.bytes)) }
     ensures none { IfNone result (NoneBrought (slot_faults region.now.bytes)) }
     ensures listing { IfNone result (IsListing region.now.bytes directory.now) }
-    ensures marked { IfNone result (AreMarks region.now.bytes (managers_slots region.now.bytes) marks.new) }
+    ensures marked { IfNone result (AreMarks region.now.bytes
+        (managers_slots region.now.bytes) marks.new) }
 {
     for index in 0..directory.len().div_ceil(SLOT_SIZE as usize) {
         if is_bad_slot(region, directory, index, marks) {

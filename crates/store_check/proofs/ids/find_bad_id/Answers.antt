@@ -1,6 +1,12 @@
-use Rattle.std.proofs.Common.{refl, arith, inl}
-use Rattle.store_check.proofs.IdLaws.{bad_first, bad_more}
+use Rattle.std.proofs.Common.{refl, arith, inl, length}
+use Rattle.store_check.proofs.IdLaws.{bad_first, bad_more, room_here}
 use Rattle.store_check.proofs.ids.find_bad_id.Goals as goal
+
+pub find_bad_id_in-requires-clause-room : goal.find_bad_id_in-requires-clause-room
+find_bad_id_in-requires-clause-room c index id inside e =
+    let count = c.requires.listing.count in
+    let room = room_here c.args.region.now.bytes c.header_of.result.now c.loop-db.db (length c.args.seen.now) c.header_of.ensures (omega arith) c.requires.room index id inside e in
+    omega arith
 
 pub returns-in-Some-clause-some : goal.returns-in-Some-clause-some
 returns-in-Some-clause-some c =

@@ -1,0 +1,5 @@
+use Rattle.store_check.proofs.IdLaws.{GreatestSoFar}
+use Rattle.store_check.proofs.ids.greatest_id.Given as goal
+
+abbrev pub invariant-loop-db : goal.invariant-loop-db
+invariant-loop-db l = GreatestSoFar l.region.bytes l.db l.greatest
