@@ -17,6 +17,7 @@ use raw_region::Region;
 
 /// Gives a live chunk `count` bytes where it stands, out of its own and of `behind` bytes of free chunks
 /// directly behind it. Bytes that it gains are zero, and what is left is free.
+#[inline]
 pub(crate) fn resize_at(region: &mut Region, found: Found, count: u32, behind: u32)
     requires accepted { HeapAccepted region.old.bytes }
     requires behind { RunBehind region.old.bytes found behind }
@@ -55,6 +56,7 @@ fn header_with(found: Found, count: u32) -> Header
 
 /// Gives a live chunk `count` bytes where it stands, if its own and those of the free chunks directly
 /// behind it suffice, and answers whether they do.
+#[inline]
 pub(crate) fn grow_in_place_at(region: &mut Region, found: Found, count: u32) -> bool
     requires accepted { HeapAccepted region.old.bytes }
     requires found { IsOne region.old.bytes found }

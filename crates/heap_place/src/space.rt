@@ -319,6 +319,7 @@ impl Space {
     /// Gives a live chunk `count` bytes where it stands, if its own and those of the free chunks directly
     /// behind it suffice, and answers whether they do. Bytes that it gains are zero, and what is left is
     /// free. Nothing moves.
+    #[inline]
     pub fn grow_in_place(&mut self, found: Found, count: u32) -> bool
         requires accepted { HeapAccepted self.old.bytes }
         requires found { IsOne self.old.bytes found }
