@@ -14,11 +14,27 @@ use Rattle.heap_model.specs.MemorySteps.{Of, IsLocked}
 use Rattle.heap_model.specs.StoreWords.{with_changed, without_database, all_gone, with_number, In, no_database, may_run_out, becomes, becomes_with, stays, next_modification}
 use Rattle.heap_model.specs.declared.names.Db.{Db}
 use Rattle.heap_model.specs.declared.database.DbInfo.{DbInfo}
-use Rattle.heap_model.specs.declared.call.DatabaseCall.{DatabaseCall}
+use Rattle.heap_model.specs.declared.call.DatabaseCall as given
 use Rattle.heap_model.specs.declared.call.DatabaseCall.TheVariants.{Create, Delete, Find, Nth, Count, Info, SetInfo}
 use Rattle.heap_model.specs.declared.call.Reply.{Reply}
 use Rattle.heap_model.specs.declared.call.Reply.TheVariants as replies
 use Rattle.heap_model.specs.declared.refusal.Refusal.TheVariants.{ChunkLocked, NoSuchDatabase, TooManyEntries, AlreadyExists, InvalidName}
+
+-- ---- calls
+
+-- a call on databases, which are given by their numbers
+abbrev pub DatabaseCall : Type 0
+DatabaseCall = given.DatabaseCall Db
+
+-- the same call, its database given another way
+abbrev pub database_call : {One Other : Type 0} → (One → Other) → given.DatabaseCall One → given.DatabaseCall Other
+database_call number (Create name kind creator resources date) = Create name kind creator resources date
+database_call number (Delete db) = Delete (number db)
+database_call number (Find name) = Find name
+database_call number (Nth index) = Nth index
+database_call number Count = Count
+database_call number (Info db) = Info (number db)
+database_call number (SetInfo db info) = SetInfo (number db) info
 
 -- ---- words of the rows
 

@@ -12,12 +12,41 @@ use Rattle.heap_model.specs.Space.{free_total, free_slots, Short, ShortFor, free
 use Rattle.heap_model.specs.Placing.{SameFrame}
 use Rattle.heap_model.specs.Refusals.{Check, ◌brings◌, ◌may_bring◌}
 use Rattle.heap_model.specs.Steps.{Row, StepBy, done, number, named, locked, data_of, becomes, becomes_named, stays}
-use Rattle.heap_model.specs.declared.call.MemoryCall.{MemoryCall}
+use Rattle.heap_model.specs.declared.names.Name.{Name}
+use Rattle.heap_model.specs.declared.call.MemoryCall as given
 use Rattle.heap_model.specs.declared.call.MemoryCall.TheVariants.{HandleNew, PtrNew, Free, Lock, Unlock, Size, Owner, Locks, Read, Write, Set, StrCopy, Resize, SetOwner, Recover, FreeByOwner, FreeBytes, LargestStretch, Compact}
 use Rattle.heap_model.specs.declared.call.Reply.{Reply}
 use Rattle.heap_model.specs.declared.call.Reply.TheVariants.{Refused}
 use Rattle.heap_model.specs.declared.refusal.Refusal.{Refusal}
 use Rattle.heap_model.specs.declared.refusal.Refusal.TheVariants.{InvalidHandle, OwnedByDatabase, ChunkLocked, ChunkNotLocked, LockOverflow, ChunkFixed, InvalidOwner, NotEnoughSpace, OutOfBounds, OutOfMemory}
+
+-- ---- calls
+
+-- a call of the memory manager, of which chunks are given by their names
+abbrev pub MemoryCall : Type 0
+MemoryCall = given.MemoryCall Name
+
+-- the same call, its chunk given another way
+abbrev pub memory_call : {One Other : Type 0} → (One → Other) → given.MemoryCall One → given.MemoryCall Other
+memory_call chunk (HandleNew size owner) = HandleNew size owner
+memory_call chunk (PtrNew size owner) = PtrNew size owner
+memory_call chunk (Free name) = Free (chunk name)
+memory_call chunk (Lock name) = Lock (chunk name)
+memory_call chunk (Unlock name) = Unlock (chunk name)
+memory_call chunk (Size name) = Size (chunk name)
+memory_call chunk (Owner name) = Owner (chunk name)
+memory_call chunk (Locks name) = Locks (chunk name)
+memory_call chunk (Read name at count) = Read (chunk name) at count
+memory_call chunk (Write name at bytes) = Write (chunk name) at bytes
+memory_call chunk (Set name at count byte) = Set (chunk name) at count byte
+memory_call chunk (StrCopy name at text) = StrCopy (chunk name) at text
+memory_call chunk (Resize name size) = Resize (chunk name) size
+memory_call chunk (SetOwner name owner) = SetOwner (chunk name) owner
+memory_call chunk (Recover place) = Recover place
+memory_call chunk (FreeByOwner owner) = FreeByOwner owner
+memory_call chunk FreeBytes = FreeBytes
+memory_call chunk LargestStretch = LargestStretch
+memory_call chunk Compact = Compact
 
 -- ---- words of the rows
 

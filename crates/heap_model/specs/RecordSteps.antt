@@ -15,11 +15,31 @@ use Rattle.heap_model.specs.EntrySteps.{entries_in, entry_under, OfEntry, data_u
 use Rattle.heap_model.specs.declared.names.Db.{Db}
 use Rattle.heap_model.specs.declared.names.Name.{Name}
 use Rattle.heap_model.specs.declared.entry.RecordInfo.{RecordInfo}
-use Rattle.heap_model.specs.declared.call.RecordCall.{RecordCall}
+use Rattle.heap_model.specs.declared.call.RecordCall as given
 use Rattle.heap_model.specs.declared.call.RecordCall.TheVariants.{New, Delete, Archive, Remove, Move, Get, Query, Release, Info, Resize, Count}
 use Rattle.heap_model.specs.declared.call.Reply.{Reply}
 use Rattle.heap_model.specs.declared.call.Reply.TheVariants as replies
 use Rattle.heap_model.specs.declared.refusal.Refusal.TheVariants.{ChunkLocked, NotRecordDatabase, ReadOnly, IndexOutOfRange, RecordDeleted, RecordBusy}
+
+-- ---- calls
+
+-- a call on records, of which databases are given by their numbers
+abbrev pub RecordCall : Type 0
+RecordCall = given.RecordCall Db
+
+-- the same call, its database given another way
+abbrev pub record_call : {One Other : Type 0} → (One → Other) → given.RecordCall One → given.RecordCall Other
+record_call number (New db at size) = New (number db) at size
+record_call number (Delete db index) = Delete (number db) index
+record_call number (Archive db index) = Archive (number db) index
+record_call number (Remove db index) = Remove (number db) index
+record_call number (Move db from to) = Move (number db) from to
+record_call number (Get db index) = Get (number db) index
+record_call number (Query db index) = Query (number db) index
+record_call number (Release db index dirty) = Release (number db) index dirty
+record_call number (Info db index) = Info (number db) index
+record_call number (Resize db index size) = Resize (number db) index size
+record_call number (Count db) = Count (number db)
 
 -- ---- attributes
 

@@ -11,14 +11,28 @@ use Rattle.heap_model.specs.Store.{Store, Accepted, store_of}
 use Rattle.heap_model.specs.Steps.{Row, StepBy}
 use Rattle.heap_model.specs.MemorySteps as memory
 use Rattle.heap_model.specs.StoreWords.{SameStore}
-use Rattle.heap_model.specs.DatabaseSteps.{database_row}
-use Rattle.heap_model.specs.RecordSteps.{record_row}
+use Rattle.heap_model.specs.DatabaseSteps.{database_call, database_row}
+use Rattle.heap_model.specs.RecordSteps.{record_call, record_row}
 use Rattle.heap_model.specs.declared.call.DatabaseCall.TheVariants.{Create, Delete}
 use Rattle.heap_model.specs.declared.call.RecordCall.TheVariants as records
-use Rattle.heap_model.specs.declared.call.Call.{Call}
+use Rattle.heap_model.specs.declared.names.Name.{Name}
+use Rattle.heap_model.specs.declared.names.Db.{Db}
+use Rattle.heap_model.specs.declared.call.Call as given
 use Rattle.heap_model.specs.declared.call.Call.TheVariants as calls
 use Rattle.heap_model.specs.declared.call.Reply.{Reply}
 use Rattle.heap_model.specs.declared.call.Reply.TheVariants as replies
+
+-- ---- calls
+
+-- a call of any manager, by names and numbers
+abbrev pub Call : Type 0
+Call = given.Call Name Db
+
+-- the same call, its chunk and its database given another way
+abbrev pub call_by : {One Other ThisOne ThisOther : Type 0} → (One → Other) → (ThisOne → ThisOther) → given.Call One ThisOne → given.Call Other ThisOther
+call_by chunk number (calls.Memory call) = calls.Memory (memory.memory_call chunk call)
+call_by chunk number (calls.Database call) = calls.Database (database_call number call)
+call_by chunk number (calls.Record call) = calls.Record (record_call number call)
 
 -- ---- the rows
 

@@ -6,10 +6,10 @@ use crate::entry::RecordInfo;
 use crate::names::{Db, Name, Place};
 use crate::refusal::Refusal;
 
-/// A call of the memory manager (Palm OS Programmer's API Reference, "Memory Manager"). Sizes and
-/// offsets within a chunk count bytes.
+/// A call of the memory manager (Palm OS Programmer's API Reference, "Memory Manager"), by how it gives
+/// its chunk: by the name, where nothing else is said. Sizes and offsets within a chunk count bytes.
 #[derive(Drop, Debug, PartialEq, Eq)]
-pub enum MemoryCall {
+pub enum MemoryCall<C = Name> {
     HandleNew {
         size: u32,
         owner: u8,
@@ -18,39 +18,39 @@ pub enum MemoryCall {
         size: u32,
         owner: u8,
     },
-    Free(Name),
-    Lock(Name),
-    Unlock(Name),
-    Size(Name),
-    Owner(Name),
-    Locks(Name),
+    Free(C),
+    Lock(C),
+    Unlock(C),
+    Size(C),
+    Owner(C),
+    Locks(C),
     Read {
-        name: Name,
+        name: C,
         at: u32,
         count: u32,
     },
     Write {
-        name: Name,
+        name: C,
         at: u32,
         bytes: Bytes,
     },
     Set {
-        name: Name,
+        name: C,
         at: u32,
         count: u32,
         byte: u8,
     },
     StrCopy {
-        name: Name,
+        name: C,
         at: u32,
         text: Bytes,
     },
     Resize {
-        name: Name,
+        name: C,
         size: u32,
     },
     SetOwner {
-        name: Name,
+        name: C,
         owner: u8,
     },
     Recover(Place),
@@ -60,9 +60,10 @@ pub enum MemoryCall {
     Compact,
 }
 
-/// A call on the databases of a store (Palm OS Programmer's API Reference, "Data Manager").
+/// A call on the databases of a store (Palm OS Programmer's API Reference, "Data Manager"), by how it
+/// gives its database: by the number, where nothing else is said.
 #[derive(Drop, Debug, PartialEq, Eq)]
-pub enum DatabaseCall {
+pub enum DatabaseCall<D = Db> {
     Create {
         name: DbName,
         /// The type, its four bytes as a number.
@@ -72,42 +73,42 @@ pub enum DatabaseCall {
         resources: bool,
         date: u32,
     },
-    Delete(Db),
+    Delete(D),
     Find(DbName),
     /// The database of an index, in the order of the directory.
     Nth(u32),
     Count,
-    Info(Db),
+    Info(D),
     /// Of what is given the modification number, the seed and the number of entries are passed over, and
     /// the attribute that says whether there are resources.
-    SetInfo(Db, DbInfo),
+    SetInfo(D, DbInfo),
 }
 
-/// A call on the records of a database (Palm OS Programmer's API Reference, "Data Manager"). Records are
-/// counted from 0.
+/// A call on the records of a database (Palm OS Programmer's API Reference, "Data Manager"), by how it
+/// gives the database. Records are counted from 0.
 #[derive(Drop, Debug, PartialEq, Eq)]
-pub enum RecordCall {
+pub enum RecordCall<D = Db> {
     /// A record of so many bytes at an index. Where that is beyond the end it is the end.
-    New { db: Db, at: u32, size: u32 },
-    Delete(Db, u32),
-    Archive(Db, u32),
-    Remove(Db, u32),
+    New { db: D, at: u32, size: u32 },
+    Delete(D, u32),
+    Archive(D, u32),
+    Remove(D, u32),
     /// `to` is the index in front of which the record goes, as the records stand before the call.
-    Move { db: Db, from: u32, to: u32 },
-    Get(Db, u32),
-    Query(Db, u32),
-    Release { db: Db, index: u32, dirty: bool },
-    Info(Db, u32),
-    Resize { db: Db, index: u32, size: u32 },
-    Count(Db),
+    Move { db: D, from: u32, to: u32 },
+    Get(D, u32),
+    Query(D, u32),
+    Release { db: D, index: u32, dirty: bool },
+    Info(D, u32),
+    Resize { db: D, index: u32, size: u32 },
+    Count(D),
 }
 
 /// A call of any manager.
 #[derive(Drop, Debug, PartialEq, Eq)]
-pub enum Call {
-    Memory(MemoryCall),
-    Database(DatabaseCall),
-    Record(RecordCall),
+pub enum Call<C = Name, D = Db> {
+    Memory(MemoryCall<C>),
+    Database(DatabaseCall<D>),
+    Record(RecordCall<D>),
 }
 
 /// What a call answers: a refusal, or a value of its own.

@@ -9,9 +9,8 @@ use Rattle.heap_model.specs.Reading.{held}
 use Rattle.heap_model.specs.Maps.{updated, changed, not_owned, callers_map}
 use Rattle.heap_model.specs.Refusals.{NoneHolds}
 use Rattle.heap_model.specs.Steps.{Row, StepBy}
-use Rattle.heap_model.specs.MemorySteps.{Of, IsNoCaller, text_of, AsBefore, row_of, Does}
+use Rattle.heap_model.specs.MemorySteps.{MemoryCall, Of, IsNoCaller, text_of, AsBefore, row_of, Does}
 use Rattle.heap_model.specs.Placing.{SameFrame}
-use Rattle.heap_model.specs.declared.call.MemoryCall.{MemoryCall}
 use Rattle.heap_model.specs.declared.call.MemoryCall.TheVariants.{HandleNew, PtrNew, Free, Lock, Unlock, Size, Owner, Locks, Read, Write, Set, StrCopy, Resize, SetOwner, Recover, FreeByOwner, FreeBytes, LargestStretch, Compact}
 use Rattle.heap_model.specs.declared.call.Reply.{Reply}
 use Rattle.heap_model.specs.declared.call.Reply.TheVariants.{Refused, Done, Number, Named, Locked, Data, Database, Info, Made, Record}

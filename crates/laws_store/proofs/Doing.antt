@@ -9,8 +9,7 @@ use Rattle.heap_model.specs.Refusals.{FirstBrings}
 use Rattle.heap_model.specs.MemorySteps.{reply_of}
 use Rattle.heap_model.specs.StoreWords.{SameStore}
 use Rattle.heap_model.specs.EntrySteps.{LeavesStore}
-use Rattle.heap_model.specs.StoreSteps.{StoreStep, may_slide, row_of, DoesInStore}
-use Rattle.heap_model.specs.declared.call.Call.{Call}
+use Rattle.heap_model.specs.StoreSteps.{Call, StoreStep, may_slide, row_of, DoesInStore}
 use Rattle.heap_model.specs.declared.call.Reply.{Reply}
 use Rattle.heap_model.specs.declared.call.Reply.TheVariants as replies
 use Rattle.heap_model.specs.declared.refusal.Refusal.{Refusal}

@@ -11,8 +11,7 @@ use Rattle.heap_model.specs.Reading.{held}
 use Rattle.heap_model.specs.Maps.{updated, changed, made, not_owned, without_owner, callers_map}
 use Rattle.heap_model.specs.Refusals.{NoneHolds}
 use Rattle.heap_model.specs.Steps.{Row, StepBy, becomes_named}
-use Rattle.heap_model.specs.MemorySteps.{text_of, AsBefore, row_of, Does}
-use Rattle.heap_model.specs.declared.call.MemoryCall.{MemoryCall}
+use Rattle.heap_model.specs.MemorySteps.{MemoryCall, text_of, AsBefore, row_of, Does}
 use Rattle.heap_model.specs.declared.call.MemoryCall.TheVariants.{HandleNew, PtrNew, Free, Lock, Unlock, Size, Owner, Locks, Read, Write, Set, StrCopy, Resize, SetOwner, Recover, FreeByOwner, FreeBytes, LargestStretch, Compact}
 use Rattle.heap_model.specs.declared.call.Call.TheVariants as calls
 use Rattle.heap_model.specs.declared.call.Reply.{Reply}

@@ -18,9 +18,8 @@ use Rattle.heap_model.specs.Counts.{NamesData, HasDatabases, IsSound}
 use Rattle.heap_model.specs.Leaving.{Leaves, rewritten, Respells, database_here, SpellsHere}
 use Rattle.heap_model.specs.Rooms.{Lowers, makes, growth, Stuck}
 use Rattle.heap_model.specs.Memory.{Memory}
-use Rattle.heap_model.specs.MemorySteps.{AsBefore, Does}
+use Rattle.heap_model.specs.MemorySteps.{MemoryCall, AsBefore, Does}
 use Rattle.heap_model.specs.declared.names.Db.{Db}
-use Rattle.heap_model.specs.declared.call.MemoryCall.{MemoryCall}
 use Rattle.heap_model.specs.declared.call.Call.TheVariants as calls
 use Rattle.heap_model.specs.declared.call.Reply.{Reply}
 use Rattle.heap_model.specs.StoreWords.{SameStore, with_number, with_changed, without_database}

@@ -14,8 +14,7 @@ use Rattle.heap_model.specs.Maps.{callers_map, updated, changed, changed_at}
 use Rattle.heap_model.specs.Space.{Still, MovesNothing, place_of}
 use Rattle.heap_model.specs.Leaving.{Leaves}
 use Rattle.heap_model.specs.Refusals.{FirstBrings}
-use Rattle.heap_model.specs.MemorySteps.{Does, MemoryStep, Of, row_of, may_slide, reply_of}
-use Rattle.heap_model.specs.declared.call.MemoryCall.{MemoryCall}
+use Rattle.heap_model.specs.MemorySteps.{MemoryCall, Does, MemoryStep, Of, row_of, may_slide, reply_of}
 use Rattle.heap_model.specs.declared.call.Reply.{Reply}
 use Rattle.heap_model.specs.declared.call.Reply.TheVariants.{Refused}
 use Rattle.heap_model.specs.declared.refusal.Refusal.{Refusal}

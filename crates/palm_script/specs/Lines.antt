@@ -6,38 +6,23 @@ use Rattle.hex.specs.Hex.{encode_lower}
 use Rattle.heap_model.specs.Memory.{Memory as Region}
 use Rattle.heap_model.specs.Bytes.{u16_bytes, u32_bytes}
 use Rattle.palm_text.specs.Pieces.{spelled}
-use Rattle.heap_model.specs.StoreSteps.{DoesInStore}
+use Rattle.heap_model.specs.StoreSteps.{Call, DoesInStore, call_by}
 use Rattle.heap_model.specs.Counted.{Writing, Writes}
 use Rattle.heap_model.specs.Numbers.{number_of, name_of}
 use Rattle.heap_model.specs.declared.names.Name.{Name}
 use Rattle.heap_model.specs.declared.names.Db.{Db}
 use Rattle.heap_model.specs.declared.database.DbInfo.{DbInfo}
 use Rattle.heap_model.specs.declared.entry.RecordInfo.{RecordInfo}
-use Rattle.heap_model.specs.declared.call.Call.{Call}
-use Rattle.heap_model.specs.declared.call.Call.TheVariants.{Memory, Database, Record}
-use Rattle.heap_model.specs.declared.call.MemoryCall.{MemoryCall}
+use Rattle.heap_model.specs.declared.call.Call.TheVariants.{Memory}
 use Rattle.heap_model.specs.declared.call.MemoryCall.TheVariants as calls
-use Rattle.heap_model.specs.declared.call.DatabaseCall.{DatabaseCall}
-use Rattle.heap_model.specs.declared.call.DatabaseCall.TheVariants as database_calls
-use Rattle.heap_model.specs.declared.call.RecordCall.{RecordCall}
-use Rattle.heap_model.specs.declared.call.RecordCall.TheVariants as record_calls
 use Rattle.heap_model.specs.declared.call.Reply.{Reply}
-use Rattle.heap_model.specs.declared.call.Reply.TheVariants.{Refused, Number, Named, Locked, Data}
-use Rattle.heap_model.specs.declared.call.Reply.TheVariants as replies
+use Rattle.heap_model.specs.declared.call.Reply.TheVariants.{Refused, Done, Number, Named, Locked, Data, Database, Info, Made, Record}
 use Rattle.heap_model.specs.declared.refusal.Refusal.TheVariants.{OutOfMemory}
+use Rattle.script_lines.specs.Commands.{LineCall}
 use Rattle.script_lines.specs.declared.line.Line.{Line}
-use Rattle.script_lines.specs.declared.line.Line.TheVariants.{Bind, New, On, Whole, Create, Find, Nth, DatabaseCount, OnDatabase, OnRecords, TakeRecord}
-use Rattle.script_lines.specs.declared.line.NewCall.TheVariants.{Handle, Ptr}
-use Rattle.script_lines.specs.declared.line.ChunkCall.{ChunkCall}
-use Rattle.script_lines.specs.declared.line.ChunkCall.TheVariants.{Free, Resize, SetOwner, Lock, Unlock, Size, Owner, Locks, Read, Write, Set, StrCopy}
-use Rattle.script_lines.specs.declared.line.HeapCall.{HeapCall}
-use Rattle.script_lines.specs.declared.line.HeapCall.TheVariants.{FreeByOwner, FreeBytes, LargestStretch, Compact}
-use Rattle.script_lines.specs.declared.line.DatabaseLineCall.{DatabaseLineCall}
-use Rattle.script_lines.specs.declared.line.DatabaseLineCall.TheVariants.{Delete, Info, SetInfo}
-use Rattle.script_lines.specs.declared.line.RecordLineCall.{RecordLineCall}
-use Rattle.script_lines.specs.declared.line.RecordLineCall.TheVariants as recorded
-use Rattle.script_lines.specs.declared.line.RecordDataCall.{RecordDataCall}
-use Rattle.script_lines.specs.declared.line.RecordDataCall.TheVariants as taken
+use Rattle.script_lines.specs.declared.line.Line.TheVariants.{Bind, Print, Silent, BindChunk, BindDatabase}
+use Rattle.palm_script.specs.declared.calls.Outcome.{Outcome}
+use Rattle.palm_script.specs.declared.calls.Outcome.TheVariants.{Replied, Reads}
 
 -- ---- what labels stand for
 
@@ -74,99 +59,60 @@ tables names databases = record { chunks = table no_name names; databases = tabl
 
 -- ---- the call of each line
 
--- a call on the chunk of a name
-abbrev pub call_on : Name → ChunkCall → MemoryCall
-call_on name Free = calls.Free name
-call_on name (Resize size) = calls.Resize name size
-call_on name (SetOwner owner) = calls.SetOwner name owner
-call_on name Lock = calls.Lock name
-call_on name Unlock = calls.Unlock name
-call_on name Size = calls.Size name
-call_on name Owner = calls.Owner name
-call_on name Locks = calls.Locks name
-call_on name (Read at count) = calls.Read name at count
-call_on name (Write at bytes) = calls.Write name at bytes
-call_on name (Set at count byte) = calls.Set name at count byte
-call_on name (StrCopy at text) = calls.StrCopy name at text
-
--- a call on the heap as a whole
-abbrev pub whole_call : HeapCall → MemoryCall
-whole_call (FreeByOwner owner) = calls.FreeByOwner owner
-whole_call FreeBytes = calls.FreeBytes
-whole_call LargestStretch = calls.LargestStretch
-whole_call Compact = calls.Compact
-
--- a call on the database of a number
-abbrev pub database_call_on : Db → DatabaseLineCall → DatabaseCall
-database_call_on db Delete = database_calls.Delete db
-database_call_on db Info = database_calls.Info db
-database_call_on db (SetInfo info) = database_calls.SetInfo db info
-
--- a call on the records of a database of a number
-abbrev pub records_call_on : Db → RecordLineCall → RecordCall
-records_call_on db (recorded.Delete index) = record_calls.Delete db index
-records_call_on db (recorded.Archive index) = record_calls.Archive db index
-records_call_on db (recorded.Remove index) = record_calls.Remove db index
-records_call_on db (recorded.Move from to) = record_calls.Move db from to
-records_call_on db (recorded.Release index dirty) = record_calls.Release db index dirty
-records_call_on db (recorded.Info index) = record_calls.Info db index
-records_call_on db (recorded.Resize index size) = record_calls.Resize db index size
-records_call_on db recorded.Count = record_calls.Count db
-
--- a call that answers the data of a record
-abbrev pub record_data_call : Db → RecordDataCall → RecordCall
-record_data_call db (taken.New at size) = record_calls.New db at size
-record_data_call db (taken.Get index) = record_calls.Get db index
-record_data_call db (taken.Query index) = record_calls.Query db index
+-- a call over labels, by what they stand for
+abbrev pub call_among : Bindings → LineCall → Call
+call_among bound call = call_by (λ label. bound.chunks label.0) (λ label. bound.databases label.0) call
 
 -- the call of a line; no line takes a file of the inputs
 abbrev pub call_of : List (List ℕ) → Bindings → Line → Call
 call_of inputs bound (Bind label name) = Memory (calls.Size (record { 0 = name }))
-call_of inputs bound (New label (Handle size owner)) = Memory (calls.HandleNew size owner)
-call_of inputs bound (New label (Ptr size owner)) = Memory (calls.PtrNew size owner)
-call_of inputs bound (On label call) = Memory (call_on (bound.chunks label.0) call)
-call_of inputs bound (Whole call) = Memory (whole_call call)
-call_of inputs bound (Create label call) = Database (database_calls.Create call.name call.kind call.creator call.resources call.date)
-call_of inputs bound (Find label name) = Database (database_calls.Find name)
-call_of inputs bound (Nth label index) = Database (database_calls.Nth index)
-call_of inputs bound DatabaseCount = Database database_calls.Count
-call_of inputs bound (OnDatabase label call) = Database (database_call_on (bound.databases label.0) call)
-call_of inputs bound (OnRecords label call) = Record (records_call_on (bound.databases label.0) call)
-call_of inputs bound (TakeRecord db label call) = Record (record_data_call (bound.databases db.0) call)
+call_of inputs bound (Print call) = call_among bound call
+call_of inputs bound (Silent call) = call_among bound call
+call_of inputs bound (BindChunk label call) = call_among bound call
+call_of inputs bound (BindDatabase label call) = call_among bound call
 
--- a call that asks for bytes, and a line that does
-abbrev pub is_read_call : ChunkCall → Bool
-is_read_call (Read at count) = true
-is_read_call call = false
-
-abbrev pub is_read : Line → Bool
-is_read (On label call) = is_read_call call
-is_read line = false
+-- What comes of a call: it was done, and no memory was wanted; or it is a `read`, which is left to the caller.
+abbrev pub Answers : Region → Call → Outcome → Region → Type 0
+Answers old call (Replied reply) new = DoesInStore old call reply new × (reply ≢ Refused OutOfMemory)
+Answers old call (Reads name at count) new = (call ≡ Memory (calls.Read name at count)) × (new ≡ old)
 
 -- ---- what each line binds
 
 -- a label of a chunk is bound to the name that was answered
 abbrev pub bound_to : Bindings → ℕ → Reply → Bindings
+bound_to bound label (Refused refusal) = bound
+bound_to bound label Done = bound
+bound_to bound label (Number number) = bound
 bound_to bound label (Named name) = record bound { chunks = bind bound.chunks label name }
-bound_to bound label (replies.Made index name) = record bound { chunks = bind bound.chunks label name }
-bound_to bound label reply = bound
+bound_to bound label (Locked place count) = bound
+bound_to bound label (Data bytes) = bound
+bound_to bound label (Database db) = bound
+bound_to bound label (Info info) = bound
+bound_to bound label (Made index name) = record bound { chunks = bind bound.chunks label name }
+bound_to bound label (Record info) = bound
 
 -- a label of a database is bound to the number that was answered
 abbrev pub bound_to_database : Bindings → ℕ → Reply → Bindings
-bound_to_database bound label (replies.Database db) = record bound { databases = bind bound.databases label db }
-bound_to_database bound label reply = bound
+bound_to_database bound label (Refused refusal) = bound
+bound_to_database bound label Done = bound
+bound_to_database bound label (Number number) = bound
+bound_to_database bound label (Named name) = bound
+bound_to_database bound label (Locked place count) = bound
+bound_to_database bound label (Data bytes) = bound
+bound_to_database bound label (Database db) = record bound { databases = bind bound.databases label db }
+bound_to_database bound label (Info info) = bound
+bound_to_database bound label (Made index name) = bound
+bound_to_database bound label (Record info) = bound
 
 -- A line that is accepted binds its label: to the name given, or to that of the new chunk or of the data of
 -- a record, or to the database. A refused one binds nothing.
 abbrev pub bound_after : Bindings → Line → Reply → Bindings
-bound_after bound line (Refused refusal) = bound
+bound_after bound (Bind label name) (Refused refusal) = bound
 bound_after bound (Bind label name) reply = record bound { chunks = bind bound.chunks label.0 (record { 0 = name }) }
-bound_after bound (New label call) reply = bound_to bound label.0 reply
-bound_after bound (Create label call) reply = bound_to_database bound label.0 reply
-bound_after bound (Find label name) reply = bound_to_database bound label.0 reply
-bound_after bound (Nth label index) reply = bound_to_database bound label.0 reply
-bound_after bound (TakeRecord db label call) reply = bound_to bound label.0 reply
-bound_after bound line reply = bound
+bound_after bound (Print call) reply = bound
+bound_after bound (Silent call) reply = bound
+bound_after bound (BindChunk label call) reply = bound_to bound label.0 reply
+bound_after bound (BindDatabase label call) reply = bound_to_database bound label.0 reply
 
 -- ---- what is printed
 
@@ -211,16 +157,21 @@ abbrev pub values_text : Reply → List ℕ
 values_text (Number number) = codes " " ++ decimal number
 values_text (Locked place count) = codes " " ++ decimal count
 values_text (Data bytes) = codes " " ++ hex_text bytes
-values_text (replies.Info info) = words_text (info_words info)
-values_text (replies.Made index name) = codes " " ++ decimal index
-values_text (replies.Record info) = words_text (record_words info)
-values_text reply = []
+values_text (Info info) = words_text (info_words info)
+values_text (Made index name) = codes " " ++ decimal index
+values_text (Record info) = words_text (record_words info)
+values_text (Refused refusal) = []
+values_text Done = []
+values_text (Named name) = []
+values_text (Database db) = []
 
--- `bind` asks for a size, and `compact` for how many bytes have moved, which aren't printed
+-- the lines of whose answers nothing is printed; what the others answer to bind it prints no value
 abbrev pub is_silent : Line → Bool
 is_silent (Bind label name) = true
-is_silent (Whole Compact) = true
-is_silent line = false
+is_silent (Print call) = false
+is_silent (Silent call) = true
+is_silent (BindChunk label call) = false
+is_silent (BindDatabase label call) = false
 
 abbrev pub reply_text : Bool → Reply → List ℕ
 reply_text silent (Refused refusal) = codes "refused " ++ decimal (number_of refusal) ++ codes " " ++ name_of refusal ++ codes "\n"
@@ -234,13 +185,21 @@ reply_line line reply = reply_text (is_silent line) reply
 
 -- the files that a line exports; no line exports one
 abbrev pub exported : Line → Reply → List (List ℕ)
-exported line reply = []
+exported (Bind label name) reply = []
+exported (Print call) reply = []
+exported (Silent call) reply = []
+exported (BindChunk label call) reply = []
+exported (BindDatabase label call) reply = []
 
 -- ---- the run of lines
 
 -- a line whose call may want memory; none does
 abbrev pub may_want_memory : Line → Bool
-may_want_memory line = false
+may_want_memory (Bind label name) = false
+may_want_memory (Print call) = false
+may_want_memory (Silent call) = false
+may_want_memory (BindChunk label call) = false
+may_want_memory (BindDatabase label call) = false
 
 -- The call of a line does its step. Only where the line may want memory it is refused for want of it.
 pub record LineStep (inputs : List (List ℕ)) (old : Region) (bound : Bindings) (line : Line) (reply : Reply) (new : Region) : Type 0 where

@@ -1,29 +1,58 @@
 //! What the labels of a script stand for.
 
-ghost use Rattle.std.specs.Prelude.{◌≡◌, ◌≤◌, ◌<◌, length};
+ghost use Rattle.std.specs.Prelude.{◌≡◌, ◌≤◌, ◌<◌, List, length};
 ghost use Rattle.script_lines.specs.Labels.{chunk_label_end, database_label_end};
 ghost use Rattle.palm_script.specs.Lines.{bind, bound_after, no_database, no_name, table, tables};
 
 use heap_model::{Db, Name, Reply};
 use script_lines::{ChunkLabel, DatabaseLabel, Line};
 
-/// The name that a label stands for.
-pub(crate) fn name_of(names: &[Name], label: ChunkLabel) -> Name
-    ensures { result ≡ table no_name names.now label.0 }
-{
-    match names.get(label.0) {
-        Some(name) => *name,
-        None => Name(0),
+/// What a call is given for a chunk or a database: that itself, or a label that stands for it.
+pub(crate) trait Given<Named>: Copy {
+    ghost meant: { Self → List Named → Named };
+
+    /// What is meant, where the labels stand for these.
+    fn among(self, bound: &[Named]) -> Named
+        ensures { result ≡ meant self bound.now };
+}
+
+impl Given<Name> for Name {
+    ghost meant = { λ name names. name };
+
+    fn among(self, _names: &[Name]) -> Name {
+        self
     }
 }
 
-/// The number of the database that a label stands for.
-pub(crate) fn database_of(databases: &[Db], label: DatabaseLabel) -> Db
-    ensures { result ≡ table no_database databases.now label.0 }
-{
-    match databases.get(label.0) {
-        Some(db) => *db,
-        None => Db(0),
+impl Given<Db> for Db {
+    ghost meant = { λ db databases. db };
+
+    fn among(self, _databases: &[Db]) -> Db {
+        self
+    }
+}
+
+/// A label that was never bound stands for nothing.
+impl Given<Name> for ChunkLabel {
+    ghost meant = { λ label names. table no_name names label.0 };
+
+    fn among(self, names: &[Name]) -> Name {
+        match names.get(self.0) {
+            Some(name) => *name,
+            None => Name(0),
+        }
+    }
+}
+
+/// A label that was never bound stands for no database.
+impl Given<Db> for DatabaseLabel {
+    ghost meant = { λ label databases. table no_database databases label.0 };
+
+    fn among(self, databases: &[Db]) -> Db {
+        match databases.get(self.0) {
+            Some(db) => *db,
+            None => Db(0),
+        }
     }
 }
 
@@ -31,19 +60,18 @@ pub(crate) fn database_of(databases: &[Db], label: DatabaseLabel) -> Db
 pub(crate) fn bind_line(names: &mut [Name], databases: &mut [Db], line: &Line, reply: &Reply)
     requires chunks { chunk_label_end line.now ≤ length names.old }
     requires databases { database_label_end line.now ≤ length databases.old }
-    ensures { tables names.new databases.new ≡ bound_after (tables names.old databases.old) line.now reply.now }
+    ensures { tables names.new databases.new
+        ≡ bound_after (tables names.old databases.old) line.now reply.now }
 {
     match (line, reply) {
         (_, Reply::Refused(_)) => {}
         (Line::Bind { label, name }, _) => bind_chunk(names, *label, Name(*name)),
-        (
-            Line::New(label, _) | Line::TakeRecord(_, label, _),
-            Reply::Named(name) | Reply::Made { name, .. },
-        ) => bind_chunk(names, *label, *name),
-        (
-            Line::Create(label, _) | Line::Find(label, _) | Line::Nth(label, _),
-            Reply::Database(db),
-        ) => bind_database(databases, *label, *db),
+        (Line::BindChunk(label, _), Reply::Named(name) | Reply::Made { name, .. }) => {
+            bind_chunk(names, *label, *name)
+        }
+        (Line::BindDatabase(label, _), Reply::Database(db)) => {
+            bind_database(databases, *label, *db)
+        }
         _ => {}
     }
 }

@@ -1,13 +1,19 @@
 //! One call of any manager.
 
-ghost use Rattle.std.specs.Prelude.{◌≡◌, IfOk};
-ghost use Rattle.heap_model.specs.StoreSteps.{DoesInStore};
+ghost use Rattle.std.specs.Prelude.{◌≡◌, ◌≢◌, IfOk};
+ghost use Rattle.heap_model.specs.MemorySteps.{memory_call};
+ghost use Rattle.heap_model.specs.DatabaseSteps.{database_call};
+ghost use Rattle.heap_model.specs.StoreSteps.{DoesInStore, call_by};
 ghost use Rattle.heap_model.specs.declared.call.Call as calls;
 ghost use Rattle.heap_model.specs.declared.call.MemoryCall.{MemoryCall};
+ghost use Rattle.heap_model.specs.declared.call.Reply.{Reply};
+ghost use Rattle.heap_model.specs.declared.refusal.Refusal.{Refusal};
+ghost use Rattle.palm_script.specs.Lines.{Answers};
 
+use crate::bindings::Given;
 use crate::records::do_record_call;
 use crate::replies::{database, done, info, locked, named, number, small_number};
-use heap_model::{Allowance, Bytes, Call, DatabaseCall, MemoryCall, Name, Refusal, Reply};
+use heap_model::{Allowance, Bytes, Call, DatabaseCall, Db, MemoryCall, Name, Refusal, Reply};
 use palm_store::Store;
 use std::alloc::{AllocError, Global};
 
@@ -23,67 +29,16 @@ pub fn do_call(alloc: Global, store: &mut Store, call: &Call) -> Reply
 pub fn do_call_from<A: Allowance>(memory: &A, store: &mut Store, call: &Call) -> Reply
     ensures { DoesInStore store.old call.now result store.new }
 {
-    match call {
-        Call::Memory(call) => memory_call(memory, store, call),
-        Call::Database(call) => database_call(store, call),
-        Call::Record(call) => do_record_call(store, call),
-    }
-}
-
-fn database_call(store: &mut Store, call: &DatabaseCall) -> Reply
-    ensures { DoesInStore store.old (calls.Call.Database call.now) result store.new }
-{
-    match call {
-        DatabaseCall::Create {
-            name,
-            kind,
-            creator,
-            resources,
-            date,
-        } => database(store.create(name, *kind, *creator, *resources, *date)),
-        DatabaseCall::Delete(db) => done(store.delete_database(*db)),
-        DatabaseCall::Find(name) => database(store.find(name)),
-        DatabaseCall::Nth(index) => database(store.nth(*index)),
-        DatabaseCall::Count => Reply::Number(store.count()),
-        DatabaseCall::Info(db) => info(store.database_info(*db)),
-        DatabaseCall::SetInfo(db, given) => done(store.set_database_info(*db, given)),
-    }
-}
-
-fn memory_call<A: Allowance>(memory: &A, store: &mut Store, call: &MemoryCall) -> Reply
-    ensures { DoesInStore store.old (calls.Call.Memory call.now) result store.new }
-{
-    match call {
-        MemoryCall::HandleNew { size, owner } => named(store.handle_new(*size, *owner)),
-        MemoryCall::PtrNew { size, owner } => named(store.ptr_new(*size, *owner)),
-        MemoryCall::Free(name) => done(store.free(*name)),
-        MemoryCall::Lock(name) => locked(store.lock(*name)),
-        MemoryCall::Unlock(name) => small_number(store.unlock(*name)),
-        MemoryCall::Size(name) => number(store.size(*name)),
-        MemoryCall::Owner(name) => small_number(store.owner(*name)),
-        MemoryCall::Locks(name) => small_number(store.locks(*name)),
-        MemoryCall::Read { name, at, count } => read(memory, store, *name, *at, *count),
-        MemoryCall::Write { name, at, bytes } => done(store.write(*name, *at, bytes.as_slice())),
-        MemoryCall::Set {
-            name,
-            at,
-            count,
-            byte,
-        } => done(store.set(*name, *at, *count, *byte)),
-        MemoryCall::StrCopy { name, at, text } => done(store.str_copy(*name, *at, text.as_slice())),
-        MemoryCall::Resize { name, size } => done(store.resize(*name, *size)),
-        MemoryCall::SetOwner { name, owner } => done(store.set_owner(*name, *owner)),
-        MemoryCall::Recover(place) => named(store.recover(*place)),
-        MemoryCall::FreeByOwner(owner) => number(store.free_by_owner(*owner)),
-        MemoryCall::FreeBytes => Reply::Number(store.free_bytes()),
-        MemoryCall::LargestStretch => Reply::Number(store.largest_stretch()),
-        MemoryCall::Compact => Reply::Number(store.compact()),
+    match do_given(store, &[], &[], call) {
+        Outcome::Replied(reply) => reply,
+        Outcome::Reads(name, at, count) => read(memory, store, name, at, count),
     }
 }
 
 /// The bytes of a chunk, copied.
 fn read<A: Allowance>(memory: &A, store: &Store, name: Name, at: u32, count: u32) -> Reply
-    ensures { DoesInStore store.now (calls.Call.Memory (MemoryCall.Read name at count)) result store.now }
+    ensures { DoesInStore store.now (calls.Call.Memory (MemoryCall.Read name at count))
+        result store.now }
 {
     match store.read(name, at, count) {
         Ok(bytes) => match copied(memory, bytes) {
@@ -98,4 +53,102 @@ fn copied<A: Allowance>(memory: &A, bytes: &[u8]) -> Result<Bytes, AllocError>
     ensures { IfOk result (λ copy. copy ≡ bytes.now) }
 {
     Ok(Bytes::of(Vec::from_slice(memory.grant()?, bytes)?))
+}
+
+/// What comes of a call that takes no memory.
+#[derive(Drop)]
+pub(crate) enum Outcome {
+    Replied(Reply),
+    /// The call is a `read` and isn't done, since its bytes are lent by the store: of this name, from
+    /// an offset on, of so many bytes.
+    Reads(Name, u32, u32),
+}
+
+/// Does a call, if it isn't a `read`. What it gives as chunks and databases is looked up in these
+/// tables.
+pub(crate) fn do_given<C: Given<Name>, D: Given<Db>>(
+    store: &mut Store,
+    names: &[Name],
+    databases: &[Db],
+    call: &Call<C, D>,
+) -> Outcome
+    ensures { Answers store.old (call_by (λ chunk. C.meant chunk names.now)
+        (λ db. D.meant db databases.now) call.now) result store.new }
+{
+    match call {
+        Call::Memory(call) => do_memory_call(store, names, call),
+        Call::Database(call) => Outcome::Replied(do_database_call(store, databases, call)),
+        Call::Record(call) => Outcome::Replied(do_record_call(store, databases, call)),
+    }
+}
+
+fn do_database_call<D: Given<Db>>(
+    store: &mut Store,
+    databases: &[Db],
+    call: &DatabaseCall<D>,
+) -> Reply
+    ensures does { DoesInStore store.old (calls.Call.Database
+        (database_call (λ db. D.meant db databases.now) call.now)) result store.new }
+    ensures takes_no_memory { result ≢ Reply.Refused Refusal.OutOfMemory }
+{
+    match call {
+        DatabaseCall::Create {
+            name,
+            kind,
+            creator,
+            resources,
+            date,
+        } => database(store.create(name, *kind, *creator, *resources, *date)),
+        DatabaseCall::Delete(db) => done(store.delete_database(db.among(databases))),
+        DatabaseCall::Find(name) => database(store.find(name)),
+        DatabaseCall::Nth(index) => database(store.nth(*index)),
+        DatabaseCall::Count => Reply::Number(store.count()),
+        DatabaseCall::Info(db) => info(store.database_info(db.among(databases))),
+        DatabaseCall::SetInfo(db, given) => {
+            done(store.set_database_info(db.among(databases), given))
+        }
+    }
+}
+
+fn do_memory_call<C: Given<Name>>(
+    store: &mut Store,
+    names: &[Name],
+    call: &MemoryCall<C>,
+) -> Outcome
+    ensures { Answers store.old (calls.Call.Memory
+        (memory_call (λ chunk. C.meant chunk names.now) call.now)) result store.new }
+{
+    let reply = match call {
+        MemoryCall::Read { name, at, count } => {
+            return Outcome::Reads(name.among(names), *at, *count);
+        }
+        MemoryCall::HandleNew { size, owner } => named(store.handle_new(*size, *owner)),
+        MemoryCall::PtrNew { size, owner } => named(store.ptr_new(*size, *owner)),
+        MemoryCall::Free(name) => done(store.free(name.among(names))),
+        MemoryCall::Lock(name) => locked(store.lock(name.among(names))),
+        MemoryCall::Unlock(name) => small_number(store.unlock(name.among(names))),
+        MemoryCall::Size(name) => number(store.size(name.among(names))),
+        MemoryCall::Owner(name) => small_number(store.owner(name.among(names))),
+        MemoryCall::Locks(name) => small_number(store.locks(name.among(names))),
+        MemoryCall::Write { name, at, bytes } => {
+            done(store.write(name.among(names), *at, bytes.as_slice()))
+        }
+        MemoryCall::Set {
+            name,
+            at,
+            count,
+            byte,
+        } => done(store.set(name.among(names), *at, *count, *byte)),
+        MemoryCall::StrCopy { name, at, text } => {
+            done(store.str_copy(name.among(names), *at, text.as_slice()))
+        }
+        MemoryCall::Resize { name, size } => done(store.resize(name.among(names), *size)),
+        MemoryCall::SetOwner { name, owner } => done(store.set_owner(name.among(names), *owner)),
+        MemoryCall::Recover(place) => named(store.recover(*place)),
+        MemoryCall::FreeByOwner(owner) => number(store.free_by_owner(*owner)),
+        MemoryCall::FreeBytes => Reply::Number(store.free_bytes()),
+        MemoryCall::LargestStretch => Reply::Number(store.largest_stretch()),
+        MemoryCall::Compact => Reply::Number(store.compact()),
+    };
+    Outcome::Replied(reply)
 }

@@ -7,8 +7,8 @@
 //! | module | does |
 //! |---|---|
 //! | `calls` | one call of each kind |
-//! | `records` | one call on records, and that of a line |
-//! | `bindings` | what labels stand for |
+//! | `records` | one call on records |
+//! | `bindings` | what labels stand for, and how a call finds that |
 //! | `lines` | one line: its call, what it binds, its reply line |
 //! | `replies` | what a manager answers, as a reply; and reply lines |
 //! | `runs` | the lines of a script |
@@ -24,6 +24,5 @@ mod runs;
 pub use calls::{do_call, do_call_from};
 pub use runs::{RunFault, run, run_from};
 pub use script_lines::{
-    ChunkCall, ChunkLabel, CreateCall, DatabaseLabel, DatabaseLineCall, HeapCall, Line, LineFault,
-    NewCall, RecordDataCall, RecordLineCall, Script, ScriptFault, parse,
+    ChunkLabel, DatabaseLabel, Line, LineCall, LineFault, Script, ScriptFault, parse,
 };

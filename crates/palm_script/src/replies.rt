@@ -5,14 +5,15 @@ ghost use Rattle.heap_model.specs.Counted.{Writes};
 ghost use Rattle.heap_model.specs.MemorySteps.{reply_of};
 ghost use Rattle.heap_model.specs.Numbers.{number_of, name_of};
 ghost use Rattle.heap_model.specs.declared.call.Reply.{Reply};
-ghost use Rattle.palm_script.specs.Lines.{hex_text, info_words, is_silent, record_words, reply_line, reply_text, values_text, words_text};
+ghost use Rattle.palm_script.specs.Lines.{hex_text, info_words, is_silent, record_words};
+ghost use Rattle.palm_script.specs.Lines.{reply_line, reply_text, values_text, words_text};
 ghost use Rattle.palm_script.specs.Lines as words;
 ghost use Rattle.record_db.specs.Checks.{made_reply};
 
 use heap_model::{Counted, Db, DbInfo, Name, RecordInfo, Refusal, Reply};
 use palm_store::Locked;
 use palm_text::{Piece, WriteFault, put_pieces};
-use script_lines::{HeapCall, Line};
+use script_lines::Line;
 use std::io::Write;
 
 // ---- what a manager answers, as a reply
@@ -115,10 +116,25 @@ pub(crate) fn put_reply<W: Write>(
     }
 }
 
+/// Prints the reply line of a line whose call answers these bytes, without a copy of them.
+pub(crate) fn put_data<W: Write>(
+    out: &mut Counted<W>,
+    line: &Line,
+    bytes: &[u8],
+) -> Result<(), WriteFault>
+    ensures { Writes W.contents out.old out.new (reply_line line.now (Reply.Data bytes.now))
+        (is_ok result) }
+{
+    if says_nothing(line) {
+        return put_pieces(out, &[Piece::Text(b"ok\n")]);
+    }
+    put_bytes(out, bytes)
+}
+
 fn says_nothing(line: &Line) -> bool
     ensures { result ≡ is_silent line.now }
 {
-    matches!(line, Line::Bind { .. } | Line::Whole(HeapCall::Compact))
+    matches!(line, Line::Bind { .. } | Line::Silent(_))
 }
 
 /// Prints `refused` with the number and the name of a refusal.
@@ -174,7 +190,7 @@ fn put_number<W: Write>(out: &mut Counted<W>, number: u32) -> Result<(), WriteFa
 }
 
 /// Prints `ok` and bytes in hex, which takes no memory.
-pub(crate) fn put_bytes<W: Write>(out: &mut Counted<W>, bytes: &[u8]) -> Result<(), WriteFault>
+fn put_bytes<W: Write>(out: &mut Counted<W>, bytes: &[u8]) -> Result<(), WriteFault>
     ensures { Writes W.contents out.old out.new
         (codes "ok" ++ (codes " " ++ hex_text bytes.now) ++ codes "\n") (is_ok result) }
 {

@@ -1,12 +1,10 @@
 -- A call of the memory manager on the heap inside is one on the store, whose value is the heap's.
 use Rattle.std.proofs.Common.{◌≡◌, subst}
 use Rattle.heap_model.specs.Memory.{Memory}
-use Rattle.heap_model.specs.MemorySteps.{Does}
+use Rattle.heap_model.specs.MemorySteps.{MemoryCall, Does}
 use Rattle.heap_model.specs.Store.{Accepted}
-use Rattle.heap_model.specs.StoreSteps.{DoesInStore}
-use Rattle.heap_model.specs.declared.call.Call.{Call}
+use Rattle.heap_model.specs.StoreSteps.{Call, DoesInStore}
 use Rattle.heap_model.specs.declared.call.Call.TheVariants as calls
-use Rattle.heap_model.specs.declared.call.MemoryCall.{MemoryCall}
 use Rattle.heap_model.specs.declared.call.Reply.{Reply}
 use Rattle.laws_store.proofs.Lifting.{memory_call_steps}
 

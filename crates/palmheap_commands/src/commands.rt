@@ -3,7 +3,8 @@
 ghost use Rattle.std.specs.Prelude.{◌≡◌, ◌≢◌, codes, true, false, IfOk, string_bytes};
 ghost use Rattle.heap_model.specs.Store.{Accepted};
 ghost use Rattle.chunk_format.specs.Blank.{IsRegionSize, LeavesRoom};
-ghost use Rattle.palmheap_commands.specs.Commands.{NewBreaksOff, PutsBlank, PutsSummary, heap_line, summary_lines};
+ghost use Rattle.palmheap_commands.specs.Commands.{NewBreaksOff, PutsBlank, PutsSummary};
+ghost use Rattle.palmheap_commands.specs.Commands.{heap_line, summary_lines};
 ghost use Rattle.program_io.specs.FaultLines.{PutsBad};
 ghost use Rattle.program_io.specs.Output.{Puts};
 

@@ -18,7 +18,7 @@ fault_word ReadFault = Some (codes "read")
 fault_word WriteFault = Some (codes "write")
 fault_word NoMemory = Some (codes "memory")
 
--- the fault that a read's error is: want of memory, or the error itself
+-- the fault of a file that couldn't be opened: want of memory, or the error itself
 abbrev pub FaultOf : Error → InputFault → Type 0
 FaultOf error (Read other) = other ≡ error
 FaultOf error TooLong = ⊥

@@ -29,7 +29,7 @@ pub enum InputFault {
     Memory,
 }
 
-/// A read that fails for want of memory is no fault of the file.
+/// The fault of a file that couldn't be opened: for want of memory, or by its own.
 impl From<io::Error> for InputFault {
     ghost use Rattle.program_io.specs.Status.{FaultOf};
 
@@ -48,7 +48,8 @@ impl From<io::Error> for InputFault {
 /// A reader that gives more than `INPUT_LIMIT` bytes is read no further than the turn that shows it.
 pub fn read_input<R: Read>(alloc: Global, reader: &mut R) -> Result<Vec<u8>, InputFault>
     ensures limit { IfOk result (λ bytes. vec_len bytes ≤ INPUT_LIMIT) }
-    ensures bytes { IfOk result (λ bytes. IfSome (R.remaining reader.old) (λ all. bytes.items ≡ all)) }
+    ensures bytes { IfOk result (λ bytes.
+        IfSome (R.remaining reader.old) (λ all. bytes.items ≡ all)) }
     ensures end { OnOk result (IsAtEnd (R.remaining reader.new)) }
     ensures too_long { result ≡ Err InputFault.TooLong
         → IfSome (R.remaining reader.old) (λ all. INPUT_LIMIT < length all) }
@@ -62,7 +63,8 @@ pub fn read_input_from<A: Allowance, R: Read>(
     reader: &mut R,
 ) -> Result<Vec<u8>, InputFault>
     ensures limit { IfOk result (λ bytes. vec_len bytes ≤ INPUT_LIMIT) }
-    ensures bytes { IfOk result (λ bytes. IfSome (R.remaining reader.old) (λ all. bytes.items ≡ all)) }
+    ensures bytes { IfOk result (λ bytes.
+        IfSome (R.remaining reader.old) (λ all. bytes.items ≡ all)) }
     ensures end { OnOk result (IsAtEnd (R.remaining reader.new)) }
     ensures too_long { result ≡ Err InputFault.TooLong
         → IfSome (R.remaining reader.old) (λ all. INPUT_LIMIT < length all) }
@@ -103,7 +105,7 @@ fn read_turn<A: Allowance, R: Read>(
 {
     let n = match reader.read(turn) {
         Ok(n) => n,
-        Err(error) => return Err(InputFault::from(error)),
+        Err(error) => return Err(InputFault::Read(error)),
     };
     if n > INPUT_LIMIT - bytes.len() {
         return Err(InputFault::TooLong);

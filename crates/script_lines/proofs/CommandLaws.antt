@@ -7,11 +7,18 @@ use Rattle.script_lines.specs.declared.line.ChunkLabel.{ChunkLabel}
 use Rattle.script_lines.specs.declared.line.DatabaseLabel.{DatabaseLabel}
 use Rattle.script_lines.specs.declared.line.Line.{Line}
 use Rattle.script_lines.specs.declared.command.Command.{Command}
+use Rattle.script_lines.specs.declared.command.Command.TheVariants.{Memory, Database as OfDatabases, Record as OfRecords}
+use Rattle.script_lines.specs.declared.memory_command.MemoryCommand.{MemoryCommand}
+use Rattle.script_lines.specs.declared.memory_command.MemoryCommand.TheVariants.{Bind}
+use Rattle.script_lines.specs.declared.database_command.DatabaseCommand.{DatabaseCommand}
+use Rattle.script_lines.specs.declared.database_command.DatabaseCommand.TheVariants.{Create}
+use Rattle.script_lines.specs.declared.record_command.RecordCommand.{RecordCommand}
+use Rattle.script_lines.specs.declared.record_command.RecordCommand.TheVariants as records
 use Rattle.script_lines.specs.declared.value.Kind.{Kind}
 use Rattle.script_lines.specs.declared.value.Kind.TheVariants.{Chunk, Database, Byte, Short, Number, Flag, FourBytes, Bytes, Text}
 use Rattle.script_lines.specs.declared.value.Value.{Value}
 use Rattle.script_lines.specs.declared.value.Value.TheVariants.{Chunk as ChunkValue, Database as DatabaseValue, Byte as ByteValue, Short as ShortValue, Number as NumberValue, Flag as FlagValue, FourBytes as FourBytesValue}
-use Rattle.script_lines.specs.Commands.{Makes, row_of, kinds_of, line_by, line_of}
+use Rattle.script_lines.specs.Commands.{Makes, memory_row, database_row, record_row, row_of, kinds_of, line_by, line_of}
 use Rattle.script_lines.specs.Kinds.{WordsRead, read_word, read_words, with_bytes, with_chunk, with_database, with_value}
 use Rattle.script_lines.specs.Numbering.{Numberings, label_number}
 use Rattle.script_lines.specs.Reading.{none_read}
@@ -43,8 +50,26 @@ line_made (FourBytes ∷ kinds) make values bytes (number, more, is, fit) = rw i
 line_made (Bytes ∷ kinds) make values bytes fit = line_made kinds (make bytes) values bytes fit
 line_made (Text ∷ kinds) make values bytes fit = line_made kinds (make bytes) values bytes fit
 
+-- the line of each row is made by it
+row-line : (command : Command) → (row_of command).line ≡ line_by (row_of command).of (row_of command).make
+row-line (Memory command) = memory_row-line command
+  where
+    memory_row-line : (command : MemoryCommand) → (memory_row command).line ≡ line_by (memory_row command).of (memory_row command).make
+    memory_row-line Bind = refl
+    memory_row-line command = refl
+row-line (OfDatabases command) = database_row-line command
+  where
+    database_row-line : (command : DatabaseCommand) → (database_row command).line ≡ line_by (database_row command).of (database_row command).make
+    database_row-line Create = refl
+    database_row-line command = refl
+row-line (OfRecords command) = record_row-line command
+  where
+    record_row-line : (command : RecordCommand) → (record_row command).line ≡ line_by (record_row command).of (record_row command).make
+    record_row-line records.New = refl
+    record_row-line command = refl
+
 pub makes_line : (command : Command) (values : List Value) (bytes : List ℕ) → AreOfKinds (kinds_of command) values → (line : Line) × (line_of command values bytes ≡ Some line)
-makes_line command values bytes fit = line_made (row_of command).of (row_of command).make values bytes fit
+makes_line command values bytes fit = rw (row-line command) (line_made (row_of command).of (row_of command).make values bytes fit)
 
 -- what a word of a kind adds: values that stand for it, in front of those of the words behind it
 abbrev pub AddsOfKind : Kind → List Value → List Value → Type 0

@@ -3,16 +3,19 @@ use Rattle.std.specs.Prelude.{ℕ, Bool, List, [], ◌∷◌, ◌++◌, map, tak
 use Rattle.std.specs.List.{find}
 use Rattle.std.specs.Str.{bytes_eq}
 use Rattle.heap_model.specs.DatabaseFields.{name_size}
+use Rattle.heap_model.specs.declared.call.Call.{Call}
+use Rattle.heap_model.specs.declared.call.Call.TheVariants as calls
+use Rattle.heap_model.specs.declared.call.MemoryCall.{MemoryCall}
+use Rattle.heap_model.specs.declared.call.MemoryCall.TheVariants as memory
+use Rattle.heap_model.specs.declared.call.DatabaseCall.{DatabaseCall}
+use Rattle.heap_model.specs.declared.call.DatabaseCall.TheVariants as database
+use Rattle.heap_model.specs.declared.call.RecordCall.{RecordCall}
+use Rattle.heap_model.specs.declared.call.RecordCall.TheVariants as record_calls
 use Rattle.script_lines.specs.declared.line.ChunkLabel.{ChunkLabel}
 use Rattle.script_lines.specs.declared.line.DatabaseLabel.{DatabaseLabel}
 use Rattle.script_lines.specs.declared.line.Line.{Line}
+use Rattle.script_lines.specs.declared.line.Line.TheVariants.{Print, Silent, BindChunk, BindDatabase}
 use Rattle.script_lines.specs.declared.line.Line.TheVariants as lines
-use Rattle.script_lines.specs.declared.line.NewCall.TheVariants as made
-use Rattle.script_lines.specs.declared.line.ChunkCall.TheVariants as chunk
-use Rattle.script_lines.specs.declared.line.HeapCall.TheVariants as heap
-use Rattle.script_lines.specs.declared.line.DatabaseLineCall.TheVariants as database
-use Rattle.script_lines.specs.declared.line.RecordLineCall.TheVariants as recorded
-use Rattle.script_lines.specs.declared.line.RecordDataCall.TheVariants as taken
 use Rattle.script_lines.specs.declared.command.Command.{Command}
 use Rattle.script_lines.specs.declared.command.Command.TheVariants.{Memory, Database, Record}
 use Rattle.script_lines.specs.declared.memory_command.MemoryCommand.{MemoryCommand}
@@ -54,32 +57,50 @@ line_by (kinds.Bytes ∷ behind) make more bytes = line_by behind (make bytes) m
 line_by (kinds.Text ∷ behind) make more bytes = line_by behind (make bytes) more bytes
 line_by of make more bytes = None
 
--- A command: its word, the kinds of the words behind it, and the line that they make.
+-- A command: its word, the kinds of the words behind it, what makes its line of what they stand for, and
+-- so the line of values.
 pub record CommandRow : Type 0 where
   pub word : List ℕ
   pub of : List Kind
   pub make : Makes of
+  pub line : List Value → List ℕ → Option Line
+
+abbrev pub row : List ℕ → (of : List Kind) → Makes of → CommandRow
+row word of make = record { word = word; of = of; make = make; line = line_by of make }
+
+-- the calls of the managers, as lines have them
+abbrev pub LineCall : Type 0
+LineCall = Call ChunkLabel DatabaseLabel
+
+abbrev pub in_memory : MemoryCall ChunkLabel → LineCall
+in_memory call = calls.Memory call
+
+abbrev pub on_databases : DatabaseCall DatabaseLabel → LineCall
+on_databases call = calls.Database call
+
+abbrev pub on_records : RecordCall DatabaseLabel → LineCall
+on_records call = calls.Record call
 
 abbrev pub memory_row : MemoryCommand → CommandRow
-memory_row Bind = record { word = codes "bind"; of = kinds.Chunk ∷ kinds.Number ∷ []; make = λ label name. lines.Bind label name }
-memory_row New = record { word = codes "new"; of = kinds.Chunk ∷ kinds.Number ∷ kinds.Byte ∷ []; make = λ label size owner. lines.New label (made.Handle size owner) }
-memory_row PtrNew = record { word = codes "ptrnew"; of = kinds.Chunk ∷ kinds.Number ∷ kinds.Byte ∷ []; make = λ label size owner. lines.New label (made.Ptr size owner) }
-memory_row Free = record { word = codes "free"; of = kinds.Chunk ∷ []; make = λ label. lines.On label chunk.Free }
-memory_row Resize = record { word = codes "resize"; of = kinds.Chunk ∷ kinds.Number ∷ []; make = λ label size. lines.On label (chunk.Resize size) }
-memory_row SetOwner = record { word = codes "setowner"; of = kinds.Chunk ∷ kinds.Byte ∷ []; make = λ label owner. lines.On label (chunk.SetOwner owner) }
-memory_row Lock = record { word = codes "lock"; of = kinds.Chunk ∷ []; make = λ label. lines.On label chunk.Lock }
-memory_row Unlock = record { word = codes "unlock"; of = kinds.Chunk ∷ []; make = λ label. lines.On label chunk.Unlock }
-memory_row Size = record { word = codes "size"; of = kinds.Chunk ∷ []; make = λ label. lines.On label chunk.Size }
-memory_row Owner = record { word = codes "owner"; of = kinds.Chunk ∷ []; make = λ label. lines.On label chunk.Owner }
-memory_row Locks = record { word = codes "locks"; of = kinds.Chunk ∷ []; make = λ label. lines.On label chunk.Locks }
-memory_row Read = record { word = codes "read"; of = kinds.Chunk ∷ kinds.Number ∷ kinds.Number ∷ []; make = λ label at count. lines.On label (chunk.Read at count) }
-memory_row Write = record { word = codes "write"; of = kinds.Chunk ∷ kinds.Number ∷ kinds.Bytes ∷ []; make = λ label at bytes. lines.On label (chunk.Write at bytes) }
-memory_row Set = record { word = codes "set"; of = kinds.Chunk ∷ kinds.Number ∷ kinds.Number ∷ kinds.Byte ∷ []; make = λ label at count byte. lines.On label (chunk.Set at count byte) }
-memory_row StrCopy = record { word = codes "strcopy"; of = kinds.Chunk ∷ kinds.Number ∷ kinds.Text ∷ []; make = λ label at text. lines.On label (chunk.StrCopy at text) }
-memory_row FreeByOwner = record { word = codes "freeowner"; of = kinds.Byte ∷ []; make = λ owner. lines.Whole (heap.FreeByOwner owner) }
-memory_row FreeBytes = record { word = codes "freebytes"; of = []; make = lines.Whole heap.FreeBytes }
-memory_row Largest = record { word = codes "largest"; of = []; make = lines.Whole heap.LargestStretch }
-memory_row Compact = record { word = codes "compact"; of = []; make = lines.Whole heap.Compact }
+memory_row Bind = row (codes "bind") (kinds.Chunk ∷ kinds.Number ∷ []) (λ label name. lines.Bind label name)
+memory_row New = row (codes "new") (kinds.Chunk ∷ kinds.Number ∷ kinds.Byte ∷ []) (λ label size owner. BindChunk label (in_memory (memory.HandleNew size owner)))
+memory_row PtrNew = row (codes "ptrnew") (kinds.Chunk ∷ kinds.Number ∷ kinds.Byte ∷ []) (λ label size owner. BindChunk label (in_memory (memory.PtrNew size owner)))
+memory_row Free = row (codes "free") (kinds.Chunk ∷ []) (λ name. Print (in_memory (memory.Free name)))
+memory_row Resize = row (codes "resize") (kinds.Chunk ∷ kinds.Number ∷ []) (λ name size. Print (in_memory (memory.Resize name size)))
+memory_row SetOwner = row (codes "setowner") (kinds.Chunk ∷ kinds.Byte ∷ []) (λ name owner. Print (in_memory (memory.SetOwner name owner)))
+memory_row Lock = row (codes "lock") (kinds.Chunk ∷ []) (λ name. Print (in_memory (memory.Lock name)))
+memory_row Unlock = row (codes "unlock") (kinds.Chunk ∷ []) (λ name. Print (in_memory (memory.Unlock name)))
+memory_row Size = row (codes "size") (kinds.Chunk ∷ []) (λ name. Print (in_memory (memory.Size name)))
+memory_row Owner = row (codes "owner") (kinds.Chunk ∷ []) (λ name. Print (in_memory (memory.Owner name)))
+memory_row Locks = row (codes "locks") (kinds.Chunk ∷ []) (λ name. Print (in_memory (memory.Locks name)))
+memory_row Read = row (codes "read") (kinds.Chunk ∷ kinds.Number ∷ kinds.Number ∷ []) (λ name at count. Print (in_memory (memory.Read name at count)))
+memory_row Write = row (codes "write") (kinds.Chunk ∷ kinds.Number ∷ kinds.Bytes ∷ []) (λ name at bytes. Print (in_memory (memory.Write name at bytes)))
+memory_row Set = row (codes "set") (kinds.Chunk ∷ kinds.Number ∷ kinds.Number ∷ kinds.Byte ∷ []) (λ name at count byte. Print (in_memory (memory.Set name at count byte)))
+memory_row StrCopy = row (codes "strcopy") (kinds.Chunk ∷ kinds.Number ∷ kinds.Text ∷ []) (λ name at text. Print (in_memory (memory.StrCopy name at text)))
+memory_row FreeByOwner = row (codes "freeowner") (kinds.Byte ∷ []) (λ owner. Print (in_memory (memory.FreeByOwner owner)))
+memory_row FreeBytes = row (codes "freebytes") [] (Print (in_memory memory.FreeBytes))
+memory_row Largest = row (codes "largest") [] (Print (in_memory memory.LargestStretch))
+memory_row Compact = row (codes "compact") [] (Silent (in_memory memory.Compact))
 
 -- the kinds of the words behind `create` and `dbset`
 abbrev pub creation_kinds : List Kind
@@ -97,17 +118,11 @@ name_of text = take name_size text
 
 abbrev pub created : Makes creation_kinds
 created label text kind creator resources date =
-    lines.Create label (record {
-      name = name_of text;
-      kind = kind;
-      creator = creator;
-      resources = resources;
-      date = date;
-    })
+    BindDatabase label (on_databases (database.Create (name_of text) kind creator resources date))
 
 abbrev pub info_set : Makes info_kinds
-info_set label text attributes version creation_date modification_date backup_date kind creator =
-    lines.OnDatabase label (database.SetInfo (record {
+info_set db text attributes version creation_date modification_date backup_date kind creator =
+    Print (on_databases (database.SetInfo db (record {
       name = name_of text;
       attributes = attributes;
       version = version;
@@ -119,29 +134,29 @@ info_set label text attributes version creation_date modification_date backup_da
       creator = creator;
       seed = 0;
       entry_count = 0;
-    }))
+    })))
 
 abbrev pub database_row : DatabaseCommand → CommandRow
-database_row Create = record { word = codes "create"; of = creation_kinds; make = created }
-database_row Find = record { word = codes "find"; of = kinds.Database ∷ kinds.Text ∷ []; make = λ label text. lines.Find label (name_of text) }
-database_row Nth = record { word = codes "nth"; of = kinds.Database ∷ kinds.Number ∷ []; make = λ label index. lines.Nth label index }
-database_row Count = record { word = codes "dbcount"; of = []; make = lines.DatabaseCount }
-database_row Delete = record { word = codes "dbdelete"; of = kinds.Database ∷ []; make = λ label. lines.OnDatabase label database.Delete }
-database_row Info = record { word = codes "dbinfo"; of = kinds.Database ∷ []; make = λ label. lines.OnDatabase label database.Info }
-database_row SetInfo = record { word = codes "dbset"; of = info_kinds; make = info_set }
+database_row Create = row (codes "create") creation_kinds created
+database_row Find = row (codes "find") (kinds.Database ∷ kinds.Text ∷ []) (λ label text. BindDatabase label (on_databases (database.Find (name_of text))))
+database_row Nth = row (codes "nth") (kinds.Database ∷ kinds.Number ∷ []) (λ label index. BindDatabase label (on_databases (database.Nth index)))
+database_row Count = row (codes "dbcount") [] (Print (on_databases database.Count))
+database_row Delete = row (codes "dbdelete") (kinds.Database ∷ []) (λ db. Print (on_databases (database.Delete db)))
+database_row Info = row (codes "dbinfo") (kinds.Database ∷ []) (λ db. Print (on_databases (database.Info db)))
+database_row SetInfo = row (codes "dbset") info_kinds info_set
 
 abbrev pub record_row : RecordCommand → CommandRow
-record_row records.New = record { word = codes "recnew"; of = kinds.Database ∷ kinds.Number ∷ kinds.Number ∷ kinds.Chunk ∷ []; make = λ db at size label. lines.TakeRecord db label (taken.New at size) }
-record_row records.Delete = record { word = codes "recdelete"; of = kinds.Database ∷ kinds.Number ∷ []; make = λ label index. lines.OnRecords label (recorded.Delete index) }
-record_row records.Archive = record { word = codes "recarchive"; of = kinds.Database ∷ kinds.Number ∷ []; make = λ label index. lines.OnRecords label (recorded.Archive index) }
-record_row records.Remove = record { word = codes "recremove"; of = kinds.Database ∷ kinds.Number ∷ []; make = λ label index. lines.OnRecords label (recorded.Remove index) }
-record_row records.Move = record { word = codes "recmove"; of = kinds.Database ∷ kinds.Number ∷ kinds.Number ∷ []; make = λ label from to. lines.OnRecords label (recorded.Move from to) }
-record_row records.Get = record { word = codes "recget"; of = kinds.Database ∷ kinds.Number ∷ kinds.Chunk ∷ []; make = λ db index label. lines.TakeRecord db label (taken.Get index) }
-record_row records.Query = record { word = codes "recquery"; of = kinds.Database ∷ kinds.Number ∷ kinds.Chunk ∷ []; make = λ db index label. lines.TakeRecord db label (taken.Query index) }
-record_row records.Release = record { word = codes "recrelease"; of = kinds.Database ∷ kinds.Number ∷ kinds.Flag ∷ []; make = λ label index dirty. lines.OnRecords label (recorded.Release index dirty) }
-record_row records.Info = record { word = codes "recinfo"; of = kinds.Database ∷ kinds.Number ∷ []; make = λ label index. lines.OnRecords label (recorded.Info index) }
-record_row records.Resize = record { word = codes "recresize"; of = kinds.Database ∷ kinds.Number ∷ kinds.Number ∷ []; make = λ label index size. lines.OnRecords label (recorded.Resize index size) }
-record_row records.Count = record { word = codes "reccount"; of = kinds.Database ∷ []; make = λ label. lines.OnRecords label recorded.Count }
+record_row records.New = row (codes "recnew") (kinds.Database ∷ kinds.Number ∷ kinds.Number ∷ kinds.Chunk ∷ []) (λ db at size label. BindChunk label (on_records (record_calls.New db at size)))
+record_row records.Delete = row (codes "recdelete") (kinds.Database ∷ kinds.Number ∷ []) (λ db index. Print (on_records (record_calls.Delete db index)))
+record_row records.Archive = row (codes "recarchive") (kinds.Database ∷ kinds.Number ∷ []) (λ db index. Print (on_records (record_calls.Archive db index)))
+record_row records.Remove = row (codes "recremove") (kinds.Database ∷ kinds.Number ∷ []) (λ db index. Print (on_records (record_calls.Remove db index)))
+record_row records.Move = row (codes "recmove") (kinds.Database ∷ kinds.Number ∷ kinds.Number ∷ []) (λ db from to. Print (on_records (record_calls.Move db from to)))
+record_row records.Get = row (codes "recget") (kinds.Database ∷ kinds.Number ∷ kinds.Chunk ∷ []) (λ db index label. BindChunk label (on_records (record_calls.Get db index)))
+record_row records.Query = row (codes "recquery") (kinds.Database ∷ kinds.Number ∷ kinds.Chunk ∷ []) (λ db index label. BindChunk label (on_records (record_calls.Query db index)))
+record_row records.Release = row (codes "recrelease") (kinds.Database ∷ kinds.Number ∷ kinds.Flag ∷ []) (λ db index dirty. Print (on_records (record_calls.Release db index dirty)))
+record_row records.Info = row (codes "recinfo") (kinds.Database ∷ kinds.Number ∷ []) (λ db index. Print (on_records (record_calls.Info db index)))
+record_row records.Resize = row (codes "recresize") (kinds.Database ∷ kinds.Number ∷ kinds.Number ∷ []) (λ db index size. Print (on_records (record_calls.Resize db index size)))
+record_row records.Count = row (codes "reccount") (kinds.Database ∷ []) (λ db. Print (on_records (record_calls.Count db)))
 
 abbrev pub row_of : Command → CommandRow
 row_of (Memory command) = memory_row command
@@ -154,12 +169,9 @@ word_of command = (row_of command).word
 abbrev pub kinds_of : Command → List Kind
 kinds_of command = (row_of command).of
 
--- the line that a row makes of values
-abbrev pub row_line : CommandRow → List Value → List ℕ → Option Line
-row_line row values bytes = line_by row.of row.make values bytes
-
+-- the line of a command and values
 abbrev pub line_of : Command → List Value → List ℕ → Option Line
-line_of command values bytes = row_line (row_of command) values bytes
+line_of command values bytes = (row_of command).line values bytes
 
 -- every command
 abbrev pub memory_commands : List MemoryCommand

@@ -7,10 +7,12 @@ ghost use Rattle.std.specs.Str.{bytes_eq};
 ghost use Rattle.script_lines.specs.Commands as tables;
 ghost use Rattle.script_lines.specs.Commands.{line_of, command_of};
 
-use crate::database_command::{DatabaseCommand, database_row, make_database_line};
+use crate::database_command::{
+    DATABASE_COMMANDS, DatabaseCommand, database_row, make_database_line,
+};
 use crate::line::Line;
-use crate::memory_command::{MemoryCommand, make_memory_line, memory_row};
-use crate::record_command::{RecordCommand, make_record_line, record_row};
+use crate::memory_command::{MEMORY_COMMANDS, MemoryCommand, make_memory_line, memory_row};
+use crate::record_command::{RECORD_COMMANDS, RecordCommand, make_record_line, record_row};
 use crate::value::{Kind, Value};
 use heap_model::Bytes;
 
@@ -21,47 +23,6 @@ pub(crate) enum Command {
     Database(DatabaseCommand),
     Record(RecordCommand),
 }
-
-/// Every command.
-pub(crate) const COMMANDS: [Command; 37] = [
-    Command::Memory(MemoryCommand::Bind),
-    Command::Memory(MemoryCommand::New),
-    Command::Memory(MemoryCommand::PtrNew),
-    Command::Memory(MemoryCommand::Free),
-    Command::Memory(MemoryCommand::Resize),
-    Command::Memory(MemoryCommand::SetOwner),
-    Command::Memory(MemoryCommand::Lock),
-    Command::Memory(MemoryCommand::Unlock),
-    Command::Memory(MemoryCommand::Size),
-    Command::Memory(MemoryCommand::Owner),
-    Command::Memory(MemoryCommand::Locks),
-    Command::Memory(MemoryCommand::Read),
-    Command::Memory(MemoryCommand::Write),
-    Command::Memory(MemoryCommand::Set),
-    Command::Memory(MemoryCommand::StrCopy),
-    Command::Memory(MemoryCommand::FreeByOwner),
-    Command::Memory(MemoryCommand::FreeBytes),
-    Command::Memory(MemoryCommand::Largest),
-    Command::Memory(MemoryCommand::Compact),
-    Command::Database(DatabaseCommand::Create),
-    Command::Database(DatabaseCommand::Find),
-    Command::Database(DatabaseCommand::Nth),
-    Command::Database(DatabaseCommand::Count),
-    Command::Database(DatabaseCommand::Delete),
-    Command::Database(DatabaseCommand::Info),
-    Command::Database(DatabaseCommand::SetInfo),
-    Command::Record(RecordCommand::New),
-    Command::Record(RecordCommand::Delete),
-    Command::Record(RecordCommand::Archive),
-    Command::Record(RecordCommand::Remove),
-    Command::Record(RecordCommand::Move),
-    Command::Record(RecordCommand::Get),
-    Command::Record(RecordCommand::Query),
-    Command::Record(RecordCommand::Release),
-    Command::Record(RecordCommand::Info),
-    Command::Record(RecordCommand::Resize),
-    Command::Record(RecordCommand::Count),
-];
 
 /// A command's row: its word, which no other command has, and the kinds of the words behind it.
 #[derive(Clone, Copy)]
@@ -107,7 +68,13 @@ fn find_in(commands: &[Command], word: &[u8]) -> Option<Command>
 pub(crate) fn find_command(word: &[u8]) -> Option<Command>
     ensures { result ≡ command_of word.now }
 {
-    find_in(&COMMANDS, word)
+    if let Some(command) = find_in(&MEMORY_COMMANDS, word) {
+        return Some(command);
+    }
+    if let Some(command) = find_in(&DATABASE_COMMANDS, word) {
+        return Some(command);
+    }
+    find_in(&RECORD_COMMANDS, word)
 }
 
 /// A line, if some values are of a shape.
@@ -128,7 +95,7 @@ pub(crate) fn make_line(command: Command, values: &[Value], bytes: Bytes) -> Opt
 {
     match command {
         Command::Memory(command) => make_memory_line(command, values, bytes),
-        Command::Database(command) => make_database_line(command, values, &bytes),
+        Command::Database(command) => make_database_line(command, values, bytes.as_slice()),
         Command::Record(command) => make_record_line(command, values),
     }
 }

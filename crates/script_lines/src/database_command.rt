@@ -1,17 +1,18 @@
 //! The commands of databases.
 
-ghost use Rattle.std.specs.Prelude.{◌≡◌, ◌<◌, ◌∷◌, [], ℕ, List, length};
+ghost use Rattle.std.specs.Prelude.{◌≡◌, ◌<◌, length};
+ghost use Rattle.heap_model.specs.declared.call.Call.TheVariants as calls;
 ghost use Rattle.script_lines.specs.Commands as tables;
-ghost use Rattle.script_lines.specs.Commands.{command_of, line_by, name_of, row_line};
+ghost use Rattle.script_lines.specs.Commands.{command_of, line_by};
 ghost use Rattle.script_lines.specs.Commands.{created, creation_kinds, info_kinds, info_set};
 ghost use Rattle.script_lines.specs.declared.command.Command.TheVariants.{Database as OfDatabases};
-ghost use Rattle.script_lines.specs.declared.line.Line.TheVariants.{Find, Nth, OnDatabase};
+ghost use Rattle.script_lines.specs.declared.line.Line.TheVariants.{BindDatabase, Print};
 
-use crate::command::{CommandRow, line_if, row};
-use crate::line::{CreateCall, DatabaseLineCall, Line};
+use crate::command::{Command, CommandRow, line_if, row};
+use crate::line::{DatabaseLabel, Line};
 use crate::value::Value::{Database, Flag, FourBytes, Number, Short};
 use crate::value::{Kind, Value};
-use heap_model::{Bytes, DbInfo, DbName};
+use heap_model::{Call, DatabaseCall, DbInfo, DbName};
 
 /// A command of databases.
 #[derive(Clone, Copy)]
@@ -24,6 +25,17 @@ pub(crate) enum DatabaseCommand {
     Info,
     SetInfo,
 }
+
+/// Every one of them.
+pub(crate) const DATABASE_COMMANDS: [Command; 7] = [
+    Command::Database(DatabaseCommand::Create),
+    Command::Database(DatabaseCommand::Find),
+    Command::Database(DatabaseCommand::Nth),
+    Command::Database(DatabaseCommand::Count),
+    Command::Database(DatabaseCommand::Delete),
+    Command::Database(DatabaseCommand::Info),
+    Command::Database(DatabaseCommand::SetInfo),
+];
 
 // What the words behind a command may be.
 const NOTHING: &[Kind] = &[];
@@ -73,10 +85,23 @@ pub(crate) fn database_row(command: DatabaseCommand) -> CommandRow
     }
 }
 
+/// A line that prints what a call answers.
+fn printed(call: DatabaseCall<DatabaseLabel>) -> Line
+    ensures { result ≡ Print (calls.Database call) }
+{
+    Line::Print(Call::Database(call))
+}
+
+/// A line that binds a label to the database that a call answers.
+fn bound(label: DatabaseLabel, call: DatabaseCall<DatabaseLabel>) -> Line
+    ensures { result ≡ BindDatabase label (calls.Database call) }
+{
+    Line::BindDatabase(label, Call::Database(call))
+}
+
 /// The line of `create`, if some values are of its kinds.
-fn creation(values: &[Value], name: DbName) -> Option<Line>
-    ensures { (text : List ℕ) → name ≡ name_of text
-        → result ≡ line_by creation_kinds created values.now text }
+fn creation(values: &[Value], text: &[u8]) -> Option<Line>
+    ensures { result ≡ line_by creation_kinds created values.now text.now }
 {
     match values {
         &[
@@ -86,27 +111,26 @@ fn creation(values: &[Value], name: DbName) -> Option<Line>
             Flag(resources),
             Number(date),
         ] => {
-            let call = CreateCall {
-                name,
+            let call = DatabaseCall::Create {
+                name: DbName::of(text),
                 kind,
                 creator,
                 resources,
                 date,
             };
-            Some(Line::Create(label, call))
+            Some(bound(label, call))
         }
         _ => None,
     }
 }
 
 /// The line of `dbset`, if some values are of its kinds.
-fn info_line(values: &[Value], name: DbName) -> Option<Line>
-    ensures { (text : List ℕ) → name ≡ name_of text
-        → result ≡ line_by info_kinds info_set values.now text }
+fn info_line(values: &[Value], text: &[u8]) -> Option<Line>
+    ensures { result ≡ line_by info_kinds info_set values.now text.now }
 {
     match values {
         &[
-            Database(label),
+            Database(db),
             Short(attributes),
             Short(version),
             Number(creation_date),
@@ -116,7 +140,7 @@ fn info_line(values: &[Value], name: DbName) -> Option<Line>
             FourBytes(creator),
         ] => {
             let info = DbInfo {
-                name,
+                name: DbName::of(text),
                 attributes,
                 version,
                 creation_date,
@@ -128,53 +152,31 @@ fn info_line(values: &[Value], name: DbName) -> Option<Line>
                 seed: 0,
                 entry_count: 0,
             };
-            Some(Line::OnDatabase(label, DatabaseLineCall::SetInfo(info)))
+            Some(printed(DatabaseCall::SetInfo(db, info)))
         }
         _ => None,
     }
-}
-
-/// The line of `find`, if some values are of its kinds.
-fn finding(values: &[Value], name: DbName) -> Option<Line>
-    ensures { (text : List ℕ) → name ≡ name_of text
-        → result ≡ line_by (Kind.Database ∷ Kind.Text ∷ [])
-        (λ label text. Find label (name_of text)) values.now text }
-{
-    line_if!(values, &[Database(label)] => Line::Find(label, name))
-}
-
-/// The line of `nth`, if some values are of its kinds.
-fn indexed(values: &[Value]) -> Option<Line>
-    ensures { (text : List ℕ) → result ≡ line_by (Kind.Database ∷ Kind.Number ∷ [])
-        (λ label index. Nth label index) values.now text }
-{
-    line_if!(values, &[Database(label), Number(index)] => Line::Nth(label, index))
-}
-
-/// The line of a call on a database, if some values are its label alone.
-fn on_database(values: &[Value], call: DatabaseLineCall) -> Option<Line>
-    ensures { (text : List ℕ) →
-        result ≡ line_by (Kind.Database ∷ []) (λ label. OnDatabase label call) values.now text }
-{
-    line_if!(values, &[Database(label)] => Line::OnDatabase(label, call))
 }
 
 /// The line of a command and what its words stand for, if these are of the command's kinds.
 pub(crate) fn make_database_line(
     command: DatabaseCommand,
     values: &[Value],
-    text: &Bytes,
+    text: &[u8],
 ) -> Option<Line>
-    ensures { result ≡ row_line (tables.database_row command) values.now text.now }
+    ensures { result ≡ (tables.database_row command).line values.now text.now }
 {
-    let name = DbName::of(text.as_slice());
     match command {
-        DatabaseCommand::Create => creation(values, name),
-        DatabaseCommand::Find => finding(values, name),
-        DatabaseCommand::Nth => indexed(values),
-        DatabaseCommand::Count => line_if!(values, [] => Line::DatabaseCount),
-        DatabaseCommand::Delete => on_database(values, DatabaseLineCall::Delete),
-        DatabaseCommand::Info => on_database(values, DatabaseLineCall::Info),
-        DatabaseCommand::SetInfo => info_line(values, name),
+        DatabaseCommand::Create => creation(values, text),
+        DatabaseCommand::Find => line_if!(values, &[Database(label)] =>
+            bound(label, DatabaseCall::Find(DbName::of(text)))),
+        DatabaseCommand::Nth => line_if!(values, &[Database(label), Number(index)] =>
+            bound(label, DatabaseCall::Nth(index))),
+        DatabaseCommand::Count => line_if!(values, [] => printed(DatabaseCall::Count)),
+        DatabaseCommand::Delete =>
+            line_if!(values, &[Database(db)] => printed(DatabaseCall::Delete(db))),
+        DatabaseCommand::Info =>
+            line_if!(values, &[Database(db)] => printed(DatabaseCall::Info(db))),
+        DatabaseCommand::SetInfo => info_line(values, text),
     }
 }

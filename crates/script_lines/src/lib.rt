@@ -24,8 +24,5 @@ mod value;
 
 pub use fault::{LineFault, ScriptFault};
 pub use laws::{four_bytes_are_read_back, texts_are_read_back};
-pub use line::{
-    ChunkCall, ChunkLabel, CreateCall, DatabaseLabel, DatabaseLineCall, HeapCall, Line, NewCall,
-    RecordDataCall, RecordLineCall, Script,
-};
+pub use line::{ChunkLabel, DatabaseLabel, Line, LineCall, Script};
 pub use reading::{parse, parse_from};

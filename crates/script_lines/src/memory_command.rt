@@ -1,16 +1,17 @@
 //! The commands of the memory manager.
 
-ghost use Rattle.std.specs.Prelude.{◌≡◌, ◌<◌, ◌∷◌, [], ℕ, List, length};
+ghost use Rattle.std.specs.Prelude.{◌≡◌, ◌<◌, length};
+ghost use Rattle.heap_model.specs.declared.call.Call.TheVariants as calls;
 ghost use Rattle.script_lines.specs.Commands as tables;
-ghost use Rattle.script_lines.specs.Commands.{command_of, line_by, row_line};
+ghost use Rattle.script_lines.specs.Commands.{command_of};
 ghost use Rattle.script_lines.specs.declared.command.Command.TheVariants.{Memory};
-ghost use Rattle.script_lines.specs.declared.line.Line.TheVariants.{On, Whole};
+ghost use Rattle.script_lines.specs.declared.line.Line.TheVariants.{BindChunk, Print};
 
-use crate::command::{CommandRow, line_if, row};
-use crate::line::{ChunkCall, HeapCall, Line, NewCall};
+use crate::command::{Command, CommandRow, line_if, row};
+use crate::line::{ChunkLabel, Line};
 use crate::value::Value::{Byte, Chunk, Number};
 use crate::value::{Kind, Value};
-use heap_model::Bytes;
+use heap_model::{Bytes, Call, MemoryCall};
 
 /// A command of the memory manager.
 #[derive(Clone, Copy)]
@@ -35,6 +36,29 @@ pub(crate) enum MemoryCommand {
     Largest,
     Compact,
 }
+
+/// Every one of them.
+pub(crate) const MEMORY_COMMANDS: [Command; 19] = [
+    Command::Memory(MemoryCommand::Bind),
+    Command::Memory(MemoryCommand::New),
+    Command::Memory(MemoryCommand::PtrNew),
+    Command::Memory(MemoryCommand::Free),
+    Command::Memory(MemoryCommand::Resize),
+    Command::Memory(MemoryCommand::SetOwner),
+    Command::Memory(MemoryCommand::Lock),
+    Command::Memory(MemoryCommand::Unlock),
+    Command::Memory(MemoryCommand::Size),
+    Command::Memory(MemoryCommand::Owner),
+    Command::Memory(MemoryCommand::Locks),
+    Command::Memory(MemoryCommand::Read),
+    Command::Memory(MemoryCommand::Write),
+    Command::Memory(MemoryCommand::Set),
+    Command::Memory(MemoryCommand::StrCopy),
+    Command::Memory(MemoryCommand::FreeByOwner),
+    Command::Memory(MemoryCommand::FreeBytes),
+    Command::Memory(MemoryCommand::Largest),
+    Command::Memory(MemoryCommand::Compact),
+];
 
 // What the words behind a command may be.
 const NOTHING: &[Kind] = &[];
@@ -87,19 +111,18 @@ pub(crate) fn memory_row(command: MemoryCommand) -> CommandRow
     }
 }
 
-/// The line of a call on a chunk, if some values are its label alone.
-fn on_chunk(values: &[Value], call: ChunkCall) -> Option<Line>
-    ensures { (bytes : List ℕ) →
-        result ≡ line_by (Kind.Chunk ∷ []) (λ label. On label call) values.now bytes }
+/// A line that prints what a call answers.
+fn printed(call: MemoryCall<ChunkLabel>) -> Line
+    ensures { result ≡ Print (calls.Memory call) }
 {
-    line_if!(values, &[Chunk(label)] => Line::On(label, call))
+    Line::Print(Call::Memory(call))
 }
 
-/// The line of a call on the heap, if there are no values.
-fn on_heap(values: &[Value], call: HeapCall) -> Option<Line>
-    ensures { (bytes : List ℕ) → result ≡ line_by [] (Whole call) values.now bytes }
+/// A line that binds a label to the chunk that a call answers.
+fn bound(label: ChunkLabel, call: MemoryCall<ChunkLabel>) -> Line
+    ensures { result ≡ BindChunk label (calls.Memory call) }
 {
-    line_if!(values, [] => Line::Whole(call))
+    Line::BindChunk(label, Call::Memory(call))
 }
 
 /// The line of a command and what its words stand for, if these are of the command's kinds.
@@ -108,38 +131,42 @@ pub(crate) fn make_memory_line(
     values: &[Value],
     bytes: Bytes,
 ) -> Option<Line>
-    ensures { result ≡ row_line (tables.memory_row command) values.now bytes }
+    ensures { result ≡ (tables.memory_row command).line values.now bytes }
 {
     match command {
         MemoryCommand::Bind =>
             line_if!(values, &[Chunk(label), Number(name)] => Line::Bind { label, name }),
         MemoryCommand::New => line_if!(values, &[Chunk(label), Number(size), Byte(owner)] =>
-            Line::New(label, NewCall::Handle { size, owner })),
+            bound(label, MemoryCall::HandleNew { size, owner })),
         MemoryCommand::PtrNew => line_if!(values, &[Chunk(label), Number(size), Byte(owner)] =>
-            Line::New(label, NewCall::Ptr { size, owner })),
-        MemoryCommand::Free => on_chunk(values, ChunkCall::Free),
-        MemoryCommand::Resize => line_if!(values,
-            &[Chunk(label), Number(size)] => Line::On(label, ChunkCall::Resize(size))),
-        MemoryCommand::SetOwner => line_if!(values,
-            &[Chunk(label), Byte(owner)] => Line::On(label, ChunkCall::SetOwner(owner))),
-        MemoryCommand::Lock => on_chunk(values, ChunkCall::Lock),
-        MemoryCommand::Unlock => on_chunk(values, ChunkCall::Unlock),
-        MemoryCommand::Size => on_chunk(values, ChunkCall::Size),
-        MemoryCommand::Owner => on_chunk(values, ChunkCall::Owner),
-        MemoryCommand::Locks => on_chunk(values, ChunkCall::Locks),
-        MemoryCommand::Read => line_if!(values, &[Chunk(label), Number(at), Number(count)] =>
-            Line::On(label, ChunkCall::Read { at, count })),
-        MemoryCommand::Write => line_if!(values, &[Chunk(label), Number(at)] =>
-            Line::On(label, ChunkCall::Write { at, bytes })),
+            bound(label, MemoryCall::PtrNew { size, owner })),
+        MemoryCommand::Free => line_if!(values, &[Chunk(name)] => printed(MemoryCall::Free(name))),
+        MemoryCommand::Resize => line_if!(values, &[Chunk(name), Number(size)] =>
+            printed(MemoryCall::Resize { name, size })),
+        MemoryCommand::SetOwner => line_if!(values, &[Chunk(name), Byte(owner)] =>
+            printed(MemoryCall::SetOwner { name, owner })),
+        MemoryCommand::Lock => line_if!(values, &[Chunk(name)] => printed(MemoryCall::Lock(name))),
+        MemoryCommand::Unlock =>
+            line_if!(values, &[Chunk(name)] => printed(MemoryCall::Unlock(name))),
+        MemoryCommand::Size => line_if!(values, &[Chunk(name)] => printed(MemoryCall::Size(name))),
+        MemoryCommand::Owner =>
+            line_if!(values, &[Chunk(name)] => printed(MemoryCall::Owner(name))),
+        MemoryCommand::Locks =>
+            line_if!(values, &[Chunk(name)] => printed(MemoryCall::Locks(name))),
+        MemoryCommand::Read => line_if!(values, &[Chunk(name), Number(at), Number(count)] =>
+            printed(MemoryCall::Read { name, at, count })),
+        MemoryCommand::Write => line_if!(values, &[Chunk(name), Number(at)] =>
+            printed(MemoryCall::Write { name, at, bytes })),
         MemoryCommand::Set => line_if!(values,
-            &[Chunk(label), Number(at), Number(count), Byte(byte)] =>
-            Line::On(label, ChunkCall::Set { at, count, byte })),
-        MemoryCommand::StrCopy => line_if!(values, &[Chunk(label), Number(at)] =>
-            Line::On(label, ChunkCall::StrCopy { at, text: bytes })),
+            &[Chunk(name), Number(at), Number(count), Byte(byte)] =>
+            printed(MemoryCall::Set { name, at, count, byte })),
+        MemoryCommand::StrCopy => line_if!(values, &[Chunk(name), Number(at)] =>
+            printed(MemoryCall::StrCopy { name, at, text: bytes })),
         MemoryCommand::FreeByOwner =>
-            line_if!(values, &[Byte(owner)] => Line::Whole(HeapCall::FreeByOwner(owner))),
-        MemoryCommand::FreeBytes => on_heap(values, HeapCall::FreeBytes),
-        MemoryCommand::Largest => on_heap(values, HeapCall::LargestStretch),
-        MemoryCommand::Compact => on_heap(values, HeapCall::Compact),
+            line_if!(values, &[Byte(owner)] => printed(MemoryCall::FreeByOwner(owner))),
+        MemoryCommand::FreeBytes => line_if!(values, [] => printed(MemoryCall::FreeBytes)),
+        MemoryCommand::Largest => line_if!(values, [] => printed(MemoryCall::LargestStretch)),
+        MemoryCommand::Compact =>
+            line_if!(values, [] => Line::Silent(Call::Memory(MemoryCall::Compact))),
     }
 }

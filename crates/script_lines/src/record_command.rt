@@ -1,15 +1,17 @@
 //! The commands of records.
 
-ghost use Rattle.std.specs.Prelude.{◌≡◌, ◌<◌, ◌∷◌, [], ℕ, List, length};
+ghost use Rattle.std.specs.Prelude.{◌≡◌, ◌<◌, ℕ, List, length};
+ghost use Rattle.heap_model.specs.declared.call.Call.TheVariants as calls;
 ghost use Rattle.script_lines.specs.Commands as tables;
-ghost use Rattle.script_lines.specs.Commands.{command_of, line_by, row_line};
+ghost use Rattle.script_lines.specs.Commands.{command_of};
 ghost use Rattle.script_lines.specs.declared.command.Command.TheVariants.{Record as OfRecords};
-ghost use Rattle.script_lines.specs.declared.line.Line.TheVariants.{OnRecords};
+ghost use Rattle.script_lines.specs.declared.line.Line.TheVariants.{BindChunk, Print};
 
-use crate::command::{CommandRow, line_if, row};
-use crate::line::{Line, RecordDataCall, RecordLineCall};
+use crate::command::{Command, CommandRow, line_if, row};
+use crate::line::{ChunkLabel, DatabaseLabel, Line};
 use crate::value::Value::{Chunk, Database, Flag, Number};
 use crate::value::{Kind, Value};
+use heap_model::{Call, RecordCall};
 
 /// A command of records.
 #[derive(Clone, Copy)]
@@ -26,6 +28,21 @@ pub(crate) enum RecordCommand {
     Resize,
     Count,
 }
+
+/// Every one of them.
+pub(crate) const RECORD_COMMANDS: [Command; 11] = [
+    Command::Record(RecordCommand::New),
+    Command::Record(RecordCommand::Delete),
+    Command::Record(RecordCommand::Archive),
+    Command::Record(RecordCommand::Remove),
+    Command::Record(RecordCommand::Move),
+    Command::Record(RecordCommand::Get),
+    Command::Record(RecordCommand::Query),
+    Command::Record(RecordCommand::Release),
+    Command::Record(RecordCommand::Info),
+    Command::Record(RecordCommand::Resize),
+    Command::Record(RecordCommand::Count),
+];
 
 // What the words behind a command may be.
 const DATABASE: &[Kind] = &[Kind::Database];
@@ -67,33 +84,46 @@ pub(crate) fn record_row(command: RecordCommand) -> CommandRow
     }
 }
 
+/// A line that prints what a call answers.
+fn printed(call: RecordCall<DatabaseLabel>) -> Line
+    ensures { result ≡ Print (calls.Record call) }
+{
+    Line::Print(Call::Record(call))
+}
+
+/// A line that binds a label to the chunk that a call answers.
+fn bound(label: ChunkLabel, call: RecordCall<DatabaseLabel>) -> Line
+    ensures { result ≡ BindChunk label (calls.Record call) }
+{
+    Line::BindChunk(label, Call::Record(call))
+}
+
 /// The line of a command and what its words stand for, if these are of the command's kinds.
 pub(crate) fn make_record_line(command: RecordCommand, values: &[Value]) -> Option<Line>
-    ensures { (bytes : List ℕ) → result ≡ row_line (tables.record_row command) values.now bytes }
+    ensures { (bytes : List ℕ) → result ≡ (tables.record_row command).line values.now bytes }
 {
     match command {
         RecordCommand::New => line_if!(values,
             &[Database(db), Number(at), Number(size), Chunk(label)] =>
-            Line::TakeRecord(db, label, RecordDataCall::New { at, size })),
+            bound(label, RecordCall::New { db, at, size })),
+        RecordCommand::Delete => line_if!(values, &[Database(db), Number(index)] =>
+            printed(RecordCall::Delete(db, index))),
+        RecordCommand::Archive => line_if!(values, &[Database(db), Number(index)] =>
+            printed(RecordCall::Archive(db, index))),
+        RecordCommand::Remove => line_if!(values, &[Database(db), Number(index)] =>
+            printed(RecordCall::Remove(db, index))),
+        RecordCommand::Move => line_if!(values, &[Database(db), Number(from), Number(to)] =>
+            printed(RecordCall::Move { db, from, to })),
         RecordCommand::Get => line_if!(values, &[Database(db), Number(index), Chunk(label)] =>
-            Line::TakeRecord(db, label, RecordDataCall::Get(index))),
+            bound(label, RecordCall::Get(db, index))),
         RecordCommand::Query => line_if!(values, &[Database(db), Number(index), Chunk(label)] =>
-            Line::TakeRecord(db, label, RecordDataCall::Query(index))),
-        RecordCommand::Delete => line_if!(values, &[Database(label), Number(index)] =>
-            Line::OnRecords(label, RecordLineCall::Delete(index))),
-        RecordCommand::Archive => line_if!(values, &[Database(label), Number(index)] =>
-            Line::OnRecords(label, RecordLineCall::Archive(index))),
-        RecordCommand::Remove => line_if!(values, &[Database(label), Number(index)] =>
-            Line::OnRecords(label, RecordLineCall::Remove(index))),
-        RecordCommand::Move => line_if!(values, &[Database(label), Number(from), Number(to)] =>
-            Line::OnRecords(label, RecordLineCall::Move { from, to })),
-        RecordCommand::Release => line_if!(values, &[Database(label), Number(index), Flag(dirty)] =>
-            Line::OnRecords(label, RecordLineCall::Release { index, dirty })),
-        RecordCommand::Info => line_if!(values, &[Database(label), Number(index)] =>
-            Line::OnRecords(label, RecordLineCall::Info(index))),
-        RecordCommand::Resize => line_if!(values, &[Database(label), Number(index), Number(size)] =>
-            Line::OnRecords(label, RecordLineCall::Resize { index, size })),
-        RecordCommand::Count =>
-            line_if!(values, &[Database(label)] => Line::OnRecords(label, RecordLineCall::Count)),
+            bound(label, RecordCall::Query(db, index))),
+        RecordCommand::Release => line_if!(values, &[Database(db), Number(index), Flag(dirty)] =>
+            printed(RecordCall::Release { db, index, dirty })),
+        RecordCommand::Info => line_if!(values, &[Database(db), Number(index)] =>
+            printed(RecordCall::Info(db, index))),
+        RecordCommand::Resize => line_if!(values, &[Database(db), Number(index), Number(size)] =>
+            printed(RecordCall::Resize { db, index, size })),
+        RecordCommand::Count => line_if!(values, &[Database(db)] => printed(RecordCall::Count(db))),
     }
 }

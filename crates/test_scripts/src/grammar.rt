@@ -3,11 +3,8 @@
 //! the format's own words.
 
 use crate::fakes::RefusesOne;
-use heap_model::DbInfo;
-use script_lines::{
-    ChunkCall, CreateCall, DatabaseLineCall, HeapCall, Line, LineFault, NewCall, RecordDataCall,
-    RecordLineCall, ScriptFault, parse, parse_from,
-};
+use heap_model::{Call, DatabaseCall, DbInfo, MemoryCall, RecordCall};
+use script_lines::{ChunkLabel, DatabaseLabel, Line, LineFault, ScriptFault, parse, parse_from};
 use std::alloc::{AllocError, Global};
 use std::process::Abort;
 use std::test::*;
@@ -25,75 +22,87 @@ fn put_bytes(text: &mut String, bytes: &[u8]) -> Result<(), AllocError> {
 fn put_line(text: &mut String, line: &Line) -> Result<(), AllocError> {
     match line {
         Line::Bind { label, name } => write!(text, "bind {} {name}", label.0),
-        Line::New(label, NewCall::Handle { size, owner }) => {
+        Line::Print(Call::Memory(call)) => put_memory_call(text, call),
+        Line::Print(Call::Database(call)) => put_database_call(text, call),
+        Line::Print(Call::Record(call)) => put_record_call(text, call),
+        Line::Silent(Call::Memory(MemoryCall::Compact)) => write!(text, "compact"),
+        Line::BindChunk(label, Call::Memory(MemoryCall::HandleNew { size, owner })) => {
             write!(text, "new {} {size} {owner}", label.0)
         }
-        Line::New(label, NewCall::Ptr { size, owner }) => {
+        Line::BindChunk(label, Call::Memory(MemoryCall::PtrNew { size, owner })) => {
             write!(text, "ptrnew {} {size} {owner}", label.0)
         }
-        Line::On(label, call) => put_call(text, label.0, call),
-        Line::Whole(HeapCall::FreeByOwner(owner)) => write!(text, "freeowner {owner}"),
-        Line::Whole(HeapCall::FreeBytes) => write!(text, "freebytes"),
-        Line::Whole(HeapCall::LargestStretch) => write!(text, "largest"),
-        Line::Whole(HeapCall::Compact) => write!(text, "compact"),
-        Line::Create(label, call) => put_creation(text, label.0, call),
-        Line::Find(label, name) => {
+        Line::BindChunk(label, Call::Record(call)) => {
+            put_record_call(text, call)?;
+            write!(text, " {}", label.0)
+        }
+        Line::BindDatabase(label, Call::Database(DatabaseCall::Nth(index))) => {
+            write!(text, "nth {} {index}", label.0)
+        }
+        Line::BindDatabase(label, Call::Database(DatabaseCall::Find(name))) => {
             write!(text, "find {} ", label.0)?;
             put_bytes(text, name.as_slice())
         }
-        Line::Nth(label, index) => write!(text, "nth {} {index}", label.0),
-        Line::DatabaseCount => write!(text, "dbcount"),
-        Line::OnDatabase(label, DatabaseLineCall::Delete) => write!(text, "dbdelete {}", label.0),
-        Line::OnDatabase(label, DatabaseLineCall::Info) => write!(text, "dbinfo {}", label.0),
-        Line::OnDatabase(label, DatabaseLineCall::SetInfo(info)) => put_info(text, label.0, info),
-        Line::OnRecords(label, call) => put_records_call(text, label.0, *call),
-        Line::TakeRecord(db, label, call) => put_data_call(text, db.0, label.0, *call),
+        Line::BindDatabase(label, Call::Database(call)) => put_creation(text, label.0, call),
+        Line::Silent(_) | Line::BindChunk(..) | Line::BindDatabase(..) => write!(text, "no line"),
     }
 }
 
-/// A call on records, as its command, its label's number and what else stands in its line.
-fn put_records_call(
-    text: &mut String,
-    label: usize,
-    call: RecordLineCall,
-) -> Result<(), AllocError> {
+/// A call on records, as its command, its label's number and what else stands in its line, but the label
+/// that it binds.
+fn put_record_call(text: &mut String, call: &RecordCall<DatabaseLabel>) -> Result<(), AllocError> {
     match call {
-        RecordLineCall::Delete(index) => write!(text, "recdelete {label} {index}"),
-        RecordLineCall::Archive(index) => write!(text, "recarchive {label} {index}"),
-        RecordLineCall::Remove(index) => write!(text, "recremove {label} {index}"),
-        RecordLineCall::Move { from, to } => write!(text, "recmove {label} {from} {to}"),
-        RecordLineCall::Release { index, dirty } => {
-            write!(text, "recrelease {label} {index} {dirty}")
+        RecordCall::New { db, at, size } => write!(text, "recnew {} {at} {size}", db.0),
+        RecordCall::Delete(db, index) => write!(text, "recdelete {} {index}", db.0),
+        RecordCall::Archive(db, index) => write!(text, "recarchive {} {index}", db.0),
+        RecordCall::Remove(db, index) => write!(text, "recremove {} {index}", db.0),
+        RecordCall::Move { db, from, to } => write!(text, "recmove {} {from} {to}", db.0),
+        RecordCall::Get(db, index) => write!(text, "recget {} {index}", db.0),
+        RecordCall::Query(db, index) => write!(text, "recquery {} {index}", db.0),
+        RecordCall::Release { db, index, dirty } => {
+            write!(text, "recrelease {} {index} {dirty}", db.0)
         }
-        RecordLineCall::Info(index) => write!(text, "recinfo {label} {index}"),
-        RecordLineCall::Resize { index, size } => write!(text, "recresize {label} {index} {size}"),
-        RecordLineCall::Count => write!(text, "reccount {label}"),
+        RecordCall::Info(db, index) => write!(text, "recinfo {} {index}", db.0),
+        RecordCall::Resize { db, index, size } => write!(text, "recresize {} {index} {size}", db.0),
+        RecordCall::Count(db) => write!(text, "reccount {}", db.0),
     }
 }
 
-/// A call that answers the data of a record, likewise.
-fn put_data_call(
+/// The call `create`, as its command, its label's number and what else stands in its line.
+fn put_creation(
     text: &mut String,
-    db: usize,
     label: usize,
-    call: RecordDataCall,
+    call: &DatabaseCall<DatabaseLabel>,
+) -> Result<(), AllocError> {
+    let DatabaseCall::Create {
+        name,
+        kind,
+        creator,
+        resources,
+        date,
+    } = call
+    else {
+        return write!(text, "no line");
+    };
+    write!(text, "create {label} ")?;
+    put_bytes(text, name.as_slice())?;
+    write!(text, " {kind:08x} {creator:08x} {resources} {date}")
+}
+
+/// A call on databases whose answer is printed, likewise.
+fn put_database_call(
+    text: &mut String,
+    call: &DatabaseCall<DatabaseLabel>,
 ) -> Result<(), AllocError> {
     match call {
-        RecordDataCall::New { at, size } => write!(text, "recnew {db} {at} {size} {label}"),
-        RecordDataCall::Get(index) => write!(text, "recget {db} {index} {label}"),
-        RecordDataCall::Query(index) => write!(text, "recquery {db} {index} {label}"),
+        DatabaseCall::Count => write!(text, "dbcount"),
+        DatabaseCall::Delete(db) => write!(text, "dbdelete {}", db.0),
+        DatabaseCall::Info(db) => write!(text, "dbinfo {}", db.0),
+        DatabaseCall::SetInfo(db, info) => put_info(text, db.0, info),
+        DatabaseCall::Create { .. } | DatabaseCall::Find(_) | DatabaseCall::Nth(_) => {
+            write!(text, "no line")
+        }
     }
-}
-
-/// A call that makes a database, as its command, its label's number and what else stands in its line.
-fn put_creation(text: &mut String, label: usize, call: &CreateCall) -> Result<(), AllocError> {
-    write!(text, "create {label} ")?;
-    put_bytes(text, call.name.as_slice())?;
-    write!(
-        text,
-        " {:08x} {:08x} {} {}",
-        call.kind, call.creator, call.resources, call.date
-    )
 }
 
 /// The call `dbset`, likewise, and behind it what no line has.
@@ -114,27 +123,43 @@ fn put_info(text: &mut String, label: usize, info: &DbInfo) -> Result<(), AllocE
     )
 }
 
-/// A call on a chunk, as its command, its label's number and what else stands in its line.
-fn put_call(text: &mut String, label: usize, call: &ChunkCall) -> Result<(), AllocError> {
+/// A call of the memory manager whose answer is printed, likewise.
+fn put_memory_call(text: &mut String, call: &MemoryCall<ChunkLabel>) -> Result<(), AllocError> {
     match call {
-        ChunkCall::Free => write!(text, "free {label}"),
-        ChunkCall::Resize(size) => write!(text, "resize {label} {size}"),
-        ChunkCall::SetOwner(owner) => write!(text, "setowner {label} {owner}"),
-        ChunkCall::Lock => write!(text, "lock {label}"),
-        ChunkCall::Unlock => write!(text, "unlock {label}"),
-        ChunkCall::Size => write!(text, "size {label}"),
-        ChunkCall::Owner => write!(text, "owner {label}"),
-        ChunkCall::Locks => write!(text, "locks {label}"),
-        ChunkCall::Read { at, count } => write!(text, "read {label} {at} {count}"),
-        ChunkCall::Write { at, bytes } => {
-            write!(text, "write {label} {at} ")?;
+        MemoryCall::Free(name) => write!(text, "free {}", name.0),
+        MemoryCall::Resize { name, size } => write!(text, "resize {} {size}", name.0),
+        MemoryCall::SetOwner { name, owner } => write!(text, "setowner {} {owner}", name.0),
+        MemoryCall::Lock(name) => write!(text, "lock {}", name.0),
+        MemoryCall::Unlock(name) => write!(text, "unlock {}", name.0),
+        MemoryCall::Size(name) => write!(text, "size {}", name.0),
+        MemoryCall::Owner(name) => write!(text, "owner {}", name.0),
+        MemoryCall::Locks(name) => write!(text, "locks {}", name.0),
+        MemoryCall::Read { name, at, count } => write!(text, "read {} {at} {count}", name.0),
+        MemoryCall::Write { name, at, bytes } => {
+            write!(text, "write {} {at} ", name.0)?;
             put_bytes(text, bytes.as_slice())
         }
-        ChunkCall::Set { at, count, byte } => write!(text, "set {label} {at} {count} {byte}"),
-        ChunkCall::StrCopy { at, text: copied } => {
-            write!(text, "strcopy {label} {at} ")?;
+        MemoryCall::Set {
+            name,
+            at,
+            count,
+            byte,
+        } => write!(text, "set {} {at} {count} {byte}", name.0),
+        MemoryCall::StrCopy {
+            name,
+            at,
+            text: copied,
+        } => {
+            write!(text, "strcopy {} {at} ", name.0)?;
             put_bytes(text, copied.as_slice())
         }
+        MemoryCall::FreeByOwner(owner) => write!(text, "freeowner {owner}"),
+        MemoryCall::FreeBytes => write!(text, "freebytes"),
+        MemoryCall::LargestStretch => write!(text, "largest"),
+        MemoryCall::HandleNew { .. }
+        | MemoryCall::PtrNew { .. }
+        | MemoryCall::Recover(_)
+        | MemoryCall::Compact => write!(text, "no line"),
     }
 }
 
@@ -554,7 +579,7 @@ fn the_first_fault_of_a_line(rt: HostRuntime) -> Result<(), Fail> {
     check(&rt, &FAULT_CASES)
 }
 
-/// How many labels a script has, if it is one.
+/// How many labels of chunks a script has, up to the last that it binds, if it is one.
 pub(crate) fn label_count(alloc: Global, script: &[u8]) -> Option<usize> {
     match parse(alloc, script) {
         Ok(script) => Some(script.chunk_label_count()),
@@ -565,8 +590,8 @@ pub(crate) fn label_count(alloc: Global, script: &[u8]) -> Option<usize> {
 const COUNT_CASES: [(&[u8], Option<usize>); 5] = [
     (b"", Some(0)),
     (b"freebytes", Some(0)),
-    (b"free a\nfree b\nfree a", Some(2)),
-    (b"free a\nfree b\nfree c\n", Some(3)),
+    (b"free a\nfree b\nbind c 0\nfree d", Some(3)),
+    (b"new a 1 1\nnth b 0\nrecget b 0 b", Some(2)),
     (b"free a\nfree", None),
 ];
 
@@ -587,7 +612,7 @@ fn database_label_count(alloc: Global, script: &[u8]) -> Option<usize> {
 
 const DATABASE_COUNT_CASES: [(&[u8], Option<usize>); 4] = [
     (b"free a\nfree b\ndbcount", Some(0)),
-    (b"free a\nfree b\ndbinfo a", Some(1)),
+    (b"free a\nfree b\ndbinfo a\nfind a \"\"", Some(1)),
     (b"nth a 0\nnth b 0\nnth a 1", Some(2)),
     (b"nth a 0\nnth b", None),
 ];

@@ -47,7 +47,7 @@ fn gives(alloc: Global, image: &[u8], script: &str, said: &str, after: &[u8]) ->
 fn a_script_has_as_many_labels_as_it_likes(rt: HostRuntime) -> Result<(), Fail> {
     let alloc = rt.alloc();
     let image = new_image(alloc, 128)?;
-    let script = lines(alloc, 1025, "free h", "")?;
+    let script = lines(alloc, 1025, "bind h", " 0")?;
     let said = repeated(alloc, "refused 1 InvalidHandle\n", 1025)?;
     assert!(rt; gives(alloc, &image, script.as_str(), said.as_str(), &image));
     Ok(())

@@ -1,0 +1,28 @@
+-- Calls by names, given by these names.
+use Rattle.std.proofs.Common.{◌≡◌, refl, ap}
+use Rattle.heap_model.specs.MemorySteps.{MemoryCall, memory_call}
+use Rattle.heap_model.specs.DatabaseSteps.{DatabaseCall, database_call}
+use Rattle.heap_model.specs.RecordSteps.{RecordCall, record_call}
+use Rattle.heap_model.specs.StoreSteps.{Call, call_by}
+use Rattle.heap_model.specs.declared.call.Call.TheVariants.{Memory, Database, Record}
+use Rattle.heap_model.specs.declared.call.MemoryCall.TheVariants.{FreeBytes}
+use Rattle.heap_model.specs.declared.call.DatabaseCall.TheVariants as databases
+use Rattle.heap_model.specs.declared.call.RecordCall.TheVariants as records
+
+memory_call-same : (call : MemoryCall) → memory_call (λ name. name) call ≡ call
+memory_call-same FreeBytes = refl
+memory_call-same call = refl
+
+database_call-same : (call : DatabaseCall) → database_call (λ db. db) call ≡ call
+database_call-same databases.Count = refl
+database_call-same call = refl
+
+record_call-same : (call : RecordCall) → record_call (λ db. db) call ≡ call
+record_call-same (records.Count db) = refl
+record_call-same call = refl
+
+-- they are the same calls
+pub same_call : (call : Call) → call_by (λ name. name) (λ db. db) call ≡ call
+same_call (Memory call) = ap Memory (memory_call-same call)
+same_call (Database call) = ap Database (database_call-same call)
+same_call (Record call) = ap Record (record_call-same call)
