@@ -170,3 +170,33 @@ slid_up old part from to n by within apart is =
     let start : from + 0 ≡ from = omega arith in
     slid_in_part old part from (to + n - from) 0 by k (omega (arith, apart)) source target is
     ∙ rw (start, same, sym apart) refl
+
+-- a list of which n bytes were copied to where they are not, further up
+pub copied_up : (old new : List ℕ) (from to n : ℕ) → from + n ≤ to → to + n ≤ length old
+    → new ≡ slice_range (take to old) from (from + n)
+    → take to old ++ (new ++ drop n (drop to old)) ≡ overwritten old to (slice_range old from (from + n))
+copied_up old new from to n apart within is =
+    let part = slice_range old from (from + n) in
+    let same = part-in-part old to from (from + n - from) (omega (arith, apart)) in
+    let many : n ≡ length part = omega (arith, length-taken old from (from + n - from) (omega (arith, apart, within))) in
+    overwritten_by_part old to n new part (is ∙ same) many
+
+-- and further down
+pub copied_down : (old new : List ℕ) (from to n : ℕ) → to + n ≤ from → from + n ≤ length old
+    → new ≡ take n (drop from old)
+    → (take to (take from old) ++ (new ++ drop (to + n - to) (drop to (take from old)))) ++ drop from old
+    ≡ overwritten old to (slice_range old from (from + n))
+unfolding overwritten
+copied_down old new from to n apart within is =
+    let part = slice_range old from (from + n) in
+    let k : from + n - from ≡ n = omega arith in
+    let here : new ≡ part = rw k is in
+    let many : to + n ≡ to + length part = omega (arith, length-taken old from (from + n - from) (omega (arith, within))) in
+    let front : take to (take from old) ≡ take to old = take-take to from old (omega (arith, apart)) in
+    let j : to + n - to ≡ n = omega arith in
+    let end : drop n (drop to (take from old)) ++ drop from old ≡ drop (to + length part) old =
+    ap (λ (l : List ℕ). l ++ drop from old) (drop-drop n to (take from old))
+    ∙ rest-of-part old from (to + n) apart
+    ∙ ap (λ (m : ℕ). drop m old) many
+    in
+    rw (here, front, j, sym end) (simp append_assoc refl)

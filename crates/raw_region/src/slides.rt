@@ -1,7 +1,8 @@
-//! Slides by a distance that is known when the program is compiled.
+//! Slides that are one call of C's `memcpy` or `memmove`.
 //!
-//! The compiler makes one call of C's `memmove` of a slice that slides within itself by a constant
-//! distance. Of a slide by any other distance it makes a loop, which takes twice as long.
+//! The compiler makes a call of `memcpy` of a copy to a part of the slice that misses what is copied,
+//! and one of `memmove` of a slice that slides within itself by a distance that it knows. Of any other
+//! slide it makes a loop, which takes up to twice as long.
 
 ghost use Rattle.std.specs.Prelude.{◌≡◌, ◌+◌, ◌-◌, ◌≤◌, ◌⊎◌, length, slice_range};
 ghost use Rattle.heap_model.specs.Bytes.{overwritten};
@@ -38,4 +39,21 @@ fn open_gap<const BY: usize>(part: &mut [u8])
     ensures { part.new ≡ overwritten part.old BY (slice_range part.old 0 (length part.old - BY)) }
 {
     part.copy_within(0..part.len() - BY, BY);
+}
+
+/// Copies the `n` bytes at `from` to `to`, which miss them.
+#[tactic(auto, using(crate::proofs::PartLaws::copied_up, crate::proofs::PartLaws::copied_down))]
+pub(crate) fn copy_apart(bytes: &mut [u8], from: usize, to: usize, n: usize)
+    requires from { from + n ≤ length bytes.old }
+    requires to { to + n ≤ length bytes.old }
+    requires apart { (from + n ≤ to) ⊎ (to + n ≤ from) }
+    ensures { bytes.new ≡ overwritten bytes.old to (slice_range bytes.old from (from + n)) }
+{
+    if from < to {
+        let (front, back) = bytes.split_at_mut(to);
+        back[..n].copy_from_slice(&front[from..from + n]);
+    } else {
+        let (front, back) = bytes.split_at_mut(from);
+        front[to..to + n].copy_from_slice(&back[..n]);
+    }
 }

@@ -40,11 +40,13 @@ fn writes_in_place(rt: HostRuntime) -> Result<(), Fail> {
 
 #[test]
 fn slides_bytes_where_they_overlap(rt: HostRuntime) -> Result<(), Fail> {
-    let cases: [(usize, usize, usize, &[u8]); 6] = [
+    let cases: [(usize, usize, usize, &[u8]); 8] = [
         (2, 0, 4, b"cdefefgh"),
         (0, 2, 4, b"ababcdgh"),
         (1, 0, 7, b"bcdefghh"),
         (0, 1, 7, b"aabcdefg"),
+        (4, 0, 4, b"efghefgh"),
+        (0, 4, 4, b"abcdabcd"),
         (5, 8, 0, b"abcdefgh"),
         (0, 0, 8, b"abcdefgh"),
     ];
