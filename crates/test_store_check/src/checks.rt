@@ -1,23 +1,9 @@
 //! Each fault, the order of faults, and what is accepted.
 
-use raw_region::Region;
-use std::alloc::Global;
+use crate::found::found;
 use std::process::Abort;
 use std::test::*;
-use store_check::{StoreSummary, check_store};
 use test_images::{DATABASE, image};
-
-/// What the checker finds: the counts of an accepted store, or the text of its first fault.
-fn found(alloc: Global, region: &Region) -> Result<String, Fail> {
-    let text = match check_store(alloc, region) {
-        Ok(StoreSummary { heap, databases }) => format!(in alloc;
-            "movable {} free {} databases {databases}",
-            heap.movable, heap.free
-        )?,
-        Err(fault) => format!(in alloc; "{fault}")?,
-    };
-    Ok(text)
-}
 
 /// Each case has changes of the listing's image, and the text of what the checker finds then.
 fn check_changed(

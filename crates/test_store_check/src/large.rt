@@ -1,10 +1,9 @@
 //! Images as large as they come.
 
+use crate::found::found;
 use raw_region::Region;
 use std::alloc::Global;
-use std::process::Abort;
 use std::test::*;
-use store_check::{StoreFault, check_store};
 
 /// Writes a word, if it lies in the region.
 fn put(region: &mut Region, at: u32, word: u32) -> Result<(), Fail> {
@@ -34,10 +33,14 @@ fn second_word(owner: u32, number: u32, at: u32) -> u32 {
     owner | 0x0100_0000u32.wrapping_sub(distance) % 0x0100_0000
 }
 
-/// An image of one database, with a record without a byte for each slot but two.
+/// The most bytes that an image has.
+const MOST: u32 = 16_777_208;
+
+/// An image of the most bytes and slots, of one database with a record without a byte for each slot but
+/// two. Behind its chunk a free one takes what is left.
 fn many_records(alloc: Global) -> Result<Region, Fail> {
-    let mut region = Region::zeroed(alloc, 1_310_792)?;
-    put_all(&mut region, 0, &[0x5048_4931, 1_310_792, 0xFFFF_0000, 16])?;
+    let mut region = Region::zeroed(alloc, MOST)?;
+    put_all(&mut region, 0, &[0x5048_4931, MOST, 0xFFFF_0000, 16])?;
     put_all(&mut region, 16, &[262_168, 262_184])?;
     put_all(
         &mut region,
@@ -61,19 +64,30 @@ fn many_records(alloc: Global) -> Result<Region, Fail> {
             &[8, second_word(0x0F00_0000, index + 2, at)],
         )?;
     }
+    put(&mut region, 1_310_792, 0x8000_0000 | MOST - 1_310_792)?;
     Ok(region)
 }
 
+/// Words that are changed, and what is found then. The last entry stands at 786,518.
+const OF_MANY_RECORDS: [(&[(u32, u32)], &str); 4] = [
+    (&[], "movable 65535 free 15466416 databases 1"),
+    // the last record names the data of the first
+    (&[(786_518, 24)], "SharedChunk 24"),
+    // it is deleted and names none
+    (&[(786_518, 0), (786_522, 0x8000_FFFD)], "StrayChunk 262152"),
+    // it has the ID of the first
+    (&[(786_522, 1)], "BadId 0 65532"),
+];
+
 #[test]
 fn many_records_are_checked(rt: HostRuntime) -> Result<(), Fail> {
-    let mut region = many_records(rt.alloc())?;
-    let databases = check_store(rt.alloc(), &region)
-        .ok()
-        .map(|summary| summary.databases);
-    assert_eq!(rt; databases, Some(1));
-    put(&mut region, 262_262 + 8 * 65_532 + 4, 1)?;
-    let fault = check_store(rt.alloc(), &region).err();
-    assert_eq!(rt; fault, Some(StoreFault::BadId(0, 65_532)));
+    for (changes, text) in &OF_MANY_RECORDS {
+        let mut region = many_records(rt.alloc())?;
+        for (at, word) in *changes {
+            put(&mut region, *at, *word)?;
+        }
+        assert_eq!(rt; found(rt.alloc(), &region)?.as_str(), *text);
+    }
     Ok(())
 }
 
@@ -101,18 +115,31 @@ fn many_databases(alloc: Global, count: u16) -> Result<Region, Fail> {
     Ok(region)
 }
 
+/// How many databases there are, words that are changed, and what is found then. With 1,024 of them the
+/// name of the last stands at 98,256.
+const OF_MANY_DATABASES: [(u16, &[(u32, u32)], &str); 7] = [
+    (1, &[], "movable 2 free 0 databases 1"),
+    (1_000, &[], "movable 1001 free 0 databases 1000"),
+    (1_001, &[], "movable 1002 free 0 databases 1001"),
+    (1_024, &[], "movable 1025 free 0 databases 1024"),
+    // the last has the name of the first, and that of the one in front of it
+    (1_024, &[(98_256, 0x4141_4141)], "SameName 1023"),
+    (1_024, &[(98_256, 0x4141_453F)], "SameName 1023"),
+    (1_025, &[], "BadDirectorySlot 1024"),
+];
+
 #[test]
 fn many_databases_are_checked(rt: HostRuntime) -> Result<(), Fail> {
-    let mut region = many_databases(rt.alloc(), 1_024)?;
-    let databases = check_store(rt.alloc(), &region)
-        .ok()
-        .map(|summary| summary.databases);
-    assert_eq!(rt; databases, Some(1_024));
-    put(&mut region, 8_232 + 88 * 1_023, 0x4141_4141)?;
-    let fault = check_store(rt.alloc(), &region).err();
-    assert_eq!(rt; fault, Some(StoreFault::SameName(1_023)));
-    let region = many_databases(rt.alloc(), 1_025)?;
-    let fault = check_store(rt.alloc(), &region).err();
-    assert_eq!(rt; fault, Some(StoreFault::BadDirectorySlot(1_024)));
+    for (count, changes, text) in &OF_MANY_DATABASES {
+        let mut region = many_databases(rt.alloc(), *count)?;
+        for (at, word) in *changes {
+            put(&mut region, *at, *word)?;
+        }
+        assert_eq!(rt;
+            found(rt.alloc(), &region)?.as_str(),
+            *text,
+            "{count} databases"
+        );
+    }
     Ok(())
 }

@@ -1,5 +1,5 @@
-//! Tests of the checker of stores: each fault, the order of faults, memory that is refused, and images
-//! as large as they come.
+//! Tests of the checker of stores: each fault and its text, the order of faults, memory that is refused,
+//! and images as large as they come.
 //!
 //! This crate has no code but its tests.
 #![tactic(auto)]
@@ -7,6 +7,10 @@
 #[cfg(test)]
 mod checks;
 #[cfg(test)]
+mod found;
+#[cfg(test)]
 mod large;
 #[cfg(test)]
 mod memory;
+#[cfg(test)]
+mod texts;
