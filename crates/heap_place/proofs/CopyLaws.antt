@@ -1,6 +1,6 @@
 -- The bytes of some chunks are carried up over the free chunk behind them, and a free header is written
 -- where they began.
-use Rattle.std.proofs.Common.{◌≡◌, ℕ, ◌+◌, ◌-◌, ◌%◌, ◌^◌, ◌<◌, ◌≤◌, List, [], ◌∷◌, ◌++◌, length, take, drop, refl, sym, ap, subst, ◌∙◌, append_assoc, arith, inl, inr, length-take, length-drop}
+use Rattle.std.proofs.Common.{◌≡◌, ℕ, ◌+◌, ◌-◌, ◌%◌, ◌^◌, ◌≤◌, List, [], ◌∷◌, ◌++◌, length, take, drop, refl, sym, ap, subst, ◌∙◌, append_assoc, arith, inl, length-take, length-drop}
 use Rattle.heap_model.specs.Bytes.{u32_at, u32_bytes, overwritten}
 use Rattle.heap_model.specs.Chunk.{Chunk, free, total, IsFree, SpelledAll}
 use Rattle.heap_model.specs.Slots.{area_start}

@@ -1,5 +1,5 @@
 -- What a chunk that goes down is read as, and what may be written.
-use Rattle.std.proofs.Common.{◌≡◌, ℕ, ◌+◌, ◌-◌, ◌%◌, ◌^◌, ◌≤◌, List, ◌∷◌, ◌++◌, length, take, drop, sym, ap, subst, ◌∙◌, arith, length-take, length-drop}
+use Rattle.std.proofs.Common.{◌≡◌, ℕ, ◌+◌, ◌-◌, ◌^◌, ◌≤◌, List, ◌∷◌, ◌++◌, length, take, drop, sym, ap, subst, ◌∙◌, arith, length-take, length-drop}
 use Rattle.heap_model.specs.Bytes.{u32_bytes, overwritten}
 use Rattle.heap_model.specs.Chunk.{Chunk, free, movable, need}
 use Rattle.heap_model.specs.Slots.{IsSlot, table_end}

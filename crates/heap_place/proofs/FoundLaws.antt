@@ -4,13 +4,13 @@ use Rattle.std.specs.Prelude.{IsSome, IfSome, IfNone}
 use Rattle.heap_model.specs.Chunk.{Chunk, need, free, movable, fixed, fixed_lock, size_of, total, Spelled, SpelledAll}
 use Rattle.heap_model.specs.Slots.{IsSlot, area_start}
 use Rattle.heap_model.specs.Heap.{BodyHere, IsHeap, HeapAccepted}
-use Rattle.heap_model.specs.Meaning.{LiveChunk, NamedHere}
+use Rattle.heap_model.specs.Meaning.{LiveChunk}
 use Rattle.heap_model.specs.Reading.{chunks_of, held}
 use Rattle.heap_model.specs.Placing.{Finds}
 use Rattle.laws_heap.proofs.Chunks.{Spelled-size, SpelledAll-split, SpelledAll-end}
 use Rattle.laws_heap.proofs.Placed.{AnyPlaced-mid}
 use Rattle.laws_heap.proofs.Accepted.{heap_of_read}
-use Rattle.laws_heap.proofs.Finding.{finds_held, finds_spelled}
+use Rattle.laws_heap.proofs.Finding.{finds_held, named_size, finds_spelled, finds_body}
 use Rattle.heap_place.specs.declared.found.Found.{Found}
 use Rattle.heap_place.specs.Found.{IsFound, IsOne}
 
@@ -76,11 +76,7 @@ fields_of image name found f = record { name_is = f.name_is; count = f.count; lo
 
 -- what the whole chunk takes
 pub found_size : (image : List ℕ) (found : Found) → (f : IsOne image found) → need found.length ≡ size_of f.chunk
-found_size image found f = ap need f.count ∙ takes f.live f.chunk f.finds.named where
-  takes : (live : LiveChunk) (c : Chunk) → NamedHere found.name.0 live (found.place.0 - 8) c → need (length live.bytes) ≡ size_of c
-  takes live (free size) named = absurd named
-  takes live (movable bytes lock owner slot) named = ap (λ (x : LiveChunk). need (length x.bytes)) (sym named.1)
-  takes live (fixed bytes owner) named = ap (λ (x : LiveChunk). need (length x.bytes)) (sym named.1)
+found_size image found f = ap need f.count ∙ named_size found.name.0 f.live (found.place.0 - 8) f.chunk f.finds.named
 
 -- where it lies
 pub found_inside : (image : List ℕ) (found : Found) → HeapAccepted image → IsOne image found → found.place.0 - 8 + need found.length ≤ length image
@@ -108,17 +104,7 @@ when_movable image name found f P loose of_movable = by_chunk f.chunk f.finds wh
 -- ---- its bytes
 
 body_inside : (image : List ℕ) (at name : ℕ) (live : LiveChunk) (chunk : Chunk) → HeapAccepted image → Finds image name live chunk at → at + 8 + length live.bytes ≤ length image
-body_inside image at name live (free size) h f = absurd f.named
-body_inside image at name live (movable bytes lock owner slot) h f =
-    let s : Spelled image at (movable bytes lock owner slot) = finds_spelled image name live (movable bytes lock owner slot) at h f in
-    let inside = s.1.inside in
-    let e : length bytes ≡ length live.bytes = ap (λ (x : LiveChunk). length x.bytes) f.named.1 in
-    omega arith
-body_inside image at name live (fixed bytes owner) h f =
-    let s : Spelled image at (fixed bytes owner) = finds_spelled image name live (fixed bytes owner) at h f in
-    let inside = s.inside in
-    let e : length bytes ≡ length live.bytes = ap (λ (x : LiveChunk). length x.bytes) f.named.1 in
-    omega arith
+body_inside image at name live chunk h f = let inside = (finds_body image name live chunk at h f).inside in omega arith
 
 pub bytes_inside : (image : List ℕ) (found : Found) → HeapAccepted image → IsOne image found → found.place.0 + found.length ≤ length image
 bytes_inside image found h f =

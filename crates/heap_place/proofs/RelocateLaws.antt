@@ -14,7 +14,7 @@ use Rattle.heap_model.specs.Space.{NoRun, place_of}
 use Rattle.heap_model.specs.Placing.{Finds}
 use Rattle.heap_model.specs.Layout.{Becomes, Exchanges, Alters, in_front, freed, with_bytes, IsRoom, WritesPlain}
 use Rattle.heap_model.specs.Resizing.{with_length, Relocates}
-use Rattle.laws_heap.proofs.Finding.{held_finds, finds_spelled}
+use Rattle.laws_heap.proofs.Finding.{held_finds, finds_spelled, finds_body}
 use Rattle.laws_heap.proofs.Altering.{finds_place, body_stays}
 use Rattle.laws_heap.proofs.Exchanging.{ChangesName}
 use Rattle.laws_heap.proofs.Changing.{claim_changes, room_unheld, bytes_changes, freed_changes}
@@ -181,11 +181,7 @@ found_bytes : (image : List ℕ) (found : Found) → HeapAccepted image → (f :
 found_bytes image found h f =
     let low = f.behind_header in
     let body : found.place.0 - 8 + 8 ≡ found.place.0 = omega arith in
-    ap (λ (n : ℕ). slice_range image found.place.0 (found.place.0 + n)) f.count ∙ ap (λ (n : ℕ). slice_range image n (n + length f.live.bytes)) (sym body) ∙ by_chunk f.live f.chunk (finds_spelled image found.name.0 f.live f.chunk (found.place.0 - 8) h f.finds) f.finds.named where
-      by_chunk : (live : LiveChunk) (c : Chunk) → Spelled image (found.place.0 - 8) c → NamedHere found.name.0 live (found.place.0 - 8) c → slice_range image (found.place.0 - 8 + 8) (found.place.0 - 8 + 8 + length live.bytes) ≡ live.bytes
-      by_chunk live (free size) s named = absurd named
-      by_chunk live (movable bytes lock owner slot) s named = subst (λ (x : LiveChunk). slice_range image (found.place.0 - 8 + 8) (found.place.0 - 8 + 8 + length x.bytes) ≡ x.bytes) named.1 s.1.body
-      by_chunk live (fixed bytes owner) s named = subst (λ (x : LiveChunk). slice_range image (found.place.0 - 8 + 8) (found.place.0 - 8 + 8 + length x.bytes) ≡ x.bytes) named.1 s.body
+    ap (λ (n : ℕ). slice_range image found.place.0 (found.place.0 + n)) f.count ∙ ap (λ (n : ℕ). slice_range image n (n + length f.live.bytes)) (sym body) ∙ (finds_body image found.name.0 f.live f.chunk (found.place.0 - 8) h f.finds).bytes
 
 -- the first of them
 first_bytes : (image bytes : List ℕ) (at all n most : ℕ) → slice_range image at (at + all) ≡ bytes → length bytes ≡ all → n ≡ min all most → slice_range image at (at + n) ≡ take most bytes

@@ -1,5 +1,5 @@
 -- A live chunk is altered where it stands, and a free chunk is claimed for a fixed one.
-use Rattle.std.proofs.Common.{◌≡◌, ℕ, ◌+◌, ◌-◌, ◌*◌, ◌%◌, ◌^◌, ◌<◌, ◌≤◌, List, [], ◌∷◌, ◌++◌, length, Option, Some, refl, sym, ap, subst, ◌∙◌, arith, inl, inr}
+use Rattle.std.proofs.Common.{◌≡◌, ℕ, ◌+◌, ◌-◌, ◌*◌, ◌^◌, ◌<◌, ◌≤◌, List, [], ◌∷◌, ◌++◌, length, Option, Some, refl, sym, ap, subst, ◌∙◌, arith, inl, inr}
 use Rattle.std.specs.Prelude.{◌↔◌, ◌==◌, slice_range}
 use Rattle.std.proofs.lemmas.Bool.{eq-eqb}
 use Rattle.heap_model.specs.Bytes.{overwritten}

@@ -1,11 +1,11 @@
 -- What an image holds, where its chunks are and what is free follow from its layout.
-use Rattle.std.proofs.Common.{◌≡◌, ℕ, ◌+◌, ◌*◌, ◌/◌, ◌<◌, Bool, cond, List, [], ◌∷◌, refl, sym, ap, subst, ◌∙◌, arith, inl, inr}
+use Rattle.std.proofs.Common.{◌≡◌, ℕ, ◌<◌, Bool, cond, List, [], ◌∷◌, refl, sym, ap, subst, ◌∙◌, arith, inl, inr}
 use Rattle.std.specs.Prelude.{sum_by, count_by, ◌↔◌}
 use Rattle.std.proofs.lemmas.Bool.{cases_eq}
 use Rattle.std.proofs.lemmas.List.Sums.{sum_by-cons}
 use Rattle.heap_model.specs.Bytes.{u32_at}
 use Rattle.heap_model.specs.Chunk.{Chunk, free_size}
-use Rattle.heap_model.specs.Slots.{IsSlot, area_start}
+use Rattle.heap_model.specs.Slots.{IsSlot, slots_of, area_start}
 use Rattle.heap_model.specs.Heap.{BodyHere, IsBody, IsHeap, HeapAccepted}
 use Rattle.heap_model.specs.Placed.{EveryOne}
 use Rattle.heap_model.specs.Reading.{chunks_of, held, live_under}
@@ -44,6 +44,13 @@ same_frame image h = record { accepted = h; len = refl; count = refl; directory 
 pub frame_then : (old mid new : List ℕ) → SameFrame old mid → SameFrame mid new → SameFrame old new
 frame_then old mid new a b = record { accepted = b.accepted; len = b.len ∙ a.len; count = b.count ∙ a.count; directory = b.directory ∙ a.directory }
 
+-- it has the same slots, and its chunks begin where they began
+pub frame_slots : (old new : List ℕ) → SameFrame old new → slots_of new ≡ slots_of old
+frame_slots old new frame = listed_alike old new frame.count
+
+pub frame_start : (old new : List ℕ) → SameFrame old new → area_start new ≡ area_start old
+frame_start old new frame = start_alike old new frame.count
+
 -- where these are its chunks, it has their layout
 pub becomes_heap : (old new : List ℕ) (cs : List Chunk) → SameHead old new → IsHeap new cs → Becomes old new cs
 becomes_heap old new cs same h = record { frame = frame_of old new cs same h; layout = ap merged (chunks_of-tiled new cs h.tiles) }
@@ -53,7 +60,7 @@ pub becomes_alike : (old new : List ℕ) (cs ds : List Chunk) → merged cs ≡ 
 becomes_alike old new cs ds e b = record { frame = b.frame; layout = b.layout ∙ e }
 
 pub becomes_start : (old new : List ℕ) (cs : List Chunk) → Becomes old new cs → area_start new ≡ area_start old
-becomes_start old new cs b = start_alike old new b.frame.count
+becomes_start old new cs b = frame_start old new b.frame
 
 pub becomes_held : (old new : List ℕ) (cs : List Chunk) (name : ℕ) → Becomes old new cs → held new name ≡ live_under (area_start old) cs name
 becomes_held old new cs name b =
@@ -83,7 +90,7 @@ becomes_body old new cs slot place b =
     )
 
 pub slot_kept : (old new : List ℕ) (cs : List Chunk) (slot : ℕ) → Becomes old new cs → IsSlot old slot → IsSlot new slot
-slot_kept old new cs slot b s = slot_alike old new slot (listed_alike old new b.frame.count) s
+slot_kept old new cs slot b s = slot_alike old new slot (frame_slots old new b.frame) s
 
 -- a slot in use holds the place of the chunk that names it
 pub becomes_in_slot : (old new : List ℕ) (cs : List Chunk) (slot place : ℕ) → Becomes old new cs → IsSlot old slot → 0 < place → (u32_at new slot ≡ place) ↔ IsBody (area_start old) cs slot place

@@ -58,11 +58,12 @@ lock_changes old new name place lock live (movable bytes count owner slot) h low
     named_changes old new name place live (record live { lock = lock }) (movable bytes count owner slot) (with_lock lock) h low f x refl (f.named.0, ap (λ (l : LiveChunk). record l { lock = lock }) f.named.1)
 lock_changes old new name place lock live (fixed bytes owner) h low f loose x = absurd (loose (sym (ap (λ (l : LiveChunk). l.lock) f.named.1)))
 
-pub owner_changes : (old new : List ℕ) (name place owner : ℕ) (live : LiveChunk) (c : Chunk) → HeapAccepted old → 8 ≤ place → Finds old name live c (place - 8) → Alters old new (place - 8) (with_owner owner) → ChangesName old new name (Some (record live { owner = owner })) (Some place)
-owner_changes old new name place owner live (free size) h low f x = absurd f.named
-owner_changes old new name place owner live (movable bytes count holder slot) h low f x =
+-- to any but the manager, if it is fixed
+pub owner_changes : (old new : List ℕ) (name place owner : ℕ) (live : LiveChunk) (c : Chunk) → HeapAccepted old → 8 ≤ place → Finds old name live c (place - 8) → (live.lock ≡ fixed_lock → 0 < owner) → Alters old new (place - 8) (with_owner owner) → ChangesName old new name (Some (record live { owner = owner })) (Some place)
+owner_changes old new name place owner live (free size) h low f some x = absurd f.named
+owner_changes old new name place owner live (movable bytes count holder slot) h low f some x =
     named_changes old new name place live (record live { owner = owner }) (movable bytes count holder slot) (with_owner owner) h low f x refl (f.named.0, ap (λ (l : LiveChunk). record l { owner = owner }) f.named.1)
-owner_changes old new name place owner live (fixed bytes holder) h low f x =
+owner_changes old new name place owner live (fixed bytes holder) h low f some x =
     named_changes old new name place live (record live { owner = owner }) (fixed bytes holder) (with_owner owner) h low f x refl (f.named.0, ap (λ (l : LiveChunk). record l { owner = owner }) f.named.1)
 
 pub bytes_changes : (old new : List ℕ) (name place at : ℕ) (part : List ℕ) (live : LiveChunk) (c : Chunk) → HeapAccepted old → 8 ≤ place → Finds old name live c (place - 8) → at + length part ≤ length live.bytes → Alters old new (place - 8) (with_bytes at part)

@@ -7,7 +7,7 @@ use Rattle.std.proofs.lemmas.Bool.{eq-eqb, cases_eq}
 use Rattle.std.proofs.lemmas.Bool.Decides.{nat_tests}
 use Rattle.heap_model.specs.Bytes.{u32_at}
 use Rattle.heap_model.specs.Chunk.{Chunk, free, movable, fixed, need, total}
-use Rattle.heap_model.specs.Slots.{IsSlot, slot_count, slots_of, area_start}
+use Rattle.heap_model.specs.Slots.{IsSlot, slots_of, area_start}
 use Rattle.heap_model.specs.Heap.{BodyHere, IsBody, HeapAccepted}
 use Rattle.heap_model.specs.Placed.{EveryPlaced, AnyPlaced}
 use Rattle.heap_model.specs.Meaning.{LiveChunk}
@@ -19,13 +19,13 @@ use Rattle.heap_model.specs.Packing.{Packed, Slid, packed_behind, packed, moved_
 use Rattle.laws_heap.specs.Laws.{SlidAlike}
 use Rattle.laws_heap.proofs.Deciding.{none_some}
 use Rattle.laws_heap.proofs.Placed.{TakesBytes, SpelledAll-takes, AnyPlaced-left, AnyPlaced-right}
-use Rattle.laws_heap.proofs.Slots.{every_slot, same_slots}
+use Rattle.laws_heap.proofs.Slots.{every_slot}
 use Rattle.laws_heap.proofs.Bodies.{IsBody-low}
 use Rattle.laws_heap.proofs.Meanings.{slot_place, empty_unheld, held-is}
 use Rattle.laws_heap.proofs.Finding.{read_heap, finds_held, in_slot}
 use Rattle.laws_heap.proofs.Lives.{live_placed, place_replaced}
 use Rattle.laws_heap.proofs.Altering.{finds_place}
-use Rattle.laws_heap.proofs.Becoming.{rooms-layout, becomes_held, becomes_place, becomes_free, becomes_no_run, becomes_body, count_alike}
+use Rattle.laws_heap.proofs.Becoming.{rooms-layout, becomes_held, becomes_place, becomes_free, becomes_no_run, becomes_body, count_alike, frame_slots}
 use Rattle.laws_heap.proofs.Exchanging.{layout_takes, ChangesName}
 use Rattle.laws_heap.proofs.Packings.{packed_slid, packed_once}
 use Rattle.laws_heap.proofs.Numbering.{stretch-layout, slid_stretch}
@@ -55,10 +55,10 @@ free_slots_held image h =
     (every_slot (λ slot. (u32_at image slot == 0) ≡ is_none (held image slot)) image (λ slot s. same_test (u32_at image slot) (held image slot) (slot_unheld image slot h s)))
 
 -- where the same is held, as many slots are empty
-pub slots_follow : (old new : List ℕ) → HeapAccepted old → HeapAccepted new → slot_count new ≡ slot_count old → ((name : ℕ) → held new name ≡ held old name) → free_slots new ≡ free_slots old
-slots_follow old new was is count same =
+pub slots_follow : (old new : List ℕ) → HeapAccepted old → HeapAccepted new → slots_of new ≡ slots_of old → ((name : ℕ) → held new name ≡ held old name) → free_slots new ≡ free_slots old
+slots_follow old new was is listed same =
     free_slots_held new is
-    ∙ ap (count_by (λ slot. is_none (held new slot))) (same_slots old new count)
+    ∙ ap (count_by (λ slot. is_none (held new slot))) listed
     ∙ count_alike (λ slot. is_none (held new slot)) (λ slot. is_none (held old slot)) (slots_of old) (every_slot (λ slot. is_none (held new slot) ≡ is_none (held old slot)) old (λ slot s. ap is_none (same slot)))
     ∙ sym (free_slots_held old was)
 
@@ -73,7 +73,7 @@ slid_alike old new cs h b s = record {
   holds = holds;
   stays = λ name live e locked some. becomes_place old new cs name b ∙ slid_place (area_start old) (chunks_of old) cs name live s e locked;
   free_bytes = becomes_free old new cs b ∙ slid_free (chunks_of old) cs s;
-  slots = slots_follow old new h b.frame.accepted b.frame.count holds;
+  slots = slots_follow old new h b.frame.accepted (frame_slots old new b.frame) holds;
   room = rooms-layout new ∙ slid_rooms (area_start old) (area_start new) (chunks_of old) (layout_of new) (takes_bytes old h) (layout_takes new b.frame.accepted) slid;
   stretch = λ name. stretch-layout new name ∙ slid_stretch (is_movable_as name) (area_start old) (area_start new) (chunks_of old) (layout_of new) (λ size. refl) (takes_bytes old h) (layout_takes new b.frame.accepted) slid;
 } where

@@ -1,11 +1,11 @@
 -- The directory word is written: all else of the image is as it was.
-use Rattle.std.proofs.Common.{◌≡◌, ℕ, ◌+◌, ◌<◌, ◌≤◌, ◌^◌, ◌%◌, List, ◌∷◌, length, Option, Some, None, refl, sym, ap, subst, ◌∙◌, arith, inl, inr}
+use Rattle.std.proofs.Common.{◌≡◌, ℕ, ◌+◌, ◌<◌, ◌≤◌, ◌^◌, List, ◌∷◌, length, Option, Some, None, refl, sym, ap, subst, ◌∙◌, arith, inl, inr}
 use Rattle.std.proofs.lemmas.Bool.{cases_eq}
 use Rattle.std.specs.Prelude.{◌⊎◌}
 use Rattle.heap_model.specs.Bytes.{u32_at, u32_bytes, overwritten}
 use Rattle.heap_model.specs.Chunk.{Chunk, free, movable, fixed, total, SpelledAll}
 use Rattle.heap_model.specs.Frame.{directory_at}
-use Rattle.heap_model.specs.Slots.{IsSlot, slot_count, head_end, area_start}
+use Rattle.heap_model.specs.Slots.{IsSlot, slot_count, slots_of, head_end, area_start}
 use Rattle.heap_model.specs.Heap.{IsHead, IsBody, Tiles, Tied, IsCallersIfFixed, ManagersHere, HasDirectory, directory_of, IsHeap, HeapAccepted}
 use Rattle.heap_model.specs.Placed.{EveryPlaced, AnyPlaced}
 use Rattle.heap_model.specs.Meaning.{LiveChunk, NamedHere}
@@ -148,6 +148,9 @@ directory_written old new word h is fits may = (record { accepted = (cs, heap_ne
       inr (was, wrote_word_apart old new 12 16 at w (inr (omega (arith, low), omega (arith, high, end))))
 
 -- ---- where another directory is named
+
+pub named_slots : (old new : List ℕ) (word : ℕ) → NamesDirectory old new word → slots_of new ≡ slots_of old
+named_slots old new word n = same_slots old new n.count
 
 pub named_start : (old new : List ℕ) (word : ℕ) → NamesDirectory old new word → area_start new ≡ area_start old
 named_start old new word n = start_alike old new n.count

@@ -2,9 +2,9 @@
 use Rattle.std.proofs.Common.{◌≡◌, ◌≢◌, ℕ, ◌+◌, ◌-◌, ◌<◌, ◌≤◌, List, ◌∷◌, ◌++◌, length, Option, Some, None, refl, sym, ap, subst, ◌∙◌, arith}
 use Rattle.std.proofs.lemmas.Bool.{eq-eqb}
 use Rattle.std.proofs.lemmas.Bool.Decides.{nat_tests}
-use Rattle.std.specs.Prelude.{◌==◌}
+use Rattle.std.specs.Prelude.{◌==◌, slice_range}
 use Rattle.heap_model.specs.Bytes.{u32_at}
-use Rattle.heap_model.specs.Chunk.{Chunk, free, movable, fixed, total, Spelled, SpelledAll}
+use Rattle.heap_model.specs.Chunk.{Chunk, free, movable, fixed, fixed_lock, need, size_of, total, IsLive, Spelled, SpelledAll}
 use Rattle.heap_model.specs.Slots.{IsSlot, area_start}
 use Rattle.heap_model.specs.Heap.{BodyHere, IsHeap, HeapAccepted}
 use Rattle.heap_model.specs.Placed.{EveryPlaced, AnyPlaced}
@@ -48,6 +48,31 @@ pub finds_spelled : (image : List ℕ) (name : ℕ) (live : LiveChunk) (chunk : 
 finds_spelled image name live chunk at h f =
     let area : SpelledAll image (area_start image) (f.before ++ chunk ∷ f.after) (length image) = subst (λ (cs : List Chunk). SpelledAll image (area_start image) cs (length image)) f.chunks (read_heap image h).tiles.area in
     subst (λ (n : ℕ). Spelled image n chunk) (sym f.there) (SpelledAll-split image (area_start image) f.before (chunk ∷ f.after) (length image) area).1.0
+
+-- what a chunk of a name takes
+pub named_size : (name : ℕ) (live : LiveChunk) (at : ℕ) (c : Chunk) → NamedHere name live at c → need (length live.bytes) ≡ size_of c
+named_size name live at (free size) named = absurd named
+named_size name live at (movable bytes lock owner slot) named = ap (λ (x : LiveChunk). need (length x.bytes)) (sym named.1)
+named_size name live at (fixed bytes owner) named = ap (λ (x : LiveChunk). need (length x.bytes)) (sym named.1)
+
+-- and its body, which begins behind its header
+pub record HasBody (image : List ℕ) (at : ℕ) (live : LiveChunk) : Type 0 where
+  pub inside : at + need (length live.bytes) ≤ length image
+  pub bytes : slice_range image (at + 8) (at + 8 + length live.bytes) ≡ live.bytes
+
+body_of_live : (image : List ℕ) (at : ℕ) (live : LiveChunk) (bytes : List ℕ) (lock owner h_offset : ℕ) → bytes ≡ live.bytes → IsLive image at bytes lock owner h_offset → HasBody image at live
+body_of_live image at live bytes lock owner h_offset e s = record {
+  inside = subst (λ (xs : List ℕ). at + need (length xs) ≤ length image) e s.inside;
+  bytes = subst (λ (xs : List ℕ). slice_range image (at + 8) (at + 8 + length xs) ≡ xs) e s.body;
+}
+
+pub named_body : (image : List ℕ) (name : ℕ) (live : LiveChunk) (at : ℕ) (c : Chunk) → Spelled image at c → NamedHere name live at c → HasBody image at live
+named_body image name live at (free size) s named = absurd named
+named_body image name live at (movable bytes lock owner slot) s named = body_of_live image at live bytes lock owner s.0 (ap (λ (x : LiveChunk). x.bytes) named.1) s.1
+named_body image name live at (fixed bytes owner) s named = body_of_live image at live bytes fixed_lock owner 0 (ap (λ (x : LiveChunk). x.bytes) named.1) s
+
+pub finds_body : (image : List ℕ) (name : ℕ) (live : LiveChunk) (chunk : Chunk) (at : ℕ) → HeapAccepted image → Finds image name live chunk at → HasBody image at live
+finds_body image name live chunk at h f = named_body image name live at chunk (finds_spelled image name live chunk at h f) f.named
 
 pub finds_read : (image : List ℕ) (name : ℕ) (live : LiveChunk) (chunk : Chunk) (at : ℕ) → HeapAccepted image → Finds image name live chunk at → chunk_at image at ≡ Some chunk
 finds_read image name live chunk at h f = chunk_at-spelled image at chunk (finds_spelled image name live chunk at h f)

@@ -16,7 +16,8 @@ use Rattle.heap_model.specs.Packing.{lives}
 use Rattle.laws_heap.proofs.Deciding.{cond-true, cond-false}
 use Rattle.laws_heap.proofs.Chunks.{total-append}
 use Rattle.laws_heap.proofs.Placed.{AnyPlaced-mid}
-use Rattle.laws_heap.proofs.Slots.{slot_facts, start_alike}
+use Rattle.laws_heap.proofs.Slots.{slot_facts, same_slots, start_alike}
+use Rattle.laws_heap.proofs.Becoming.{frame_slots, frame_start}
 use Rattle.laws_heap.proofs.Meanings.{slot_place, held-is}
 use Rattle.laws_heap.proofs.Finding.{read_heap}
 use Rattle.laws_heap.proofs.Exchanging.{named_beside}
@@ -135,19 +136,18 @@ area_shared image h =
 
 -- ---- where the same is held
 
-pub free_follows : (old new : List ℕ) → HeapAccepted old → HeapAccepted new → length new ≡ length old → slot_count new ≡ slot_count old → ((name : ℕ) → held new name ≡ held old name) → free_total new ≡ free_total old
-free_follows old new before after long count same =
+pub free_follows : (old new : List ℕ) → HeapAccepted old → HeapAccepted new → length new ≡ length old → area_start new ≡ area_start old → ((name : ℕ) → held new name ≡ held old name) → free_total new ≡ free_total old
+free_follows old new before after long start same =
     let was = area_shared old before in
     let is = area_shared new after in
-    let start = start_alike old new count in
     let bound : sum_below (λ name. taken (held new name)) (length new + 1) ≡ sum_below (λ name. taken (held new name)) (length old + 1) = ap (λ (n : ℕ). sum_below (λ name. taken (held new name)) (n + 1)) long in
     let names = same_below (λ name. taken (held new name)) (λ name. taken (held old name)) (length old + 1) (λ name. ap taken (same name)) in
     omega (arith, was, is, long, start, bound, names)
 
 -- as much is free, and as many slots
 pub free_alike : (old new : List ℕ) → HeapAccepted old → HeapAccepted new → length new ≡ length old → slot_count new ≡ slot_count old → ((name : ℕ) → held new name ≡ held old name) → (free_total new ≡ free_total old) × (free_slots new ≡ free_slots old)
-free_alike old new before after long count same = (free_follows old new before after long count same, slots_follow old new before after count same)
+free_alike old new before after long count same = (free_follows old new before after long (start_alike old new count) same, slots_follow old new before after (same_slots old new count) same)
 
 -- the same, where a call has left the frame as it was
 pub as_before : (old new : List ℕ) → HeapAccepted old → SameFrame old new → ((name : ℕ) → held new name ≡ held old name) → (free_total new ≡ free_total old) × (free_slots new ≡ free_slots old)
-as_before old new h frame same = free_alike old new h frame.accepted frame.len frame.count same
+as_before old new h frame same = (free_follows old new h frame.accepted frame.len (frame_start old new frame) same, slots_follow old new h frame.accepted (frame_slots old new frame) same)

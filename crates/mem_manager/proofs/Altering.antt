@@ -4,7 +4,7 @@ use Rattle.std.proofs.lemmas.Bool.{cases_eq, cases_lt}
 use Rattle.std.specs.Prelude.{slice_range}
 use Rattle.heap_model.specs.Memory.{Memory}
 use Rattle.heap_model.specs.Bytes.{overwritten}
-use Rattle.heap_model.specs.Chunk.{Chunk, free, movable, fixed, fixed_lock, IsLive, Spelled}
+use Rattle.heap_model.specs.Chunk.{Chunk, free, movable, fixed, fixed_lock, Spelled}
 use Rattle.heap_model.specs.Heap.{directory_of, HeapAccepted}
 use Rattle.heap_model.specs.Meaning.{LiveChunk, NamedHere}
 use Rattle.heap_model.specs.Maps.{callers_map}
@@ -16,7 +16,7 @@ use Rattle.heap_model.specs.declared.call.MemoryCall.TheVariants.{Lock, Unlock, 
 use Rattle.heap_model.specs.declared.call.Reply.TheVariants.{Refused, Done, Number, Locked, Data}
 use Rattle.heap_model.specs.declared.refusal.Refusal.TheVariants.{OwnedByDatabase, ChunkNotLocked, LockOverflow, ChunkFixed, InvalidOwner, OutOfBounds}
 use Rattle.laws_heap.proofs.Frames.{slice-of_slice}
-use Rattle.laws_heap.proofs.Finding.{finds_spelled}
+use Rattle.laws_heap.proofs.Finding.{finds_spelled, finds_body}
 use Rattle.laws_heap.proofs.Exchanging.{ChangesName}
 use Rattle.laws_heap.proofs.Changing.{lock_changes, owner_changes, bytes_changes}
 use Rattle.laws_heap.proofs.Owning.{not_directory}
@@ -36,33 +36,23 @@ lock_small image name found h f = let l = f.lock_is in let most = lock_most f.ch
 
 -- its body lies in the image
 pub body_there : (image : List ℕ) (name : ℕ) (found : Found) → HeapAccepted image → (f : IsFound image name found) → (found.place.0 + found.length ≤ length image) × (slice_range image found.place.0 (found.place.0 + found.length) ≡ f.live.bytes)
-body_there image name found h f = there f.chunk f.finds.named (finds_spelled image name f.live f.chunk (found.place.0 - 8) h f.finds) where
-  low : 8 ≤ found.place.0
-  low = f.behind_header
-
-  behind : found.place.0 - 8 + 8 ≡ found.place.0
-  behind = omega arith
-
-  body : (bytes : List ℕ) (lock owner h_offset : ℕ) → bytes ≡ f.live.bytes → IsLive image (found.place.0 - 8) bytes lock owner h_offset → (found.place.0 + found.length ≤ length image) × (slice_range image found.place.0 (found.place.0 + found.length) ≡ f.live.bytes)
-  body bytes lock owner h_offset e s =
-      let len : length bytes ≡ found.length = ap length e ∙ sym f.count in
-      let inside = s.inside in (
-        omega arith,
-        ap (λ (n : ℕ). slice_range image n (n + found.length)) (sym behind) ∙ ap (λ (n : ℕ). slice_range image (found.place.0 - 8 + 8) (found.place.0 - 8 + 8 + n)) (sym len) ∙ s.body ∙ e,
-      )
-
-  there : (c : Chunk) → NamedHere name f.live (found.place.0 - 8) c → Spelled image (found.place.0 - 8) c → (found.place.0 + found.length ≤ length image) × (slice_range image found.place.0 (found.place.0 + found.length) ≡ f.live.bytes)
-  there (free size) n s = absurd n
-  there (movable bytes lock owner slot) n s = body bytes lock owner s.0 (ap (λ (x : LiveChunk). x.bytes) n.1) s.1
-  there (fixed bytes owner) n s = body bytes fixed_lock owner 0 (ap (λ (x : LiveChunk). x.bytes) n.1) s
+body_there image name found h f =
+    let low = f.behind_header in
+    let count = f.count in
+    let behind : found.place.0 - 8 + 8 ≡ found.place.0 = omega arith in
+    let b = finds_body image name f.live f.chunk (found.place.0 - 8) h f.finds in
+    let inside = b.inside in (
+      omega arith,
+      ap (λ (n : ℕ). slice_range image n (n + found.length)) (sym behind) ∙ ap (λ (n : ℕ). slice_range image (found.place.0 - 8 + 8) (found.place.0 - 8 + 8 + n)) count ∙ b.bytes,
+    )
 
 -- ---- what changes of it
 
 pub relock_changes : (old new : List ℕ) (name : ℕ) (found : Found) (count : ℕ) → HeapAccepted old → (f : IsFound old name found) → found.lock ≢ fixed_lock → Alters old new (found.place.0 - 8) (with_lock count) → ChangesName old new name (Some (record f.live { lock = count })) (Some found.place.0)
 relock_changes old new name found count h f loose x = lock_changes old new name found.place.0 count f.live f.chunk h f.behind_header f.finds (λ e. loose (f.lock_is ∙ e)) x
 
-pub reown_changes : (old new : List ℕ) (name : ℕ) (found : Found) (owner : ℕ) → HeapAccepted old → (f : IsFound old name found) → Alters old new (found.place.0 - 8) (with_owner owner) → ChangesName old new name (Some (record f.live { owner = owner })) (Some found.place.0)
-reown_changes old new name found owner h f x = owner_changes old new name found.place.0 owner f.live f.chunk h f.behind_header f.finds x
+pub reown_changes : (old new : List ℕ) (name : ℕ) (found : Found) (owner : ℕ) → HeapAccepted old → (f : IsFound old name found) → CanGoTo old found owner → Alters old new (found.place.0 - 8) (with_owner owner) → ChangesName old new name (Some (record f.live { owner = owner })) (Some found.place.0)
+reown_changes old new name found owner h f can x = owner_changes old new name found.place.0 owner f.live f.chunk h f.behind_header f.finds (λ e. let lock_is = f.lock_is in can.locked (omega arith)) x
 
 pub write_changes : (old new : List ℕ) (name : ℕ) (found : Found) (at : ℕ) (bytes : List ℕ) → HeapAccepted old → (f : IsFound old name found) → at + length bytes ≤ found.length → Alters old new (found.place.0 - 8) (with_bytes at bytes)
     → ChangesName old new name (Some (record f.live { bytes = overwritten f.live.bytes at bytes })) (Some found.place.0)

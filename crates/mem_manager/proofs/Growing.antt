@@ -21,7 +21,8 @@ use Rattle.heap_model.specs.declared.call.Reply.TheVariants.{Refused, Done}
 use Rattle.heap_model.specs.declared.refusal.Refusal.{Refusal}
 use Rattle.heap_model.specs.declared.refusal.Refusal.TheVariants.{OwnedByDatabase, ChunkFixed, ChunkLocked, NotEnoughSpace}
 use Rattle.laws_heap.proofs.Deciding.{cond-true, cond-false}
-use Rattle.laws_heap.proofs.Slots.{same_slots}
+use Rattle.laws_heap.proofs.Slots.{slot_alike}
+use Rattle.laws_heap.proofs.Becoming.{frame_slots}
 use Rattle.laws_heap.proofs.Exchanging.{ChangesName}
 use Rattle.laws_heap.proofs.Resizings.{live_sized, grow_changes, finds_behind}
 use Rattle.laws_heap.proofs.Compacting.{slot_unheld}
@@ -33,7 +34,7 @@ use Rattle.heap_place.specs.Resizes.{TellsWhetherInPlace}
 use Rattle.heap_compact.specs.Resized.{Resized}
 use Rattle.master_table.proofs.TableLaws.{used_still}
 use Rattle.mem_manager.specs.Lookup.{IsManaged}
-use Rattle.mem_manager.proofs.Stepping.{known, of_known, not_of_known, is_known, refused, altered, stays_in_place, slot_as, OnlyBytes}
+use Rattle.mem_manager.proofs.Stepping.{known, of_known, not_of_known, is_known, refused, altered, stays_in_place, OnlyBytes}
 use Rattle.mem_manager.proofs.Altering.{lock_small}
 use Rattle.mem_manager.proofs.Moving.{BytesAndSlid}
 
@@ -196,8 +197,8 @@ resize_replied old new name size found (Err refusal) h f positive other loose do
 pub used_resized : (old new : List ℕ) (used name size : ℕ) → IsManaged old used → Resized old new name size → IsManaged new used
 used_resized old new used name size m r = record {
   accepted = r.frame.accepted;
-  in_use = used_still old new used (same_slots old new r.frame.count) (λ slot s some empty.
-      some ((slot_unheld old slot m.accepted s).1 (was_none slot (sym (r.map slot) ∙ (slot_unheld new slot r.frame.accepted (slot_as old new slot r.frame.count s)).0 empty)))) m.in_use;
+  in_use = used_still old new used (frame_slots old new r.frame) (λ slot s some empty.
+      some ((slot_unheld old slot m.accepted s).1 (was_none slot (sym (r.map slot) ∙ (slot_unheld new slot r.frame.accepted (slot_alike old new slot (frame_slots old new r.frame) s)).0 empty)))) m.in_use;
 } where
   sized_one : LiveChunk → LiveChunk
   sized_one live = record live { bytes = sized_to live.bytes size }

@@ -22,14 +22,13 @@ use Rattle.heap_model.specs.declared.refusal.Refusal.TheVariants.{OwnedByDatabas
 use Rattle.master_table.specs.Table.{IsFirstEmpty, NotAmong}
 use Rattle.master_table.proofs.TableLaws.{used_fewer, used_apart, used_set}
 use Rattle.laws_heap.proofs.Meanings.{held-is, empty_unheld}
-use Rattle.laws_heap.proofs.Slots.{same_slots}
 use Rattle.laws_heap.proofs.Accepted.{heap_of_read}
 use Rattle.laws_heap.proofs.Exchanging.{ChangesName}
 use Rattle.laws_heap.proofs.Changing.{claim_changes, room_unheld}
 use Rattle.laws_heap.proofs.Owning.{owned-merged, owned_held, owned_place}
 use Rattle.heap_place.specs.declared.found.Found.{Found}
 use Rattle.heap_place.specs.Found.{IsFound}
-use Rattle.laws_heap.proofs.Becoming.{frame_then}
+use Rattle.laws_heap.proofs.Becoming.{frame_then, frame_slots}
 use Rattle.laws_heap.proofs.Compacting.{slides_alike}
 use Rattle.laws_heap.proofs.Lowering.{made_lowers}
 use Rattle.mem_manager.specs.Lookup.{IsManaged, MakesNew, HasNoRoomFor}
@@ -70,7 +69,7 @@ freed old new name found h f positive other unlocked ch rest = record {
 pub used_freed : (old new : List ℕ) (used fewer name : ℕ) → IsManaged old used → fewer ≤ used → NotAmong old fewer name → ChangesName old new name None None → IsManaged new fewer
 used_freed old new used fewer name m most apart ch = record {
   accepted = ch.frame.accepted;
-  in_use = used_apart old new fewer name (same_slots old new ch.frame.count) ch.slots apart (used_fewer old used fewer most m.in_use);
+  in_use = used_apart old new fewer name (frame_slots old new ch.frame) ch.slots apart (used_fewer old used fewer most m.in_use);
 }
 
 -- ---- a new handle
@@ -120,7 +119,7 @@ slot_unheld image slot before h first =
 
 -- the slots before it stay in use
 pub used_made : (old new : List ℕ) (slot before : ℕ) (now : Option LiveChunk) (there : Option ℕ) → IsFirstEmpty old slot before → ChangesName old new slot now there → IsManaged new before
-used_made old new slot before now there first ch = record { accepted = ch.frame.accepted; in_use = used_set old new slot before first (same_slots old new ch.frame.count) ch.slots }
+used_made old new slot before now there first ch = record { accepted = ch.frame.accepted; in_use = used_set old new slot before first (frame_slots old new ch.frame) ch.slots }
 
 -- ---- a new fixed chunk
 

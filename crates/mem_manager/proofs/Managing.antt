@@ -12,7 +12,8 @@ use Rattle.heap_model.specs.Layout.{Alters, with_bytes}
 use Rattle.heap_model.specs.Store.{bytes_of, owner_of, bytes_under, owner_under}
 use Rattle.heap_model.specs.Leaving.{Leaves, NamesDirectory}
 use Rattle.laws_heap.proofs.Frames.{slice-of_slice}
-use Rattle.laws_heap.proofs.Slots.{same_slots}
+use Rattle.laws_heap.proofs.Slots.{slot_alike}
+use Rattle.laws_heap.proofs.Directory.{named_slots}
 use Rattle.laws_heap.proofs.Exchanging.{ChangesName}
 use Rattle.laws_heap.proofs.Updating.{held_updated}
 use Rattle.laws_heap.proofs.Compacting.{slot_unheld}
@@ -21,7 +22,7 @@ use Rattle.heap_place.proofs.FoundLaws.{name_held, bytes_inside}
 use Rattle.heap_place.specs.declared.found.Found.{Found}
 use Rattle.heap_place.specs.Found.{IsFound, IsOne, CanGoTo, SlidesWithin}
 use Rattle.mem_manager.specs.Lookup.{IsManaged, IsMovable}
-use Rattle.mem_manager.proofs.Stepping.{one_of, still_others, altered, slot_as}
+use Rattle.mem_manager.proofs.Stepping.{one_of, still_others, altered}
 use Rattle.mem_manager.proofs.Altering.{body_there, write_changes}
 
 -- ---- a name's chunk that was found
@@ -124,5 +125,5 @@ slid_viewed region value new name found from to count same h f in_from in_to mad
 pub used_named : (old new : List ℕ) (used word : ℕ) → IsManaged old used → NamesDirectory old new word → IsManaged new used
 used_named old new used word m n = record {
   accepted = n.accepted;
-  in_use = used_still old new used (same_slots old new n.count) (λ slot s some empty. some ((slot_unheld old slot m.accepted s).1 (sym (n.map slot) ∙ (slot_unheld new slot n.accepted (slot_as old new slot n.count s)).0 empty))) m.in_use;
+  in_use = used_still old new used (named_slots old new word n) (λ slot s some empty. some ((slot_unheld old slot m.accepted s).1 (sym (n.map slot) ∙ (slot_unheld new slot n.accepted (slot_alike old new slot (named_slots old new word n) s)).0 empty))) m.in_use;
 }

@@ -15,7 +15,8 @@ use Rattle.heap_model.specs.Packing.{packed, SlidesOneStretch}
 use Rattle.heap_model.specs.MemorySteps.{Does}
 use Rattle.heap_model.specs.declared.call.MemoryCall.TheVariants.{Compact}
 use Rattle.heap_model.specs.declared.call.Reply.TheVariants.{Number}
-use Rattle.laws_heap.proofs.Slots.{same_slots}
+use Rattle.laws_heap.proofs.Slots.{slot_alike}
+use Rattle.laws_heap.proofs.Becoming.{frame_slots}
 use Rattle.laws_heap.specs.Laws.{SlidAlike}
 use Rattle.laws_heap.proofs.Exchanging.{ChangesName}
 use Rattle.laws_heap.proofs.Updating.{held_updated}
@@ -23,7 +24,7 @@ use Rattle.laws_heap.proofs.Compacting.{packed_alike, slot_unheld, slides_alike,
 use Rattle.master_table.specs.Table.{IsFirstEmpty}
 use Rattle.master_table.proofs.TableLaws.{used_still}
 use Rattle.mem_manager.specs.Lookup.{IsManaged}
-use Rattle.mem_manager.proofs.Stepping.{slot_as, OnlyBytes, none_there}
+use Rattle.mem_manager.proofs.Stepping.{OnlyBytes, none_there}
 
 -- of a region's value its bytes and the count of slid ones have changed
 abbrev pub BytesAndSlid : Memory → Memory → Type 0
@@ -46,14 +47,14 @@ compacted old new count h b moved rest =
 slots_slid : (old new : List ℕ) (slot : ℕ) → HeapAccepted old → SameFrame old new → SlidAlike old new → IsSlot old slot → (u32_at old slot ≡ 0) ↔ (u32_at new slot ≡ 0)
 slots_slid old new slot h frame alike s =
     let was = slot_unheld old slot h s in
-    let is = slot_unheld new slot frame.accepted (slot_as old new slot frame.count s) in
+    let is = slot_unheld new slot frame.accepted (slot_alike old new slot (frame_slots old new frame) s) in
     (λ e. is.1 (alike.holds slot ∙ was.0 e), λ e. was.1 (sym (alike.holds slot) ∙ is.0 e))
 
 -- the same slots are in use
 pub used_slid : (old new : List ℕ) (used : ℕ) → IsManaged old used → SameFrame old new → SlidAlike old new → IsManaged new used
 used_slid old new used m frame alike = record {
   accepted = frame.accepted;
-  in_use = used_still old new used (same_slots old new frame.count) (λ slot s some empty. some ((slots_slid old new slot m.accepted frame alike s).1 empty)) m.in_use;
+  in_use = used_still old new used (frame_slots old new frame) (λ slot s some empty. some ((slots_slid old new slot m.accepted frame alike s).1 empty)) m.in_use;
 }
 
 pub used_compacted : (old new : List ℕ) (used : ℕ) → IsManaged old used → Becomes old new (packed (chunks_of old)) → IsManaged new used
@@ -66,10 +67,10 @@ first_slid old new slot before h s first =
     let frame = s.becomes.frame in
     let stands = first.stands in
     record {
-      stands = record { front = stands.front; rest = stands.rest; parts = same_slots old new frame.count ∙ stands.parts; before = stands.before };
-      is_slot = slot_as old new slot frame.count first.is_slot;
+      stands = record { front = stands.front; rest = stands.rest; parts = frame_slots old new frame ∙ stands.parts; before = stands.before };
+      is_slot = slot_alike old new slot (frame_slots old new frame) first.is_slot;
       empty = (slots_slid old new slot h frame alike first.is_slot).0 first.empty;
-      used = used_still old new before (same_slots old new frame.count) (λ other t some empty. some ((slots_slid old new other h frame alike t).1 empty)) first.used;
+      used = used_still old new before (frame_slots old new frame) (λ other t some empty. some ((slots_slid old new other h frame alike t).1 empty)) first.used;
     }
 
 -- ---- chunks of one stretch slide, and then one name changes

@@ -1,12 +1,11 @@
 -- The words of the steps: what callers may name, calls that leave the region as it is, and what there is
 -- where one name is changed.
-use Rattle.std.proofs.Common.{◌≡◌, ℕ, ◌<◌, ◌≤◌, List, Bool, true, false, Option, Some, None, refl, sym, ap, subst, ◌∙◌, arith, inl, inr}
+use Rattle.std.proofs.Common.{◌≡◌, ℕ, ◌≤◌, List, Bool, true, false, Option, Some, None, refl, sym, ap, subst, ◌∙◌, arith, inl, inr}
 use Rattle.std.proofs.lemmas.Bool.{cases_eq}
 use Rattle.std.specs.Prelude.{◌⊎◌, if◌then◌else◌, IsSome, Result, Ok, Err}
 use Rattle.std.specs.Result.{IsErr, IsErrAnd}
 use Rattle.std.specs.Bool.{OnTrue}
 use Rattle.heap_model.specs.Memory.{Memory}
-use Rattle.heap_model.specs.Slots.{IsSlot, slot_count}
 use Rattle.heap_model.specs.Heap.{HeapAccepted}
 use Rattle.heap_model.specs.Meaning.{LiveChunk}
 use Rattle.heap_model.specs.Reading.{chunks_of, held}
@@ -19,10 +18,10 @@ use Rattle.heap_model.specs.declared.call.Reply.{Reply}
 use Rattle.heap_model.specs.declared.call.Reply.TheVariants.{Refused}
 use Rattle.heap_model.specs.declared.refusal.Refusal.{Refusal}
 use Rattle.laws_heap.proofs.Meanings.{held-is, empty_unheld}
-use Rattle.laws_heap.proofs.Slots.{same_slots, slot_alike}
+use Rattle.laws_heap.proofs.Slots.{slot_alike}
 use Rattle.laws_heap.proofs.Accepted.{heap_of_read}
 use Rattle.laws_heap.proofs.Finding.{callers_some}
-use Rattle.laws_heap.proofs.Becoming.{same_frame}
+use Rattle.laws_heap.proofs.Becoming.{same_frame, frame_slots}
 use Rattle.laws_heap.proofs.Exchanging.{ChangesName}
 use Rattle.laws_heap.proofs.Updating.{held_updated}
 use Rattle.laws_heap.proofs.Compacting.{changes_move_nothing}
@@ -128,17 +127,14 @@ altered old new name found change h f ch rest = record {
 
 -- ---- the slots in use
 
-pub slot_as : (old new : List ℕ) (slot : ℕ) → slot_count new ≡ slot_count old → IsSlot old slot → IsSlot new slot
-slot_as old new slot count s = slot_alike old new slot (same_slots old new count) s
-
 -- the slots that are in use stay so where a name stands for something afterwards
 pub used_altered : (old new : List ℕ) (used name : ℕ) (now : LiveChunk) (there : Option ℕ) → IsManaged old used → ChangesName old new name (Some now) there → IsManaged new used
 used_altered old new used name now there m ch = record {
   accepted = ch.frame.accepted;
-  in_use = used_still old new used (same_slots old new ch.frame.count) (λ slot s some empty. elim (cases_eq slot name) [
+  in_use = used_still old new used (frame_slots old new ch.frame) (λ slot s some empty. elim (cases_eq slot name) [
     | inl same ↦
         let heap = heap_of_read new ch.frame.accepted.0 ch.frame.accepted.1 in
-        let none = held-is new (chunks_of new) slot heap ∙ empty_unheld new (chunks_of new) slot heap (slot_as old new slot ch.frame.count s) empty in
+        let none = held-is new (chunks_of new) slot heap ∙ empty_unheld new (chunks_of new) slot heap (slot_alike old new slot (frame_slots old new ch.frame) s) empty in
         let there = sym ch.here ∙ ap (held new) (sym same) ∙ none in
         absurd cc
     | inr apart ↦ some (sym (ch.slots slot s apart) ∙ empty)

@@ -9,10 +9,9 @@ use Rattle.std.specs.List.{filter_map, flat_map}
 use Rattle.heap_model.specs.Memory.{Memory}
 use Rattle.heap_model.specs.Bytes.{u32_bytes}
 use Rattle.heap_model.specs.DatabaseFields.{header_size}
-use Rattle.heap_model.specs.Slots.{table_end}
 use Rattle.heap_model.specs.Heap.{HeapAccepted, directory_of}
 use Rattle.heap_model.specs.Meaning.{LiveChunk}
-use Rattle.heap_model.specs.Reading.{held}
+use Rattle.heap_model.specs.Reading.{chunks_of, held}
 use Rattle.heap_model.specs.Space.{free_slots, rooms}
 use Rattle.heap_model.specs.Lists.{same, times, u32s_in, Distinct}
 use Rattle.heap_model.specs.Maps.{not_owned, callers_map, put}
@@ -30,6 +29,7 @@ use Rattle.heap_model.specs.declared.call.DatabaseCall.TheVariants.{Create}
 use Rattle.heap_model.specs.declared.call.Call.TheVariants as calls
 use Rattle.heap_model.specs.declared.call.Reply.TheVariants as replies
 use Rattle.laws_heap.proofs.Frames.{length-u32_bytes}
+use Rattle.laws_heap.proofs.Slots.{slot_facts}
 use Rattle.laws_heap.proofs.Finding.{read_heap, callers_managers}
 use Rattle.laws_heap.proofs.Holding.{as_before}
 use Rattle.laws_store.specs.Changes.{Appends}
@@ -79,10 +79,9 @@ header_put old mid new slot bytes h l w long =
 slot_fits : (image : List ℕ) (slot : ℕ) → HeapAccepted image → owner_under image slot ≡ 0 → slot < 2 ^ 32
 slot_fits image slot h own =
     let s = owned_slot image slot h (inl own) in
-    let high : slot < table_end image = s.in_table in
-    let head = (read_heap image h).tiles.head in
-    let fits = head.a_chunk_fits in
-    let most = head.most in
+    let heap = read_heap image h in
+    let inside = (slot_facts image (chunks_of image) slot heap.tiles s).inside in
+    let most = heap.tiles.head.most in
     omega arith
 
 -- no database has the name yet

@@ -15,6 +15,7 @@ use Rattle.heap_model.specs.Space.{Still, place_under, free_slots, free_behind, 
 use Rattle.heap_model.specs.Maps.{changed, gone, put, sized}
 use Rattle.heap_model.specs.Store.{bytes_under, directory_bytes, owner_under, Accepted, listed}
 use Rattle.heap_model.specs.Leaving.{Leaves, NamesDirectory}
+use Rattle.laws_heap.proofs.Directory.{named_start}
 use Rattle.laws_heap.proofs.Frames.{length-u32_bytes}
 use Rattle.mem_manager.specs.Lookup.{MakesNew}
 use Rattle.laws_store.proofs.Owners.{directory_owner}
@@ -97,7 +98,7 @@ more_written old part =
 
 named_still : (old new : List ℕ) (name : ℕ) → NamesDirectory old new name → Still old new
 named_still old new name n other live e locked there =
-    let start : area_start new ≡ area_start old = (let count = n.count in omega arith) in
+    let start = named_start old new name n in
     ap (λ (at : ℕ). place_under at (chunks_of new) other) start ∙ ap (λ (cs : List Chunk). place_under (area_start old) cs other) n.chunks
 
 directory_held : (image : List ℕ) (name : ℕ) (live : LiveChunk) → directory_of image ≡ name → held image name ≡ Some live → directory_bytes image ≡ live.bytes

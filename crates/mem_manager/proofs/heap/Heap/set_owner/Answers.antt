@@ -26,10 +26,10 @@ reown-requires-clause-owner c = can_go_to c.self.inside.space.bytes c.args.name.
 pub invariant_of-self : goal.invariant_of-self
 invariant_of-self c =
     let f = c.in_ok-found.ensures.found in
-    used_altered c.self.inside.space.bytes c.reown.new.self.bytes c.self.inside.used c.args.name.0 _ _ c.self.invariant (reown_changes c.self.inside.space.bytes c.reown.new.self.bytes c.args.name.0 c.in_ok-found.found c.args.owner c.self.invariant.accepted f c.reown.ensures.made)
+    used_altered c.self.inside.space.bytes c.reown.new.self.bytes c.self.inside.used c.args.name.0 _ _ c.self.invariant (reown_changes c.self.inside.space.bytes c.reown.new.self.bytes c.args.name.0 c.in_ok-found.found c.args.owner c.self.invariant.accepted f (can_go_to c.self.inside.space.bytes c.args.name.0 c.in_ok-found.found c.args.owner c.self.invariant.accepted f c.in_ok-found.ensures.callers c.in_ok-check_owner.ensures.ok) c.reown.ensures.made)
 
 pub returns : goal.returns
 returns c =
     let f = c.in_ok-found.ensures.found in
     subst (λ (m : Memory). Does m (SetOwner c.args.name c.args.owner) Reply.Done c.reown.new.self) c.self.view_is
-    (reowned_done c.self.inside.space c.reown.new.self c.args.name c.in_ok-found.found c.args.owner c.self.invariant.accepted f c.in_ok-found.ensures.callers c.in_ok-check_callers.ensures.ok c.in_ok-check_owner.ensures.ok (reown_changes c.self.inside.space.bytes c.reown.new.self.bytes c.args.name.0 c.in_ok-found.found c.args.owner c.self.invariant.accepted f c.reown.ensures.made) c.reown.ensures.rest)
+    (reowned_done c.self.inside.space c.reown.new.self c.args.name c.in_ok-found.found c.args.owner c.self.invariant.accepted f c.in_ok-found.ensures.callers c.in_ok-check_callers.ensures.ok c.in_ok-check_owner.ensures.ok (reown_changes c.self.inside.space.bytes c.reown.new.self.bytes c.args.name.0 c.in_ok-found.found c.args.owner c.self.invariant.accepted f (can_go_to c.self.inside.space.bytes c.args.name.0 c.in_ok-found.found c.args.owner c.self.invariant.accepted f c.in_ok-found.ensures.callers c.in_ok-check_owner.ensures.ok) c.reown.ensures.made) c.reown.ensures.rest)
