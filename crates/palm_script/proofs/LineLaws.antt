@@ -1,63 +1,26 @@
 -- Lines behind one another.
-use Rattle.std.proofs.Common.{◌≡◌, ◌≢◌, ℕ, Bool, ◌+◌, ◌<◌, List, [], ◌∷◌, ◌++◌, length, take, get_or, refl, sym, ap, ◌∙◌, subst, append_assoc, append-nil, add-one, take-suc, Option, Some, true, false}
+use Rattle.std.proofs.Common.{◌≡◌, ℕ, ◌+◌, ◌<◌, List, [], ◌∷◌, ◌++◌, length, take, get_or, refl, sym, ap, ◌∙◌, subst, append_assoc, append-nil, add-one, take-suc, Option, Some, true, false}
 use Rattle.std.proofs.lemmas.Option.{slice_get-get_or}
 use Rattle.std.proofs.KnownBytes.{Appends-trans}
-use Rattle.heap_model.specs.Memory.{Memory as Region}
+use Rattle.heap_model.specs.Memory.{Memory}
 use Rattle.heap_model.specs.Counted.{Writing, Writes}
-use Rattle.heap_model.specs.declared.names.Name.{Name}
-use Rattle.heap_model.specs.declared.call.Call.TheVariants.{Memory}
-use Rattle.heap_model.specs.declared.call.MemoryCall.TheVariants as calls
 use Rattle.heap_model.specs.declared.call.Reply.{Reply}
-use Rattle.heap_model.specs.declared.call.Reply.TheVariants.{Data, Refused}
-use Rattle.heap_model.specs.declared.refusal.Refusal.{Refusal}
-use Rattle.heap_model.specs.declared.refusal.Refusal.TheVariants.{OutOfMemory}
-use Rattle.heap_model.specs.StoreSteps.{DoesInStore}
 use Rattle.script_lines.specs.declared.line.Line.{Line}
 use Rattle.script_lines.specs.declared.line.Line.TheVariants.{Bind}
-use Rattle.palm_script.specs.Lines.{Bindings, BreaksOff, DoesLine, LineStep, Lines, bound_after, call_of, exported, reply_line, unbound}
+use Rattle.palm_script.specs.Lines.{Bindings, BreaksOff, DoesLine, LineStep, Lines, bound_after, exported, reply_line, unbound}
 
--- ---- what lines export, and lines that ask for bytes
+-- ---- what lines export
 
 exported-none : (line : Line) (reply : Reply) → exported line reply ≡ []
 exported-none (Bind label name) reply = refl
 exported-none line reply = refl
-
-read_binds_nothing : (inputs : List (List ℕ)) (bound : Bindings) (line : Line) (name : Name) (at count : ℕ) (bytes : List ℕ) → call_of inputs bound line ≡ Memory (calls.Read name at count) → bound ≡ bound_after bound line (Data bytes)
-read_binds_nothing inputs bound (Bind label given) name at count bytes is = cc
-read_binds_nothing inputs bound line name at count bytes is = refl
-
-refused_binds_nothing : (bound : Bindings) (line : Line) (refusal : Refusal) → bound ≡ bound_after bound line (Refused refusal)
-refused_binds_nothing bound (Bind label given) refusal = refl
-refused_binds_nothing bound line refusal = refl
-
--- a line whose call asks for bytes, which were lent and printed
-pub reads : {W : Type 0} (contents : W → Option (List ℕ)) (inputs : List (List ℕ)) (line : Line) (old : Region) (bound : Bindings) (out : Writing W) (new : Region) (out_after : Writing W) (ok : Bool) (name : Name) (at count : ℕ) (bytes : List ℕ)
-    → call_of inputs bound line ≡ Memory (calls.Read name at count) → new ≡ old → DoesInStore new (Memory (calls.Read name at count)) (Data bytes) new → Writes contents out out_after (reply_line line (Data bytes)) ok
-    → DoesLine contents inputs line old bound out new bound out_after ok
-reads contents inputs line old bound out new out_after ok name at count bytes is same does written = record {
-  reply = Data bytes;
-  step = record { does = subst (λ (m : Region). DoesInStore m (call_of inputs bound line) (Data bytes) new) same (rw is does); takes_no_memory = λ _ never. absurd cc };
-  binds = read_binds_nothing inputs bound line name at count bytes is;
-  written = written;
-}
-
--- and one that was refused
-pub refuses : {W : Type 0} (contents : W → Option (List ℕ)) (inputs : List (List ℕ)) (line : Line) (old : Region) (bound : Bindings) (out : Writing W) (new : Region) (out_after : Writing W) (ok : Bool) (name : Name) (at count : ℕ) (refusal : Refusal)
-    → call_of inputs bound line ≡ Memory (calls.Read name at count) → new ≡ old → DoesInStore new (Memory (calls.Read name at count)) (Refused refusal) new → refusal ≢ OutOfMemory → Writes contents out out_after (reply_line line (Refused refusal)) ok
-    → DoesLine contents inputs line old bound out new bound out_after ok
-refuses contents inputs line old bound out new out_after ok name at count refusal is same does takes written = record {
-  reply = Refused refusal;
-  step = record { does = subst (λ (m : Region). DoesInStore m (call_of inputs bound line) (Refused refusal) new) same (rw is does); takes_no_memory = λ _ never. takes cc };
-  binds = refused_binds_nothing bound line refusal;
-  written = written;
-}
 
 -- ---- the lines up to one of them
 
 pub take_one : (lines : List Line) (i : ℕ) (d : Line) → i < length lines → take (i + 1) lines ≡ take i lines ++ (get_or lines i d ∷ [])
 take_one lines i d within = rw add-one (take-suc lines i d within)
 
-pub one_more : (inputs : List (List ℕ)) (old : Region) (bound : Bindings) (lines : List Line) (text : List ℕ) (files : List (List ℕ)) (mid : Region) (bound_mid : Bindings) (line : Line) (reply : Reply) (new : Region)
+pub one_more : (inputs : List (List ℕ)) (old : Memory) (bound : Bindings) (lines : List Line) (text : List ℕ) (files : List (List ℕ)) (mid : Memory) (bound_mid : Bindings) (line : Line) (reply : Reply) (new : Memory)
     → Lines inputs old bound lines text files mid bound_mid → LineStep inputs mid bound_mid line reply new
     → Lines inputs old bound (lines ++ (line ∷ [])) (text ++ reply_line line reply) (files ++ exported line reply) new (bound_after bound_mid line reply)
 one_more inputs old bound [] text files mid bound_mid line reply new (no_text, no_files, same, unchanged) step = (
@@ -65,7 +28,7 @@ one_more inputs old bound [] text files mid bound_mid line reply new (no_text, n
   new,
   [],
   [],
-  subst (λ (m : Region). LineStep inputs m bound line reply new) same (subst (λ (n : Bindings). LineStep inputs mid n line reply new) unchanged step),
+  subst (λ (m : Memory). LineStep inputs m bound line reply new) same (subst (λ (n : Bindings). LineStep inputs mid n line reply new) unchanged step),
   ap (λ t. t ++ reply_line line reply) no_text ∙ sym (append-nil (reply_line line reply)),
   ap (λ f. f ++ exported line reply) no_files ∙ sym (append-nil (exported line reply)),
   (refl, refl, refl, ap (λ (n : Bindings). bound_after n line reply) unchanged),
@@ -81,7 +44,7 @@ one_more inputs old bound (first ∷ lines) text files mid bound_mid line reply 
   one_more inputs next (bound_after bound first answer) lines rest more mid bound_mid line reply new tail step,
 )
 
-pub one_further : (inputs : List (List ℕ)) (old : Region) (bound : Bindings) (lines : List Line) (i : ℕ) (line : Line) (text : List ℕ) (mid : Region) (bound_mid : Bindings) (reply : Reply) (new : Region) (bound_new : Bindings)
+pub one_further : (inputs : List (List ℕ)) (old : Memory) (bound : Bindings) (lines : List Line) (i : ℕ) (line : Line) (text : List ℕ) (mid : Memory) (bound_mid : Bindings) (reply : Reply) (new : Memory) (bound_new : Bindings)
     → i < length lines → line ≡ get_or lines i line → Lines inputs old bound (take i lines) text [] mid bound_mid → LineStep inputs mid bound_mid line reply new → bound_new ≡ bound_after bound_mid line reply
     → Lines inputs old bound (take (i + 1) lines) (text ++ reply_line line reply) [] new bound_new
 one_further inputs old bound lines i line text mid bound_mid reply new bound_new within here ran step binds =
@@ -90,7 +53,7 @@ one_further inputs old bound lines i line text mid bound_mid reply new bound_new
 
 -- ---- a line whose reply line couldn't be written
 
-pub breaks : {W : Type 0} (contents : W → Option (List ℕ)) (inputs : List (List ℕ)) (lines : List Line) (old : Region) (first : Writing W) (i : ℕ) (line : Line) (text : List ℕ) (mid : Region) (bound : Bindings) (before : Writing W) (new : Region) (bound_new : Bindings) (after : Writing W)
+pub breaks : {W : Type 0} (contents : W → Option (List ℕ)) (inputs : List (List ℕ)) (lines : List Line) (old : Memory) (first : Writing W) (i : ℕ) (line : Line) (text : List ℕ) (mid : Memory) (bound : Bindings) (before : Writing W) (new : Memory) (bound_new : Bindings) (after : Writing W)
     → i < length lines → line ≡ get_or lines i line → Lines inputs old unbound (take i lines) text [] mid bound → Writes contents first before text true → DoesLine contents inputs line mid bound before new bound_new after false
     → BreaksOff contents inputs lines old first new after
 breaks contents inputs lines old first i line text mid bound before new bound_new after within here ran all does =

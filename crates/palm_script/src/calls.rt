@@ -11,6 +11,7 @@ ghost use Rattle.heap_model.specs.declared.refusal.Refusal.{Refusal};
 ghost use Rattle.palm_script.specs.Lines.{Answers};
 
 use crate::bindings::Given;
+use crate::calls::Outcome::{Reads, Replied};
 use crate::records::do_record_call;
 use crate::replies::{database, done, info, locked, named, number, small_number};
 use heap_model::{Allowance, Bytes, Call, DatabaseCall, Db, MemoryCall, Name, Refusal, Reply};
@@ -30,8 +31,8 @@ pub fn do_call_from<A: Allowance>(memory: &A, store: &mut Store, call: &Call) ->
     ensures { DoesInStore store.old call.now result store.new }
 {
     match do_given(store, &[], &[], call) {
-        Outcome::Replied(reply) => reply,
-        Outcome::Reads(name, at, count) => read(memory, store, name, at, count),
+        Replied(reply) => reply,
+        Reads(name, at, count) => read(memory, store, name, at, count),
     }
 }
 
@@ -77,8 +78,8 @@ pub(crate) fn do_given<C: Given<Name>, D: Given<Db>>(
 {
     match call {
         Call::Memory(call) => do_memory_call(store, names, call),
-        Call::Database(call) => Outcome::Replied(do_database_call(store, databases, call)),
-        Call::Record(call) => Outcome::Replied(do_record_call(store, databases, call)),
+        Call::Database(call) => Replied(do_database_call(store, databases, call)),
+        Call::Record(call) => Replied(do_record_call(store, databases, call)),
     }
 }
 
@@ -118,37 +119,37 @@ fn do_memory_call<C: Given<Name>>(
     ensures { Answers store.old (calls.Call.Memory
         (memory_call (λ chunk. C.meant chunk names.now) call.now)) result store.new }
 {
-    let reply = match call {
-        MemoryCall::Read { name, at, count } => {
-            return Outcome::Reads(name.among(names), *at, *count);
-        }
-        MemoryCall::HandleNew { size, owner } => named(store.handle_new(*size, *owner)),
-        MemoryCall::PtrNew { size, owner } => named(store.ptr_new(*size, *owner)),
-        MemoryCall::Free(name) => done(store.free(name.among(names))),
-        MemoryCall::Lock(name) => locked(store.lock(name.among(names))),
-        MemoryCall::Unlock(name) => small_number(store.unlock(name.among(names))),
-        MemoryCall::Size(name) => number(store.size(name.among(names))),
-        MemoryCall::Owner(name) => small_number(store.owner(name.among(names))),
-        MemoryCall::Locks(name) => small_number(store.locks(name.among(names))),
+    match call {
+        MemoryCall::Read { name, at, count } => Reads(name.among(names), *at, *count),
+        MemoryCall::HandleNew { size, owner } => Replied(named(store.handle_new(*size, *owner))),
+        MemoryCall::PtrNew { size, owner } => Replied(named(store.ptr_new(*size, *owner))),
+        MemoryCall::Free(name) => Replied(done(store.free(name.among(names)))),
+        MemoryCall::Lock(name) => Replied(locked(store.lock(name.among(names)))),
+        MemoryCall::Unlock(name) => Replied(small_number(store.unlock(name.among(names)))),
+        MemoryCall::Size(name) => Replied(number(store.size(name.among(names)))),
+        MemoryCall::Owner(name) => Replied(small_number(store.owner(name.among(names)))),
+        MemoryCall::Locks(name) => Replied(small_number(store.locks(name.among(names)))),
         MemoryCall::Write { name, at, bytes } => {
-            done(store.write(name.among(names), *at, bytes.as_slice()))
+            Replied(done(store.write(name.among(names), *at, bytes.as_slice())))
         }
         MemoryCall::Set {
             name,
             at,
             count,
             byte,
-        } => done(store.set(name.among(names), *at, *count, *byte)),
+        } => Replied(done(store.set(name.among(names), *at, *count, *byte))),
         MemoryCall::StrCopy { name, at, text } => {
-            done(store.str_copy(name.among(names), *at, text.as_slice()))
+            Replied(done(store.str_copy(name.among(names), *at, text.as_slice())))
         }
-        MemoryCall::Resize { name, size } => done(store.resize(name.among(names), *size)),
-        MemoryCall::SetOwner { name, owner } => done(store.set_owner(name.among(names), *owner)),
-        MemoryCall::Recover(place) => named(store.recover(*place)),
-        MemoryCall::FreeByOwner(owner) => number(store.free_by_owner(*owner)),
-        MemoryCall::FreeBytes => Reply::Number(store.free_bytes()),
-        MemoryCall::LargestStretch => Reply::Number(store.largest_stretch()),
-        MemoryCall::Compact => Reply::Number(store.compact()),
-    };
-    Outcome::Replied(reply)
+        MemoryCall::Resize { name, size } => Replied(done(store.resize(name.among(names), *size))),
+        MemoryCall::SetOwner { name, owner } => Replied(done(store.set_owner(
+            name.among(names),
+            *owner,
+        ))),
+        MemoryCall::Recover(place) => Replied(named(store.recover(*place))),
+        MemoryCall::FreeByOwner(owner) => Replied(number(store.free_by_owner(*owner))),
+        MemoryCall::FreeBytes => Replied(Reply::Number(store.free_bytes())),
+        MemoryCall::LargestStretch => Replied(Reply::Number(store.largest_stretch())),
+        MemoryCall::Compact => Replied(Reply::Number(store.compact())),
+    }
 }

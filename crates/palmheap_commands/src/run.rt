@@ -6,7 +6,7 @@ ghost use Rattle.script_lines.specs.Reading.{read_script};
 ghost use Rattle.palmheap_commands.specs.Runs.{EndsEarly, PrintingFails, PutsRefusal, RunBreaksOff};
 ghost use Rattle.palmheap_commands.specs.Runs.{RunsAndFlushes, RunsAndWrites, RunsScript};
 
-use crate::images::put_store;
+use crate::images::put_image;
 use heap_model::{Bytes, Counted};
 use palm_script::{RunFault, Script, ScriptFault, parse, run};
 use palm_store::{NotAStore, Store, StoreFault};
@@ -127,7 +127,6 @@ fn run_script<W: Write, V: Write>(
     files: &mut Vec<Bytes>,
     out: &mut Counted<V>,
 ) -> Status
-    requires { Accepted store.bytes }
     ensures statuses { (result ≡ Status.Done) ⊎ (result ≡ Status.WriteFault)
         ⊎ (result ≡ Status.NoMemory) }
     ensures done { result ≡ Status.Done → RunsAndWrites inputs.now script.now store
@@ -143,7 +142,7 @@ fn run_script<W: Write, V: Write>(
         Ok(exported) => exported,
         Err(status) => return status,
     };
-    match put_store(image_out, &store) {
+    match put_image(image_out, &store.into_region()) {
         Ok(()) => {
             *files = exported;
             Status::Done
@@ -153,7 +152,6 @@ fn run_script<W: Write, V: Write>(
 }
 
 /// Runs a script, and prints its reply lines.
-#[tactic(auto, using(crate::proofs::RunLaws::stays_accepted))]
 fn print_replies<V: Write>(
     alloc: Global,
     store: &mut Store,
@@ -161,8 +159,6 @@ fn print_replies<V: Write>(
     inputs: &[Bytes],
     out: &mut Counted<V>,
 ) -> Result<Vec<Bytes>, Status>
-    requires { Accepted store.old.bytes }
-    ensures accepted { OnOk result (Accepted store.new.bytes) }
     ensures ok { IfOk result (λ files. RunsAndFlushes V.contents inputs.now script.now
         store.old out.old store.new out.new files.items true) }
     ensures files { IfOk result (λ files. files.items ≡ []) }
