@@ -190,3 +190,6 @@ unchanged image db bytes m is =
 -- bytes written over some leave as many
 pub length_kept : (old new : List ℕ) (db at count : ℕ) (part : List ℕ) → length part ≤ count → at + count ≤ length (bytes_under old db) → Rebodies old new db (overwritten (bytes_under old db) at part) → length (bytes_under new db) ≡ length (bytes_under old db)
 length_kept old new db at count part most inside r = ap length r.body ∙ length-overwritten (bytes_under old db) at part (omega arith)
+
+pub stays : (image : List ℕ) (db : ℕ) (bytes : List ℕ) → IsManagers image db → bytes_under image db ≡ bytes → Rebodies image image db bytes
+stays image db bytes m is = record { leaves = unchanged image db bytes m is; managers = m; body = is }

@@ -1,5 +1,6 @@
 -- Where entries stand in the bytes of a database, and one that is written in place of another.
-use Rattle.std.proofs.Common.{◌≡◌, ℕ, ◌+◌, ◌-◌, ◌<◌, ◌≤◌, Bool, true, false, List, length, drop, refl, sym, ap, subst, ◌∙◌, arith, length-take}
+use Rattle.std.proofs.Common.{◌≡◌, ℕ, ◌+◌, ◌-◌, ◌<◌, ◌≤◌, Bool, true, false, List, ◌++◌, length, take, drop, refl, sym, ap, subst, ◌∙◌, arith, length-take}
+use Rattle.std.proofs.lemmas.List.{append-nil, take-append-drop}
 use Rattle.std.specs.Prelude.{slice_range}
 use Rattle.heap_model.specs.Bytes.{overwritten, u16_bytes, u24_bytes, u32_bytes}
 use Rattle.heap_model.specs.DatabaseFields.{entry_size}
@@ -79,3 +80,14 @@ slice_most body from end = (let size = length-take (end - from) (drop from body)
 pub header_low : (resources : Bool) (index : ℕ) → 78 ≤ entry_offset resources index
 header_low true index = omega arith
 header_low false index = omega arith
+
+-- where there are none to slide, nothing is written
+pub none_slid : (body : List ℕ) (at from stop : ℕ) → stop ≤ from → body ≡ overwritten body at (slice_range body from stop)
+unfolding overwritten
+none_slid body at from stop none =
+    let count : stop - from ≡ 0 = omega arith in
+    let start : at + 0 ≡ at = omega arith in
+    sym
+    (ap (λ (n : ℕ). take at body ++ take n (drop from body) ++ drop (at + length (take n (drop from body))) body) count
+    ∙ ap (λ (xs : List ℕ). xs ++ drop (at + 0) body) (append-nil (take at body))
+    ∙ ap (λ (n : ℕ). take at body ++ drop n body) start ∙ take-append-drop at body)

@@ -71,6 +71,9 @@ pub(crate) fn slide_entries(heap: &mut Heap, db: Db, first: u16, end: u16, to: u
     ensures len { length (bytes_under heap.new.bytes db.0) ≡ length (bytes_under heap.old.bytes db.0) }
     ensures rest { heap.new ≡ record heap.old { bytes = heap.new.bytes; slid = heap.new.slid } }
 {
+    if first >= end {
+        return;
+    }
     let from = entry_offset(resources, first) as u32;
     let count = entry_offset(resources, end) as u32 - from;
     heap.sys_slide(Name(db.0), from, entry_offset(resources, to) as u32, count);

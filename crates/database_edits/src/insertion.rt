@@ -27,7 +27,8 @@ pub fn insert_entry(heap: &mut Heap, db: Db, index: u16, entry: DbEntry) -> Resu
     requires few { length (database_here heap.old.bytes db.0).entries < most_entries }
     requires kind { HasKindHere heap.old.bytes db.0 (is_resource entry) }
     requires id { HasFittingId entry }
-    ensures inserted { OnOk result (Changes heap.old.bytes heap.new.bytes db.0 (entry_inserted index (entry_of entry))) }
+    ensures inserted { OnOk result
+        (Changes heap.old.bytes heap.new.bytes db.0 (entry_inserted index (entry_of entry))) }
     ensures no_room { OnErr result (HasNoRoomFor heap.old.bytes db.0 (is_resource entry)) }
     ensures refusal { IfErr result (λ refusal. refusal ≡ Refusal.NotEnoughSpace) }
     ensures refused { OnErr result (heap.new ≡ heap.old) }
@@ -48,7 +49,8 @@ pub fn insert_entry(heap: &mut Heap, db: Db, index: u16, entry: DbEntry) -> Resu
 /// The field of a seed once an entry has come.
 fn seed_after(field: u32, entry: DbEntry) -> u32
     requires { HasFittingId entry }
-    ensures { (header : DatabaseHeader) → header.seed ≡ field → seeded_by (entry_of entry) header ≡ record header { seed = result } }
+    ensures { (header : DatabaseHeader) → header.seed ≡ field
+        → seeded_by (entry_of entry) header ≡ record header { seed = result } }
 {
     match entry {
         DbEntry::Record(record) => seeded(field, record.id),

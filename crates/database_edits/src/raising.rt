@@ -27,7 +27,8 @@ pub(crate) fn raise_if(heap: &mut Heap, db: Db, counts: bool)
     requires spells { SpellsHere heap.old.bytes db.0 }
     ensures counted { Changes heap.old.bytes heap.new.bytes db.0 (counted_if counts) }
     ensures spells { SpellsHere heap.new.bytes db.0 }
-    ensures now { database_here heap.new.bytes db.0 ≡ counted_if counts (database_here heap.old.bytes db.0) }
+    ensures now { database_here heap.new.bytes db.0
+        ≡ counted_if counts (database_here heap.old.bytes db.0) }
     ensures rest { heap.new ≡ record heap.old { bytes = heap.new.bytes } }
 {
     if counts {

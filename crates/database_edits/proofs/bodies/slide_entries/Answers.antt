@@ -1,10 +1,11 @@
 -- The range is that of the entries.
-use Rattle.std.proofs.Common.{◌+◌, ◌-◌}
+use Rattle.std.proofs.Common.{ℕ, List, ◌+◌, ◌-◌}
+use Rattle.heap_model.specs.Bytes.{overwritten}
 use Rattle.std.specs.Prelude.{slice_range}
 use Rattle.heap_model.specs.Database.{entry_offset}
 use Rattle.heap_model.specs.Store.{bytes_under}
-use Rattle.database_edits.proofs.Chunks.{is_there, written, length_kept}
-use Rattle.database_edits.proofs.Entries.{offset_order, slid_range, slice_most, slide_fits}
+use Rattle.database_edits.proofs.Chunks.{is_there, written, length_kept, stays}
+use Rattle.database_edits.proofs.Entries.{offset_order, slid_range, slice_most, slide_fits, none_slid}
 use Rattle.database_edits.proofs.bodies.slide_entries.Goals as goal
 
 pub sys_slide-requires-clause-there : goal.sys_slide-requires-clause-there
@@ -21,3 +22,11 @@ pub returns-clause-len : goal.returns-clause-len
 returns-clause-len c = length_kept c.args.heap.now.bytes c.sys_slide.new.self.bytes c.args.db.0 (entry_offset c.args.resources c.args.to) (entry_offset c.args.resources c.args.end - entry_offset c.args.resources c.args.first)
     (slice_range (bytes_under c.args.heap.now.bytes c.args.db.0) (entry_offset c.args.resources c.args.first) (entry_offset c.args.resources c.args.end)) (slice_most (bytes_under c.args.heap.now.bytes c.args.db.0) (entry_offset c.args.resources c.args.first) (entry_offset c.args.resources c.args.end))
     (slide_fits c.args.resources c.args.first c.args.end c.args.to (bytes_under c.args.heap.now.bytes c.args.db.0) c.requires.order c.requires.to_inside) (returns-clause-slides c)
+
+pub returns-then-first-end-clause-slides : goal.returns-then-first-end-clause-slides
+returns-then-first-end-clause-slides c =
+    let none = c.if-first-end.true in
+    let body : List ℕ = bytes_under c.args.heap.now.bytes c.args.db.0 in
+    let order = offset_order c.args.resources c.args.end c.args.first none in
+    stays c.args.heap.now.bytes c.args.db.0 (overwritten body (entry_offset c.args.resources c.args.to) (slice_range body (entry_offset c.args.resources c.args.first) (entry_offset c.args.resources c.args.end))) c.requires.managers
+    (none_slid body (entry_offset c.args.resources c.args.to) (entry_offset c.args.resources c.args.first) (entry_offset c.args.resources c.args.end) order)
