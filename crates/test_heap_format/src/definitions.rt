@@ -21,7 +21,8 @@ fn blank_image_is_read()
 fn movable_chunk_is_read()
     ensures accepted { is_accepted one_chunk_image ≡ true }
     ensures chunks { chunks_of one_chunk_image ≡ movable (replicate 10 0) 0 1 16 ∷ free 72 ∷ [] }
-    ensures held { held one_chunk_image 16 ≡ Some (record { bytes = replicate 10 0; lock = 0; owner = 1 }) }
+    ensures held { held one_chunk_image 16
+        ≡ Some (record { bytes = replicate 10 0; lock = 0; owner = 1 }) }
     ensures place { held one_chunk_image 40 ≡ None }
 {}
 
@@ -29,26 +30,39 @@ fn movable_chunk_is_read()
 fn database_image_is_read()
     ensures accepted { is_accepted database_image ≡ true }
     ensures sizes { map size_of (chunks_of database_image) ≡ 16 ∷ 104 ∷ 16 ∷ 16 ∷ 8 ∷ [] }
-    ensures directory { held database_image 16 ≡ Some (record { bytes = words (0x14 ∷ []); lock = 0; owner = 0 }) }
-    ensures record { held database_image 24 ≡ Some (record { bytes = replicate 8 0x41; lock = 0; owner = 15 }) }
+    ensures directory { held database_image 16
+        ≡ Some (record { bytes = words (0x14 ∷ []); lock = 0; owner = 0 }) }
+    ensures record { held database_image 24
+        ≡ Some (record { bytes = replicate 8 0x41; lock = 0; owner = 15 }) }
 {}
 
 /// A fixed chunk is held under its place. Slack may be any, and free neighbours need not be joined.
 fn fixed_chunk_is_read()
-    ensures accepted { is_accepted (small_image 0 0 (0x04000010 ∷ 0xFE000000 ∷ 0x01020304 ∷ 0xFFFFFFFF ∷ 0x80000008 ∷ 7 ∷ 0x80000010 ∷ [])) ≡ true }
-    ensures chunks { chunks_of (small_image 0 0 (0x04000010 ∷ 0xFE000000 ∷ 0x01020304 ∷ 0xFFFFFFFF ∷ 0x80000008 ∷ 7 ∷ 0x80000010 ∷ [])) ≡ fixed (1 ∷ 2 ∷ 3 ∷ 4 ∷ []) 14 ∷ free 8 ∷ free 16 ∷ [] }
-    ensures held { held (small_image 0 0 (0x04000010 ∷ 0xFE000000 ∷ 0x01020304 ∷ 0xFFFFFFFF ∷ 0x80000008 ∷ 7 ∷ 0x80000010 ∷ [])) 32 ≡ Some (record { bytes = 1 ∷ 2 ∷ 3 ∷ 4 ∷ []; lock = 15; owner = 14 }) }
+    ensures accepted { is_accepted (small_image 0 0 (0x04000010 ∷ 0xFE000000 ∷ 0x01020304
+        ∷ 0xFFFFFFFF ∷ 0x80000008 ∷ 7 ∷ 0x80000010 ∷ []))
+        ≡ true }
+    ensures chunks { chunks_of (small_image 0 0 (0x04000010 ∷ 0xFE000000 ∷ 0x01020304
+        ∷ 0xFFFFFFFF ∷ 0x80000008 ∷ 7 ∷ 0x80000010 ∷ []))
+        ≡ fixed (1 ∷ 2 ∷ 3 ∷ 4 ∷ []) 14 ∷ free 8 ∷ free 16 ∷ [] }
+    ensures held { held (small_image 0 0 (0x04000010 ∷ 0xFE000000 ∷ 0x01020304 ∷ 0xFFFFFFFF
+        ∷ 0x80000008 ∷ 7 ∷ 0x80000010 ∷ [])) 32
+        ≡ Some (record { bytes = 1 ∷ 2 ∷ 3 ∷ 4 ∷ []; lock = 15; owner = 14 }) }
 {}
 
 /// Each part of the head is broken by an image that keeps all others. (A length that is not a multiple of 8 has no such image, and the greatest size none that is small.)
 fn head_parts_break_alone()
-    ensures magic { BreaksAlone (padded 64 (0x50484932 ∷ 64 ∷ 0x00010000 ∷ 0 ∷ 0 ∷ 0 ∷ 0x80000028 ∷ [])) 0 }
-    ensures size { BreaksAlone (padded 64 (0x50484931 ∷ 72 ∷ 0x00010000 ∷ 0 ∷ 0 ∷ 0 ∷ 0x80000028 ∷ [])) 1 }
-    ensures least { BreaksAlone (padded 56 (0x50484931 ∷ 56 ∷ 0x00010000 ∷ 0 ∷ 0 ∷ 0 ∷ 0x80000020 ∷ [])) 2 }
+    ensures magic { BreaksAlone (padded 64 (0x50484932 ∷ 64 ∷ 0x00010000 ∷ 0 ∷ 0 ∷ 0 ∷ 0x80000028
+        ∷ [])) 0 }
+    ensures size { BreaksAlone (padded 64 (0x50484931 ∷ 72 ∷ 0x00010000 ∷ 0 ∷ 0 ∷ 0 ∷ 0x80000028
+        ∷ [])) 1 }
+    ensures least { BreaksAlone (padded 56 (0x50484931 ∷ 56 ∷ 0x00010000 ∷ 0 ∷ 0 ∷ 0 ∷ 0x80000020
+        ∷ [])) 2 }
     ensures some_slot { BreaksAlone (padded 64 (0x50484931 ∷ 64 ∷ 0 ∷ 0 ∷ 0x80000030 ∷ [])) 5 }
     ensures a_chunk_fits { BreaksAlone (padded 64 (0x50484931 ∷ 64 ∷ 0x000C0000 ∷ [])) 6 }
-    ensures reserved { BreaksAlone (padded 64 (0x50484931 ∷ 64 ∷ 0x00010001 ∷ 0 ∷ 0 ∷ 0 ∷ 0x80000028 ∷ [])) 7 }
-    ensures padding { BreaksAlone (padded 64 (0x50484931 ∷ 64 ∷ 0x00010000 ∷ 0 ∷ 0 ∷ 1 ∷ 0x80000028 ∷ [])) 8 }
+    ensures reserved { BreaksAlone (padded 64 (0x50484931 ∷ 64 ∷ 0x00010001 ∷ 0 ∷ 0 ∷ 0
+        ∷ 0x80000028 ∷ [])) 7 }
+    ensures padding { BreaksAlone (padded 64 (0x50484931 ∷ 64 ∷ 0x00010000 ∷ 0 ∷ 0 ∷ 1
+        ∷ 0x80000028 ∷ [])) 8 }
 {}
 
 /// Each part of the chunks and slots is broken by an image that keeps all others.
@@ -56,15 +70,22 @@ fn area_parts_break_alone()
     ensures tiled { BreaksAlone (small_image 0 0 (0x80000030 ∷ [])) 9 }
     ensures rest { BreaksAlone (small_image 0 0 (0x80000020 ∷ [])) 9 }
     ensures slot_of_nothing { BreaksAlone (small_image 0 32 (0x80000028 ∷ [])) 10 }
-    ensures slot_inside_a_chunk { BreaksAlone (small_image 0 40 (0x00000018 ∷ 0xF1000000 ∷ 0 ∷ 0 ∷ 0 ∷ 0 ∷ 0x80000010 ∷ [])) 10 }
-    ensures two_slots_on_one_chunk { BreaksAlone (padded 64 (0x50484931 ∷ 64 ∷ 0x00020000 ∷ 0 ∷ 32 ∷ 32 ∷ 0x00000010 ∷ 0x01FFFFFC ∷ 0 ∷ 0 ∷ 0x80000018 ∷ [])) 10 }
-    ensures empty_slot { BreaksAlone (small_image 0 0 (0x00000010 ∷ 0x01FFFFFC ∷ 0 ∷ 0 ∷ 0x80000018 ∷ [])) 11 }
-    ensures two_chunks_on_one_slot { BreaksAlone (small_image 0 32 (0x00000010 ∷ 0x01FFFFFC ∷ 0 ∷ 0 ∷ 0x00000010 ∷ 0x01FFFFF4 ∷ 0 ∷ 0 ∷ 0x80000008 ∷ [])) 11 }
-    ensures fixed_of_owner_0 { BreaksAlone (small_image 0 0 (0x00000010 ∷ 0xF0000000 ∷ 0 ∷ 0 ∷ 0x80000018 ∷ [])) 12 }
-    ensures fixed_of_owner_15 { BreaksAlone (small_image 0 0 (0x00000010 ∷ 0xFF000000 ∷ 0 ∷ 0 ∷ 0x80000018 ∷ [])) 12 }
+    ensures slot_inside_a_chunk { BreaksAlone (small_image 0 40 (0x00000018 ∷ 0xF1000000 ∷ 0 ∷ 0
+        ∷ 0 ∷ 0 ∷ 0x80000010 ∷ [])) 10 }
+    ensures two_slots_on_one_chunk { BreaksAlone (padded 64 (0x50484931 ∷ 64 ∷ 0x00020000 ∷ 0
+        ∷ 32 ∷ 32 ∷ 0x00000010 ∷ 0x01FFFFFC ∷ 0 ∷ 0 ∷ 0x80000018 ∷ [])) 10 }
+    ensures empty_slot { BreaksAlone (small_image 0 0 (0x00000010 ∷ 0x01FFFFFC ∷ 0 ∷ 0
+        ∷ 0x80000018 ∷ [])) 11 }
+    ensures two_chunks_on_one_slot { BreaksAlone (small_image 0 32 (0x00000010 ∷ 0x01FFFFFC ∷ 0
+        ∷ 0 ∷ 0x00000010 ∷ 0x01FFFFF4 ∷ 0 ∷ 0 ∷ 0x80000008 ∷ [])) 11 }
+    ensures fixed_of_owner_0 { BreaksAlone (small_image 0 0 (0x00000010 ∷ 0xF0000000 ∷ 0 ∷ 0
+        ∷ 0x80000018 ∷ [])) 12 }
+    ensures fixed_of_owner_15 { BreaksAlone (small_image 0 0 (0x00000010 ∷ 0xFF000000 ∷ 0 ∷ 0
+        ∷ 0x80000018 ∷ [])) 12 }
     ensures directory_no_slot { BreaksAlone (small_image 20 0 (0x80000028 ∷ [])) 13 }
     ensures directory_empty { BreaksAlone (small_image 16 0 (0x80000028 ∷ [])) 13 }
-    ensures directory_of_owner_1 { BreaksAlone (small_image 16 32 (0x00000010 ∷ 0x01FFFFFC ∷ 0 ∷ 0 ∷ 0x80000018 ∷ [])) 13 }
+    ensures directory_of_owner_1 { BreaksAlone (small_image 16 32 (0x00000010 ∷ 0x01FFFFFC ∷ 0
+        ∷ 0 ∷ 0x80000018 ∷ [])) 13 }
 {}
 
 /// Each way in which a chunk is out of shape, and the words beside it that are in shape.
@@ -77,8 +98,10 @@ fn shape_is_read()
     ensures adjustment_above_body { IsOutOfShape 0x01000008 0xF1000000 }
     ensures fixed_with_offset { IsOutOfShape 0x00000010 0xF1000001 }
     ensures locked_of_owner_0 { IsOutOfShape 0x00000010 0x10FFFFFC }
-    ensures locked { chunk_at (small_image 0 0 (0x07000010 ∷ 0xE1FFFFFC ∷ 0x41000000 ∷ [])) 24 ≡ Some (movable (0x41 ∷ []) 14 1 16) }
-    ensures behind_its_slot { chunk_at (small_image 0 0 (0x00000008 ∷ 0x00000004 ∷ [])) 24 ≡ Some (movable [] 0 0 32) }
+    ensures locked { chunk_at (small_image 0 0 (0x07000010 ∷ 0xE1FFFFFC ∷ 0x41000000 ∷ [])) 24
+        ≡ Some (movable (0x41 ∷ []) 14 1 16) }
+    ensures behind_its_slot { chunk_at (small_image 0 0 (0x00000008 ∷ 0x00000004 ∷ [])) 24
+        ≡ Some (movable [] 0 0 32) }
 {}
 
 /// What the functions above promise is proved, and they run to their end.

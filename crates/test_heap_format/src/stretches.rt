@@ -44,19 +44,28 @@ fn locked_chunk_parts_rooms()
 /// A chunk slides over a room that is smaller than it, into its own bytes.
 fn chunk_slides_into_itself()
     ensures accepted { is_accepted behind_a_little ≡ true }
-    ensures packed { packed (chunks_of behind_a_little) ≡ movable (counted 0 80) 0 1 16 ∷ free 8 ∷ [] }
+    ensures packed { packed (chunks_of behind_a_little)
+        ≡ movable (counted 0 80) 0 1 16 ∷ free 8 ∷ [] }
     ensures moved { moved_by_packing (chunks_of behind_a_little) ≡ 88 }
 {}
 
 /// Several stretches: each has its own room, and a fixed chunk stays as a locked one does.
 fn stretches_are_packed_apart()
-    ensures packed { packed (free 8 ∷ chunk_of 16 ∷ free 16 ∷ locked_of 20 ∷ chunk_of 24 ∷ fixed [] 1 ∷ free 8 ∷ free 24 ∷ chunk_of 28 ∷ [])
-        ≡ chunk_of 16 ∷ free 24 ∷ locked_of 20 ∷ chunk_of 24 ∷ fixed [] 1 ∷ chunk_of 28 ∷ free 32 ∷ [] }
-    ensures moved { moved_by_packing (free 8 ∷ chunk_of 16 ∷ free 16 ∷ locked_of 20 ∷ chunk_of 24 ∷ fixed [] 1 ∷ free 8 ∷ free 24 ∷ chunk_of 28 ∷ []) ≡ 64 }
-    ensures rooms { rooms_of (stretches (free 8 ∷ chunk_of 16 ∷ free 16 ∷ locked_of 20 ∷ chunk_of 24 ∷ fixed [] 1 ∷ free 8 ∷ free 24 ∷ chunk_of 28 ∷ [])) ≡ 24 ∷ 0 ∷ 32 ∷ [] }
+    ensures packed { packed (free 8 ∷ chunk_of 16 ∷ free 16 ∷ locked_of 20 ∷ chunk_of 24
+        ∷ fixed [] 1 ∷ free 8 ∷ free 24 ∷ chunk_of 28 ∷ [])
+        ≡ chunk_of 16 ∷ free 24 ∷ locked_of 20 ∷ chunk_of 24 ∷ fixed [] 1 ∷ chunk_of 28
+        ∷ free 32 ∷ [] }
+    ensures moved { moved_by_packing (free 8 ∷ chunk_of 16 ∷ free 16 ∷ locked_of 20 ∷ chunk_of 24
+        ∷ fixed [] 1 ∷ free 8 ∷ free 24 ∷ chunk_of 28 ∷ [])
+        ≡ 64 }
+    ensures rooms { rooms_of (stretches (free 8 ∷ chunk_of 16 ∷ free 16 ∷ locked_of 20
+        ∷ chunk_of 24 ∷ fixed [] 1 ∷ free 8 ∷ free 24 ∷ chunk_of 28 ∷ []))
+        ≡ 24 ∷ 0 ∷ 32 ∷ [] }
     ensures none { rooms_of (stretches (locked_of 16 ∷ fixed [] 1 ∷ [])) ≡ [] }
-    ensures live { lives (free 8 ∷ chunk_of 16 ∷ fixed [] 1 ∷ free 8 ∷ []) ≡ chunk_of 16 ∷ fixed [] 1 ∷ [] }
-    ensures stay { staying 0 (free 8 ∷ chunk_of 16 ∷ locked_of 20 ∷ free 8 ∷ fixed [] 1 ∷ []) ≡ 40 ∷ 80 ∷ [] }
+    ensures live { lives (free 8 ∷ chunk_of 16 ∷ fixed [] 1 ∷ free 8 ∷ [])
+        ≡ chunk_of 16 ∷ fixed [] 1 ∷ [] }
+    ensures stay { staying 0 (free 8 ∷ chunk_of 16 ∷ locked_of 20 ∷ free 8 ∷ fixed [] 1 ∷ [])
+        ≡ 40 ∷ 80 ∷ [] }
 {}
 
 /// The room in front of a chunk counts for its resize, with its own size: 64 bytes are a need of 56 here.
@@ -65,13 +74,16 @@ fn room_in_front_counts()
     ensures behind { free_behind two_behind 20 ≡ 0 }
     ensures room { rooms two_behind ≡ 32 ∷ [] }
     ensures own { rooms_of (stretches (with_freed (chunks_of two_behind) 20)) ≡ 64 ∷ [] }
-    ensures opened { opened (free 32 ∷ []) (chunk_of 20) (chunk_of 24 ∷ []) ≡ chunk_of 20 ∷ free 32 ∷ chunk_of 24 ∷ [] }
-    ensures grown { grown 32 56 32 (chunk_of 20 ∷ free 32 ∷ chunk_of 24 ∷ []) ≡ zeros_of 56 20 ∷ chunk_of 24 ∷ [] }
+    ensures opened { opened (free 32 ∷ []) (chunk_of 20) (chunk_of 24 ∷ [])
+        ≡ chunk_of 20 ∷ free 32 ∷ chunk_of 24 ∷ [] }
+    ensures grown { grown 32 56 32 (chunk_of 20 ∷ free 32 ∷ chunk_of 24 ∷ [])
+        ≡ zeros_of 56 20 ∷ chunk_of 24 ∷ [] }
 {}
 
 /// The room behind its neighbours counts, too.
 fn room_behind_neighbours_counts()
-    ensures opened { opened [] (chunk_of 16) (chunk_of 20 ∷ free 32 ∷ []) ≡ chunk_of 16 ∷ free 32 ∷ chunk_of 20 ∷ [] }
+    ensures opened { opened [] (chunk_of 16) (chunk_of 20 ∷ free 32 ∷ [])
+        ≡ chunk_of 16 ∷ free 32 ∷ chunk_of 20 ∷ [] }
     ensures none { opened (chunk_of 16 ∷ []) (chunk_of 20) [] ≡ chunk_of 16 ∷ chunk_of 20 ∷ [] }
 {}
 
@@ -79,22 +91,30 @@ fn room_behind_neighbours_counts()
 fn locked_chunk_grows_in_place()
     ensures accepted { is_accepted two_about ≡ true }
     ensures behind { free_behind two_about 16 ≡ 32 }
-    ensures grown { grown 32 56 32 (layout_of two_about) ≡ movable (replicate 56 0) 1 1 16 ∷ chunk_of 20 ∷ [] }
-    ensures some_left { grown 32 25 32 (layout_of two_about) ≡ movable (replicate 25 0) 1 1 16 ∷ free 24 ∷ chunk_of 20 ∷ [] }
+    ensures grown { grown 32 56 32 (layout_of two_about)
+        ≡ movable (replicate 56 0) 1 1 16 ∷ chunk_of 20 ∷ [] }
+    ensures some_left { grown 32 25 32 (layout_of two_about)
+        ≡ movable (replicate 25 0) 1 1 16 ∷ free 24 ∷ chunk_of 20 ∷ [] }
 {}
 
 /// A shorter chunk leaves what it does not need free, and a longer one has zeros behind its own bytes.
 fn lengths_are_changed()
-    ensures shorter { shrunk 3 (movable (counted 1 17) 2 1 16) ≡ movable (1 ∷ 2 ∷ 3 ∷ []) 2 1 16 ∷ free 16 ∷ [] }
-    ensures as_long { shrunk 17 (movable (counted 1 24) 2 1 16) ≡ movable (counted 1 17) 2 1 16 ∷ [] }
-    ensures longer { with_length 26 (movable (counted 1 23) 0 1 16) ≡ movable (counted 1 23 ++ 0 ∷ 0 ∷ 0 ∷ []) 0 1 16 }
+    ensures shorter { shrunk 3 (movable (counted 1 17) 2 1 16)
+        ≡ movable (1 ∷ 2 ∷ 3 ∷ []) 2 1 16 ∷ free 16 ∷ [] }
+    ensures as_long { shrunk 17 (movable (counted 1 24) 2 1 16)
+        ≡ movable (counted 1 17) 2 1 16 ∷ [] }
+    ensures longer { with_length 26 (movable (counted 1 23) 0 1 16)
+        ≡ movable (counted 1 23 ++ 0 ∷ 0 ∷ 0 ∷ []) 0 1 16 }
     ensures empty { with_length 0 (fixed (7 ∷ []) 3) ≡ fixed [] 3 }
 {}
 
 /// A chunk goes to the front of a free one, and leaves its own bytes free.
 fn chunk_is_relocated()
-    ensures behind { relocated 32 96 (zeros_of 40 16) 32 (chunk_of 16 ∷ chunk_of 20 ∷ free 64 ∷ []) ≡ free 32 ∷ chunk_of 20 ∷ zeros_of 40 16 ∷ free 16 ∷ [] }
-    ensures in_front { relocated 96 32 (zeros_of 56 16) 32 (free 64 ∷ chunk_of 16 ∷ chunk_of 20 ∷ []) ≡ zeros_of 56 16 ∷ free 32 ∷ chunk_of 20 ∷ [] }
+    ensures behind { relocated 32 96 (zeros_of 40 16) 32 (chunk_of 16 ∷ chunk_of 20 ∷ free 64 ∷ [])
+        ≡ free 32 ∷ chunk_of 20 ∷ zeros_of 40 16 ∷ free 16 ∷ [] }
+    ensures in_front { relocated 96 32 (zeros_of 56 16) 32 (free 64 ∷ chunk_of 16 ∷ chunk_of 20
+        ∷ [])
+        ≡ zeros_of 56 16 ∷ free 32 ∷ chunk_of 20 ∷ [] }
 {}
 
 /// What the functions above promise is proved, and they run to their end.

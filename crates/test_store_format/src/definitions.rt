@@ -40,7 +40,8 @@ fn records_are_read()
       };
     } ∷ [] }
     ensures named { named database_image ≡ 0 ∷ 0 ∷ 0x18 ∷ 0x1C ∷ [] }
-    ensures data { callers_map database_image 0x18 ≡ Some (record { bytes = replicate 8 0x41; lock = 0; owner = 15 }) }
+    ensures data { callers_map database_image 0x18
+        ≡ Some (record { bytes = replicate 8 0x41; lock = 0; owner = 15 }) }
     ensures header { callers_map database_image 0x14 ≡ None }
     ensures stretch { stretch_of database_image 0x1C ≡ 0 }
 {}
@@ -48,18 +49,27 @@ fn records_are_read()
 /// A database of resources.
 fn resources_are_read()
     ensures accepted { broken resource_image ≡ [] }
-    ensures entries { map (λ one. one.database.entries) (databases resource_image) ≡ (a_resource 0x74535452 1000 0x18 ∷ []) ∷ [] }
-    ensures content { map (λ one. (content (callers_map resource_image) one.database).entries) (databases resource_image) ≡ (a_resource 0x74535452 1000 (Some (0x48 ∷ 0x69 ∷ [])) ∷ []) ∷ [] }
-    ensures no_block { map (λ one. (content (callers_map resource_image) one.database).app_info) (databases resource_image) ≡ None ∷ [] }
-    ensures attributes { map (λ one. one.database.header.attributes) (databases resource_image) ≡ 1 ∷ [] }
-    ensures data { callers_map resource_image 0x18 ≡ Some (record { bytes = 0x48 ∷ 0x69 ∷ []; lock = 0; owner = 15 }) }
+    ensures entries { map (λ one. one.database.entries) (databases resource_image)
+        ≡ (a_resource 0x74535452 1000 0x18 ∷ []) ∷ [] }
+    ensures content { map (λ one. (content (callers_map resource_image) one.database).entries)
+        (databases resource_image)
+        ≡ (a_resource 0x74535452 1000 (Some (0x48 ∷ 0x69 ∷ [])) ∷ []) ∷ [] }
+    ensures no_block { map (λ one. (content (callers_map resource_image) one.database).app_info)
+        (databases resource_image)
+        ≡ None ∷ [] }
+    ensures attributes { map (λ one. one.database.header.attributes) (databases resource_image)
+        ≡ 1 ∷ [] }
+    ensures data { callers_map resource_image 0x18
+        ≡ Some (record { bytes = 0x48 ∷ 0x69 ∷ []; lock = 0; owner = 15 }) }
 {}
 
 /// Two databases, in the order of the directory.
 fn two_databases_are_read()
     ensures accepted { broken (two_databases 0x10 0x14 0x18 0x41 0x42) ≡ [] }
-    ensures names { names_of (databases (two_databases 0x10 0x14 0x18 0x41 0x42)) ≡ (0x41 ∷ []) ∷ (0x42 ∷ []) ∷ [] }
-    ensures other_order { names_of (databases (two_databases 0x10 0x18 0x14 0x41 0x42)) ≡ (0x42 ∷ []) ∷ (0x41 ∷ []) ∷ [] }
+    ensures names { names_of (databases (two_databases 0x10 0x14 0x18 0x41 0x42))
+        ≡ (0x41 ∷ []) ∷ (0x42 ∷ []) ∷ [] }
+    ensures other_order { names_of (databases (two_databases 0x10 0x18 0x14 0x41 0x42))
+        ≡ (0x42 ∷ []) ∷ (0x41 ∷ []) ∷ [] }
     ensures none { listed two_rooms ≡ [] }
 {}
 
