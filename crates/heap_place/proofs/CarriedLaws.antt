@@ -1,7 +1,7 @@
 -- Chunks whose bytes are carried up.
 use Rattle.std.proofs.Common.{◌≡◌, ℕ, ◌+◌, ◌≤◌, List, [], ◌∷◌, length, refl, ap, subst, arith}
 use Rattle.heap_model.specs.Chunk.{Chunk, free, movable, fixed, size_of, total, slot_named, Spelled, SpelledAll}
-use Rattle.laws_heap.proofs.Carrying.{Carries, Carries-within, IsFree-carried, IsLive-carried}
+use Rattle.laws_heap.proofs.CarriedBytes.{Carries, Carries-within, IsFree-carried, IsLive-carried}
 use Rattle.laws_heap.proofs.Chunks.{SpelledAll-end}
 use Rattle.heap_place.specs.Lifting.{carried, all_carried}
 

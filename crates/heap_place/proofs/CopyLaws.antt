@@ -13,7 +13,7 @@ use Rattle.laws_heap.proofs.Writing.{WroteWithin, wrote_part, wrote_word, wrote_
 use Rattle.chunk_format.specs.Header.{HasHeader}
 use Rattle.chunk_format.specs.declared.header.Header.TheVariants as headers
 use Rattle.heap_place.specs.Lifting.{all_carried, Lifting, FreeBehind, HasFreeBehind}
-use Rattle.laws_heap.proofs.Carrying.{Carries, Carries-then, slid_up}
+use Rattle.laws_heap.proofs.CarriedBytes.{Carries, Carries-then, slid_up}
 use Rattle.heap_place.proofs.FoundLaws.{heap_in_parts, Middle, middle_of}
 use Rattle.heap_place.proofs.CutLaws.{has_free}
 use Rattle.heap_place.proofs.CarriedLaws.{SpelledAll-carried}

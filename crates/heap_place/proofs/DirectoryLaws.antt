@@ -9,7 +9,7 @@ use Rattle.heap_model.specs.Store.{managers_owner, owner_of, owner_under}
 use Rattle.heap_model.specs.Leaving.{NamesDirectory}
 use Rattle.laws_heap.proofs.Meanings.{held-zero}
 use Rattle.laws_heap.proofs.Directory.{named_finds, directory_owned}
-use Rattle.laws_heap.proofs.Relocating.{relocate_changes}
+use Rattle.laws_heap.proofs.Relocation.{relocate_changes}
 use Rattle.heap_place.specs.declared.found.Found.{Found}
 use Rattle.heap_place.specs.Found.{IsOne}
 use Rattle.heap_place.specs.Relocation.{RelocatesFound}

@@ -20,7 +20,7 @@ use Rattle.laws_heap.proofs.Plain.{free_plain, replaced_plain}
 use Rattle.laws_heap.proofs.Freeing.{free_replaced}
 use Rattle.chunk_format.specs.Header.{HasHeader, live_words, h_offset_to}
 use Rattle.chunk_format.specs.declared.header.Header.TheVariants as headers
-use Rattle.laws_heap.proofs.Carrying.{Carries, slice-carried, slid_down}
+use Rattle.laws_heap.proofs.CarriedBytes.{Carries, slice-carried, slid_down}
 use Rattle.heap_place.specs.Packs.{BecomesExactly, Droppable}
 use Rattle.heap_place.proofs.FoundLaws.{heap_in_parts, Middle, middle_of}
 use Rattle.laws_heap.proofs.Exchanging.{gap_free, gap_total}

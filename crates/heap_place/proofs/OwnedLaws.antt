@@ -21,7 +21,7 @@ use Rattle.laws_heap.proofs.Layouts.{any-merged}
 use Rattle.laws_heap.proofs.Becoming.{same_frame, frame_then, becomes_start}
 use Rattle.laws_heap.proofs.Exchanging.{exchanges_parts}
 use Rattle.laws_heap.proofs.Changing.{named_live_chunk}
-use Rattle.laws_heap.proofs.Owning.{owned, counted_one, owned-merged, freed_if, owned_freed-append, owned_freed-merged, owned_freed-layout, owned_freed-none, not_directory}
+use Rattle.laws_heap.proofs.OwnedChunks.{owned, counted_one, owned-merged, freed_if, owned_freed-append, owned_freed-merged, owned_freed-layout, owned_freed-none, not_directory}
 use Rattle.chunk_format.specs.declared.header.Header.{Header}
 use Rattle.chunk_format.specs.declared.header.Header.TheVariants as headers
 use Rattle.chunk_format.specs.Header.{header_of, size_by, HasHeader}

@@ -19,8 +19,8 @@ use Rattle.laws_heap.proofs.Altering.{finds_place, body_stays}
 use Rattle.laws_heap.proofs.Exchanging.{ChangesName}
 use Rattle.laws_heap.proofs.Changing.{claim_changes, room_unheld, bytes_changes, freed_changes}
 use Rattle.laws_heap.proofs.Resizings.{length-sized_to}
-use Rattle.laws_heap.proofs.Relocating.{relocates}
-use Rattle.laws_heap.proofs.Fitting.{room_is_run}
+use Rattle.laws_heap.proofs.Relocation.{relocates}
+use Rattle.laws_heap.proofs.Fits.{room_is_run}
 use Rattle.laws_heap.proofs.Compacting.{slot_unheld}
 use Rattle.laws_heap.proofs.Chunks.{Spelled-same}
 use Rattle.laws_heap.proofs.Frames.{u32_at-written, length-overwritten}

@@ -38,8 +38,8 @@ use heap_model::{Name, Place};
 use raw_region::Region;
 use std::marker::Model;
 
-/// A region that is a heap, and what is known of its free chunks. Contracts see the region's value
-/// alone.
+/// A region whose chunks are found and changed. Contracts see the region's value alone; each call asks
+/// that it is an accepted heap.
 #[derive(Drop)]
 pub struct Space {
     region: Region,

@@ -28,7 +28,7 @@ use Rattle.laws_heap.proofs.Altering.{finds_place}
 use Rattle.laws_heap.proofs.Becoming.{rooms-layout, becomes_held, becomes_place, becomes_free, becomes_no_run, becomes_body, count_alike, frame_slots}
 use Rattle.laws_heap.proofs.Exchanging.{layout_takes, ChangesName}
 use Rattle.laws_heap.proofs.Packings.{packed_slid, packed_once}
-use Rattle.laws_heap.proofs.Numbering.{stretch-layout, slid_stretch}
+use Rattle.laws_heap.proofs.StretchNumbers.{stretch-layout, slid_stretch}
 use Rattle.laws_heap.proofs.Sliding.{slid_live, slid_place, slid_free, slid_rooms, slid_merged, slid_middle, no_run-packed, opened_slid}
 
 -- ---- the slots

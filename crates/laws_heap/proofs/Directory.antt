@@ -22,7 +22,7 @@ use Rattle.laws_heap.proofs.Runs.{chunks_of-tiled}
 use Rattle.laws_heap.proofs.Placed.{EveryPlaced-split, AnyPlaced-mid, SpelledAll-takes}
 use Rattle.laws_heap.proofs.Finding.{read_heap, held_finds}
 use Rattle.laws_heap.proofs.Plain.{free_inside}
-use Rattle.laws_heap.proofs.Owning.{not_directory}
+use Rattle.laws_heap.proofs.OwnedChunks.{not_directory}
 use Rattle.laws_heap.proofs.Writing.{WroteWithin, wrote_word, wrote_word_apart}
 
 -- a chunk of the manager's has this name

@@ -16,7 +16,7 @@ use Rattle.heap_model.specs.Space.{AllFree, NoneStays, room_of, free_front, free
 use Rattle.heap_model.specs.Placing.{Finds}
 use Rattle.heap_model.specs.Layout.{free_onto, merged, layout_of, Becomes, gap}
 use Rattle.heap_model.specs.Packing.{lives, packed, BeginsStaying, WholeStretch, opened, OpensBehind}
-use Rattle.heap_model.specs.Resizing.{with_length, shrunk, Shrinks, behind_front, grown, GrowsInPlace}
+use Rattle.heap_model.specs.Resizing.{with_length, behind_front, grown, GrowsInPlace}
 use Rattle.laws_heap.proofs.Deciding.{cond-true, cond-false, none_some}
 use Rattle.laws_heap.proofs.Placed.{TakesBytes}
 use Rattle.laws_heap.proofs.Freeing.{or_front, or_back}
@@ -24,7 +24,7 @@ use Rattle.laws_heap.proofs.Altering.{named_live, named_place}
 use Rattle.laws_heap.proofs.Lives.{or_else, live_under-append}
 use Rattle.laws_heap.proofs.Layouts.{IsNotFree, free_front-merged, merged-front, merged-right, merged-back, merged-live, merged-twice, total-merged, live_under-merged}
 use Rattle.laws_heap.proofs.Becoming.{becomes_alike, becomes_behind}
-use Rattle.laws_heap.proofs.Exchanging.{layout_takes, exchanges_parts, gap_free, gap_total, NotBeside, named_no_other, named_beside, ChangesName, run_changes}
+use Rattle.laws_heap.proofs.Exchanging.{layout_takes, gap_free, gap_total, NotBeside, named_no_other, named_beside, ChangesName, run_changes}
 use Rattle.laws_heap.proofs.Changing.{changes_as, some_place, named_live_chunk}
 use Rattle.laws_heap.proofs.Packings.{no_true, packed_slid}
 use Rattle.laws_heap.proofs.Sliding.{slid_live, none_stays-append, stretch_packed}
@@ -68,22 +68,6 @@ resized_changes old new before c run d left after name live now h e b sizes free
     let here : ℕ = area_start old + total before in
     changes_as old new name _ (Some now) _ (Some (here + 8)) (named_live name here now d left is) (named_place name here now d left is)
     (run_changes old new before (c ∷ run) (d ∷ left) after name h e b sizes (beside_run (area_start old) before c run after name beside) (named_no_other name here live c run was free_run) (named_no_other name here now d left is free_left))
-
--- a chunk is shrunk
-pub shrink_changes : (old new : List ℕ) (name place count : ℕ) (live : LiveChunk) (c : Chunk) → HeapAccepted old → 8 ≤ place → Finds old name live c (place - 8) → need count ≤ size_of c → Shrinks old new (place - 8) count
-    → ChangesName old new name (Some (live_sized count live)) (Some place)
-shrink_changes old new name place count live c h low f fits x =
-    let there = f.there in
-    let here : ℕ = area_start old + total f.before in
-    let was : NamedHere name live here c = subst (λ (n : ℕ). NamedHere name live n c) f.there f.named in
-    let alive = named_live_chunk name here live c was in
-    let d : Chunk = with_length count c in
-    let left : ℕ = size_of c - size_of d in
-    let size = size_of-with_length c count alive in
-    let sizes : total (d ∷ gap left) ≡ total (c ∷ []) = let e = gap_total left in omega arith in
-    changes_as old new name _ _ _ (Some place) refl (ap some_place (let e : here + 8 ≡ place = omega arith in e))
-    (resized_changes old new f.before c [] d (gap left) f.after name live (live_sized count live) h (ap merged f.chunks) ((exchanges_parts old new (place - 8) (shrunk count) f.before c f.after h alive f.chunks f.there).0 x)
-    sizes tt (gap_free left) (named_beside old f.before c f.after name live h f.chunks was) was (named_sized name here count live c was))
 
 -- ---- a chunk is grown
 

@@ -21,15 +21,15 @@
 //! | `Freeing`, `Altering` | the same: free chunks split, joined and claimed, live ones freed and altered |
 //! | `Exchanging` | a chunk of a layout exchanged for others: by parts, and what all names stand for |
 //! | `Changing` | the same by what is done: what its name stands for afterwards |
-//! | `Owning` | all chunks of an owner made free |
+//! | `OwnedChunks` | all chunks of an owner made free |
 //! | `Packings` | what packing leaves: it is packed, and one list alone |
 //! | `Sliding` | chunks that slide: what names stand for, which stay, and the rooms are as they were |
-//! | `Numbering` | the number of the stretch that a chunk is in, in lists of one layout, and where chunks slide |
+//! | `StretchNumbers` | the number of the stretch that a chunk is in, in lists of one layout, and where chunks slide |
 //! | `Compacting` | the same of an image; and which of its chunks have moved, and how much |
 //! | `Holding` | how much is free, by what is held |
 //! | `Stretches` | one stretch of an image: the one around a chunk, and its room among the others |
-//! | `Lowering` | a chunk that is made lowers one room, and no other changes its stretch |
-//! | `Resizings`, `Relocating` | a chunk that takes another length, in its place or elsewhere: what its name stands for then |
+//! | `LoweredRoom` | a chunk that is made lowers one room, and no other changes its stretch |
+//! | `Resizings`, `Relocation` | a chunk that takes another length, in its place or elsewhere: what its name stands for then |
 //! | `Openness` | what contracts over layouts leave open, by bodies that split and join otherwise |
 //!
 //! `test_heap_format` tries the definitions on images.

@@ -1,8 +1,8 @@
 pub mod Stepping
-pub mod Altering
-pub mod Making
+pub mod ChunkCalls
+pub mod NewChunks
 pub mod Texts
-pub mod Recovering
-pub mod Moving
-pub mod Managing
-pub mod Growing
+pub mod Places
+pub mod SlidChunks
+pub mod StoreCalls
+pub mod Growth

@@ -23,7 +23,7 @@ use Rattle.laws_heap.proofs.Accepted.{heap_of_read}
 use Rattle.laws_heap.proofs.Finding.{callers_some}
 use Rattle.laws_heap.proofs.Becoming.{same_frame, frame_slots}
 use Rattle.laws_heap.proofs.Exchanging.{ChangesName}
-use Rattle.laws_heap.proofs.Updating.{held_updated}
+use Rattle.laws_heap.proofs.ChangedName.{held_updated}
 use Rattle.laws_heap.proofs.Compacting.{changes_move_nothing}
 use Rattle.master_table.proofs.TableLaws.{used_still}
 use Rattle.heap_place.proofs.FoundLaws.{name_held}

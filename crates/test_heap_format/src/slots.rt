@@ -5,7 +5,9 @@ ghost use Rattle.heap_model.specs.Slots.{slot_count as model_count};
 
 use crate::frames::frame_of;
 use heap_model::{Name, Place};
-use master_table::{EmptySlot, Table, clear, first_empty_slot, resolve, set, slots_before, slots_free};
+use master_table::{
+    EmptySlot, Table, clear, first_empty_slot, resolve, set, slots_before, slots_free,
+};
 use raw_region::Region;
 use std::alloc::Global;
 use std::test::*;

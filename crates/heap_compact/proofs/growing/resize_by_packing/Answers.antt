@@ -2,7 +2,7 @@ use Rattle.std.proofs.Common.{◌≡◌, ℕ, sym, subst, arith}
 use Rattle.heap_model.specs.Space.{Short, MovesOneStretchAnd}
 use Rattle.heap_model.specs.Memory.{Memory}
 use Rattle.heap_model.specs.Chunk.{need}
-use Rattle.laws_heap.proofs.Fitting.{room_is_run, short_for_beyond}
+use Rattle.laws_heap.proofs.Fits.{room_is_run, short_for_beyond}
 use Rattle.laws_heap.proofs.Unmoved.{itself_alone}
 use Rattle.heap_compact.proofs.ResizedLaws.{is_loose, loose_slid, slid_then, slid_alone, fits_in_stretch, fits_not_short, short_own, own_fits, room_fits}
 use Rattle.heap_compact.proofs.growing.resize_by_packing.Goals as goal

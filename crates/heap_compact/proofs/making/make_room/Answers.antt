@@ -1,4 +1,4 @@
-use Rattle.laws_heap.proofs.Fitting.{room_not_short}
+use Rattle.laws_heap.proofs.Fits.{room_not_short}
 use Rattle.heap_compact.proofs.MakingLaws.{slides_nothing, moves_none}
 use Rattle.heap_compact.proofs.making.make_room.Goals as goal
 

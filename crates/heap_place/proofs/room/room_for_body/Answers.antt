@@ -1,6 +1,6 @@
 use Rattle.std.proofs.Common.{ℕ, subst, arith}
 use Rattle.heap_model.specs.Chunk.{need}
-use Rattle.laws_heap.proofs.Fitting.{no_run_beyond}
+use Rattle.laws_heap.proofs.Fits.{no_run_beyond}
 use Rattle.heap_place.proofs.room.room_for_body.Goals as goal
 
 pub returns-in-None-clause-none : goal.returns-in-None-clause-none

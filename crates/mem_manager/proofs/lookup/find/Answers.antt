@@ -1,5 +1,5 @@
 use Rattle.std.proofs.Common.{arith}
-use Rattle.mem_manager.proofs.Recovering.{managers_unknown}
+use Rattle.mem_manager.proofs.Places.{managers_unknown}
 use Rattle.mem_manager.proofs.lookup.find.Goals as goal
 
 pub returns-in_default-clause-none : goal.returns-in_default-clause-none

@@ -1,5 +1,5 @@
 use Rattle.std.proofs.Common.{arith}
-use Rattle.mem_manager.proofs.Recovering.{found_there, nowhere, managers_there}
+use Rattle.mem_manager.proofs.Places.{found_there, nowhere, managers_there}
 use Rattle.mem_manager.proofs.lookup.name_at.Goals as goal
 
 pub returns-in-Some-clause-there : goal.returns-in-Some-clause-there

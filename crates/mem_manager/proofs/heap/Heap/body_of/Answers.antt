@@ -2,8 +2,8 @@ use Rattle.std.proofs.Common.{◌≡◌, ◌+◌, length, ap, subst, ◌∙◌, 
 use Rattle.std.specs.Prelude.{slice_range}
 use Rattle.heap_model.specs.Memory.{Memory}
 use Rattle.heap_model.specs.Heap.{HeapAccepted}
-use Rattle.mem_manager.proofs.Altering.{body_there}
-use Rattle.mem_manager.proofs.Managing.{body_found}
+use Rattle.mem_manager.proofs.ChunkCalls.{body_there}
+use Rattle.mem_manager.proofs.StoreCalls.{body_found}
 use Rattle.mem_manager.proofs.heap.Heap.body_of.Goals as goal
 
 pub slice-requires : goal.slice-requires

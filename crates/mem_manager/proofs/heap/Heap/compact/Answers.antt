@@ -7,7 +7,7 @@ use Rattle.heap_model.specs.MemorySteps.{Does}
 use Rattle.heap_model.specs.declared.call.MemoryCall.TheVariants.{Compact}
 use Rattle.heap_model.specs.declared.call.Reply.{Reply}
 use Rattle.laws_heap.proofs.Packings.{packed_is_packed, packed_slid}
-use Rattle.mem_manager.proofs.Moving.{compacted, used_compacted}
+use Rattle.mem_manager.proofs.SlidChunks.{compacted, used_compacted}
 use Rattle.mem_manager.proofs.heap.Heap.compact.Goals as goal
 
 pub invariant_of-self : goal.invariant_of-self

@@ -5,8 +5,8 @@ use Rattle.heap_model.specs.declared.call.MemoryCall.TheVariants.{Free}
 use Rattle.heap_model.specs.declared.call.Reply.{Reply}
 use Rattle.heap_model.specs.declared.refusal.Refusal.{Refusal}
 use Rattle.mem_manager.proofs.Stepping.{handed_on, one_of}
-use Rattle.mem_manager.proofs.Making.{free_database, free_locked, freed, used_freed}
-use Rattle.mem_manager.proofs.Altering.{not_the_directory}
+use Rattle.mem_manager.proofs.NewChunks.{free_database, free_locked, freed, used_freed}
+use Rattle.mem_manager.proofs.ChunkCalls.{not_the_directory}
 use Rattle.master_table.specs.Table.{NotAmong}
 use Rattle.laws_heap.proofs.Changing.{freed_changes}
 use Rattle.mem_manager.proofs.heap.Heap.free.Goals as goal

@@ -5,7 +5,7 @@ use Rattle.heap_model.specs.declared.call.MemoryCall.TheVariants.{FreeByOwner}
 use Rattle.heap_model.specs.declared.call.Reply.{Reply}
 use Rattle.heap_model.specs.declared.refusal.Refusal.{Refusal}
 use Rattle.mem_manager.proofs.Stepping.{answered, refused}
-use Rattle.mem_manager.proofs.Making.{owner_freed}
+use Rattle.mem_manager.proofs.NewChunks.{owner_freed}
 use Rattle.mem_manager.proofs.heap.Heap.free_by_owner.Goals as goal
 
 pub returns-in_err-check_owner : goal.returns-in_err-check_owner

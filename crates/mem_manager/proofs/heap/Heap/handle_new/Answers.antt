@@ -7,8 +7,8 @@ use Rattle.heap_model.specs.declared.call.MemoryCall.TheVariants.{HandleNew}
 use Rattle.heap_model.specs.declared.call.Reply.{Reply}
 use Rattle.heap_model.specs.declared.refusal.Refusal.{Refusal}
 use Rattle.mem_manager.proofs.Stepping.{answered, refused}
-use Rattle.mem_manager.proofs.Making.{new_step}
-use Rattle.mem_manager.proofs.Moving.{nothing_slides, itself_one}
+use Rattle.mem_manager.proofs.NewChunks.{new_step}
+use Rattle.mem_manager.proofs.SlidChunks.{nothing_slides, itself_one}
 use Rattle.mem_manager.proofs.heap.Heap.handle_new.Goals as goal
 
 pub returns-in_err-check_owner-clause-does : goal.returns-in_err-check_owner-clause-does

@@ -5,7 +5,7 @@ use Rattle.heap_model.specs.declared.call.MemoryCall.TheVariants.{Lock}
 use Rattle.heap_model.specs.declared.call.Reply.{Reply}
 use Rattle.heap_model.specs.declared.refusal.Refusal.{Refusal}
 use Rattle.mem_manager.proofs.Stepping.{handed_on, used_altered, one_of}
-use Rattle.mem_manager.proofs.Altering.{lock_fixed, lock_full, lock_small, relock_changes, locked}
+use Rattle.mem_manager.proofs.ChunkCalls.{lock_fixed, lock_full, lock_small, relock_changes, locked}
 use Rattle.mem_manager.proofs.heap.Heap.lock.Goals as goal
 
 pub returns-in_err-check_movable : goal.returns-in_err-check_movable

@@ -3,7 +3,7 @@ use Rattle.heap_model.specs.Memory.{Memory}
 use Rattle.heap_model.specs.MemorySteps.{Does}
 use Rattle.heap_model.specs.declared.call.MemoryCall.TheVariants.{Owner}
 use Rattle.heap_model.specs.declared.call.Reply.TheVariants.{Number}
-use Rattle.mem_manager.proofs.Altering.{owner_known}
+use Rattle.mem_manager.proofs.ChunkCalls.{owner_known}
 use Rattle.mem_manager.proofs.heap.Heap.owner.Goals as goal
 
 pub returns : goal.returns

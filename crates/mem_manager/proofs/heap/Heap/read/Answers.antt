@@ -5,7 +5,7 @@ use Rattle.heap_model.specs.MemorySteps.{Does}
 use Rattle.heap_model.specs.declared.call.MemoryCall.TheVariants.{Read}
 use Rattle.heap_model.specs.declared.call.Reply.{Reply}
 use Rattle.mem_manager.proofs.Stepping.{handed_on}
-use Rattle.mem_manager.proofs.Altering.{read_beyond, read_known, body_there}
+use Rattle.mem_manager.proofs.ChunkCalls.{read_beyond, read_known, body_there}
 use Rattle.mem_manager.proofs.heap.Heap.read.Goals as goal
 
 pub returns-in_err-check_range-clause-does : goal.returns-in_err-check_range-clause-does

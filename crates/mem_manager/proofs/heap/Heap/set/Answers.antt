@@ -6,7 +6,7 @@ use Rattle.heap_model.specs.declared.call.MemoryCall.TheVariants.{Set}
 use Rattle.heap_model.specs.declared.call.Reply.{Reply}
 use Rattle.heap_model.specs.declared.refusal.Refusal.{Refusal}
 use Rattle.mem_manager.proofs.Stepping.{handed_on, refused, used_altered, one_of}
-use Rattle.mem_manager.proofs.Altering.{unlocked_write, write_beyond, write_changes, filled}
+use Rattle.mem_manager.proofs.ChunkCalls.{unlocked_write, write_beyond, write_changes, filled}
 use Rattle.mem_manager.proofs.heap.Heap.set.Goals as goal
 
 pub returns-in_err-check_locked : goal.returns-in_err-check_locked

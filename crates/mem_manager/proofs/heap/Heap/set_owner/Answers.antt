@@ -4,7 +4,7 @@ use Rattle.heap_model.specs.MemorySteps.{Does}
 use Rattle.heap_model.specs.declared.call.MemoryCall.TheVariants.{SetOwner}
 use Rattle.heap_model.specs.declared.call.Reply.{Reply}
 use Rattle.mem_manager.proofs.Stepping.{handed_on, used_altered, one_of}
-use Rattle.mem_manager.proofs.Altering.{set_owner_database, set_owner_no_caller, reown_changes, can_go_to, reowned_done}
+use Rattle.mem_manager.proofs.ChunkCalls.{set_owner_database, set_owner_no_caller, reown_changes, can_go_to, reowned_done}
 use Rattle.mem_manager.proofs.heap.Heap.set_owner.Goals as goal
 
 pub returns-in_err-check_callers : goal.returns-in_err-check_callers

@@ -3,7 +3,7 @@ use Rattle.heap_model.specs.Memory.{Memory}
 use Rattle.heap_model.specs.MemorySteps.{Does}
 use Rattle.heap_model.specs.declared.call.MemoryCall.TheVariants.{Size}
 use Rattle.heap_model.specs.declared.call.Reply.TheVariants.{Number}
-use Rattle.mem_manager.proofs.Altering.{size_known}
+use Rattle.mem_manager.proofs.ChunkCalls.{size_known}
 use Rattle.mem_manager.proofs.heap.Heap.size.Goals as goal
 
 pub returns : goal.returns

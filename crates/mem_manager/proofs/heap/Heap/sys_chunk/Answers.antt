@@ -1,4 +1,4 @@
-use Rattle.mem_manager.proofs.Managing.{owner_viewed, some_viewed}
+use Rattle.mem_manager.proofs.StoreCalls.{owner_viewed, some_viewed}
 use Rattle.mem_manager.proofs.heap.Heap.sys_chunk.Goals as goal
 
 pub returns-clause-owner : goal.returns-clause-owner

@@ -5,8 +5,8 @@ use Rattle.heap_model.specs.Reading.{held}
 use Rattle.heap_model.specs.Leaving.{Leaves}
 use Rattle.laws_heap.proofs.Changing.{freed_changes}
 use Rattle.master_table.specs.Table.{NotAmong}
-use Rattle.mem_manager.proofs.Making.{used_freed}
-use Rattle.mem_manager.proofs.Managing.{leaves_gone}
+use Rattle.mem_manager.proofs.NewChunks.{used_freed}
+use Rattle.mem_manager.proofs.StoreCalls.{leaves_gone}
 use Rattle.mem_manager.proofs.heap.Heap.sys_free.Goals as goal
 
 pub invariant_of-self : goal.invariant_of-self

@@ -1,4 +1,4 @@
-use Rattle.mem_manager.proofs.Managing.{lock_viewed}
+use Rattle.mem_manager.proofs.StoreCalls.{lock_viewed}
 use Rattle.mem_manager.proofs.heap.Heap.sys_locks.Goals as goal
 
 pub returns : goal.returns

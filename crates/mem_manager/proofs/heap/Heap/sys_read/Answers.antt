@@ -2,7 +2,7 @@ use Rattle.std.proofs.Common.{◌≡◌, ◌+◌, ◌≤◌, length, sym, ap, su
 use Rattle.std.specs.Prelude.{slice_range}
 use Rattle.heap_model.specs.Memory.{Memory}
 use Rattle.heap_model.specs.Store.{bytes_under}
-use Rattle.mem_manager.proofs.Managing.{slice_found, inside_found}
+use Rattle.mem_manager.proofs.StoreCalls.{slice_found, inside_found}
 use Rattle.mem_manager.proofs.heap.Heap.sys_read.Goals as goal
 
 pub slice-requires : goal.slice-requires

@@ -1,8 +1,8 @@
 use Rattle.std.proofs.Common.{sym, subst}
 use Rattle.heap_model.specs.Memory.{Memory}
 use Rattle.mem_manager.specs.Lookup.{IsMovable}
-use Rattle.mem_manager.proofs.Growing.{used_replied}
-use Rattle.mem_manager.proofs.Managing.{loose_found, movable_there}
+use Rattle.mem_manager.proofs.Growth.{used_replied}
+use Rattle.mem_manager.proofs.StoreCalls.{loose_found, movable_there}
 use Rattle.mem_manager.proofs.heap.Heap.sys_resize.Goals as goal
 
 pub resize_found-requires-clause-movable : goal.resize_found-requires-clause-movable

@@ -5,9 +5,9 @@ use Rattle.heap_model.specs.Maps.{reowned}
 use Rattle.heap_model.specs.Reading.{held}
 use Rattle.heap_model.specs.Leaving.{Leaves}
 use Rattle.mem_manager.specs.Lookup.{IsMovable}
-use Rattle.mem_manager.proofs.Altering.{reown_changes}
+use Rattle.mem_manager.proofs.ChunkCalls.{reown_changes}
 use Rattle.mem_manager.proofs.Stepping.{used_altered, altered}
-use Rattle.mem_manager.proofs.Managing.{may_go_to, movable_there}
+use Rattle.mem_manager.proofs.StoreCalls.{may_go_to, movable_there}
 use Rattle.mem_manager.proofs.heap.Heap.sys_set_owner.Goals as goal
 
 pub reown-requires-clause-owner : goal.reown-requires-clause-owner

@@ -1,6 +1,6 @@
 use Rattle.std.proofs.Common.{◌+◌}
 use Rattle.mem_manager.proofs.Stepping.{used_altered}
-use Rattle.mem_manager.proofs.Managing.{within_viewed, slide_changes, slid_viewed}
+use Rattle.mem_manager.proofs.StoreCalls.{within_viewed, slide_changes, slid_viewed}
 use Rattle.mem_manager.proofs.heap.Heap.sys_slide.Goals as goal
 
 pub slide_within-requires-clause-from_within : goal.slide_within-requires-clause-from_within

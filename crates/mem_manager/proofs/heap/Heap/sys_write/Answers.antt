@@ -6,7 +6,7 @@ use Rattle.heap_model.specs.Maps.{put}
 use Rattle.heap_model.specs.Reading.{held}
 use Rattle.heap_model.specs.Leaving.{Leaves}
 use Rattle.mem_manager.proofs.Stepping.{used_altered, stays_in_place, altered}
-use Rattle.mem_manager.proofs.Managing.{within_viewed, write_viewed}
+use Rattle.mem_manager.proofs.StoreCalls.{within_viewed, write_viewed}
 use Rattle.mem_manager.proofs.heap.Heap.sys_write.Goals as goal
 
 pub write-requires-clause-within : goal.write-requires-clause-within

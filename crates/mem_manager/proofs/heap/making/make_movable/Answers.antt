@@ -2,8 +2,8 @@ use Rattle.std.proofs.Common.{◌≡◌, ◌+◌, Some, None, sym, ap, ◌∙◌
 use Rattle.heap_model.specs.Memory.{Memory}
 use Rattle.heap_model.specs.Space.{free_slots}
 use Rattle.master_table.specs.declared.table.EmptySlot.{EmptySlot}
-use Rattle.mem_manager.proofs.Making.{new_left, new_claimed, new_lowers, new_unheld, used_made, as_first}
-use Rattle.mem_manager.proofs.Moving.{nothing_slides, once_then, first_slid, made_moves_nothing, nothing_then, one_stretch_then, itself_one}
+use Rattle.mem_manager.proofs.NewChunks.{new_left, new_claimed, new_lowers, new_unheld, used_made, as_first}
+use Rattle.mem_manager.proofs.SlidChunks.{nothing_slides, once_then, first_slid, made_moves_nothing, nothing_then, one_stretch_then, itself_one}
 use Rattle.mem_manager.proofs.heap.making.make_movable.Goals as goal
 
 pub returns-in_err-slot-clause-one_stretch : goal.returns-in_err-slot-clause-one_stretch

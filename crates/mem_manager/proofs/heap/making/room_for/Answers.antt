@@ -1,6 +1,6 @@
 use Rattle.std.proofs.Common.{arith}
 use Rattle.heap_model.specs.Chunk.{need}
-use Rattle.laws_heap.proofs.Fitting.{short_beyond}
+use Rattle.laws_heap.proofs.Fits.{short_beyond}
 use Rattle.heap_compact.proofs.MakingLaws.{slides_nothing, moves_none}
 use Rattle.mem_manager.proofs.heap.making.room_for.Goals as goal
 

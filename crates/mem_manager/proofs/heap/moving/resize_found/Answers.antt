@@ -4,7 +4,7 @@ use Rattle.heap_model.specs.Chunk.{need}
 use Rattle.heap_model.specs.Space.{ShortFor, MovesOneStretchAnd}
 use Rattle.heap_compact.specs.Resized.{Resized}
 use Rattle.laws_heap.proofs.Unmoved.{nothing_alone, itself_alone}
-use Rattle.mem_manager.proofs.Growing.{never_fits, growth_locked, growth_short, grown_passes, grown_leaves, grown_moves_nothing, moved_passes}
+use Rattle.mem_manager.proofs.Growth.{never_fits, growth_locked, growth_short, grown_passes, grown_leaves, grown_moves_nothing, moved_passes}
 use Rattle.mem_manager.proofs.heap.moving.resize_found.Goals as goal
 
 pub returns-then-grow_in_place-clause-done : goal.returns-then-grow_in_place-clause-done

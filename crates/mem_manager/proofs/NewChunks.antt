@@ -25,16 +25,16 @@ use Rattle.laws_heap.proofs.Meanings.{held-is, empty_unheld}
 use Rattle.laws_heap.proofs.Accepted.{heap_of_read}
 use Rattle.laws_heap.proofs.Exchanging.{ChangesName}
 use Rattle.laws_heap.proofs.Changing.{claim_changes, room_unheld}
-use Rattle.laws_heap.proofs.Owning.{owned-merged, owned_held, owned_place}
+use Rattle.laws_heap.proofs.OwnedChunks.{owned-merged, owned_held, owned_place}
 use Rattle.heap_place.specs.declared.found.Found.{Found}
 use Rattle.heap_place.specs.Found.{IsFound}
 use Rattle.laws_heap.proofs.Becoming.{frame_then, frame_slots}
 use Rattle.laws_heap.proofs.Compacting.{slides_alike}
-use Rattle.laws_heap.proofs.Lowering.{made_lowers}
+use Rattle.laws_heap.proofs.LoweredRoom.{made_lowers}
 use Rattle.mem_manager.specs.Lookup.{IsManaged, MakesNew, HasNoRoomFor}
-use Rattle.mem_manager.proofs.Moving.{BytesAndSlid, rest_then, held_then, still_then, first_slid, used_slid}
+use Rattle.mem_manager.proofs.SlidChunks.{BytesAndSlid, rest_then, held_then, still_then, first_slid, used_slid}
 use Rattle.mem_manager.proofs.Stepping.{known, of_known, not_of_known, is_known, refused, OnlyBytes, still_others, used_altered}
-use Rattle.laws_heap.proofs.Updating.{held_updated}
+use Rattle.laws_heap.proofs.ChangedName.{held_updated}
 
 -- ---- free
 

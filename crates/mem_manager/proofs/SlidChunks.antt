@@ -19,7 +19,7 @@ use Rattle.laws_heap.proofs.Slots.{slot_alike}
 use Rattle.laws_heap.proofs.Becoming.{frame_slots}
 use Rattle.laws_heap.specs.Laws.{SlidAlike}
 use Rattle.laws_heap.proofs.Exchanging.{ChangesName}
-use Rattle.laws_heap.proofs.Updating.{held_updated}
+use Rattle.laws_heap.proofs.ChangedName.{held_updated}
 use Rattle.laws_heap.proofs.Compacting.{packed_alike, slot_unheld, slides_alike, slides_move_one, changes_move_nothing, moves_then_nothing, nothing_moves_one, unmoved_bytes, moved_with}
 use Rattle.master_table.specs.Table.{IsFirstEmpty}
 use Rattle.master_table.proofs.TableLaws.{used_still}

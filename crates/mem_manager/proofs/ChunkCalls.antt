@@ -19,7 +19,7 @@ use Rattle.laws_heap.proofs.Frames.{slice-of_slice}
 use Rattle.laws_heap.proofs.Finding.{finds_spelled, finds_body}
 use Rattle.laws_heap.proofs.Exchanging.{ChangesName}
 use Rattle.laws_heap.proofs.Changing.{lock_changes, owner_changes, bytes_changes}
-use Rattle.laws_heap.proofs.Owning.{not_directory}
+use Rattle.laws_heap.proofs.OwnedChunks.{not_directory}
 use Rattle.heap_place.proofs.FoundLaws.{name_held}
 use Rattle.heap_place.specs.declared.found.Found.{Found}
 use Rattle.heap_place.specs.Found.{IsFound, CanGoTo}

@@ -20,7 +20,7 @@ use Rattle.laws_heap.proofs.Freeing.{free_sum}
 use Rattle.laws_heap.proofs.Layouts.{total-merged, rooms-merged}
 use Rattle.laws_heap.proofs.Becoming.{rooms-layout}
 use Rattle.laws_heap.proofs.Exchanging.{exchanges_layout, gap_free, gap_total, room_in_layout}
-use Rattle.laws_heap.proofs.Numbering.{LiveAlone, stretch_with, stretch-layout, becomes_stretch}
+use Rattle.laws_heap.proofs.StretchNumbers.{LiveAlone, stretch_with, stretch-layout, becomes_stretch}
 use Rattle.laws_heap.proofs.Compacting.{slides_alike}
 use Rattle.laws_heap.proofs.Stretches.{stretch_between, rooms_of-append, room_of-middle}
 

@@ -26,7 +26,7 @@ use Rattle.laws_heap.proofs.Becoming.{frame_slots}
 use Rattle.laws_heap.proofs.Exchanging.{ChangesName}
 use Rattle.laws_heap.proofs.Resizings.{live_sized, grow_changes, finds_behind}
 use Rattle.laws_heap.proofs.Compacting.{slot_unheld}
-use Rattle.laws_heap.proofs.Fitting.{fits_not_short_for}
+use Rattle.laws_heap.proofs.Fits.{fits_not_short_for}
 use Rattle.heap_place.proofs.FoundLaws.{name_held, one_held, when_movable}
 use Rattle.heap_place.specs.declared.found.Found.{Found}
 use Rattle.heap_place.specs.Found.{IsFound, IsOne}
@@ -35,8 +35,8 @@ use Rattle.heap_compact.specs.Resized.{Resized}
 use Rattle.master_table.proofs.TableLaws.{used_still}
 use Rattle.mem_manager.specs.Lookup.{IsManaged}
 use Rattle.mem_manager.proofs.Stepping.{known, of_known, not_of_known, is_known, refused, altered, stays_in_place, OnlyBytes}
-use Rattle.mem_manager.proofs.Altering.{lock_small}
-use Rattle.mem_manager.proofs.Moving.{BytesAndSlid}
+use Rattle.mem_manager.proofs.ChunkCalls.{lock_small}
+use Rattle.mem_manager.proofs.SlidChunks.{BytesAndSlid}
 
 -- ---- whether it fits where it stands
 
