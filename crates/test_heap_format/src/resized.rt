@@ -1,6 +1,6 @@
 //! The bytes that a chunk leaves which gets another length where it stands.
 
-use crate::heaps::{CheckedSpace, accepted, bytes};
+use crate::heaps::{CheckedSpace, accepted};
 use heap_model::Name;
 use raw_region::Region;
 use std::alloc::Global;
@@ -36,7 +36,7 @@ const LARGE: &str = "00000030 01FFFFF8 FFFFFFFFFFFFFFFF FFFFFFFFFFFFFFFF FFFFFFF
 
 /// Whether a space has these chunks, with these changes.
 fn has(alloc: Global, space: &CheckedSpace, chunks: &str, changes: &str) -> Result<bool, Fail> {
-    Ok(space.bytes() == bytes(&heap_with(alloc, chunks, changes)?))
+    Ok(space.bytes() == heap_with(alloc, chunks, changes)?.as_slice())
 }
 
 /// What growing the chunk of a name to so many bytes answers, and whether it leaves these chunks, where
@@ -212,7 +212,7 @@ fn relocated(
     let mut space = accepted(image(alloc, before, changes)?)?;
     let is_done = space.relocate(Name(16), count).is_some();
     let after = image(alloc, after, kept)?;
-    Ok((is_done, space.bytes() == bytes(&after)))
+    Ok((is_done, space.bytes() == after.as_slice()))
 }
 
 /// Images, how many bytes the chunk gets, and the images that it leaves.

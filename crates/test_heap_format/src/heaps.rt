@@ -50,11 +50,6 @@ pub(crate) fn accepted(region: Region) -> Result<CheckedSpace, Fail> {
     }
 }
 
-/// All bytes of a region.
-pub(crate) fn bytes(region: &Region) -> &[u8] {
-    region.slice(0, region.len())
-}
-
 impl CheckedSpace {
     pub(crate) fn region(&self) -> &Region {
         self.space.region()
@@ -62,7 +57,7 @@ impl CheckedSpace {
 
     /// All bytes of the region.
     pub(crate) fn bytes(&self) -> &[u8] {
-        bytes(self.space.region())
+        self.space.region().as_slice()
     }
 
     pub(crate) fn find(&self, name: Name) -> Option<Found> {

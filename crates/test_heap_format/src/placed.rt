@@ -1,6 +1,6 @@
-//! The bytes that each call leaves.
+//! The bytes that are left where chunks are placed, claimed and given back.
 
-use crate::heaps::{CheckedSpace, bytes, heap, image};
+use crate::heaps::{CheckedSpace, heap, image};
 use crate::steps::{Step, Told, check, check_steps, check_words};
 use heap_model::{Name, Place};
 use heap_place::{Found, Space};
@@ -235,7 +235,7 @@ fn the_first_empty_slot_is_taken(rt: HostRuntime) -> Result<(), Fail> {
 fn a_region_comes_back(rt: HostRuntime) -> Result<(), Fail> {
     let before = image(rt.alloc(), &[(40, 7)])?;
     let region = Space::new(image(rt.alloc(), &[(40, 7)])?).into_region();
-    assert_eq!(rt; bytes(&region), bytes(&before));
+    assert_eq!(rt; region.as_slice(), before.as_slice());
     Ok(())
 }
 

@@ -1,6 +1,6 @@
 //! Calls one behind another, with what each answers, and the words that they leave.
 
-use crate::heaps::{CheckedSpace, bytes, heap, image};
+use crate::heaps::{CheckedSpace, heap, image};
 use heap_model::Name;
 use std::process::Abort;
 use std::test::*;
@@ -60,7 +60,7 @@ pub(crate) fn check_words(
     words: &[(usize, u32)],
 ) -> Result<(), Fail> {
     let image = image(rt.alloc(), words)?;
-    assert_eq!(rt; space.bytes(), bytes(&image));
+    assert_eq!(rt; space.bytes(), image.as_slice());
     Ok(())
 }
 
