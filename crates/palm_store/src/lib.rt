@@ -6,9 +6,13 @@
 //! fixed, and still live, has moved.
 #![tactic(auto)]
 
+mod chunks;
+mod databases;
+mod entries;
+mod lookup;
 mod store;
 
+pub use entries::{EntryInfo, NewEntry, Overview};
 pub use mem_manager::{FIXED_LOCK, Locked};
 pub use store::{NotAStore, Store};
 pub use store_check::{StoreFault, StoreSummary};
-pub use store_entries::{Label, NewEntry, Overview};

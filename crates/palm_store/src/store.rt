@@ -13,6 +13,7 @@ mod databases;
 mod entries;
 mod making;
 
+use crate::lookup::count_databases;
 use heap_model::{Allowance, Counted};
 use mem_manager::Heap;
 use palm_text::{WriteFault, put_all};
@@ -22,7 +23,6 @@ use std::fmt;
 use std::io::Write;
 use std::marker::Model;
 use store_check::{StoreFault, StoreSummary, check_store_from};
-use store_lookup::count_databases;
 use thiserror::Error;
 
 /// A region that is an accepted image. Contracts see the region's value alone, and no method but those on
@@ -68,7 +68,8 @@ impl Store {
         ensures accepted { OnOk result (Accepted region.bytes) }
         ensures same { IfOk result (λ store. store ≡ region) }
         ensures fault { IfErr result (λ error. IsAnswered region.bytes error.fault) }
-        ensures refused { IfErr result (λ error. (error.fault ≡ StoreFault.OutOfMemory) ⊎ (Accepted region.bytes → ⊥)) }
+        ensures refused { IfErr result (λ error.
+            (error.fault ≡ StoreFault.OutOfMemory) ⊎ (Accepted region.bytes → ⊥)) }
         ensures handed_back { IfErr result (λ error. error.region ≡ region) }
     {
         Store::check_from(&alloc, region)
@@ -79,7 +80,8 @@ impl Store {
         ensures accepted { OnOk result (Accepted region.bytes) }
         ensures same { IfOk result (λ store. store ≡ region) }
         ensures fault { IfErr result (λ error. IsAnswered region.bytes error.fault) }
-        ensures refused { IfErr result (λ error. (error.fault ≡ StoreFault.OutOfMemory) ⊎ (Accepted region.bytes → ⊥)) }
+        ensures refused { IfErr result (λ error.
+            (error.fault ≡ StoreFault.OutOfMemory) ⊎ (Accepted region.bytes → ⊥)) }
         ensures handed_back { IfErr result (λ error. error.region ≡ region) }
     {
         match check_store_from(memory, &region) {

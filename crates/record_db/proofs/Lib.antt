@@ -1,5 +1,4 @@
 mod Bits
 mod Entries
-mod Labels
+mod Attributes
 mod Raising
-mod Resized

@@ -1,11 +1,18 @@
 -- The checks with which the calls on records begin, and what they answer.
 use Rattle.std.specs.Prelude.{ℕ, List, [], ◌∷◌}
+use Rattle.heap_model.specs.Memory.{Memory}
+use Rattle.heap_model.specs.MemorySteps.{Of, IsLocked}
+use Rattle.heap_model.specs.EntrySteps.{entry_under, OfEntry, IsInfoOf}
+use Rattle.heap_model.specs.StoreSteps.{DoesInStore}
 use Rattle.heap_model.specs.Store.{store_of}
 use Rattle.heap_model.specs.Refusals.{Check}
 use Rattle.heap_model.specs.StoreWords.{no_database}
 use Rattle.heap_model.specs.RecordSteps.{no_records, read_only, no_entry, deleted}
 use Rattle.heap_model.specs.declared.names.Db.{Db}
 use Rattle.heap_model.specs.declared.names.Name.{Name}
+use Rattle.heap_model.specs.declared.entry.RecordInfo.{RecordInfo}
+use Rattle.heap_model.specs.declared.call.RecordCall.{RecordCall}
+use Rattle.heap_model.specs.declared.call.Call.TheVariants as calls
 use Rattle.heap_model.specs.declared.call.Reply.{Reply}
 use Rattle.heap_model.specs.declared.call.Reply.TheVariants as replies
 
@@ -25,3 +32,16 @@ living_checks image db index = no_entry (store_of image) db index ∷ deleted (s
 -- what the call that makes a record answers, as a reply
 abbrev pub made_reply : ℕ × Name → Reply
 made_reply made = replies.Made made.0 made.1
+
+abbrev pub DoesRecord : Memory → RecordCall → Reply → Memory → Type 0
+DoesRecord old call reply new = DoesInStore old (calls.Record call) reply new
+
+-- ---- a record of the image
+
+-- this is told of the record at an index
+abbrev pub IsTold : List ℕ → Db → ℕ → RecordInfo → Type 0
+IsTold image db index info = OfEntry (entry_under (store_of image) db index) (IsInfoOf info)
+
+-- a chunk that callers may name is locked
+abbrev pub IsLockedChunk : List ℕ → ℕ → Type 0
+IsLockedChunk image name = Of ((store_of image).map name) IsLocked

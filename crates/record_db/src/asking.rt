@@ -1,10 +1,10 @@
 //! Records, asked for.
 
 ghost use Rattle.heap_model.specs.MemorySteps.{reply_of};
-ghost use Rattle.heap_model.specs.StoreSteps.{DoesInStore};
-ghost use Rattle.heap_model.specs.declared.call.Call.{Call};
 ghost use Rattle.heap_model.specs.declared.call.RecordCall.{RecordCall};
 ghost use Rattle.heap_model.specs.declared.call.Reply.{Reply};
+ghost use Rattle.palm_store.specs.Replies.{number_or_refused, name_or_refused};
+ghost use Rattle.record_db.specs.Checks.{DoesRecord};
 
 use crate::checks::check_readable;
 use crate::records::{find_live, find_record};
@@ -15,7 +15,7 @@ use palm_store::Store;
 ///
 /// Refused: `NoSuchDatabase`, `NotRecordDatabase`.
 pub fn num_records(store: &Store, db: Db) -> Result<u32, Refusal>
-    ensures { DoesInStore store.now (Call.Record (RecordCall.Count db)) (reply_of (λ count. Reply.Number count) result) store.now }
+    ensures { DoesRecord store.now (RecordCall.Count db) (number_or_refused result) store.now }
 {
     check_readable(store, db)
 }
@@ -24,7 +24,7 @@ pub fn num_records(store: &Store, db: Db) -> Result<u32, Refusal>
 ///
 /// Refused: `NoSuchDatabase`, `NotRecordDatabase`, `IndexOutOfRange`, `RecordDeleted`.
 pub fn query(store: &Store, db: Db, index: u32) -> Result<Name, Refusal>
-    ensures { DoesInStore store.now (Call.Record (RecordCall.Query db index)) (reply_of (λ name. Reply.Named name) result) store.now }
+    ensures { DoesRecord store.now (RecordCall.Query db index) (name_or_refused result) store.now }
 {
     let count = check_readable(store, db)?;
     Ok(find_live(store, db, index, count)?.data)
@@ -34,7 +34,8 @@ pub fn query(store: &Store, db: Db, index: u32) -> Result<Name, Refusal>
 ///
 /// Refused: `NoSuchDatabase`, `NotRecordDatabase`, `IndexOutOfRange`.
 pub fn record_info(store: &Store, db: Db, index: u32) -> Result<RecordInfo, Refusal>
-    ensures { DoesInStore store.now (Call.Record (RecordCall.Info db index)) (reply_of (λ info. Reply.Record info) result) store.now }
+    ensures { DoesRecord store.now (RecordCall.Info db index)
+        (reply_of (λ info. Reply.Record info) result) store.now }
 {
     let count = check_readable(store, db)?;
     find_record(store, db, index, count)

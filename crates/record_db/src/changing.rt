@@ -1,24 +1,21 @@
 //! Records changed, moved and taken out.
 
-ghost use Rattle.heap_model.specs.MemorySteps.{reply_of};
-ghost use Rattle.heap_model.specs.StoreSteps.{DoesInStore};
-ghost use Rattle.heap_model.specs.declared.call.Call.{Call};
 ghost use Rattle.heap_model.specs.declared.call.RecordCall.{RecordCall};
-ghost use Rattle.heap_model.specs.declared.call.Reply.{Reply};
+ghost use Rattle.palm_store.specs.Replies.{done_or_refused, name_or_refused};
+ghost use Rattle.record_db.specs.Checks.{DoesRecord};
 
 use crate::attributes::{is_busy, marked_busy, marked_deleted, released};
 use crate::checks::{check_readable, check_writable};
 use crate::records::{find_live, find_record, has_locked, is_locked};
 use heap_model::{Db, Name, Refusal};
-use palm_store::Store;
-use store_entries::Label;
+use palm_store::{EntryInfo, Store};
 
 /// Frees the data of a record. Its entry stays as that of a deleted one, with its ID.
 ///
 /// Refused: `NoSuchDatabase`, `NotRecordDatabase`, `ReadOnly`, `IndexOutOfRange`, `RecordDeleted`; `ChunkLocked`,
 /// where the data is locked.
 pub fn delete(store: &mut Store, db: Db, index: u32) -> Result<(), Refusal>
-    ensures { DoesInStore store.old (Call.Record (RecordCall.Delete db index)) (reply_of (λ done. Reply.Done) result) store.new }
+    ensures { DoesRecord store.old (RecordCall.Delete db index) (done_or_refused result) store.new }
 {
     let count = check_writable(store, db)?;
     let live = find_live(store, db, index, count)?;
@@ -34,11 +31,12 @@ pub fn delete(store: &mut Store, db: Db, index: u32) -> Result<(), Refusal>
 ///
 /// Refused: `NoSuchDatabase`, `NotRecordDatabase`, `ReadOnly`, `IndexOutOfRange`, `RecordDeleted`.
 pub fn archive(store: &mut Store, db: Db, index: u32) -> Result<(), Refusal>
-    ensures { DoesInStore store.old (Call.Record (RecordCall.Archive db index)) (reply_of (λ done. Reply.Done) result) store.new }
+    ensures { DoesRecord store.old (RecordCall.Archive db index)
+        (done_or_refused result) store.new }
 {
     let count = check_writable(store, db)?;
     let live = find_live(store, db, index, count)?;
-    let archived = Label::Record {
+    let archived = EntryInfo::Record {
         attributes: marked_deleted(live.attributes),
         id: live.id,
     };
@@ -52,7 +50,7 @@ pub fn archive(store: &mut Store, db: Db, index: u32) -> Result<(), Refusal>
 /// Refused: `NoSuchDatabase`, `NotRecordDatabase`, `ReadOnly`, `IndexOutOfRange`; `ChunkLocked`, where the data is
 /// locked.
 pub fn remove(store: &mut Store, db: Db, index: u32) -> Result<(), Refusal>
-    ensures { DoesInStore store.old (Call.Record (RecordCall.Remove db index)) (reply_of (λ done. Reply.Done) result) store.new }
+    ensures { DoesRecord store.old (RecordCall.Remove db index) (done_or_refused result) store.new }
 {
     let count = check_writable(store, db)?;
     let info = find_record(store, db, index, count)?;
@@ -69,7 +67,7 @@ pub fn remove(store: &mut Store, db: Db, index: u32) -> Result<(), Refusal>
 ///
 /// Refused: `NoSuchDatabase`, `NotRecordDatabase`, `ReadOnly`, `IndexOutOfRange`.
 pub fn move_record(store: &mut Store, db: Db, from: u32, to: u32) -> Result<(), Refusal>
-    ensures { DoesInStore store.old (Call.Record (RecordCall.Move db from to)) (reply_of (λ done. Reply.Done) result) store.new }
+    ensures { DoesRecord store.old (RecordCall.Move db from to) (done_or_refused result) store.new }
 {
     let count = check_writable(store, db)?;
     if from >= count || to > count {
@@ -84,18 +82,18 @@ pub fn move_record(store: &mut Store, db: Db, from: u32, to: u32) -> Result<(), 
 ///
 /// Refused: `NoSuchDatabase`, `NotRecordDatabase`, `IndexOutOfRange`, `RecordDeleted`, `RecordBusy`.
 pub fn get(store: &mut Store, db: Db, index: u32) -> Result<Name, Refusal>
-    ensures { DoesInStore store.old (Call.Record (RecordCall.Get db index)) (reply_of (λ name. Reply.Named name) result) store.new }
+    ensures { DoesRecord store.old (RecordCall.Get db index) (name_or_refused result) store.new }
 {
     let count = check_readable(store, db)?;
     let live = find_live(store, db, index, count)?;
     if is_busy(live.attributes) {
         return Err(Refusal::RecordBusy);
     }
-    let label = Label::Record {
+    let busy = EntryInfo::Record {
         attributes: marked_busy(live.attributes),
         id: live.id,
     };
-    store.entry_set(db, index, label);
+    store.entry_set(db, index, busy);
     Ok(live.data)
 }
 
@@ -103,14 +101,15 @@ pub fn get(store: &mut Store, db: Db, index: u32) -> Result<Name, Refusal>
 ///
 /// Refused: `NoSuchDatabase`, `NotRecordDatabase`, `IndexOutOfRange`.
 pub fn release(store: &mut Store, db: Db, index: u32, dirty: bool) -> Result<(), Refusal>
-    ensures { DoesInStore store.old (Call.Record (RecordCall.Release db index dirty)) (reply_of (λ done. Reply.Done) result) store.new }
+    ensures { DoesRecord store.old (RecordCall.Release db index dirty)
+        (done_or_refused result) store.new }
 {
     let count = check_readable(store, db)?;
     let info = find_record(store, db, index, count)?;
-    let label = Label::Record {
+    let left = EntryInfo::Record {
         attributes: released(info.attributes, dirty),
         id: info.id,
     };
-    store.entry_set(db, index, label);
+    store.entry_set(db, index, left);
     Ok(())
 }

@@ -3,21 +3,17 @@
 ghost use Rattle.std.specs.Prelude.{◌≡◌, OnErr};
 ghost use Rattle.heap_model.specs.Chunk.{need};
 ghost use Rattle.heap_model.specs.Space.{FitsInPlace, MovesNothing, MovesOneStretchAnd};
-ghost use Rattle.heap_model.specs.Store.{store_of};
-ghost use Rattle.heap_model.specs.EntrySteps.{data_under};
 ghost use Rattle.heap_model.specs.MemorySteps.{reply_of};
-ghost use Rattle.heap_model.specs.StoreSteps.{DoesInStore};
-ghost use Rattle.heap_model.specs.declared.call.Call.{Call};
 ghost use Rattle.heap_model.specs.declared.call.RecordCall.{RecordCall};
-ghost use Rattle.heap_model.specs.declared.call.Reply.{Reply};
-ghost use Rattle.record_db.specs.Checks.{made_reply};
+ghost use Rattle.palm_store.specs.EntryCalls.{data_of_image};
+ghost use Rattle.palm_store.specs.Replies.{done_or_refused};
+ghost use Rattle.record_db.specs.Checks.{DoesRecord, made_reply};
 
 use crate::attributes::of_new_record;
 use crate::checks::check_writable;
 use crate::records::find_live;
 use heap_model::{Db, Name, Refusal};
-use palm_store::Store;
-use store_entries::NewEntry;
+use palm_store::{NewEntry, Store};
 
 /// Makes a record of so many bytes of zeros at an index, or behind the last record where there are not so
 /// many. It is dirty and busy, of category 0, and gets a fresh ID. Its index and its name are answered.
@@ -25,7 +21,8 @@ use store_entries::NewEntry;
 /// Refused: `NoSuchDatabase`, `NotRecordDatabase`, `ReadOnly`; `TooManyEntries`, where there are 65,535;
 /// `NotEnoughSpace`, where no slot is free, or room for the data and for one entry more can run out.
 pub fn new_record(store: &mut Store, db: Db, at: u32, size: u32) -> Result<(u32, Name), Refusal>
-    ensures { DoesInStore store.old (Call.Record (RecordCall.New db at size)) (reply_of made_reply result) store.new }
+    ensures { DoesRecord store.old (RecordCall.New db at size)
+        (reply_of made_reply result) store.new }
 {
     let count = check_writable(store, db)?;
     let index = at.min(count);
@@ -43,14 +40,18 @@ pub fn new_record(store: &mut Store, db: Db, at: u32, size: u32) -> Result<(u32,
 /// to grow `ChunkLocked`, if it is locked and doesn't fit in its place, and `NotEnoughSpace`. Then nothing has
 /// changed.
 pub fn resize_record(store: &mut Store, db: Db, index: u32, size: u32) -> Result<(), Refusal>
-    ensures does { DoesInStore store.old (Call.Record (RecordCall.Resize db index size)) (reply_of (λ done. Reply.Done) result) store.new }
-    ensures unmoved { FitsInPlace store.old.bytes (data_under (store_of store.old.bytes) db index) (need size) → MovesNothing store.old.bytes store.new.bytes }
-    ensures one_stretch { MovesOneStretchAnd store.old.bytes store.new.bytes (data_under (store_of store.old.bytes) db index) }
+    ensures does { DoesRecord store.old (RecordCall.Resize db index size)
+        (done_or_refused result) store.new }
+    ensures unmoved { FitsInPlace store.old.bytes
+        (data_of_image store.old.bytes db index) (need size)
+        → MovesNothing store.old.bytes store.new.bytes }
+    ensures one_stretch { MovesOneStretchAnd store.old.bytes store.new.bytes
+        (data_of_image store.old.bytes db index) }
     ensures refused { OnErr result (store.new ≡ store.old) }
 {
     let count = check_writable(store, db)?;
-    find_live(store, db, index, count)?;
-    store.entry_resize(db, index, size)?;
+    let live = find_live(store, db, index, count)?;
+    store.entry_resize(live.data, size)?;
     store.raise(db);
     Ok(())
 }

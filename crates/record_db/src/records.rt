@@ -1,13 +1,13 @@
 //! Records, by their indexes.
 
-ghost use Rattle.std.specs.Prelude.{◌≡◌, ◌<◌, ◌↔◌, false, Some, length, IsSome, IsTrue, IsSomeAnd, OnOk, IfOk, IfErr};
+ghost use Rattle.std.specs.Prelude.{◌≡◌, ◌<◌, ◌↔◌, false, Some, length, IsTrue, IsSomeAnd, OnOk, IfOk, IfErr};
 ghost use Rattle.heap_model.specs.Database.{a_record};
-ghost use Rattle.heap_model.specs.MemorySteps.{Of, IsLocked};
 ghost use Rattle.heap_model.specs.Store.{Accepted, store_of};
 ghost use Rattle.heap_model.specs.Refusals.{NoneHolds, FirstBrings};
-ghost use Rattle.heap_model.specs.StoreWords.{with_number};
-ghost use Rattle.heap_model.specs.EntrySteps.{entries_in, entry_under, OfEntry, IsInfoOf, resources_under};
-ghost use Rattle.record_db.specs.Checks.{finding_checks, living_checks};
+ghost use Rattle.heap_model.specs.EntrySteps.{entry_under};
+ghost use Rattle.palm_store.specs.Databases.{HasNumber};
+ghost use Rattle.palm_store.specs.EntryCalls.{entries_of_image, resources_of_image, HasCount};
+ghost use Rattle.record_db.specs.Checks.{IsTold, IsLockedChunk, finding_checks, living_checks};
 
 use crate::attributes::is_deleted;
 use heap_model::{Db, Entry, Name, RecordInfo, Refusal};
@@ -29,13 +29,13 @@ pub(crate) fn find_record(
     count: u32,
 ) -> Result<RecordInfo, Refusal>
     requires accepted { Accepted store.now.bytes }
-    requires number { IsSome (with_number (store_of store.now.bytes) db.0) }
-    requires records { resources_under (store_of store.now.bytes) db ≡ false }
-    requires count { count ≡ length (entries_in (store_of store.now.bytes) db) }
-    ensures inside { OnOk result (index < length (entries_in (store_of store.now.bytes) db)) }
-    ensures is { IfOk result (λ info. OfEntry (entry_under (store_of store.now.bytes) db index) (IsInfoOf info)) }
+    requires number { HasNumber store.now.bytes db.0 }
+    requires records { resources_of_image store.now.bytes db ≡ false }
+    requires count { HasCount store.now.bytes db count }
+    ensures inside { OnOk result (index < length (entries_of_image store.now.bytes db)) }
+    ensures is { IfOk result (IsTold store.now.bytes db index) }
     ensures passes { OnOk result (NoneHolds (finding_checks store.now.bytes db index)) }
-    ensures refused { IfErr result (λ refusal. FirstBrings (finding_checks store.now.bytes db index) refusal) }
+    ensures refused { IfErr result (FirstBrings (finding_checks store.now.bytes db index)) }
 {
     if index >= count {
         return Err(Refusal::IndexOutOfRange);
@@ -54,14 +54,16 @@ pub(crate) fn find_live(
     count: u32,
 ) -> Result<LiveRecord, Refusal>
     requires accepted { Accepted store.now.bytes }
-    requires number { IsSome (with_number (store_of store.now.bytes) db.0) }
-    requires records { resources_under (store_of store.now.bytes) db ≡ false }
-    requires count { count ≡ length (entries_in (store_of store.now.bytes) db) }
-    ensures inside { OnOk result (index < length (entries_in (store_of store.now.bytes) db)) }
-    ensures is { IfOk result (λ live. entry_under (store_of store.now.bytes) db index ≡ Some (a_record live.attributes live.id live.«data».0)) }
+    requires number { HasNumber store.now.bytes db.0 }
+    requires records { resources_of_image store.now.bytes db ≡ false }
+    requires count { HasCount store.now.bytes db count }
+    ensures inside { OnOk result (index < length (entries_of_image store.now.bytes db)) }
+    ensures is { IfOk result (λ live.
+        entry_under (store_of store.now.bytes) db index
+            ≡ Some (a_record live.attributes live.id live.«data».0)) }
     ensures some { IfOk result (λ live. 0 < live.«data».0) }
     ensures passes { OnOk result (NoneHolds (living_checks store.now.bytes db index)) }
-    ensures refused { IfErr result (λ refusal. FirstBrings (living_checks store.now.bytes db index) refusal) }
+    ensures refused { IfErr result (FirstBrings (living_checks store.now.bytes db index)) }
 {
     let info = find_record(store, db, index, count)?;
     if is_deleted(info.attributes) {
@@ -79,7 +81,7 @@ pub(crate) fn find_live(
 
 /// Whether a chunk is locked: a fixed one is not.
 pub(crate) fn is_locked(store: &Store, name: Name) -> bool
-    ensures { IsTrue result ↔ Of ((store_of store.now.bytes).map name.0) IsLocked }
+    ensures { IsTrue result ↔ IsLockedChunk store.now.bytes name.0 }
 {
     match store.locks(name) {
         Ok(count) => 0 < count && count < FIXED_LOCK,
@@ -89,7 +91,7 @@ pub(crate) fn is_locked(store: &Store, name: Name) -> bool
 
 /// Whether a record has data, and it is locked.
 pub(crate) fn has_locked(store: &Store, data: Option<Name>) -> bool
-    ensures { IsTrue result ↔ IsSomeAnd «data» (λ name. Of ((store_of store.now.bytes).map name.0) IsLocked) }
+    ensures { IsTrue result ↔ IsSomeAnd «data» (λ name. IsLockedChunk store.now.bytes name.0) }
 {
     match data {
         Some(name) => is_locked(store, name),

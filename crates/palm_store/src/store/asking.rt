@@ -2,10 +2,9 @@
 
 ghost use Rattle.std.specs.Prelude.{◌≢◌, Err};
 ghost use Rattle.heap_model.specs.MemorySteps.{reply_of};
-ghost use Rattle.heap_model.specs.StoreSteps.{DoesInStore};
-ghost use Rattle.heap_model.specs.declared.call.Call.{Call};
 ghost use Rattle.heap_model.specs.declared.call.MemoryCall.{MemoryCall};
 ghost use Rattle.heap_model.specs.declared.call.Reply.{Reply};
+ghost use Rattle.palm_store.specs.Replies.{DoesMemory, number_or_refused, name_or_refused};
 
 use crate::store::Store;
 use heap_model::{Name, Place, Refusal};
@@ -15,7 +14,7 @@ impl Store {
     ///
     /// Refused: `InvalidHandle`.
     pub fn size(&self, name: Name) -> Result<u32, Refusal>
-        ensures { DoesInStore self.now (Call.Memory (MemoryCall.Size name)) (reply_of (λ size. Reply.Number size) result) self.now }
+        ensures { DoesMemory self.now (MemoryCall.Size name) (number_or_refused result) self.now }
     {
         self.heap.size(name)
     }
@@ -24,7 +23,7 @@ impl Store {
     ///
     /// Refused: `InvalidHandle`.
     pub fn owner(&self, name: Name) -> Result<u8, Refusal>
-        ensures { DoesInStore self.now (Call.Memory (MemoryCall.Owner name)) (reply_of (λ owner. Reply.Number owner) result) self.now }
+        ensures { DoesMemory self.now (MemoryCall.Owner name) (number_or_refused result) self.now }
     {
         self.heap.owner(name)
     }
@@ -33,7 +32,7 @@ impl Store {
     ///
     /// Refused: `InvalidHandle`.
     pub fn locks(&self, name: Name) -> Result<u8, Refusal>
-        ensures { DoesInStore self.now (Call.Memory (MemoryCall.Locks name)) (reply_of (λ count. Reply.Number count) result) self.now }
+        ensures { DoesMemory self.now (MemoryCall.Locks name) (number_or_refused result) self.now }
     {
         self.heap.locks(name)
     }
@@ -42,7 +41,8 @@ impl Store {
     ///
     /// Refused: `InvalidHandle`, `OutOfBounds`.
     pub fn read(&self, name: Name, at: u32, count: u32) -> Result<&[u8], Refusal>
-        ensures does { DoesInStore self.now (Call.Memory (MemoryCall.Read name at count)) (reply_of (λ bytes. Reply.Data bytes.now) result) self.now }
+        ensures does { DoesMemory self.now (MemoryCall.Read name at count)
+            (reply_of (λ bytes. Reply.Data bytes.now) result) self.now }
         ensures takes_no_memory { result ≢ Err Refusal.OutOfMemory }
     {
         self.heap.read(name, at, count)
@@ -53,14 +53,14 @@ impl Store {
     ///
     /// Refused: `InvalidHandle`, where no caller's chunk has its body there.
     pub fn recover(&self, place: Place) -> Result<Name, Refusal>
-        ensures { DoesInStore self.now (Call.Memory (MemoryCall.Recover place)) (reply_of (λ name. Reply.Named name) result) self.now }
+        ensures { DoesMemory self.now (MemoryCall.Recover place) (name_or_refused result) self.now }
     {
         self.heap.recover(place)
     }
 
     /// The sizes of the free chunks together, in bytes.
     pub fn free_bytes(&self) -> u32
-        ensures { DoesInStore self.now (Call.Memory MemoryCall.FreeBytes) (Reply.Number result) self.now }
+        ensures { DoesMemory self.now MemoryCall.FreeBytes (Reply.Number result) self.now }
     {
         self.heap.free_bytes()
     }
@@ -68,7 +68,7 @@ impl Store {
     /// The greatest room of a stretch, in bytes: the most that its free chunks come to once it is compacted.
     /// A chunk takes 8 bytes more than its body, and whole units of 8. 0 where there is no stretch.
     pub fn largest_stretch(&self) -> u32
-        ensures { DoesInStore self.now (Call.Memory MemoryCall.LargestStretch) (Reply.Number result) self.now }
+        ensures { DoesMemory self.now MemoryCall.LargestStretch (Reply.Number result) self.now }
     {
         self.heap.largest_stretch()
     }

@@ -2,10 +2,9 @@
 
 ghost use Rattle.std.specs.Prelude.{◌≡◌};
 ghost use Rattle.heap_model.specs.MemorySteps.{reply_of};
-ghost use Rattle.heap_model.specs.StoreSteps.{DoesInStore};
-ghost use Rattle.heap_model.specs.declared.call.Call.{Call};
 ghost use Rattle.heap_model.specs.declared.call.MemoryCall.{MemoryCall};
 ghost use Rattle.heap_model.specs.declared.call.Reply.{Reply};
+ghost use Rattle.palm_store.specs.Replies.{DoesMemory, done_or_refused, number_or_refused};
 
 use crate::store::Store;
 use heap_model::{Name, Refusal};
@@ -17,7 +16,8 @@ impl Store {
     ///
     /// Refused: `InvalidHandle`, `ChunkFixed`, `LockOverflow`.
     pub fn lock(&mut self, name: Name) -> Result<Locked, Refusal>
-        ensures { DoesInStore self.old (Call.Memory (MemoryCall.Lock name)) (reply_of (λ locked. Reply.Locked locked.place locked.count) result) self.new }
+        ensures { DoesMemory self.old (MemoryCall.Lock name)
+            (reply_of (λ locked. Reply.Locked locked.place locked.count) result) self.new }
     {
         self.heap.lock(name)
     }
@@ -26,7 +26,7 @@ impl Store {
     ///
     /// Refused: `InvalidHandle`, `ChunkFixed`, `ChunkNotLocked`.
     pub fn unlock(&mut self, name: Name) -> Result<u8, Refusal>
-        ensures { DoesInStore self.old (Call.Memory (MemoryCall.Unlock name)) (reply_of (λ count. Reply.Number count) result) self.new }
+        ensures { DoesMemory self.old (MemoryCall.Unlock name) (number_or_refused result) self.new }
     {
         self.heap.unlock(name)
     }
@@ -35,7 +35,8 @@ impl Store {
     ///
     /// Refused: `InvalidHandle`, `ChunkNotLocked`, `OutOfBounds`.
     pub fn write(&mut self, name: Name, at: u32, bytes: &[u8]) -> Result<(), Refusal>
-        ensures { DoesInStore self.old (Call.Memory (MemoryCall.Write name at bytes.now)) (reply_of (λ done. Reply.Done) result) self.new }
+        ensures { DoesMemory self.old (MemoryCall.Write name at bytes.now)
+            (done_or_refused result) self.new }
     {
         self.heap.write(name, at, bytes)
     }
@@ -44,7 +45,8 @@ impl Store {
     ///
     /// Refused: `InvalidHandle`, `ChunkNotLocked`, `OutOfBounds`.
     pub fn set(&mut self, name: Name, at: u32, count: u32, byte: u8) -> Result<(), Refusal>
-        ensures { DoesInStore self.old (Call.Memory (MemoryCall.Set name at count byte)) (reply_of (λ done. Reply.Done) result) self.new }
+        ensures { DoesMemory self.old (MemoryCall.Set name at count byte)
+            (done_or_refused result) self.new }
     {
         self.heap.set(name, at, count, byte)
     }
@@ -54,7 +56,8 @@ impl Store {
     ///
     /// Refused: `InvalidHandle`, `ChunkNotLocked`, `OutOfBounds`, for which the zero byte counts.
     pub fn str_copy(&mut self, name: Name, at: u32, text: &[u8]) -> Result<(), Refusal>
-        ensures { DoesInStore self.old (Call.Memory (MemoryCall.StrCopy name at text.now)) (reply_of (λ done. Reply.Done) result) self.new }
+        ensures { DoesMemory self.old (MemoryCall.StrCopy name at text.now)
+            (done_or_refused result) self.new }
     {
         self.heap.str_copy(name, at, text)
     }
@@ -63,7 +66,8 @@ impl Store {
     ///
     /// Refused: `InvalidHandle`, `OwnedByDatabase`, `InvalidOwner`.
     pub fn set_owner(&mut self, name: Name, owner: u8) -> Result<(), Refusal>
-        ensures { DoesInStore self.old (Call.Memory (MemoryCall.SetOwner name owner)) (reply_of (λ done. Reply.Done) result) self.new }
+        ensures { DoesMemory self.old (MemoryCall.SetOwner name owner)
+            (done_or_refused result) self.new }
     {
         self.heap.set_owner(name, owner)
     }

@@ -1,15 +1,18 @@
 //! Calls on the databases of a store.
 
 ghost use Rattle.heap_model.specs.MemorySteps.{reply_of};
-ghost use Rattle.heap_model.specs.StoreSteps.{DoesInStore};
-ghost use Rattle.heap_model.specs.declared.call.Call.{Call};
 ghost use Rattle.heap_model.specs.declared.call.DatabaseCall.{DatabaseCall};
 ghost use Rattle.heap_model.specs.declared.call.Reply.{Reply};
+ghost use Rattle.palm_store.specs.Replies.{DoesDatabase, done_or_refused, database_or_refused};
 
+use crate::databases::{empty_header, free_data, has_locked, list_new, unlist, with_info};
+use crate::lookup::{
+    SLOT_SIZE, count_databases, directory_bytes, find_header, find_named, has_other_name, index_of,
+    info_in, listed_in,
+};
 use crate::store::Store;
-use heap_model::{Db, DbInfo, DbName, Refusal};
-use store_change::{create_database, delete_database, set_database_info};
-use store_lookup::{count_databases, database_info, find_database, nth_database};
+use db_format::{DbHeader, MOST_DATABASES, NameField};
+use heap_model::{Db, DbInfo, DbName, Name, Refusal};
 
 impl Store {
     /// Makes a database without entries, which comes behind the others. `date` is that of its creation and
@@ -26,41 +29,70 @@ impl Store {
         resources: bool,
         date: u32,
     ) -> Result<Db, Refusal>
-        ensures { DoesInStore self.old (Call.Database (DatabaseCall.Create name.now kind creator resources date)) (reply_of (λ db. Reply.Database db) result) self.new }
+        ensures { DoesDatabase self.old
+            (DatabaseCall.Create name.now kind creator resources date)
+            (database_or_refused result) self.new }
     {
-        create_database(&mut self.heap, name, kind, creator, resources, date)
+        let _ = &self.heap;
+        let Some(field) = NameField::of_name(name.as_slice()) else {
+            return Err(Refusal::InvalidName);
+        };
+        if has_other_name(&self.heap, Db(0), name.as_slice()) {
+            return Err(Refusal::AlreadyExists);
+        }
+        if count_databases(&self.heap) >= MOST_DATABASES {
+            return Err(Refusal::TooManyEntries);
+        }
+        let header = empty_header(field, kind, creator, resources, date);
+        let slot = list_new(&mut self.heap)?;
+        self.heap.sys_write(slot, 0, &header.to_bytes());
+        Ok(Db(slot.0))
     }
 
     /// Deletes a database with its info blocks and the data of its entries: all of it or nothing.
     ///
     /// Refused: `NoSuchDatabase`; `ChunkLocked`, where one of these chunks is locked.
     pub fn delete_database(&mut self, db: Db) -> Result<(), Refusal>
-        ensures { DoesInStore self.old (Call.Database (DatabaseCall.Delete db)) (reply_of (λ done. Reply.Done) result) self.new }
+        ensures { DoesDatabase self.old (DatabaseCall.Delete db) (done_or_refused result) self.new }
     {
-        delete_database(&mut self.heap, db)
+        find_header(&self.heap, db)?;
+        if has_locked(&self.heap, db) {
+            return Err(Refusal::ChunkLocked);
+        }
+        let index = index_of(&self.heap, db);
+        free_data(&mut self.heap, db);
+        self.heap.sys_free(Name(db.0));
+        unlist(&mut self.heap, index);
+        Ok(())
     }
 
     /// The database with a name.
     ///
     /// Refused: `NoSuchDatabase`.
     pub fn find(&self, name: &DbName) -> Result<Db, Refusal>
-        ensures { DoesInStore self.now (Call.Database (DatabaseCall.Find name.now)) (reply_of (λ db. Reply.Database db) result) self.now }
+        ensures { DoesDatabase self.now (DatabaseCall.Find name.now)
+            (database_or_refused result) self.now }
     {
-        find_database(&self.heap, name)
+        find_named(&self.heap, Db(0), name.as_slice()).ok_or(Refusal::NoSuchDatabase)
     }
 
     /// The database of an index, counted from 0 in the order of the directory.
     ///
     /// Refused: `NoSuchDatabase`.
     pub fn nth(&self, index: u32) -> Result<Db, Refusal>
-        ensures { DoesInStore self.now (Call.Database (DatabaseCall.Nth index)) (reply_of (λ db. Reply.Database db) result) self.now }
+        ensures { DoesDatabase self.now (DatabaseCall.Nth index)
+            (database_or_refused result) self.now }
     {
-        nth_database(&self.heap, index)
+        let directory = directory_bytes(&self.heap);
+        if index as usize >= directory.len() / SLOT_SIZE {
+            return Err(Refusal::NoSuchDatabase);
+        }
+        Ok(listed_in(directory, index as usize))
     }
 
     /// How many databases there are.
     pub fn count(&self) -> u32
-        ensures { DoesInStore self.now (Call.Database DatabaseCall.Count) (Reply.Number result) self.now }
+        ensures { DoesDatabase self.now DatabaseCall.Count (Reply.Number result) self.now }
     {
         count_databases(&self.heap)
     }
@@ -69,9 +101,10 @@ impl Store {
     ///
     /// Refused: `NoSuchDatabase`.
     pub fn database_info(&self, db: Db) -> Result<DbInfo, Refusal>
-        ensures { DoesInStore self.now (Call.Database (DatabaseCall.Info db)) (reply_of (λ info. Reply.Info info) result) self.now }
+        ensures { DoesDatabase self.now (DatabaseCall.Info db)
+            (reply_of (λ info. Reply.Info info) result) self.now }
     {
-        database_info(&self.heap, db)
+        Ok(info_in(find_header(&self.heap, db)?))
     }
 
     /// Sets the name, the version, the dates, the type and the creator of a database, and its attributes but
@@ -79,8 +112,18 @@ impl Store {
     ///
     /// Refused: `NoSuchDatabase`, `InvalidName`; `AlreadyExists`, where another database has the name.
     pub fn set_database_info(&mut self, db: Db, info: &DbInfo) -> Result<(), Refusal>
-        ensures { DoesInStore self.old (Call.Database (DatabaseCall.SetInfo db info.now)) (reply_of (λ done. Reply.Done) result) self.new }
+        ensures { DoesDatabase self.old (DatabaseCall.SetInfo db info.now)
+            (done_or_refused result) self.new }
     {
-        set_database_info(&mut self.heap, db, info)
+        let header = find_header(&self.heap, db)?;
+        let Some(name) = NameField::of_name(info.name.as_slice()) else {
+            return Err(Refusal::InvalidName);
+        };
+        if has_other_name(&self.heap, db, info.name.as_slice()) {
+            return Err(Refusal::AlreadyExists);
+        }
+        let header = with_info(DbHeader::read(header), name, info);
+        self.heap.sys_write(Name(db.0), 0, &header.to_bytes());
+        Ok(())
     }
 }

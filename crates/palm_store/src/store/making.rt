@@ -5,11 +5,9 @@ ghost use Rattle.heap_model.specs.Chunk.{need};
 ghost use Rattle.heap_model.specs.Space.{NoRun, FitsInPlace, MovesNothing, MovesOneStretch, MovesOneStretchAnd, moved_bytes};
 ghost use Rattle.heap_model.specs.Reading.{chunks_of};
 ghost use Rattle.heap_model.specs.Packing.{Packed, Slid};
-ghost use Rattle.heap_model.specs.MemorySteps.{reply_of};
-ghost use Rattle.heap_model.specs.StoreSteps.{DoesInStore};
-ghost use Rattle.heap_model.specs.declared.call.Call.{Call};
 ghost use Rattle.heap_model.specs.declared.call.MemoryCall.{MemoryCall};
 ghost use Rattle.heap_model.specs.declared.call.Reply.{Reply};
+ghost use Rattle.palm_store.specs.Replies.{DoesMemory, done_or_refused, number_or_refused, name_or_refused};
 
 use crate::store::Store;
 use heap_model::{Name, Refusal};
@@ -24,8 +22,10 @@ impl Store {
     /// Refused: `InvalidOwner`; `NotEnoughSpace`, where no slot is free, or no stretch has the room. Then
     /// nothing has changed.
     pub fn handle_new(&mut self, size: u32, owner: u8) -> Result<Name, Refusal>
-        ensures does { DoesInStore self.old (Call.Memory (MemoryCall.HandleNew size owner)) (reply_of (λ name. Reply.Named name) result) self.new }
-        ensures unmoved { (NoRun (chunks_of self.old.bytes) (need size) → ⊥) → MovesNothing self.old.bytes self.new.bytes }
+        ensures does { DoesMemory self.old (MemoryCall.HandleNew size owner)
+            (name_or_refused result) self.new }
+        ensures unmoved { (NoRun (chunks_of self.old.bytes) (need size) → ⊥)
+            → MovesNothing self.old.bytes self.new.bytes }
         ensures one_stretch { MovesOneStretch self.old.bytes self.new.bytes }
         ensures once { self.new.slid ≡ self.old.slid + moved_bytes self.old.bytes self.new.bytes }
         ensures refused { OnErr result (self.new ≡ self.old) }
@@ -37,8 +37,10 @@ impl Store {
     ///
     /// Refused: `InvalidOwner`; `NotEnoughSpace`, where no stretch has the room. Then nothing has changed.
     pub fn ptr_new(&mut self, size: u32, owner: u8) -> Result<Name, Refusal>
-        ensures does { DoesInStore self.old (Call.Memory (MemoryCall.PtrNew size owner)) (reply_of (λ name. Reply.Named name) result) self.new }
-        ensures unmoved { (NoRun (chunks_of self.old.bytes) (need size) → ⊥) → MovesNothing self.old.bytes self.new.bytes }
+        ensures does { DoesMemory self.old (MemoryCall.PtrNew size owner)
+            (name_or_refused result) self.new }
+        ensures unmoved { (NoRun (chunks_of self.old.bytes) (need size) → ⊥)
+            → MovesNothing self.old.bytes self.new.bytes }
         ensures one_stretch { MovesOneStretch self.old.bytes self.new.bytes }
         ensures once { self.new.slid ≡ self.old.slid + moved_bytes self.old.bytes self.new.bytes }
         ensures refused { OnErr result (self.new ≡ self.old) }
@@ -50,7 +52,7 @@ impl Store {
     ///
     /// Refused: `InvalidHandle`, `OwnedByDatabase`, `ChunkLocked`.
     pub fn free(&mut self, name: Name) -> Result<(), Refusal>
-        ensures { DoesInStore self.old (Call.Memory (MemoryCall.Free name)) (reply_of (λ done. Reply.Done) result) self.new }
+        ensures { DoesMemory self.old (MemoryCall.Free name) (done_or_refused result) self.new }
     {
         self.heap.free(name)
     }
@@ -59,7 +61,8 @@ impl Store {
     ///
     /// Refused: `InvalidOwner`.
     pub fn free_by_owner(&mut self, owner: u8) -> Result<u32, Refusal>
-        ensures { DoesInStore self.old (Call.Memory (MemoryCall.FreeByOwner owner)) (reply_of (λ count. Reply.Number count) result) self.new }
+        ensures { DoesMemory self.old (MemoryCall.FreeByOwner owner)
+            (number_or_refused result) self.new }
     {
         self.heap.free_by_owner(owner)
     }
@@ -67,7 +70,7 @@ impl Store {
     /// Gathers the free bytes of each stretch in one chunk behind its live ones, which keep their order, and
     /// answers how many bytes have moved, headers counted. Each of them is copied once, and no other byte.
     pub fn compact(&mut self) -> u32
-        ensures does { DoesInStore self.old (Call.Memory MemoryCall.Compact) (Reply.Number result) self.new }
+        ensures does { DoesMemory self.old MemoryCall.Compact (Reply.Number result) self.new }
         ensures packed { Packed (chunks_of self.new.bytes) }
         ensures chunks { Slid (chunks_of self.old.bytes) (chunks_of self.new.bytes) }
         ensures slid { self.new.slid ≡ self.old.slid + result }
@@ -82,8 +85,10 @@ impl Store {
     /// would have to move; `NotEnoughSpace`, where it is not locked and no stretch has the room, its own
     /// bytes counted as room of its own stretch. Then nothing has changed.
     pub fn resize(&mut self, name: Name, size: u32) -> Result<(), Refusal>
-        ensures does { DoesInStore self.old (Call.Memory (MemoryCall.Resize name size)) (reply_of (λ done. Reply.Done) result) self.new }
-        ensures unmoved { FitsInPlace self.old.bytes name.0 (need size) → MovesNothing self.old.bytes self.new.bytes }
+        ensures does { DoesMemory self.old (MemoryCall.Resize name size)
+            (done_or_refused result) self.new }
+        ensures unmoved { FitsInPlace self.old.bytes name.0 (need size)
+            → MovesNothing self.old.bytes self.new.bytes }
         ensures one_stretch { MovesOneStretchAnd self.old.bytes self.new.bytes name.0 }
         ensures refused { OnErr result (self.new ≡ self.old) }
     {

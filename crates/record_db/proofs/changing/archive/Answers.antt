@@ -4,12 +4,12 @@ use Rattle.heap_model.specs.declared.call.Call.TheVariants as calls
 use Rattle.heap_model.specs.declared.call.RecordCall.TheVariants.{Archive}
 use Rattle.heap_model.specs.declared.call.Reply.TheVariants.{Done}
 use Rattle.laws_store.proofs.Doing.{changes, kept_then}
-use Rattle.record_db.proofs.Labels.{may_have, attributes_set}
+use Rattle.record_db.proofs.Attributes.{may_have, attributes_set}
 use Rattle.record_db.proofs.Raising.{number_left, raised_after}
 use Rattle.record_db.proofs.changing.archive.Goals as goal
 
-pub entry_set-requires-clause-label : goal.entry_set-requires-clause-label
-entry_set-requires-clause-label c =
+pub entry_set-requires-clause-info : goal.entry_set-requires-clause-info
+entry_set-requires-clause-info c =
     let some = c.in_ok-live.ensures.some in
     may_have c.args.store.now.bytes c.args.db c.args.index c.in_ok-live.live.attributes c.in_ok-live.live.id c.in_ok-live.live.«data».0 c.marked_deleted.result c.in_ok-count.ensures.accepted c.in_ok-count.ensures.known c.in_ok-count.ensures.records
     c.in_ok-live.ensures.is (λ none. absurd (omega (arith, none, some)))

@@ -8,7 +8,7 @@ use Rattle.heap_model.specs.declared.call.RecordCall.TheVariants.{Get}
 use Rattle.heap_model.specs.declared.call.Reply.TheVariants.{Named}
 use Rattle.heap_model.specs.declared.refusal.Refusal.TheVariants.{RecordBusy}
 use Rattle.laws_store.proofs.Doing.{refused, changes}
-use Rattle.record_db.proofs.Labels.{may_have, attributes_set}
+use Rattle.record_db.proofs.Attributes.{may_have, attributes_set}
 use Rattle.record_db.proofs.changing.get.Goals as goal
 
 pub returns-then-is_busy : goal.returns-then-is_busy
@@ -18,8 +18,8 @@ returns-then-is_busy c =
     let busy = subst (λ (x : Option (Entry ℕ)). OfEntry x (HasAttributes is_busy)) (sym c.in_ok-live.ensures.is) (sym c.is_busy.ensures ∙ c.if-is_busy.true) in
     refused c.args.store.now (calls.Record (Get c.args.db c.args.index)) RecordBusy c.in_ok-count.ensures.accepted (inr (passed.0, inr (passed.1.0, inr (alive.0, inr (alive.1.0, inl (busy, refl))))))
 
-pub entry_set-requires-clause-label : goal.entry_set-requires-clause-label
-entry_set-requires-clause-label c =
+pub entry_set-requires-clause-info : goal.entry_set-requires-clause-info
+entry_set-requires-clause-info c =
     let some = c.in_ok-live.ensures.some in
     may_have c.args.store.now.bytes c.args.db c.args.index c.in_ok-live.live.attributes c.in_ok-live.live.id c.in_ok-live.live.«data».0 c.marked_busy.result c.in_ok-count.ensures.accepted c.in_ok-count.ensures.known c.in_ok-count.ensures.records
     c.in_ok-live.ensures.is (λ none. absurd (omega (arith, none, some)))

@@ -9,11 +9,11 @@ use Rattle.heap_model.specs.declared.call.Reply.TheVariants.{Done}
 use Rattle.laws_store.proofs.Doing.{changes}
 use Rattle.record_db.proofs.Bits.{released_deleted}
 use Rattle.record_db.proofs.Entries.{info_is, no_data}
-use Rattle.record_db.proofs.Labels.{may_have, attributes_set}
+use Rattle.record_db.proofs.Attributes.{may_have, attributes_set}
 use Rattle.record_db.proofs.changing.release.Goals as goal
 
-pub entry_set-requires-clause-label : goal.entry_set-requires-clause-label
-entry_set-requires-clause-label c =
+pub entry_set-requires-clause-info : goal.entry_set-requires-clause-info
+entry_set-requires-clause-info c =
     let is = info_is (entry_under (store_of c.args.store.now.bytes) c.args.db c.args.index) c.in_ok-info.info c.in_ok-info.ensures.is in
     may_have c.args.store.now.bytes c.args.db c.args.index c.in_ok-info.info.attributes c.in_ok-info.info.id is.0 c.released.result c.in_ok-count.ensures.accepted c.in_ok-count.ensures.known c.in_ok-count.ensures.records is.1
     (λ none.

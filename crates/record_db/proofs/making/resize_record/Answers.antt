@@ -1,30 +1,39 @@
-use Rattle.std.proofs.Common.{refl, sym, subst, inr}
+use Rattle.std.proofs.Common.{◌≡◌, ℕ, refl, sym, ap, subst, inr}
 use Rattle.laws_store.proofs.Doing.{refused, handed_on, changes}
-use Rattle.record_db.proofs.Resized.{leaves_resized, may_grow, no_growth}
+use Rattle.heap_model.specs.Chunk.{need}
 use Rattle.heap_model.specs.Memory.{Memory}
+use Rattle.heap_model.specs.Space.{FitsInPlace, MovesOneStretchAnd}
+use Rattle.heap_model.specs.Refusals.{NoneHolds, FirstBrings}
 use Rattle.heap_model.specs.Store.{store_of}
 use Rattle.heap_model.specs.StoreSteps.{DoesInStore}
 use Rattle.heap_model.specs.declared.call.Call.TheVariants as calls
 use Rattle.heap_model.specs.declared.refusal.Refusal.{Refusal}
-use Rattle.heap_model.specs.EntrySteps.{data_under}
+use Rattle.heap_model.specs.EntrySteps.{data_of_entry, data_under, LeavesStore}
 use Rattle.heap_model.specs.declared.call.RecordCall.TheVariants.{Resize}
 use Rattle.heap_model.specs.declared.call.Reply.TheVariants.{Done, Refused}
 use Rattle.laws_heap.proofs.Unmoved.{itself_alone}
+use Rattle.palm_store.specs.EntryCalls.{checks_of_growth, data_sized}
 use Rattle.record_db.proofs.Raising.{raised_after, nothing_moved, one_stretch_moved}
 use Rattle.record_db.proofs.making.resize_record.Goals as goal
 
 pub returns-in_err-count-clause-one_stretch : goal.returns-in_err-count-clause-one_stretch
 returns-in_err-count-clause-one_stretch c = itself_alone c.args.store.now.bytes (data_under (store_of c.args.store.now.bytes) c.args.db c.args.index)
 
-pub returns-in_err-find_live-clause-one_stretch : goal.returns-in_err-find_live-clause-one_stretch
-returns-in_err-find_live-clause-one_stretch c = itself_alone c.args.store.now.bytes (data_under (store_of c.args.store.now.bytes) c.args.db c.args.index)
+pub returns-in_err-live-clause-one_stretch : goal.returns-in_err-live-clause-one_stretch
+returns-in_err-live-clause-one_stretch c = itself_alone c.args.store.now.bytes (data_under (store_of c.args.store.now.bytes) c.args.db c.args.index)
+
+pub entry_resize-requires : goal.entry_resize-requires
+entry_resize-requires c = record {
+  own = record { db = c.args.db; index = c.args.index; number = c.in_ok-count.ensures.known; is = ap data_of_entry c.in_ok-live.ensures.is; some = c.in_ok-live.ensures.some };
+}
 
 pub returns-in_err-entry_resize-clause-does : goal.returns-in_err-entry_resize-clause-does
 returns-in_err-entry_resize-clause-does c =
     let passed = c.in_ok-count.ensures.passes in
-    let alive = c.in_ok-find_live.ensures.passes in
+    let alive = c.in_ok-live.ensures.passes in
     let refusal : Refusal = c.in_err-entry_resize.field-0.0 in
-    let brings = no_growth c.args.store.now.bytes (data_under (store_of c.args.store.now.bytes) c.args.db c.args.index) c.args.size refusal c.in_err-entry_resize.ensures.why in
+    let named : c.in_ok-live.live.«data».0 ≡ data_under (store_of c.args.store.now.bytes) c.args.db c.args.index = sym (ap data_of_entry c.in_ok-live.ensures.is) in
+    let brings = subst (λ (name : ℕ). FirstBrings (checks_of_growth c.args.store.now.bytes name c.args.size) refusal) named c.in_err-entry_resize.ensures.why in
     handed_on (λ done. Done) (calls.Record (Resize c.args.db c.args.index c.args.size)) c.from_residual-in_err-entry_resize.result (let e = c.from_residual-in_err-entry_resize.ensures in (e.0, e.1))
     (subst (λ (new : Memory). DoesInStore c.args.store.now (calls.Record (Resize c.args.db c.args.index c.args.size)) (Refused refusal) new) (sym c.in_err-entry_resize.ensures.refused)
     (refused c.args.store.now (calls.Record (Resize c.args.db c.args.index c.args.size)) refusal c.in_ok-count.ensures.accepted (inr (passed.0, inr (passed.1.0, inr (passed.1.1.0, inr (alive.0, inr (alive.1.0, brings))))))))
@@ -32,17 +41,21 @@ returns-in_err-entry_resize-clause-does c =
 pub returns-clause-does : goal.returns-clause-does
 returns-clause-does c =
     let passed = c.in_ok-count.ensures.passes in
-    let alive = c.in_ok-find_live.ensures.passes in
-    let grows = may_grow c.args.store.now.bytes (data_under (store_of c.args.store.now.bytes) c.args.db c.args.index) c.args.size c.in_ok-entry_resize.ensures.could in
-    let leaves = raised_after c.args.store.now.bytes c.entry_resize.new.self.bytes c.raise.new.self.bytes c.args.db _
-    (leaves_resized c.args.store.now.bytes c.entry_resize.new.self.bytes c.args.db c.args.index c.args.size c.in_ok-entry_resize.ensures.done) c.raise.ensures.raised c.raise.ensures.none_made in
+    let alive = c.in_ok-live.ensures.passes in
+    let named : c.in_ok-live.live.«data».0 ≡ data_under (store_of c.args.store.now.bytes) c.args.db c.args.index = sym (ap data_of_entry c.in_ok-live.ensures.is) in
+    let grows = subst (λ (name : ℕ). NoneHolds (checks_of_growth c.args.store.now.bytes name c.args.size)) named c.in_ok-entry_resize.ensures.could in
+    let sized = subst (λ (name : ℕ). LeavesStore c.args.store.now.bytes c.entry_resize.new.self.bytes (data_sized (store_of c.args.store.now.bytes) name c.args.size)) named c.in_ok-entry_resize.ensures.done in
+    let leaves = raised_after c.args.store.now.bytes c.entry_resize.new.self.bytes c.raise.new.self.bytes c.args.db _ sized c.raise.ensures.raised c.raise.ensures.none_made in
     changes c.args.store.now c.raise.new.self (calls.Record (Resize c.args.db c.args.index c.args.size)) Done _ c.in_ok-count.ensures.accepted leaves
     ((passed.0, (passed.1.0, (passed.1.1.0, (alive.0, (alive.1.0, grows))))), (tt, leaves.same)) tt refl
 
 pub returns-clause-unmoved : goal.returns-clause-unmoved
 returns-clause-unmoved c = λ fits.
-    nothing_moved c.args.store.now.bytes c.entry_resize.new.self.bytes c.raise.new.self.bytes (c.in_ok-entry_resize.ensures.unmoved fits) c.raise.ensures.unmoved c.raise.ensures.none_made
+    let named : c.in_ok-live.live.«data».0 ≡ data_under (store_of c.args.store.now.bytes) c.args.db c.args.index = sym (ap data_of_entry c.in_ok-live.ensures.is) in
+    nothing_moved c.args.store.now.bytes c.entry_resize.new.self.bytes c.raise.new.self.bytes (c.in_ok-entry_resize.ensures.unmoved (subst (λ (name : ℕ). FitsInPlace c.args.store.now.bytes name (need c.args.size)) (sym named) fits)) c.raise.ensures.unmoved c.raise.ensures.none_made
 
 pub returns-clause-one_stretch : goal.returns-clause-one_stretch
 returns-clause-one_stretch c =
-    one_stretch_moved c.args.store.now.bytes c.entry_resize.new.self.bytes c.raise.new.self.bytes (data_under (store_of c.args.store.now.bytes) c.args.db c.args.index) c.in_ok-entry_resize.ensures.one_stretch c.raise.ensures.unmoved c.raise.ensures.none_made
+    let named : c.in_ok-live.live.«data».0 ≡ data_under (store_of c.args.store.now.bytes) c.args.db c.args.index = sym (ap data_of_entry c.in_ok-live.ensures.is) in
+    subst (λ (name : ℕ). MovesOneStretchAnd c.args.store.now.bytes c.raise.new.self.bytes name) named
+    (one_stretch_moved c.args.store.now.bytes c.entry_resize.new.self.bytes c.raise.new.self.bytes c.in_ok-live.live.«data».0 c.in_ok-entry_resize.ensures.one_stretch c.raise.ensures.unmoved c.raise.ensures.none_made)

@@ -1,5 +1,121 @@
-use Rattle.palm_store.proofs.Forwarding.{viewed}
+-- What was found of the name and of the databases lets the call go on; the header is written into the chunk
+-- that was listed, or all is as before.
+use Rattle.std.proofs.Common.{refl, ap, sym, subst, ◌∙◌, ◌≡◌, ◌<◌, ◌≤◌, arith, ℕ, List, length, replicate}
+use Rattle.std.proofs.lemmas.List.{length-replicate}
+use Rattle.heap_model.specs.DatabaseFields.{header_size}
+use Rattle.heap_model.specs.Database.{Database, IsDatabaseName, DatabaseFits, header_bytes, spelled}
+use Rattle.heap_model.specs.Store.{listed, most_databases, store_of}
+use Rattle.heap_model.specs.DatabaseSteps.{IsTaken, empty_database}
+use Rattle.heap_model.specs.declared.call.DatabaseCall.TheVariants.{Create}
+use Rattle.heap_model.specs.declared.call.Call.TheVariants as calls
+use Rattle.heap_model.specs.declared.call.Reply.TheVariants as replies
+use Rattle.laws_store.proofs.Doing.{handed_on}
+use Rattle.laws_store.proofs.Spellings.{length-header_bytes}
+use Rattle.palm_store.specs.Directory.{ListsNew}
+use Rattle.palm_store.proofs.Maps.{bytes_held}
+use Rattle.palm_store.proofs.ListedSlots.{chunk_of}
+use Rattle.palm_store.proofs.Creation.{not_named, name_taken, too_many, header_put, created, not_created, empty_fits, header_spells, then_written}
+use Rattle.palm_store.proofs.Forwarding.{viewed, ask_viewed}
 use Rattle.palm_store.proofs.store.Store.create.Goals as goal
 
+pub returns-in_default : goal.returns-in_default
+returns-in_default c =
+    ask_viewed c.self.inside.heap c.args.self.now _ _ c.self.view_is
+    (not_named c.self.inside.heap c.args.name.now c.args.kind c.args.creator c.args.resources c.args.date c.self.invariant (subst (λ (name : List ℕ). IsDatabaseName name → ⊥) c.as_slice.ensures.is c.in_default.ensures))
+
+pub returns-then-has_other_name : goal.returns-then-has_other_name
+returns-then-has_other_name c =
+    let named : IsDatabaseName c.args.name.now = subst (λ (name : List ℕ). IsDatabaseName name) c.as_slice.ensures.is c.in-Some.ensures.0 in
+    ask_viewed c.self.inside.heap c.args.self.now _ _ c.self.view_is
+    (name_taken c.self.inside.heap c.args.name.now c.args.kind c.args.creator c.args.resources c.args.date c.self.invariant named
+    (subst (λ (name : List ℕ). IsTaken (store_of c.self.inside.heap.bytes) 0 name) c.as_slice-2.ensures.is (c.has_other_name.ensures.0 c.if-has_other_name.true)))
+
+pub returns-then-count_databases-ge-MOST_DATABASES : goal.returns-then-count_databases-ge-MOST_DATABASES
+returns-then-count_databases-ge-MOST_DATABASES c =
+    let named : IsDatabaseName c.args.name.now = subst (λ (name : List ℕ). IsDatabaseName name) c.as_slice.ensures.is c.in-Some.ensures.0 in
+    let free : IsTaken (store_of c.self.inside.heap.bytes) 0 c.args.name.now → ⊥ = λ taken. (let yes = c.has_other_name.ensures.1 (subst (λ (name : List ℕ). IsTaken (store_of c.self.inside.heap.bytes) 0 name) (sym c.as_slice-2.ensures.is) taken) in let no = c.if-has_other_name.false in absurd cc) in
+    let count = c.count_databases.ensures in
+    let most = c.if-count_databases-ge-MOST_DATABASES.true in
+    let many : most_databases ≤ length (listed c.self.inside.heap.bytes) = omega (arith, count, most) in
+    ask_viewed c.self.inside.heap c.args.self.now _ _ c.self.view_is (too_many c.self.inside.heap c.args.name.now c.args.kind c.args.creator c.args.resources c.args.date c.self.invariant named free many)
+
+pub invariant_of-self : goal.invariant_of-self
+invariant_of-self c =
+    let image : List ℕ = c.self.inside.heap.bytes in
+    let named : IsDatabaseName c.args.name.now = subst (λ (name : List ℕ). IsDatabaseName name) c.as_slice.ensures.is c.in-Some.ensures.0 in
+    let free : IsTaken (store_of image) 0 c.args.name.now → ⊥ = λ taken. (let yes = c.has_other_name.ensures.1 (subst (λ (name : List ℕ). IsTaken (store_of image) 0 name) (sym c.as_slice-2.ensures.is) taken) in let no = c.if-has_other_name.false in absurd cc) in
+    let count = c.count_databases.ensures in
+    let below = c.if-count_databases-ge-MOST_DATABASES.false in
+    let few : length (listed image) < most_databases = omega (arith, count, below) in
+    let does = not_created c.self.inside.heap c.list_new.new.heap c.args.name.now c.args.kind c.args.creator c.args.resources c.args.date c.in_err-slot.field-0.0 c.self.invariant named few free c.in_err-slot.ensures.no_room c.in_err-slot.ensures.refusal c.in_err-slot.ensures.refused c.list_new.ensures.rest in
+    does.accepted
+
+pub returns-in_err-slot : goal.returns-in_err-slot
+returns-in_err-slot c =
+    let image : List ℕ = c.self.inside.heap.bytes in
+    let named : IsDatabaseName c.args.name.now = subst (λ (name : List ℕ). IsDatabaseName name) c.as_slice.ensures.is c.in-Some.ensures.0 in
+    let free : IsTaken (store_of image) 0 c.args.name.now → ⊥ = λ taken. (let yes = c.has_other_name.ensures.1 (subst (λ (name : List ℕ). IsTaken (store_of image) 0 name) (sym c.as_slice-2.ensures.is) taken) in let no = c.if-has_other_name.false in absurd cc) in
+    let count = c.count_databases.ensures in
+    let below = c.if-count_databases-ge-MOST_DATABASES.false in
+    let few : length (listed image) < most_databases = omega (arith, count, below) in
+    viewed c.self.inside.heap c.args.self.now c.list_new.new.heap _ _ c.self.view_is
+    (handed_on (λ db. replies.Database db) (calls.Database (Create c.args.name.now c.args.kind c.args.creator c.args.resources c.args.date)) c.from_residual.result (let e = c.from_residual.ensures in (e.0, e.1))
+    (not_created c.self.inside.heap c.list_new.new.heap c.args.name.now c.args.kind c.args.creator c.args.resources c.args.date c.in_err-slot.field-0.0 c.self.invariant named few free c.in_err-slot.ensures.no_room c.in_err-slot.ensures.refusal c.in_err-slot.ensures.refused c.list_new.ensures.rest))
+
+pub sys_write-requires-clause-within : goal.sys_write-requires-clause-within
+sys_write-requires-clause-within c =
+    let image : List ℕ = c.self.inside.heap.bytes in
+    let listed_new : ListsNew image c.list_new.new.heap.bytes c.in_ok-slot.slot.0 (replicate header_size 0) = c.in_ok-slot.ensures.lists in
+    let there = ap length (bytes_held c.list_new.new.heap.bytes c.in_ok-slot.slot.0 (chunk_of (replicate header_size 0)) listed_new.chunk) in
+    let zeros : length (replicate {A = ℕ} header_size 0) ≡ header_size = length-replicate {A = ℕ} header_size 0 in
+    let bytes = ap length (c.to_bytes.ensures.is (empty_database c.in-Some.field c.args.kind c.args.creator c.args.resources c.args.date) c.empty_header-header.ensures) in
+    let long = length-header_bytes (empty_database c.in-Some.field c.args.kind c.args.creator c.args.resources c.args.date) (subst (λ (name : List ℕ). IsDatabaseName name) (sym c.in-Some.ensures.1) c.in-Some.ensures.0) in
+    omega (arith, there, zeros, bytes, long)
+
+pub invariant_of-self-2 : goal.invariant_of-self-2
+invariant_of-self-2 c =
+    let image : List ℕ = c.self.inside.heap.bytes in
+    let mid : List ℕ = c.list_new.new.heap.bytes in
+    let database : Database ℕ = empty_database c.args.name.now c.args.kind c.args.creator c.args.resources c.args.date in
+    let named : IsDatabaseName c.args.name.now = subst (λ (name : List ℕ). IsDatabaseName name) c.as_slice.ensures.is c.in-Some.ensures.0 in
+    let free : IsTaken (store_of image) 0 c.args.name.now → ⊥ = λ taken. (let yes = c.has_other_name.ensures.1 (subst (λ (name : List ℕ). IsTaken (store_of image) 0 name) (sym c.as_slice-2.ensures.is) taken) in let no = c.if-has_other_name.false in absurd cc) in
+    let count = c.count_databases.ensures in
+    let below = c.if-count_databases-ge-MOST_DATABASES.false in
+    let few : length (listed image) < most_databases = omega (arith, count, below) in
+    let kind_fits = c.ranges.kind.fits in
+    let creator_fits = c.ranges.creator.fits in
+    let date_fits = c.ranges.date.fits in
+    let fits : DatabaseFits database = empty_fits c.args.name.now c.args.kind c.args.creator c.args.resources c.args.date named (omega (arith, kind_fits)) (omega (arith, creator_fits)) (omega (arith, date_fits)) in
+    let bytes : c.to_bytes.result ≡ header_bytes database =
+    c.to_bytes.ensures.is (empty_database c.in-Some.field c.args.kind c.args.creator c.args.resources c.args.date) c.empty_header-header.ensures
+    ∙ ap (λ (name : List ℕ). header_bytes (empty_database name c.args.kind c.args.creator c.args.resources c.args.date)) (c.in-Some.ensures.1 ∙ c.as_slice.ensures.is) in
+    let written : ListsNew image c.sys_write.new.self.bytes c.in_ok-slot.slot.0 c.to_bytes.result =
+    header_put image mid c.sys_write.new.self.bytes c.in_ok-slot.slot.0 c.to_bytes.result c.self.invariant.heap c.in_ok-slot.ensures.lists c.sys_write.ensures.leaves (ap length bytes ∙ length-header_bytes database named) in
+    let lists : ListsNew image c.sys_write.new.self.bytes c.in_ok-slot.slot.0 (spelled database) = subst (λ (xs : List ℕ). ListsNew image c.sys_write.new.self.bytes c.in_ok-slot.slot.0 xs) (bytes ∙ sym (header_spells database refl)) written in
+    let does = created c.self.inside.heap c.sys_write.new.self (record { 0 = c.in_ok-slot.slot.0 }) c.args.name.now c.args.kind c.args.creator c.args.resources c.args.date c.self.invariant lists fits few free
+    (then_written c.self.inside.heap c.list_new.new.heap c.sys_write.new.self c.list_new.ensures.rest c.sys_write.ensures.rest) in
+    does.accepted
+
 pub returns : goal.returns
-returns c = viewed c.self.inside.heap c.args.self.now c.create_database.new.heap _ _ c.self.view_is c.create_database.ensures.does
+returns c =
+    let image : List ℕ = c.self.inside.heap.bytes in
+    let mid : List ℕ = c.list_new.new.heap.bytes in
+    let database : Database ℕ = empty_database c.args.name.now c.args.kind c.args.creator c.args.resources c.args.date in
+    let named : IsDatabaseName c.args.name.now = subst (λ (name : List ℕ). IsDatabaseName name) c.as_slice.ensures.is c.in-Some.ensures.0 in
+    let free : IsTaken (store_of image) 0 c.args.name.now → ⊥ = λ taken. (let yes = c.has_other_name.ensures.1 (subst (λ (name : List ℕ). IsTaken (store_of image) 0 name) (sym c.as_slice-2.ensures.is) taken) in let no = c.if-has_other_name.false in absurd cc) in
+    let count = c.count_databases.ensures in
+    let below = c.if-count_databases-ge-MOST_DATABASES.false in
+    let few : length (listed image) < most_databases = omega (arith, count, below) in
+    let kind_fits = c.ranges.kind.fits in
+    let creator_fits = c.ranges.creator.fits in
+    let date_fits = c.ranges.date.fits in
+    let fits : DatabaseFits database = empty_fits c.args.name.now c.args.kind c.args.creator c.args.resources c.args.date named (omega (arith, kind_fits)) (omega (arith, creator_fits)) (omega (arith, date_fits)) in
+    let bytes : c.to_bytes.result ≡ header_bytes database =
+    c.to_bytes.ensures.is (empty_database c.in-Some.field c.args.kind c.args.creator c.args.resources c.args.date) c.empty_header-header.ensures
+    ∙ ap (λ (name : List ℕ). header_bytes (empty_database name c.args.kind c.args.creator c.args.resources c.args.date)) (c.in-Some.ensures.1 ∙ c.as_slice.ensures.is) in
+    let written : ListsNew image c.sys_write.new.self.bytes c.in_ok-slot.slot.0 c.to_bytes.result =
+    header_put image mid c.sys_write.new.self.bytes c.in_ok-slot.slot.0 c.to_bytes.result c.self.invariant.heap c.in_ok-slot.ensures.lists c.sys_write.ensures.leaves (ap length bytes ∙ length-header_bytes database named) in
+    let lists : ListsNew image c.sys_write.new.self.bytes c.in_ok-slot.slot.0 (spelled database) = subst (λ (xs : List ℕ). ListsNew image c.sys_write.new.self.bytes c.in_ok-slot.slot.0 xs) (bytes ∙ sym (header_spells database refl)) written in
+    viewed c.self.inside.heap c.args.self.now c.sys_write.new.self _ _ c.self.view_is
+    (created c.self.inside.heap c.sys_write.new.self (record { 0 = c.in_ok-slot.slot.0 }) c.args.name.now c.args.kind c.args.creator c.args.resources c.args.date c.self.invariant lists fits few free
+    (then_written c.self.inside.heap c.list_new.new.heap c.sys_write.new.self c.list_new.ensures.rest c.sys_write.ensures.rest))

@@ -1,5 +1,9 @@
-use Rattle.palm_store.proofs.Forwarding.{ask_viewed}
+use Rattle.std.proofs.Common.{ℕ, List, ap, ◌∙◌}
+use Rattle.heap_model.specs.Database.{database_in}
+use Rattle.heap_model.specs.DatabaseSteps.{info_of}
+use Rattle.palm_store.proofs.Lookups.{told}
 use Rattle.palm_store.proofs.store.Store.database_info.Goals as goal
 
 pub returns : goal.returns
-returns c = ask_viewed c.self.inside.heap c.args.self.now _ _ c.self.view_is c.database_info.ensures
+returns c =
+    rw (← c.self.view_is) (told c.self.inside.heap c.args.db c.info_in.result c.self.invariant c.in_ok-find_header.ensures.known (c.info_in.ensures ∙ ap (λ (bytes : List ℕ). info_of (database_in bytes)) c.in_ok-find_header.ensures.is))

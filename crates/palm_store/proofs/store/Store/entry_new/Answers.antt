@@ -1,16 +1,57 @@
--- What the call answers of the heap inside is said of the store.
-use Rattle.std.proofs.Common.{subst}
-use Rattle.std.specs.Prelude.{OnOk, IfErr}
-use Rattle.heap_model.specs.Memory.{Memory}
+-- What came is the entry that was asked for; what was refused has left the store as it was.
+use Rattle.std.proofs.Common.{◌<◌, ◌∙◌, arith, inl, inr, ℕ, List, length, ◌≤◌, ◌≡◌}
+use Rattle.heap_model.specs.EntrySteps.{entries_in, resources_under}
 use Rattle.heap_model.specs.Store.{store_of}
-use Rattle.heap_model.specs.Refusals.{NoneHolds, FirstBrings}
-use Rattle.heap_model.specs.EntrySteps.{making_checks}
+use Rattle.db_format.specs.EitherEntry.{entry_of}
+use Rattle.laws_store.proofs.Editing.{same_steps}
+use Rattle.palm_store.proofs.NewEntries.{new_steps, left_as_before}
+use Rattle.laws_heap.proofs.Results.{on_err, if_err}
+use Rattle.heap_model.specs.Refusals.{FirstBrings}
+use Rattle.palm_store.specs.EntryCalls.{checks_of_making}
+use Rattle.palm_store.specs.EntryInfos.{makes_resource}
+use Rattle.palm_store.specs.Databases.{HasNumber}
 use Rattle.palm_store.proofs.store.Store.entry_new.Goals as goal
 
-pub returns-clause-could : goal.returns-clause-could
-returns-clause-could c =
-    subst (λ (old : Memory). OnOk c.entry_new.result (NoneHolds (making_checks old.bytes (store_of old.bytes) c.args.db c.args.size))) c.self.view_is c.entry_new.ensures.could
+pub invariant_of-self : goal.invariant_of-self
+invariant_of-self c = (let left = same_steps c.self.inside.heap.bytes c.put_in.new.heap.bytes c.self.invariant c.in_err-name.ensures.refused in left.accepted)
 
-pub returns-clause-why : goal.returns-clause-why
-returns-clause-why c =
-    subst (λ (old : Memory). IfErr c.entry_new.result (λ refusal. FirstBrings (making_checks old.bytes (store_of old.bytes) c.args.db c.args.size) refusal)) c.self.view_is c.entry_new.ensures.why
+pub returns-in_err-name-clause-why : goal.returns-in_err-name-clause-why
+returns-in_err-name-clause-why c =
+    let count = c.count_entries.ensures in
+    let below = c.if-count_entries-ge-MOST_ENTRIES.false in
+    let e = c.from_residual.ensures in
+    rw (← c.self.view_is) (if_err (FirstBrings (checks_of_making c.self.inside.heap.bytes c.args.db c.args.size)) c.from_residual.result (e.0, e.1)
+    (inr ((λ full. omega (arith, count, below, full)), inl (c.in_err-name.ensures.no_room, c.in_err-name.ensures.refusal))))
+
+pub returns-in_err-name-clause-refused : goal.returns-in_err-name-clause-refused
+returns-in_err-name-clause-refused c =
+    rw (← c.self.view_is) (on_err _ c.from_residual.result (same_steps c.self.inside.heap.bytes c.put_in.new.heap.bytes c.self.invariant c.in_err-name.ensures.refused))
+
+pub returns-in_err-name-clause-as_before : goal.returns-in_err-name-clause-as_before
+returns-in_err-name-clause-as_before c =
+    rw (← c.self.view_is) (on_err _ c.from_residual.result (left_as_before c.self.inside.heap c.put_in.new.heap c.self.invariant c.in_err-name.ensures.refused))
+
+pub invariant_of-self-2 : goal.invariant_of-self-2
+invariant_of-self-2 c =
+    let number : HasNumber c.self.inside.heap.bytes c.args.db.0 = rw c.self.view_is c.requires.number in
+    let inside : c.args.at ≤ length (entries_in (store_of c.self.inside.heap.bytes) c.args.db) = rw c.self.view_is c.requires.inside in
+    let kind : makes_resource c.args.entry ≡ resources_under (store_of c.self.inside.heap.bytes) c.args.db = rw c.self.view_is c.requires.kind in
+    let image : List ℕ = c.self.inside.heap.bytes in
+    let count = c.count_entries.ensures in
+    let below = c.if-count_entries-ge-MOST_ENTRIES.false in
+    let few : length (entries_in (store_of image) c.args.db) < 65535 = omega (arith, count, below) in
+    let left = (new_steps image c.put_in.new.heap.bytes c.args.db c.args.at c.args.entry (entry_of c.new_entry-made.result) _ c.in_ok-name.name.0 c.args.size c.self.invariant number c.new_entry-made.ensures.is c.in_ok-name.ensures.puts
+    (c.new_entry-made.ensures.kind ∙ kind) (c.in_ok-name.ensures.name_fits c.new_entry-made.ensures.fits) inside few).2 in
+    left.accepted
+
+pub returns-clause-made : goal.returns-clause-made
+returns-clause-made c =
+    let number : HasNumber c.self.inside.heap.bytes c.args.db.0 = rw c.self.view_is c.requires.number in
+    let inside : c.args.at ≤ length (entries_in (store_of c.self.inside.heap.bytes) c.args.db) = rw c.self.view_is c.requires.inside in
+    let kind : makes_resource c.args.entry ≡ resources_under (store_of c.self.inside.heap.bytes) c.args.db = rw c.self.view_is c.requires.kind in
+    rw (← c.self.view_is) (let image : List ℕ = c.self.inside.heap.bytes in
+    let count = c.count_entries.ensures in
+    let below = c.if-count_entries-ge-MOST_ENTRIES.false in
+    let few : length (entries_in (store_of image) c.args.db) < 65535 = omega (arith, count, below) in
+    new_steps image c.put_in.new.heap.bytes c.args.db c.args.at c.args.entry (entry_of c.new_entry-made.result) _ c.in_ok-name.name.0 c.args.size c.self.invariant number c.new_entry-made.ensures.is c.in_ok-name.ensures.puts
+    (c.new_entry-made.ensures.kind ∙ kind) (c.in_ok-name.ensures.name_fits c.new_entry-made.ensures.fits) inside few)

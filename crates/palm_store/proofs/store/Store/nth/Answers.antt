@@ -1,5 +1,13 @@
-use Rattle.palm_store.proofs.Forwarding.{ask_viewed}
+use Rattle.std.proofs.Common.{sym, arith}
+use Rattle.palm_store.proofs.Numbers.{slot_in}
+use Rattle.palm_store.proofs.Lookups.{at_index, no_index}
 use Rattle.palm_store.proofs.store.Store.nth.Goals as goal
 
+pub returns-then-index-directory : goal.returns-then-index-directory
+returns-then-index-directory c =
+    rw (← c.self.view_is) (no_index c.self.inside.heap c.args.index c.self.invariant (let many = c.directory_bytes-directory.ensures.listed in omega arith))
+
 pub returns : goal.returns
-returns c = ask_viewed c.self.inside.heap c.args.self.now _ _ c.self.view_is c.nth_database.ensures
+returns c =
+    rw (← c.self.view_is) (let slot = slot_in c.self.inside.heap.bytes _ c.args.index _ c.directory_bytes-directory.ensures.is c.if-index-directory.false c.listed_in.ensures in
+    at_index c.self.inside.heap c.args.index c.listed_in.result c.self.invariant slot.inside (sym slot.there))

@@ -1,0 +1,337 @@
+-- A database that was made: its header is written into the chunk that was listed last.
+use Rattle.std.proofs.Common.{◌≡◌, ◌≢◌, ℕ, ◌+◌, ◌^◌, ◌<◌, ◌≤◌, Bool, true, false, List, [], ◌∷◌, ◌++◌, length, get_or, replicate, Option, Some, None, refl, sym, ap, subst, ◌∙◌, arith, length-append, inl, inr}
+use Rattle.std.proofs.lemmas.Bool.{cases_eq}
+use Rattle.std.proofs.lemmas.List.{append-nil, map-append, get_or-map, length-map}
+use Rattle.std.proofs.lemmas.List.Elements.{All-nil}
+use Rattle.std.proofs.lemmas.List.Quantifiers.{all_pairs_push}
+use Rattle.std.specs.Prelude.{◌⊎◌, if◌then◌else◌, All}
+use Rattle.std.specs.List.{filter_map, flat_map}
+use Rattle.heap_model.specs.Memory.{Memory}
+use Rattle.heap_model.specs.Bytes.{u32_bytes}
+use Rattle.heap_model.specs.DatabaseFields.{header_size}
+use Rattle.heap_model.specs.Heap.{HeapAccepted, directory_of}
+use Rattle.heap_model.specs.Meaning.{LiveChunk}
+use Rattle.heap_model.specs.Reading.{chunks_of, held}
+use Rattle.heap_model.specs.Space.{free_slots, rooms}
+use Rattle.heap_model.specs.Lists.{same, times, u32s_in, Distinct}
+use Rattle.heap_model.specs.Maps.{not_owned, callers_map, put}
+use Rattle.heap_model.specs.Leaving.{Leaves}
+use Rattle.heap_model.specs.Rooms.{Stuck}
+use Rattle.heap_model.specs.Database.{Entry, Database, data_in, header_bytes, entry_bytes, spelled, has_resources, IsDatabaseName, EntryFits, DatabaseFits}
+use Rattle.heap_model.specs.Store.{StoredDatabase, owner_under, directory_bytes, listed, databases, names_of, most_databases, unique_id, unique_ids, HasUniqueIds, Accepted, store_of}
+use Rattle.heap_model.specs.Counts.{NamesData}
+use Rattle.heap_model.specs.DatabaseSteps.{IsTaken, empty_database, create_parts, create_slots}
+use Rattle.heap_model.specs.StoreSteps.{DoesInStore}
+use Rattle.heap_model.specs.declared.names.Db.{Db}
+use Rattle.heap_model.specs.declared.refusal.Refusal.{Refusal}
+use Rattle.heap_model.specs.declared.refusal.Refusal.TheVariants.{NotEnoughSpace, InvalidName, AlreadyExists, TooManyEntries}
+use Rattle.heap_model.specs.declared.call.DatabaseCall.TheVariants.{Create}
+use Rattle.heap_model.specs.declared.call.Call.TheVariants as calls
+use Rattle.heap_model.specs.declared.call.Reply.TheVariants as replies
+use Rattle.laws_heap.proofs.Frames.{length-u32_bytes}
+use Rattle.laws_heap.proofs.Slots.{slot_facts}
+use Rattle.laws_heap.proofs.Finding.{read_heap, callers_managers}
+use Rattle.laws_heap.proofs.Holding.{as_before}
+use Rattle.laws_store.specs.Changes.{Appends}
+use Rattle.laws_store.proofs.Listing.{same-yes, same-no, times-cons}
+use Rattle.laws_store.proofs.Owners.{owned_slot, directory_owner, owned_some}
+use Rattle.laws_store.proofs.Counting.{has_databases, listed_numbers, length-numbers}
+use Rattle.laws_store.proofs.Rewriting.{get-any}
+use Rattle.laws_store.proofs.Keeping.{directory_like, number_owner}
+use Rattle.laws_store.proofs.Creating.{managers_loose, u32s_push}
+use Rattle.laws_store.proofs.Doing.{refused}
+use Rattle.laws_store.proofs.Stepping.{create_steps, same_steps}
+use Rattle.palm_store.specs.Directory.{ListsNew}
+use Rattle.palm_store.proofs.Maps.{owner_held, owner_none, owner_alike, bytes_held, owned, held_some, still_through}
+use Rattle.palm_store.proofs.ListedSlots.{chunk_of, put_here, put_apart, all_written, lock_of}
+
+-- ---- the header is written
+
+pub header_put : (old mid new : List ℕ) (slot : ℕ) (bytes : List ℕ) → HeapAccepted old → ListsNew old mid slot (replicate header_size 0) → Leaves mid new (put (held mid) slot 0 bytes) → length bytes ≡ 78 → ListsNew old new slot bytes
+header_put old mid new slot bytes h l w long =
+    let word : directory_of new ≡ directory_of mid = w.frame.directory in
+    let kept : (name : ℕ) → name ≢ slot → held new name ≡ held mid name = put_apart mid new slot 0 bytes w in
+    let listed_still : directory_bytes new ≡ directory_bytes mid = directory_like mid new l.accepted w.frame.accepted word (λ some. kept (directory_of mid) (λ e. l.apart (sym e))) in
+    record {
+      accepted = w.frame.accepted;
+      len = w.frame.len ∙ l.len;
+      count = w.frame.count ∙ l.count;
+      still = still_through old mid new l.still w.still (λ name live e locked. l.others name (λ same_slot. fresh_there (held old name) live e (ap (held old) same_slot ∙ l.fresh))
+          (λ directory. elim l.directory [
+            | inl stays ↦ (let was : name ≡ directory_of old = directory ∙ stays in let some = l.some in absurd (loose_directory name live e locked was (omega arith)))
+            | inr begins ↦ absurd (fresh_there (held old name) live e (ap (held old) directory ∙ begins.1))
+          ]) ∙ e);
+      some = let some = l.some in omega arith;
+      directory = elim l.directory [ inl stays ↦ inl (word ∙ stays) | inr begins ↦ inr (begins.0, ap (held old) word ∙ begins.1) ];
+      last = listed_still ∙ l.last;
+      fresh = l.fresh;
+      apart = λ e. l.apart (e ∙ word);
+      chunk = put_here mid new slot 0 bytes (chunk_of (replicate header_size 0)) w l.chunk ∙ ap (λ (xs : List ℕ). Some (chunk_of xs)) (all_written 78 bytes long);
+      others = λ name ne other. kept name ne ∙ l.others name ne (λ e. other (e ∙ sym word));
+    } where
+      fresh_there : (o : Option LiveChunk) (live : LiveChunk) → o ≡ Some live → o ≡ None → ⊥
+      fresh_there o live e f = cc
+
+      loose_directory : (name : ℕ) (live : LiveChunk) → held old name ≡ Some live → 0 < live.lock → name ≡ directory_of old → 0 < directory_of old → ⊥
+      loose_directory name live e locked is some = let o = owned old name 0 (ap (owner_under old) is ∙ directory_owner old h some) (omega arith) in let none = lock_of old name o.live live o.there (managers_loose old name o.live h o.there o.own) e in omega arith
+
+-- ---- the database that came
+
+slot_fits : (image : List ℕ) (slot : ℕ) → HeapAccepted image → owner_under image slot ≡ 0 → slot < 2 ^ 32
+slot_fits image slot h own =
+    let s = owned_slot image slot h (inl own) in
+    let heap = read_heap image h in
+    let inside = (slot_facts image (chunks_of image) slot heap.tiles s).inside in
+    let most = heap.tiles.head.most in
+    omega arith
+
+-- no database has the name yet
+pub names_apart : (image name : List ℕ) → Accepted image → (IsTaken (store_of image) 0 name → ⊥) → (k : ℕ) (d : StoredDatabase) → k < length (databases image) → (get_or (databases image) k d).database.header.name ≢ name
+unfolding store_of
+names_apart image name a free k d inside e =
+    let one : StoredDatabase = get_or (databases image) k d in
+    let own = number_owner image (databases image) k d (has_databases image a) inside in
+    let some = owned_some image one.db 0 a.heap own (omega arith) in
+    free (k, one, inside, get-any (databases image) k one d inside, (λ z. (let low = some in omega arith), e))
+
+own_names : (image : List ℕ) (one : StoredDatabase) → Accepted image → (IsTaken (store_of image) 0 one.database.header.name → ⊥) → Distinct (names_of (databases image ++ one ∷ []))
+own_names image one a free =
+    let many = length-map (databases image) (λ (x : StoredDatabase). x.database.header.name) in
+    subst (λ (names : List (List ℕ)). Distinct names) (sym (map-append (λ (x : StoredDatabase). x.database.header.name) (databases image) (one ∷ [])))
+    (all_pairs_push (λ a b. a ≢ b) (names_of (databases image)) one.database.header.name a.own_names
+    (λ k n below e. names_apart image one.database.header.name a free k one (omega arith) (sym (get_or-map (λ (x : StoredDatabase). x.database.header.name) (databases image) k one n (omega arith)) ∙ e)))
+
+none_named : (name : ℕ) → 0 < name → times name (0 ∷ 0 ∷ []) ≡ 0
+none_named name some =
+    let one = times-cons name 0 (0 ∷ []) in
+    let two = times-cons name 0 [] in
+    let no = same-no 0 name (λ e. omega arith) in
+    omega arith
+
+pub appends : (old new : List ℕ) (one : StoredDatabase) → Accepted old → ListsNew old new one.db (spelled one.database) → data_in one.database ≡ 0 ∷ 0 ∷ [] → one.database.entries ≡ [] → DatabaseFits one.database → length (databases old) < most_databases
+    → (IsTaken (store_of old) 0 one.database.header.name → ⊥) → Appends old new (databases old) one
+unfolding listed
+appends old new one a l none empty fits few free =
+    let slot : ℕ = one.db in
+    let h = a.heap in
+    let own : owner_under new slot ≡ 0 = owner_held new slot (chunk_of (spelled one.database)) l.chunk in
+    let some : 0 < slot = held_some new slot (chunk_of (spelled one.database)) l.accepted l.chunk (omega arith) in
+    let was : owner_under old slot ≡ 16 = owner_none old slot l.fresh in
+    let new_directory : owner_under new (directory_of new) ≡ 0 = directory_owner new l.accepted l.some in
+    let long = length-append (directory_bytes old) (u32_bytes slot) in
+    let four = length-u32_bytes slot in
+    let bytes = ap length l.last in
+    let whole = a.whole in
+    record {
+      heap = l.accepted;
+      whole = omega (arith, long, four, bytes, whole);
+      listed_are = ap u32s_in l.last ∙ u32s_push (directory_bytes old) slot a.whole (slot_fits new slot l.accepted own);
+      some = some;
+      few = few;
+      database = record {
+        spelled = record { fits = fits; bytes_are = bytes_held new slot (chunk_of (spelled one.database)) l.chunk };
+        entries = subst (λ (entries : List (Entry ℕ)). All NamesData entries) (sym empty) (All-nil NamesData);
+        ids = no_ids one.database empty;
+      };
+      own_names = own_names old one a free;
+      managers = λ name other owns. l.others name (λ e. (let same_owner = ap (owner_under old) (sym e) ∙ owns in omega arith)) (λ e. elim l.directory [
+        | inl stays ↦ other (e ∙ stays)
+        | inr begins ↦ (let gone = owner_none old (directory_of new) begins.1 in let same_owner = ap (owner_under old) (sym e) ∙ owns in omega arith)
+      ]);
+      owners = λ name positive. counted old new slot name h l.accepted l.some l.apart positive own was new_directory (elim l.directory [ inl stays ↦ inl stays | inr begins ↦ inr (begins.0, owner_none old (directory_of new) begins.1) ]) (λ ne other. owner_alike old new name (l.others name ne other));
+      balance = λ name positive.
+          let nothing : times name (data_in one.database) ≡ 0 = ap (times name) none ∙ none_named name positive in
+          let alike : same (owner_under old name) 15 ≡ same (owner_under new name) 15 = data_alike old new slot name own was new_directory h (elim l.directory [ inl stays ↦ inl stays | inr begins ↦ inr (begins.0, owner_none old (directory_of new) begins.1) ]) l.some
+          (λ ne other. owner_alike old new name (l.others name ne other)) in
+          omega arith;
+    } where
+      no_ids : (database : Database ℕ) → database.entries ≡ [] → HasUniqueIds database
+      no_ids database empty =
+          let none : unique_ids database ≡ [] = ap (filter_map unique_id) empty in
+          record { none_zero = subst (λ (ids : List ℕ). All (λ id. id ≢ 0) ids) (sym none) (All-nil (λ id. id ≢ 0)); distinct = subst (λ (ids : List ℕ). Distinct ids) (sym none) (λ i j d less below. absurd (omega arith)) }
+
+      -- who owns each name, before and after
+      counted : (old new : List ℕ) (slot name : ℕ) → HeapAccepted old → HeapAccepted new → 0 < directory_of new → slot ≢ directory_of new → 0 < name → owner_under new slot ≡ 0 → owner_under old slot ≡ 16 → owner_under new (directory_of new) ≡ 0
+          → (directory_of new ≡ directory_of old) ⊎ ((directory_of old ≡ 0) × (owner_under old (directory_of new) ≡ 16)) → (name ≢ slot → name ≢ directory_of new → owner_under new name ≡ owner_under old name)
+          → same name slot + same name (directory_of new) + same (owner_under old name) 0 ≡ same name (directory_of old) + same (owner_under new name) 0
+      counted old new slot name h is low apart positive own was directory begins others = elim (cases_eq name slot) [
+        | inl e ↦
+            let one = same-yes name slot e in
+            let two = same-no name (directory_of new) (λ f. apart (sym e ∙ f)) in
+            let now : owner_under new name ≡ 0 = ap (owner_under new) e ∙ own in
+            let past : owner_under old name ≡ 16 = ap (owner_under old) e ∙ was in
+            let three = same-no (owner_under old name) 0 (λ z. omega arith) in
+            let four = same-yes (owner_under new name) 0 now in
+            let five = same-no name (directory_of old) (λ f. elim begins [
+              | inl stays ↦ apart (sym e ∙ f ∙ sym stays)
+              | inr none ↦ (let zero_is = none.0 in omega arith)
+            ]) in
+            omega arith
+        | inr ne ↦ elim (cases_eq name (directory_of new)) [
+          | inl e ↦
+              let one = same-no name slot ne in
+              let two = same-yes name (directory_of new) e in
+              let now : owner_under new name ≡ 0 = ap (owner_under new) e ∙ directory in
+              let four = same-yes (owner_under new name) 0 now in
+              elim begins [
+                | inl stays ↦
+                    let past : owner_under old name ≡ 0 = ap (owner_under old) (e ∙ stays) ∙ directory_owner old h (omega arith) in
+                    let three = same-yes (owner_under old name) 0 past in
+                    let five = same-yes name (directory_of old) (e ∙ stays) in
+                    omega arith
+                | inr none ↦
+                    let past : owner_under old name ≡ 16 = ap (owner_under old) e ∙ none.1 in
+                    let three = same-no (owner_under old name) 0 (λ z. omega arith) in
+                    let zero_is = none.0 in
+                    let five = same-no name (directory_of old) (λ f. omega arith) in
+                    omega arith
+              ]
+          | inr other ↦
+              let one = same-no name slot ne in
+              let two = same-no name (directory_of new) other in
+              let kept : same (owner_under new name) 0 ≡ same (owner_under old name) 0 = ap (λ (o : ℕ). same o 0) (others ne other) in
+              let five = same-no name (directory_of old) (λ f. elim begins [
+                | inl stays ↦ other (f ∙ sym stays)
+                | inr none ↦ (let zero_is = none.0 in omega arith)
+              ]) in
+              omega arith
+        ]
+      ]
+
+      data_alike : (old new : List ℕ) (slot name : ℕ) → owner_under new slot ≡ 0 → owner_under old slot ≡ 16 → owner_under new (directory_of new) ≡ 0 → HeapAccepted old
+          → (directory_of new ≡ directory_of old) ⊎ ((directory_of old ≡ 0) × (owner_under old (directory_of new) ≡ 16)) → 0 < directory_of new → (name ≢ slot → name ≢ directory_of new → owner_under new name ≡ owner_under old name)
+          → same (owner_under old name) 15 ≡ same (owner_under new name) 15
+      data_alike old new slot name own was directory h begins low others = elim (cases_eq name slot) [
+        | inl e ↦
+            let now : owner_under new name ≡ 0 = ap (owner_under new) e ∙ own in
+            let past : owner_under old name ≡ 16 = ap (owner_under old) e ∙ was in
+            same-no (owner_under old name) 15 (λ z. omega arith) ∙ sym (same-no (owner_under new name) 15 (λ z. omega arith))
+        | inr ne ↦ elim (cases_eq name (directory_of new)) [
+          | inl e ↦
+              let now : owner_under new name ≡ 0 = ap (owner_under new) e ∙ directory in
+              let past : owner_under old name ≢ 15 = λ z. elim begins [
+                | inl stays ↦ (let before = ap (owner_under old) (e ∙ stays) ∙ directory_owner old h (omega arith) in omega arith)
+                | inr none ↦ (let before = ap (owner_under old) e ∙ none.1 in omega arith)
+              ] in
+              same-no (owner_under old name) 15 past ∙ sym (same-no (owner_under new name) 15 (λ z. omega arith))
+          | inr other ↦ ap (λ (o : ℕ). same o 15) (sym (others ne other))
+        ]
+      ]
+
+-- callers may name what they might
+pub callers_alike : (old new : List ℕ) (slot : ℕ) (bytes : List ℕ) → HeapAccepted old → ListsNew old new slot bytes → (name : ℕ) → callers_map new name ≡ callers_map old name
+callers_alike old new slot bytes h l name = elim (cases_eq name slot) [
+  | inl e ↦ ap (callers_map new) e ∙ callers_managers new slot (chunk_of bytes) l.chunk refl ∙ sym (ap (callers_map old) e ∙ ap (not_owned 0) l.fresh)
+  | inr ne ↦ elim (cases_eq name (directory_of new)) [
+    | inl e ↦
+        let o = owned new (directory_of new) 0 (directory_owner new l.accepted l.some) (omega arith) in
+        ap (callers_map new) e ∙ callers_managers new (directory_of new) o.live o.there o.own ∙ sym (ap (callers_map old) e ∙ elim l.directory [
+          | inl stays ↦ (let some = l.some in let was = owned old (directory_of old) 0 (directory_owner old h (omega arith)) (omega arith) in ap (callers_map old) stays ∙ callers_managers old (directory_of old) was.live was.there was.own)
+          | inr begins ↦ ap (not_owned 0) begins.1
+        ])
+    | inr other ↦ ap (not_owned 0) (l.others name ne other)
+  ]
+]
+
+-- ---- the step
+
+below_most : (image : List ℕ) → length (databases image) < most_databases → most_databases ≤ length (store_of image).databases → ⊥
+unfolding store_of
+below_most image room many = omega arith
+
+pub created : (old new : Memory) (db : Db) (name : List ℕ) (kind creator : ℕ) (resources : Bool) (date : ℕ) → Accepted old.bytes → ListsNew old.bytes new.bytes db.0 (spelled (empty_database name kind creator resources date)) → DatabaseFits (empty_database name kind creator resources date)
+    → length (listed old.bytes) < most_databases → (IsTaken (store_of old.bytes) 0 name → ⊥) → new ≡ record old { bytes = new.bytes; slid = new.slid } → DoesInStore old (calls.Database (Create name kind creator resources date)) (replies.Database db) new
+created old new db name kind creator resources date a l fits few free rest =
+    let one : StoredDatabase = record { db = db.0; database = empty_database name kind creator resources date } in
+    let count = length-numbers (databases old.bytes) in
+    let as_listed = ap length (listed_numbers old.bytes) in
+    let room : length (databases old.bytes) < most_databases = omega arith in
+    let has = create_steps old.bytes new.bytes one a (appends old.bytes new.bytes one a l refl refl fits room free) (callers_alike old.bytes new.bytes db.0 (spelled one.database) a.heap l) in
+    record {
+      before = a;
+      step = ((λ not_name. not_name fits.name, (free, ((λ many. below_most old.bytes room many), (tt, tt)))), (l.fresh, has.same));
+      accepted = has.accepted;
+      len = l.len;
+      count = l.count;
+      directory = elim l.directory [ inl stays ↦ inl stays | inr begins ↦ inr (begins.0, tt) ];
+      still = l.still;
+      asks = tt;
+      rest = rest;
+    }
+
+-- where there was no room all is as before
+pub not_created : (old new : Memory) (name : List ℕ) (kind creator : ℕ) (resources : Bool) (date : ℕ) (refusal : Refusal) → Accepted old.bytes → IsDatabaseName name → length (listed old.bytes) < most_databases → (IsTaken (store_of old.bytes) 0 name → ⊥)
+    → (free_slots old.bytes < create_slots old.bytes) ⊎ Stuck (rooms old.bytes) (create_parts old.bytes) → refusal ≡ NotEnoughSpace → Leaves old.bytes new.bytes (held old.bytes) → new ≡ record old { bytes = new.bytes; slid = new.slid }
+    → DoesInStore old (calls.Database (Create name kind creator resources date)) (replies.Refused refusal) new
+not_created old new name kind creator resources date refusal a named few free lacks is l rest =
+    let has = same_steps old.bytes new.bytes a l.frame l.map in
+    let count = length-numbers (databases old.bytes) in
+    let as_listed = ap length (listed_numbers old.bytes) in
+    let room : length (databases old.bytes) < most_databases = omega arith in
+    let as_much = as_before old.bytes new.bytes a.heap l.frame l.map in
+    record {
+      before = a;
+      step = (inr (λ not_name. not_name named, inr (free, inr ((λ many. below_most old.bytes room many), inl (lacks, is)))), record { store = has.same; free = as_much.0; slots = as_much.1 });
+      accepted = has.accepted;
+      len = l.frame.len;
+      count = l.frame.count;
+      directory = inl l.frame.directory;
+      still = l.still;
+      asks = tt;
+      rest = rest;
+    }
+
+-- ---- what is refused at once
+
+pub not_named : (old : Memory) (name : List ℕ) (kind creator : ℕ) (resources : Bool) (date : ℕ) → Accepted old.bytes → (IsDatabaseName name → ⊥) → DoesInStore old (calls.Database (Create name kind creator resources date)) (replies.Refused InvalidName) old
+not_named old name kind creator resources date a unnamed = refused old (calls.Database (Create name kind creator resources date)) InvalidName a (inl (unnamed, refl))
+
+pub name_taken : (old : Memory) (name : List ℕ) (kind creator : ℕ) (resources : Bool) (date : ℕ) → Accepted old.bytes → IsDatabaseName name → IsTaken (store_of old.bytes) 0 name
+    → DoesInStore old (calls.Database (Create name kind creator resources date)) (replies.Refused AlreadyExists) old
+name_taken old name kind creator resources date a named taken = refused old (calls.Database (Create name kind creator resources date)) AlreadyExists a (inr ((λ not_name. not_name named), inl (taken, refl)))
+
+most_there : (image : List ℕ) → most_databases ≤ length (listed image) → most_databases ≤ length (store_of image).databases
+unfolding store_of
+most_there image many = (let count = length-numbers (databases image) in let as_listed = ap length (listed_numbers image) in omega arith)
+
+pub too_many : (old : Memory) (name : List ℕ) (kind creator : ℕ) (resources : Bool) (date : ℕ) → Accepted old.bytes → IsDatabaseName name → (IsTaken (store_of old.bytes) 0 name → ⊥) → most_databases ≤ length (listed old.bytes)
+    → DoesInStore old (calls.Database (Create name kind creator resources date)) (replies.Refused TooManyEntries) old
+too_many old name kind creator resources date a named free many =
+    refused old (calls.Database (Create name kind creator resources date)) TooManyEntries a (inr ((λ not_name. not_name named), inr (free, inl (most_there old.bytes many, refl))))
+
+-- ---- its header
+
+bit_fits : (resources : Bool) → (if resources then 1 else 0) < 2 ^ 16
+bit_fits true = omega arith
+bit_fits false = omega arith
+
+pub empty_fits : (name : List ℕ) (kind creator : ℕ) (resources : Bool) (date : ℕ) → IsDatabaseName name → kind < 2 ^ 32 → creator < 2 ^ 32 → date < 2 ^ 32 → DatabaseFits (empty_database name kind creator resources date)
+empty_fits name kind creator resources date named kind_fits creator_fits date_fits = record {
+  name = named;
+  header = record {
+    attributes = bit_fits resources;
+    version = omega arith;
+    creation_date = date_fits;
+    modification_date = date_fits;
+    backup_date = omega arith;
+    modification_number = omega arith;
+    kind = kind_fits;
+    creator = creator_fits;
+    seed = omega arith;
+  };
+  app_info = omega arith;
+  sort_info = omega arith;
+  entries = All-nil (EntryFits (has_resources (if resources then 1 else 0)));
+  entry_count = omega arith;
+}
+
+-- what spells it is its header
+pub header_spells : (database : Database ℕ) → database.entries ≡ [] → spelled database ≡ header_bytes database
+unfolding spelled
+header_spells database empty = ap (λ (entries : List (Entry ℕ)). header_bytes database ++ flat_map entry_bytes entries) empty ∙ append-nil (header_bytes database)
+
+-- ---- what the call answers
+
+-- a write after calls that may have slid chunks
+pub then_written : (old mid new : Memory) → mid ≡ record old { bytes = mid.bytes; slid = mid.slid } → new ≡ record mid { bytes = new.bytes } → new ≡ record old { bytes = new.bytes; slid = new.slid }
+then_written old mid new first second = refl

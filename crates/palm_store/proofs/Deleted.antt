@@ -1,0 +1,161 @@
+-- That a database is deleted is a step of the store, and so is that a locked chunk of it forbids that.
+use Rattle.std.proofs.Common.{◌≡◌, ◌≢◌, ℕ, ◌+◌, ◌*◌, ◌<◌, ◌≤◌, List, [], ◌∷◌, ◌++◌, length, Option, Some, None, refl, sym, ap, subst, ◌∙◌, arith, inl, inr}
+use Rattle.std.proofs.lemmas.Bool.{cases_eq, cases_lt}
+use Rattle.std.specs.Prelude.{◌==◌, if◌then◌else◌, IsSome, Any}
+use Rattle.std.specs.Option.{is_some}
+use Rattle.heap_model.specs.Memory.{Memory}
+use Rattle.heap_model.specs.Heap.{HeapAccepted, directory_of}
+use Rattle.heap_model.specs.Meaning.{LiveChunk}
+use Rattle.heap_model.specs.Reading.{held}
+use Rattle.heap_model.specs.Space.{Still}
+use Rattle.heap_model.specs.Maps.{gone, callers_map}
+use Rattle.heap_model.specs.Lists.{times}
+use Rattle.heap_model.specs.Leaving.{Leaves}
+use Rattle.heap_model.specs.Database.{Database, data_in}
+use Rattle.heap_model.specs.MemorySteps.{Of, IsLocked}
+use Rattle.heap_model.specs.Store.{StoredDatabase, owner_under, directory_bytes, database_under, Accepted, store_of}
+use Rattle.heap_model.specs.StoreWords.{OfDatabase, In, all_gone, with_number}
+use Rattle.heap_model.specs.StoreSteps.{DoesInStore}
+use Rattle.heap_model.specs.declared.names.Db.{Db}
+use Rattle.heap_model.specs.declared.refusal.Refusal.TheVariants.{ChunkLocked}
+use Rattle.heap_model.specs.declared.call.DatabaseCall.TheVariants.{Delete}
+use Rattle.heap_model.specs.declared.call.Call.TheVariants as calls
+use Rattle.heap_model.specs.declared.call.Reply.TheVariants as replies
+use Rattle.laws_heap.proofs.Meanings.{held-zero}
+use Rattle.laws_store.proofs.Listing.{times-cons, times-append}
+use Rattle.laws_store.proofs.Creating.{managers_loose}
+use Rattle.laws_store.proofs.Owners.{directory_owner}
+use Rattle.laws_store.proofs.Stepping.{drop_steps}
+use Rattle.palm_store.specs.Databases.{HasNumber, IsListedAt}
+use Rattle.palm_store.proofs.Numbers.{stands, has_number_is, in_store, length-listed, number_slot, number_held, no_directory}
+use Rattle.palm_store.specs.Databases.{named_under}
+use Rattle.palm_store.specs.Directory.{Unlists}
+use Rattle.palm_store.proofs.Maps.{kept, is_gone, owned}
+use Rattle.palm_store.proofs.ListedSlots.{few_bytes, lock_of}
+use Rattle.palm_store.proofs.NamedChunks.{no_chunk, number_unnamed, freed_one, freed_more}
+use Rattle.palm_store.proofs.Deletion.{went, directory_kept, index_inside, drops, clears}
+
+-- ---- the header goes too
+
+pub header_stays : (old mid : List ℕ) (db : ℕ) → Accepted old → HasNumber old db → Leaves old mid (all_gone (held old) (named_under old db)) → held mid db ≡ held old db
+header_stays old mid db a has l = kept old mid (named_under old db) db l (number_unnamed old db a has)
+
+pub header_left : (old mid : List ℕ) (db : ℕ) → Accepted old → HasNumber old db → Leaves old mid (all_gone (held old) (named_under old db)) → IsSome (held mid db)
+header_left old mid db a has l = subst (λ (o : Option LiveChunk). IsSome o) (sym (header_stays old mid db a has l)) (number_held old db a has)
+
+pub header_other : (old mid : List ℕ) (db : ℕ) → Accepted old → HasNumber old db → Leaves old mid (all_gone (held old) (named_under old db)) → db ≢ directory_of mid
+header_other old mid db a has l e = let slot = number_slot old db a has in slot.other (e ∙ l.frame.directory)
+
+freed_alike : (old new one other : List ℕ) → ((name : ℕ) → times name one ≡ times name other) → Leaves old new (all_gone (held old) one) → Leaves old new (all_gone (held old) other)
+freed_alike old new one other alike l = record { map = λ name. l.map name ∙ ap (λ (n : ℕ). if n == 0 then held old name else None) (alike name); frame = l.frame; still = l.still }
+
+pub all_freed : (old mid new : List ℕ) (db : ℕ) → Leaves old mid (all_gone (held old) (named_under old db)) → Leaves mid new (gone (held mid) db) → Leaves old new (all_gone (held old) (went (database_under old db)))
+all_freed old mid new db l m = freed_alike old new (named_under old db ++ db ∷ []) (went (database_under old db))
+    (λ name. (
+    let both = times-append name (named_under old db) (db ∷ []) in
+    let last = times-cons name db [] in
+    let first = times-cons name db (named_under old db) in
+    omega arith))
+    (freed_more old mid new (named_under old db) (db ∷ []) l (freed_one mid new db m))
+
+-- ---- the directory before the slot is taken out
+
+-- there is a directory
+directory_some : (image : List ℕ) (db index : ℕ) → Accepted image → IsListedAt image db index → 0 < directory_of image
+directory_some image db index a at = elim (cases_lt 0 (directory_of image)) [
+  | inl some ↦ some
+  | inr none ↦
+      let empty = ap length (no_directory image a.heap (omega arith)) in
+      let many = length-listed image in
+      let inside = at.inside in
+      absurd (omega arith)
+]
+
+-- the directory is still as it was
+pub record Listing (image : List ℕ) (index : ℕ) : Type 0 where
+  pub heap : HeapAccepted image
+  pub some : 0 < directory_of image
+  pub few : length (directory_bytes image) ≤ 4096
+  pub inside : 4 * index + 4 ≤ length (directory_bytes image)
+
+pub lists_still : (old mid : List ℕ) (db index : ℕ) → Accepted old → IsListedAt old db index → Leaves old mid (all_gone (held old) (went (database_under old db))) → Listing mid index
+lists_still old mid db index a at l =
+    let s = stands old db index at in
+    let bytes = ap length (directory_kept old mid index (database_under old db) a s l) in
+    let word = l.frame.directory in
+    let low = directory_some old db index a at in
+    let few = few_bytes old a in
+    let inside = index_inside old index s.inside in
+    record { heap = l.frame.accepted; some = omega (arith, word, low); few = omega (arith, bytes, few); inside = omega (arith, bytes, inside) }
+
+-- ---- what stays
+
+-- no locked chunk that is left has moved
+still_left : (old mid new names : List ℕ) (index : ℕ) → HeapAccepted old → Leaves old mid (all_gone (held old) names) → Unlists mid new index → Still old new
+still_left old mid new names index h l u name live e locked there = elim (cases_eq name (directory_of old)) [
+  | inl d ↦
+      let some : 0 < directory_of old = (let low = held_some old name live h e in omega arith) in
+      let o = owned old name 0 (ap (owner_under old) d ∙ directory_owner old h some) (omega arith) in
+      let loose = lock_of old name o.live live o.there (managers_loose old name o.live h o.there o.own) e in
+      absurd (omega arith)
+  | inr apart ↦
+      let stays : held new name ≡ held mid name = u.others name (λ f. apart (f ∙ l.frame.directory)) in
+      elim (cases_eq (times name names) 0) [
+        | inl out ↦
+            let is : held mid name ≡ Some live = kept old mid names name l out ∙ e in
+            u.still name live is locked there ∙ l.still name live e locked (ap is_some is)
+        | inr here ↦ absurd (no_chunk (held new name) (stays ∙ is_gone old mid names name l (omega arith)) there)
+      ]
+] where
+  held_some : (image : List ℕ) (name : ℕ) (live : LiveChunk) → HeapAccepted image → held image name ≡ Some live → 0 < name
+  held_some image name live h e = elim (cases_lt 0 name) [
+    | inl some ↦ some
+    | inr none ↦ (let zero_is : name ≡ 0 = omega arith in absurd (no_chunk (held image name) (ap (held image) zero_is ∙ held-zero image h) (ap is_some e)))
+  ]
+
+-- ---- the steps
+
+-- a chunk that the database names has a lock
+abbrev pub HasLocked : List ℕ → List ℕ → Type 0
+HasLocked image names = Any (λ name. Of (callers_map image name) IsLocked) names
+
+names_locked : (image : List ℕ) (db : Db) → HasNumber image db.0 → In (store_of image) db (λ database. HasLocked image (data_in database)) → HasLocked image (named_under image db.0)
+names_locked image db has locked = subst (λ (o : Option StoredDatabase). OfDatabase o (λ database. HasLocked image (data_in database))) (has_number_is image db.0 has) locked
+
+is_there : (image : List ℕ) (db : ℕ) → HasNumber image db → with_number (store_of image) db ≡ None → ⊥
+is_there image db has none = (let apart = sym (has_number_is image db has) ∙ none in absurd cc)
+
+pub deleted : (old mid new : Memory) (db : Db) (index : ℕ) → Accepted old.bytes → HasNumber old.bytes db.0 → IsListedAt old.bytes db.0 index → (HasLocked old.bytes (named_under old.bytes db.0) → ⊥)
+    → Leaves old.bytes mid.bytes (all_gone (held old.bytes) (went (database_under old.bytes db.0))) → Unlists mid.bytes new.bytes index → DoesInStore old (calls.Database (Delete db)) replies.Done new
+unfolding store_of
+deleted old mid new db index a has at free l u =
+    let one : StoredDatabase = database_under old.bytes db.0 in
+    let s = stands old.bytes db.0 index at in
+    let left = drop_steps old.bytes new.bytes db index one a refl (drops old.bytes mid.bytes new.bytes index one a s l u) (clears old.bytes mid.bytes new.bytes index one a s l u) in
+    record {
+      before = a;
+      step = ((is_there old.bytes db.0 has, ((λ locked. free (names_locked old.bytes db has locked)), tt)), (tt, left.same));
+      accepted = left.accepted;
+      len = u.len ∙ l.frame.len;
+      count = u.count ∙ l.frame.count;
+      directory = inl (u.directory ∙ l.frame.directory);
+      still = still_left old.bytes mid.bytes new.bytes (went one) index a.heap l u;
+      asks = tt;
+      rest = refl;
+    }
+
+pub not_deleted : (old : Memory) (db : Db) → Accepted old.bytes → HasNumber old.bytes db.0 → HasLocked old.bytes (named_under old.bytes db.0) → DoesInStore old (calls.Database (Delete db)) (replies.Refused ChunkLocked) old
+unfolding store_of
+not_deleted old db a has locked =
+    let named : In (store_of old.bytes) db (λ database. HasLocked old.bytes (data_in database)) = in_store old.bytes db (λ (database : Database ℕ). HasLocked old.bytes (data_in database)) has locked in
+    record {
+      before = a;
+      step = (inr (is_there old.bytes db.0 has, inl (named, refl)), record { store = record { map = λ name. refl; databases = refl }; free = refl; slots = refl });
+      accepted = a;
+      len = refl;
+      count = refl;
+      directory = inl refl;
+      still = λ name live e locked there. refl;
+      asks = tt;
+      rest = refl;
+    }

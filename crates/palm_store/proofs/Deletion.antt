@@ -1,0 +1,169 @@
+-- A database that was deleted: its header and what it named are gone, and its slot is listed no longer.
+use Rattle.std.proofs.Common.{◌≡◌, ◌≢◌, ℕ, ◌+◌, ◌*◌, ◌<◌, ◌≤◌, Bool, true, false, List, ◌∷◌, ◌++◌, length, take, drop, None, refl, sym, ap, ◌∙◌, arith, length-append, length-take, length-drop, inl, inr}
+use Rattle.std.proofs.lemmas.Bool.{cases_eq}
+use Rattle.std.specs.Prelude.{◌==◌, if◌then◌else◌}
+use Rattle.heap_model.specs.Heap.{directory_of}
+use Rattle.heap_model.specs.Reading.{held}
+use Rattle.heap_model.specs.Lists.{same, times, u32s_in}
+use Rattle.heap_model.specs.Leaving.{Leaves}
+use Rattle.heap_model.specs.Database.{data_in}
+use Rattle.heap_model.specs.Store.{StoredDatabase, owner_under, directory_bytes, listed, databases, Accepted}
+use Rattle.heap_model.specs.StoreWords.{all_gone}
+use Rattle.laws_heap.proofs.Meanings.{held-zero}
+use Rattle.laws_store.specs.Changes.{Drops, Clears}
+use Rattle.laws_store.proofs.Listing.{same-yes, same-no, times-cons}
+use Rattle.laws_store.proofs.Naming.{named-remove}
+use Rattle.laws_store.proofs.Owners.{directory_owner, owned_some}
+use Rattle.laws_store.proofs.Counting.{has_databases, same-is, header_slots, length-numbers}
+use Rattle.laws_store.proofs.Rewriting.{number_at}
+use Rattle.laws_store.proofs.Keeping.{directory_like}
+use Rattle.laws_store.proofs.Deleting.{u32s_remove}
+use Rattle.palm_store.proofs.Numbers.{Stands, length-listed, length-databases}
+use Rattle.palm_store.specs.Directory.{Unlists}
+use Rattle.palm_store.proofs.Maps.{kept, is_gone, owner_none, owner_alike}
+
+-- ---- what a database names, by the owners
+
+-- it names chunks for data alone, each once at most
+pub named_most : (image : List ℕ) (index : ℕ) (one : StoredDatabase) → Accepted image → Stands image index one → (name : ℕ) → 0 < name → times name (data_in one.database) ≤ same (owner_under image name) 15
+named_most image index one a s name some =
+    let once = (has_databases image a).named_once name some in
+    let out = named-remove name (databases image) index one s.inside in
+    let mine = ap (λ (x : StoredDatabase). times name (data_in x.database)) (s.is one) in
+    omega arith
+
+pub header_owner : (image : List ℕ) (index : ℕ) (one : StoredDatabase) → Accepted image → Stands image index one → (owner_under image one.db ≡ 0) × (one.db ≢ directory_of image) × (0 < one.db)
+header_owner image index one a s =
+    let count = length-numbers (databases image) in
+    let inside = s.inside in
+    let header = header_slots image (databases image) (has_databases image a) index 0 (omega arith) in
+    let number = number_at (databases image) index one s.inside ∙ ap (λ (x : StoredDatabase). x.db) (s.is one) in
+    let own : owner_under image one.db ≡ 0 = ap (owner_under image) (sym number) ∙ header.owner in
+    (own, λ e. header.other (number ∙ e), owned_some image one.db 0 a.heap own (omega arith))
+
+-- ---- what is left of the store
+
+-- all that went: the header and what it named
+abbrev pub went : StoredDatabase → List ℕ
+went one = one.db ∷ data_in one.database
+
+went_times : (name : ℕ) (one : StoredDatabase) → times name (went one) ≡ same one.db name + times name (data_in one.database)
+went_times name one = times-cons name one.db (data_in one.database)
+
+-- a name of the manager's that is not the database's is left
+managers_left : (image : List ℕ) (index : ℕ) (one : StoredDatabase) → Accepted image → Stands image index one → (name : ℕ) → name ≢ one.db → owner_under image name ≡ 0 → times name (went one) ≡ 0
+managers_left image index one a s name other own =
+    let some = owned_some image name 0 a.heap own (omega arith) in
+    let most = named_most image index one a s name some in
+    let none = same-no (owner_under image name) 15 (λ e. omega arith) in
+    let no = same-no one.db name (λ e. other (sym e)) in
+    let all = went_times name one in
+    omega arith
+
+-- how each name counts in the image afterwards
+record Counts (old new : List ℕ) (one : StoredDatabase) (name : ℕ) : Type 0 where
+  managers : same name one.db + same (owner_under new name) 0 ≡ same (owner_under old name) 0
+  «data» : times name (data_in one.database) + same (owner_under new name) 15 ≡ same (owner_under old name) 15
+
+counts : (old mid new : List ℕ) (index : ℕ) (one : StoredDatabase) → Accepted old → Stands old index one → Leaves old mid (all_gone (held old) (went one)) → Unlists mid new index → (name : ℕ) → 0 < name → Counts old new one name
+counts old mid new index one a s l u name some =
+    let h = header_owner old index one a s in
+    let word : directory_of mid ≡ directory_of old = l.frame.directory in
+    let most = named_most old index one a s name some in
+    let all = went_times name one in
+    elim (cases_eq name one.db) [
+      | inl e ↦
+          let here = same-yes name one.db e in
+          let here_too = same-yes one.db name (sym e) in
+          let own : owner_under old name ≡ 0 = ap (owner_under old) e ∙ h.0 in
+          let was = same-yes (owner_under old name) 0 own in
+          let was_no = same-no (owner_under old name) 15 (λ z. omega arith) in
+          let gone : owner_under new name ≡ 16 = owner_none new name (u.others name (λ f. h.1 (sym e ∙ f ∙ word)) ∙ is_gone old mid (went one) name l (omega arith)) in
+          let now = same-no (owner_under new name) 0 (λ z. omega arith) in
+          let now_no = same-no (owner_under new name) 15 (λ z. omega arith) in
+          record { managers = omega arith; «data» = omega arith }
+      | inr other ↦
+          let apart = same-no name one.db other in
+          let apart_too = same-no one.db name (λ f. other (sym f)) in
+          elim (cases_eq name (directory_of old)) [
+            | inl d ↦
+                let own : owner_under old name ≡ 0 = ap (owner_under old) d ∙ directory_owner old a.heap (omega arith) in
+                let same_word : name ≡ directory_of new = d ∙ sym (u.directory ∙ word) in
+                let own_now : owner_under new name ≡ 0 = ap (owner_under new) same_word ∙ directory_owner new u.accepted (omega arith) in
+                let was = same-yes (owner_under old name) 0 own in
+                let was_no = same-no (owner_under old name) 15 (λ z. omega arith) in
+                let now = same-yes (owner_under new name) 0 own_now in
+                let now_no = same-no (owner_under new name) 15 (λ z. omega arith) in
+                record { managers = omega arith; «data» = omega arith }
+            | inr apart_directory ↦
+                let stays : held new name ≡ held mid name = u.others name (λ f. apart_directory (f ∙ word)) in
+                elim (cases_eq (times name (data_in one.database)) 0) [
+                  | inl none ↦
+                      let owner : owner_under new name ≡ owner_under old name = owner_alike old new name (stays ∙ kept old mid (went one) name l (omega arith)) in
+                      let managers = ap (λ (o : ℕ). same o 0) owner in
+                      let «data» = ap (λ (o : ℕ). same o 15) owner in
+                      record { managers = omega (arith, managers, apart); «data» = omega (arith, «data», none) }
+                  | inr named ↦
+                      let gone : owner_under new name ≡ 16 = owner_none new name (stays ∙ is_gone old mid (went one) name l (omega arith)) in
+                      let now = same-no (owner_under new name) 0 (λ z. omega arith) in
+                      let now_no = same-no (owner_under new name) 15 (λ z. omega arith) in
+                      let data_is : owner_under old name ≡ 15 = same-is (owner_under old name) 15 (omega arith) in
+                      let yes = same-yes (owner_under old name) 15 data_is in
+                      let was = same-no (owner_under old name) 0 (λ z. omega arith) in
+                      record { managers = omega arith; «data» = omega arith }
+                ]
+          ]
+    ]
+
+-- the directory's bytes are as they were
+pub directory_kept : (old mid : List ℕ) (index : ℕ) (one : StoredDatabase) → Accepted old → Stands old index one → Leaves old mid (all_gone (held old) (went one)) → directory_bytes mid ≡ directory_bytes old
+directory_kept old mid index one a s l = directory_like old mid a.heap l.frame.accepted l.frame.directory
+    (λ some. kept old mid (went one) (directory_of old) l (managers_left old index one a s (directory_of old) (λ e. (header_owner old index one a s).1 (sym e)) (directory_owner old a.heap some)))
+
+-- the directory has the index
+pub index_inside : (image : List ℕ) (index : ℕ) → index < length (databases image) → 4 * index + 4 ≤ length (directory_bytes image)
+index_inside image index inside = let many = length-listed image in let all = length-databases image in omega arith
+
+pub drops : (old mid new : List ℕ) (index : ℕ) (one : StoredDatabase) → Accepted old → Stands old index one → Leaves old mid (all_gone (held old) (went one)) → Unlists mid new index → Drops old new (databases old) index one
+unfolding listed
+drops old mid new index one a s l u =
+    let word : directory_of mid ≡ directory_of old = l.frame.directory in
+    let same_bytes = directory_kept old mid index one a s l in
+    let within = index_inside old index s.inside in
+    let left : directory_bytes new ≡ take (4 * index) (directory_bytes old) ++ drop (4 * index + 4) (directory_bytes old) = u.left ∙ ap (λ (xs : List ℕ). take (4 * index) xs ++ drop (4 * index + 4) xs) same_bytes in
+    let long = ap length left ∙ length-append (take (4 * index) (directory_bytes old)) (drop (4 * index + 4) (directory_bytes old)) in
+    let front = length-take (4 * index) (directory_bytes old) in
+    let back = length-drop (4 * index + 4) (directory_bytes old) in
+    let whole = a.whole in
+    record {
+      heap = u.accepted;
+      directory = u.directory ∙ word;
+      whole = omega (arith, long, front, back, whole, within);
+      listed_are = ap u32s_in left ∙ u32s_remove (directory_bytes old) index within;
+      inside = s.inside;
+      is = sym (s.is one);
+      managers = λ name apart other own. u.others name (λ e. apart (e ∙ word)) ∙ kept old mid (went one) name l (managers_left old index one a s name other own);
+      owners = λ name some. (counts old mid new index one a s l u name some).managers;
+      balance = λ name some. (counts old mid new index one a s l u name some).«data»;
+    }
+
+-- and all that it named is gone
+pub clears : (old mid new : List ℕ) (index : ℕ) (one : StoredDatabase) → Accepted old → Stands old index one → Leaves old mid (all_gone (held old) (went one)) → Unlists mid new index → Clears old new one
+clears old mid new index one a s l u =
+    let h = header_owner old index one a s in
+    let word : directory_of mid ≡ directory_of old = l.frame.directory in
+    record {
+      header = u.others one.db (λ e. h.1 (e ∙ word)) ∙ is_gone old mid (went one) one.db l (let all = went_times one.db one in let yes = same-yes one.db one.db refl in omega arith);
+      others = λ name own. elim (cases_eq name 0) [
+        | inl z ↦ ap (held new) z ∙ held-zero new u.accepted ∙ sym (ap (all_gone (held old) (data_in one.database)) z ∙ gone_zero (times 0 (data_in one.database) == 0))
+        | inr some ↦
+            let apart : name ≢ directory_of mid = λ e. own (ap (owner_under old) (e ∙ word) ∙ directory_owner old a.heap (let here : name ≡ directory_of old = e ∙ word in omega arith)) in
+            let other : one.db ≢ name = λ e. own (ap (owner_under old) (sym e) ∙ h.0) in
+            let no = same-no one.db name other in
+            let all : times name (went one) ≡ times name (data_in one.database) = (let both = went_times name one in omega arith) in
+            u.others name apart ∙ l.map name ∙ ap (λ (n : ℕ). if n == 0 then held old name else None) all
+      ];
+    } where
+      gone_zero : (none : Bool) → (if none then held old 0 else None) ≡ None
+      gone_zero true = held-zero old a.heap
+      gone_zero false = refl

@@ -1,0 +1,88 @@
+-- The entries of the database of a number, as its header spells them.
+use Rattle.std.proofs.Common.{◌≡◌, ℕ, ◌+◌, ◌<◌, ◌≤◌, ◌^◌, Bool, false, List, length, Option, Some, refl, sym, ap, subst, ◌∙◌, arith}
+use Rattle.std.proofs.lemmas.List.FromFn.{length-map-range_with_len, get_or-map-range_with_len}
+use Rattle.std.proofs.lemmas.Option.{slice_get-get_or}
+use Rattle.std.specs.Prelude.{slice_get}
+use Rattle.heap_model.specs.Bytes.{u16_at}
+use Rattle.heap_model.specs.DatabaseFields.{header_size, attributes_at}
+use Rattle.heap_model.specs.Database.{Entry, Database, database_in, header_in, entry_in, entry_count_in, resources_in, entry_offset, has_resources, EntryFits}
+use Rattle.heap_model.specs.Store.{bytes_under, Accepted, store_of}
+use Rattle.heap_model.specs.StoreWords.{In}
+use Rattle.heap_model.specs.Leaving.{database_here}
+use Rattle.heap_model.specs.EntrySteps.{entries_in, OfEntry, resources_under}
+use Rattle.heap_model.specs.declared.names.Db.{Db}
+use Rattle.laws_store.proofs.Shapes.{offset_below}
+use Rattle.laws_store.proofs.Numbered.{in_store, number_spelled, entries_here, kind_here, entry_fits, accepted_sound}
+use Rattle.palm_store.specs.Databases.{HasNumber}
+use Rattle.palm_store.proofs.Numbers.{number_shape}
+
+attributes_read : (body : List ℕ) → (database_in body).header.attributes ≡ u16_at body attributes_at
+unfolding database_in header_in
+attributes_read body = refl
+
+pub attributes_in_store : (image body : List ℕ) (db : Db) (attributes : ℕ) → HasNumber image db.0 → body ≡ bytes_under image db.0 → attributes ≡ u16_at body attributes_at → In (store_of image) db (λ database. database.header.attributes ≡ attributes)
+attributes_in_store image body db attributes has body_is is =
+    in_store image db (λ (database : Database ℕ). database.header.attributes ≡ attributes) has
+    (attributes_read (bytes_under image db.0) ∙ ap (λ (xs : List ℕ). u16_at xs attributes_at) (sym body_is) ∙ sym is)
+
+length-read : (body : List ℕ) → length (database_in body).entries ≡ entry_count_in body
+unfolding database_in
+length-read body = length-map-range_with_len (entry_in body) 0 (entry_count_in body)
+
+pub entry_read : (body : List ℕ) (index : ℕ) → index < entry_count_in body → slice_get (database_in body).entries index ≡ Some (entry_in body index)
+unfolding database_in
+entry_read body index below =
+    let long = length-map-range_with_len (entry_in body) 0 (entry_count_in body) in
+    slice_get-get_or (database_in body).entries index (entry_in body index) (omega arith)
+    ∙ ap (λ (entry : Entry ℕ). Some entry) (get_or-map-range_with_len (entry_in body) 0 (entry_count_in body) index index (entry_in body index) below (omega arith))
+
+pub count_here : (image body : List ℕ) (db : Db) → HasNumber image db.0 → body ≡ bytes_under image db.0 → length (entries_in (store_of image) db) ≡ entry_count_in body
+count_here image body db has body_is = ap length (entries_here image db has) ∙ length-read (bytes_under image db.0) ∙ ap entry_count_in (sym body_is)
+
+-- there are fewer than 65,536
+pub count_fits : (image : List ℕ) (db : Db) → Accepted image → HasNumber image db.0 → length (entries_in (store_of image) db) < 2 ^ 16
+count_fits image db a has =
+    let spelled = number_spelled image db.0 a has in
+    let few = spelled.fits.entry_count in
+    let same = ap length (entries_here image db has) in
+    omega arith
+
+pub header_inside : (image body : List ℕ) (db : Db) → Accepted image → HasNumber image db.0 → body ≡ bytes_under image db.0 → header_size ≤ length body
+header_inside image body db a has body_is = (let shape = number_shape image db.0 a has in subst (λ (xs : List ℕ). header_size ≤ length xs) (sym body_is) shape.header)
+
+pub entry_inside : (image body : List ℕ) (db : Db) (index : ℕ) → Accepted image → HasNumber image db.0 → body ≡ bytes_under image db.0 → index < length (entries_in (store_of image) db) → entry_offset (resources_in body) (index + 1) ≤ length body
+entry_inside image body db index a has body_is below =
+    let count = count_here image body db has body_is in
+    let ends : length body ≡ entry_offset (resources_in body) (entry_count_in body) = (let shape = number_shape image db.0 a has in subst (λ (xs : List ℕ). length xs ≡ entry_offset (resources_in xs) (entry_count_in xs)) (sym body_is) shape.ends) in
+    let least = offset_below (resources_in body) index (entry_count_in body) (omega (arith, count, below)) in
+    omega (arith, ends, least)
+
+-- what is read at an index is the entry there
+pub read_is : (image body : List ℕ) (db : Db) (index : ℕ) (entry : Entry ℕ) → HasNumber image db.0 → body ≡ bytes_under image db.0 → index < length (entries_in (store_of image) db) → entry ≡ entry_in body index → slice_get (database_here image db.0).entries index ≡ Some entry
+read_is image body db index entry has body_is below is =
+    let count = count_here image body db has body_is in
+    ap (λ (xs : List ℕ). slice_get (database_in xs).entries index) (sym body_is) ∙ entry_read body index (omega (arith, count, below)) ∙ ap (λ (e : Entry ℕ). Some e) (sym is)
+
+pub kind_is : (image body : List ℕ) (db : Db) (kind : Bool) → body ≡ bytes_under image db.0 → kind ≡ resources_in body → kind ≡ has_resources (database_here image db.0).header.attributes
+kind_is image body db kind body_is is = is ∙ ap resources_in body_is ∙ ap has_resources (sym (attributes_read (bytes_under image db.0)))
+
+-- an entry that stands there fits
+pub fits_at : (image : List ℕ) (db : Db) (index : ℕ) (entry : Entry ℕ) (kind : Bool) → Accepted image → HasNumber image db.0 → slice_get (database_here image db.0).entries index ≡ Some entry → kind ≡ has_resources (database_here image db.0).header.attributes → EntryFits kind entry
+fits_at image db index entry kind a has at is = subst (λ (resources : Bool). EntryFits resources entry) (sym is) (entry_fits (database_here image db.0) index entry (accepted_sound image db.0 a has) at)
+
+pub of_entry : (o : Option (Entry ℕ)) (entry : Entry ℕ) (P : Entry ℕ → Type 0) → o ≡ Some entry → P entry → OfEntry o P
+of_entry o entry P is p = subst (λ (x : Option (Entry ℕ)). OfEntry x P) (sym is) p
+
+-- an entry that is equal to one that fits does too
+pub fits_here : (change : Entry ℕ) (after : Entry ℕ) (kind resources : Bool) → kind ≡ resources → after ≡ change → EntryFits kind after → EntryFits resources change
+fits_here change after kind resources same is fits = subst (λ (r : Bool). EntryFits r change) same (subst (λ (e : Entry ℕ). EntryFits kind e) is fits)
+
+-- an index that is inside
+pub index_below : (image : List ℕ) (db : Db) (index : ℕ) → HasNumber image db.0 → index < length (entries_in (store_of image) db) → index < length (database_here image db.0).entries
+index_below image db index has below = subst (λ (entries : List (Entry ℕ)). index < length entries) (entries_here image db has) below
+
+pub index_most : (image : List ℕ) (db : Db) (index : ℕ) → HasNumber image db.0 → index ≤ length (entries_in (store_of image) db) → index ≤ length (database_here image db.0).entries
+index_most image db index has most = subst (λ (entries : List (Entry ℕ)). index ≤ length entries) (entries_here image db has) most
+
+pub records_here : (image body : List ℕ) (db : Db) → HasNumber image db.0 → body ≡ bytes_under image db.0 → resources_under (store_of image) db ≡ false → resources_in body ≡ false
+records_here image body db has body_is records = ap resources_in body_is ∙ ap has_resources (sym (attributes_read (bytes_under image db.0))) ∙ sym (kind_here image db has) ∙ records

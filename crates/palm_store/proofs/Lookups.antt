@@ -1,0 +1,154 @@
+-- Calls that ask of the databases of a store. They leave the region as it is, so of each its refusals and
+-- its answer are left to show.
+use Rattle.std.proofs.Common.{◌≡◌, ◌≢◌, ℕ, ◌<◌, ◌≤◌, List, length, map, get_or, take, Bool, Option, Some, None, Result, refl, sym, ap, subst, ◌∙◌, arith, inl}
+use Rattle.std.proofs.lemmas.List.{take_all}
+use Rattle.std.proofs.lemmas.List.Elements.{All-map}
+use Rattle.std.proofs.lemmas.Grind.{get_or_default_zero}
+use Rattle.std.proofs.lemmas.Option.{slice_get-get_or}
+use Rattle.std.specs.Prelude.{◌↔◌, All, slice_get, IsTrue, IfSome, IfNone}
+use Rattle.std.specs.Option.{is_some, ok_or}
+use Rattle.heap_model.specs.Memory.{Memory}
+use Rattle.heap_model.specs.Database.{DatabaseHeader, Database, header_in, database_in}
+use Rattle.heap_model.specs.Store.{StoredDatabase, bytes_under, listed, database_under, databases, numbers_of, names_of, Accepted, store_of}
+use Rattle.heap_model.specs.DatabaseSteps.{IsTaken, info_of}
+use Rattle.heap_model.specs.MemorySteps.{reply_of}
+use Rattle.heap_model.specs.StoreSteps.{DoesInStore}
+use Rattle.heap_model.specs.declared.names.Db.{Db}
+use Rattle.heap_model.specs.declared.database.DbInfo.{DbInfo}
+use Rattle.heap_model.specs.declared.call.DatabaseCall.TheVariants.{Find, Nth, Count, Info}
+use Rattle.heap_model.specs.declared.call.Call.TheVariants as calls
+use Rattle.heap_model.specs.declared.call.Reply.TheVariants as replies
+use Rattle.heap_model.specs.declared.refusal.Refusal.{Refusal}
+use Rattle.heap_model.specs.declared.refusal.Refusal.TheVariants.{NoSuchDatabase}
+use Rattle.laws_store.proofs.Listing.{all-times, map-All}
+use Rattle.laws_store.proofs.Counting.{listed_numbers}
+use Rattle.laws_store.proofs.Doing.{asks, same_store, refused}
+use Rattle.db_format.specs.declared.header.DbHeader.{DbHeader}
+use Rattle.db_format.specs.Headers.{header_of, HasHeader}
+use Rattle.palm_store.specs.Databases.{HasNumber, HasOtherName, name_under}
+use Rattle.laws_store.proofs.Numbered.{number_some}
+use Rattle.palm_store.proofs.Numbers.{number_listed, has_number_is, in_store, length-databases, database_at, listed_at, number_of_slot}
+
+-- ---- by name
+
+name_read : (image : List ℕ) (slot : ℕ) → (database_under image slot).database.header.name ≡ name_under image slot
+unfolding database_in header_in
+name_read image slot = refl
+
+-- no database has a name where no header that is listed has it
+pub all_other_names : (image name : List ℕ) → ((k : ℕ) → k < length (listed image) → name_under image (get_or (listed image) k 0) ≢ name) → All (λ other. other ≢ name) (names_of (databases image))
+unfolding databases
+all_other_names image name none =
+    let under : All (λ slot. (database_under image slot).database.header.name ≢ name) (listed image) = λ k d below e.
+    none k below (ap (name_under image) (sym (get_or_default_zero (listed image) k d below)) ∙ sym (name_read image (get_or (listed image) k d)) ∙ e) in
+    All-map (λ other. other ≢ name) (λ (one : StoredDatabase). one.database.header.name) (map (database_under image) (listed image))
+    (All-map (λ (one : StoredDatabase). one.database.header.name ≢ name) (database_under image) (listed image) under)
+
+-- a number's name is one of them
+pub name_there : (image name : List ℕ) (db : ℕ) → HasNumber image db → name_under image db ≡ name → All (λ other. other ≢ name) (names_of (databases image)) → ⊥
+unfolding databases
+name_there image name db has e all =
+    let under = map-All (λ (one : StoredDatabase). one.database.header.name ≢ name) (database_under image) (listed image)
+    (map-All (λ other. other ≢ name) (λ (one : StoredDatabase). one.database.header.name) (map (database_under image) (listed image)) all) in
+    all-times (λ slot. (database_under image slot).database.header.name ≢ name) (listed image) under db (number_listed image db has) (name_read image db ∙ e)
+
+pub found : (region : Memory) (name : List ℕ) (db : Db) → Accepted region.bytes → HasNumber region.bytes db.0 → name_under region.bytes db.0 ≡ name → DoesInStore region (calls.Database (Find name)) (replies.Database db) region
+unfolding store_of
+found region name db a has e =
+    asks region (calls.Database (Find name)) (replies.Database db) a
+    ((name_there region.bytes name db.0 has e, tt), (in_store region.bytes db (λ (database : Database ℕ). database.header.name ≡ name) has (name_read region.bytes db.0 ∙ e), same_store region))
+
+-- ---- names that are taken
+
+pub taken_at : (image name : List ℕ) (db index : ℕ) → index < length (listed image) → get_or (listed image) index 0 ≢ db → name_under image (get_or (listed image) index 0) ≡ name → IsTaken (store_of image) db name
+unfolding store_of
+taken_at image name db index below other e =
+    let many = length-databases image in
+    let slot : ℕ = get_or (listed image) index 0 in
+    (index, database_under image slot, omega arith, database_at image index (database_under image slot) below, (other, name_read image slot ∙ e))
+
+pub not_taken : (image name : List ℕ) (db : ℕ) → ((k : ℕ) → k < length (listed image) → get_or (listed image) k 0 ≢ db → name_under image (get_or (listed image) k 0) ≡ name → ⊥) → IsTaken (store_of image) db name → ⊥
+unfolding store_of
+not_taken image name db none is =
+    let many = length-databases image in
+    let index : ℕ = is.0 in
+    let one : StoredDatabase = is.1 in
+    let inside = is.2 in
+    let below : index < length (listed image) = omega arith in
+    let same : database_under image (get_or (listed image) index 0) ≡ one = sym (database_at image index one below) ∙ is.3 in
+    none index below (λ e. is.4.0 (ap (λ (stored : StoredDatabase). stored.db) (sym same) ∙ e))
+    (sym (name_read image (get_or (listed image) index 0)) ∙ ap (λ (stored : StoredDatabase). stored.database.header.name) same ∙ is.4.1)
+
+-- a name of another database is taken
+pub taken_by : (image name : List ℕ) (db other : ℕ) → HasOtherName image db name other → IsTaken (store_of image) db name
+taken_by image name db other has =
+    let at = listed_at image other has.number in
+    taken_at image name db at.0 at.1.inside (λ e. has.apart (sym at.1.there ∙ e)) (ap (name_under image) at.1.there ∙ has.named)
+
+pub other_taken : (image name : List ℕ) (db : ℕ) (found : Option Db) (is : Bool) → IfSome found (λ other. HasOtherName image db name other.0) → IfNone found (IsTaken (store_of image) db name → ⊥) → is ≡ is_some found → IsTrue is ↔ IsTaken (store_of image) db name
+other_taken image name db (Some other) is has none e = (λ yes. taken_by image name db other.0 has, λ taken. e)
+other_taken image name db None is has none e = (λ yes. absurd cc, λ taken. absurd (none taken))
+
+-- where no name of a number is this one, no database has it
+pub not_found : (region : Memory) (name : List ℕ) → Accepted region.bytes → (IsTaken (store_of region.bytes) 0 name → ⊥) → DoesInStore region (calls.Database (Find name)) (replies.Refused NoSuchDatabase) region
+unfolding store_of
+not_found region name a free =
+    let none : (k : ℕ) → k < length (listed region.bytes) → name_under region.bytes (get_or (listed region.bytes) k 0) ≢ name = λ k below e.
+    free (taken_at region.bytes name 0 k below (λ zero. (let some = number_some region.bytes (get_or (listed region.bytes) k 0) a (number_of_slot region.bytes k below) in omega arith)) e) in
+    refused region (calls.Database (Find name)) NoSuchDatabase a (inl (all_other_names region.bytes name none, refl))
+
+-- what is found by a name, or that nothing is
+pub answered : (region : Memory) (name given : List ℕ) (named : Option Db) (result : Result Db Refusal) → Accepted region.bytes → given ≡ name → IfSome named (λ db. HasOtherName region.bytes 0 given db.0) → IfNone named (IsTaken (store_of region.bytes) 0 given → ⊥)
+    → result ≡ ok_or named NoSuchDatabase → DoesInStore region (calls.Database (Find name)) (reply_of (λ db. replies.Database db) result) region
+answered region name given (Some db) result a same has none e =
+    subst (λ (r : Result Db Refusal). DoesInStore region (calls.Database (Find name)) (reply_of (λ db. replies.Database db) r) region) (sym e) (found region name db a has.number (has.named ∙ same))
+answered region name given None result a same has none e =
+    subst (λ (r : Result Db Refusal). DoesInStore region (calls.Database (Find name)) (reply_of (λ db. replies.Database db) r) region) (sym e)
+    (not_found region name a (subst (λ (n : List ℕ). IsTaken (store_of region.bytes) 0 n → ⊥) same none))
+
+-- ---- by index
+
+pub at_index : (region : Memory) (index : ℕ) (db : Db) → Accepted region.bytes → index < length (listed region.bytes) → db.0 ≡ get_or (listed region.bytes) index 0 → DoesInStore region (calls.Database (Nth index)) (replies.Database db) region
+unfolding store_of
+at_index region index db a below is =
+    let many = length-databases region.bytes in
+    let there : slice_get (numbers_of (databases region.bytes)) index ≡ Some db.0 =
+    ap (λ (slots : List ℕ). slice_get slots index) (sym (listed_numbers region.bytes)) ∙ slice_get-get_or (listed region.bytes) index 0 below ∙ ap (λ (slot : ℕ). Some slot) (sym is) in
+    asks region (calls.Database (Nth index)) (replies.Database db) a ((λ behind. omega arith, tt), (there, same_store region))
+
+pub no_index : (region : Memory) (index : ℕ) → Accepted region.bytes → length (listed region.bytes) ≤ index → DoesInStore region (calls.Database (Nth index)) (replies.Refused NoSuchDatabase) region
+unfolding store_of
+no_index region index a behind = let many = length-databases region.bytes in refused region (calls.Database (Nth index)) NoSuchDatabase a (inl (omega arith, refl))
+
+pub counted : (region : Memory) (count : ℕ) → Accepted region.bytes → count ≡ length (listed region.bytes) → DoesInStore region (calls.Database Count) (replies.Number count) region
+unfolding store_of
+counted region count a is = let many = length-databases region.bytes in asks region (calls.Database Count) (replies.Number count) a (tt, (omega arith, same_store region))
+
+-- ---- by number
+
+-- what is told of a header, and of how many entries
+abbrev pub info_with : DatabaseHeader → ℕ → DbInfo
+info_with header entries = record {
+  name = header.name;
+  attributes = header.attributes;
+  version = header.version;
+  creation_date = header.creation_date;
+  modification_date = header.modification_date;
+  backup_date = header.backup_date;
+  modification_number = header.modification_number;
+  kind = header.kind;
+  creator = header.creator;
+  seed = header.seed;
+  entry_count = entries;
+}
+
+pub info_read : (database : Database ℕ) (header : DbHeader) (name : List ℕ) → HasHeader database header → name ≡ take 32 header.name → length header.name < 32 → info_with (record (header_of header) { name = name }) header.entry_count ≡ info_of database
+info_read database header name has front room =
+    let all : name ≡ header.name = front ∙ take_all 32 header.name (omega arith) in
+    ap (λ (n : List ℕ). info_with (record (header_of header) { name = n }) header.entry_count) all
+    ∙ ap (λ (h : DatabaseHeader). info_with h header.entry_count) has.values ∙ ap (info_with database.header) has.entry_count
+
+pub told : (region : Memory) (db : Db) (info : DbInfo) → Accepted region.bytes → HasNumber region.bytes db.0 → info ≡ info_of (database_in (bytes_under region.bytes db.0)) → DoesInStore region (calls.Database (Info db)) (replies.Info info) region
+told region db info a has is =
+    let found = has_number_is region.bytes db.0 has in
+    asks region (calls.Database (Info db)) (replies.Info info) a ((λ none. (let apart = sym found ∙ none in absurd cc), tt), (in_store region.bytes db (λ (database : Database ℕ). info ≡ info_of database) has is, same_store region))

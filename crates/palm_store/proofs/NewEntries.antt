@@ -1,0 +1,199 @@
+-- A new entry that came to a database with a chunk for its data, or found no room.
+use Rattle.std.proofs.Common.{◌≡◌, ◌≢◌, ℕ, ◌+◌, ◌<◌, ◌≤◌, Bool, List, [], ◌∷◌, length, replicate, Option, Some, None, refl, sym, ap, subst, ◌∙◌, arith, rules, inl, inr}
+use Rattle.std.proofs.lemmas.Bool.{cases_eq}
+use Rattle.std.specs.Prelude.{◌⊎◌, IsSome}
+use Rattle.heap_model.specs.Memory.{Memory}
+use Rattle.heap_model.specs.Chunk.{need}
+use Rattle.heap_model.specs.Heap.{HeapAccepted, directory_of}
+use Rattle.heap_model.specs.Meaning.{LiveChunk}
+use Rattle.heap_model.specs.Reading.{held}
+use Rattle.heap_model.specs.Maps.{gone, made}
+use Rattle.heap_model.specs.Space.{free_slots, rooms, ShortFor}
+use Rattle.heap_model.specs.Rooms.{Lowers, making, growth, Stuck}
+use Rattle.heap_model.specs.DatabaseFields.{entry_size}
+use Rattle.heap_model.specs.Database.{Entry, a_record, a_resource, entry_data, entry_with, Database, database_in, spelled, has_resources, EntryFits, IsSpelled}
+use Rattle.heap_model.specs.Store.{data_owner, owner_of, bytes_under, owner_under, unique_ids, Accepted, store_of}
+use Rattle.heap_model.specs.UniqueIds.{IsFresh, seed_in}
+use Rattle.heap_model.specs.Counts.{NamesData}
+use Rattle.heap_model.specs.Leaving.{Leaves, Respells, rewritten, SpellsHere, database_here}
+use Rattle.heap_model.specs.EntrySteps.{entries_in, resources_under, with_entry_at, entry_made, LeavesStore}
+use Rattle.heap_model.specs.StoreSteps.{StoreAsBefore}
+use Rattle.heap_model.specs.declared.names.Db.{Db}
+use Rattle.laws_heap.proofs.Holding.{as_before}
+use Rattle.mem_manager.specs.Lookup.{MakesNew}
+use Rattle.laws_store.specs.Entries.{HasNewId}
+use Rattle.laws_store.proofs.Creating.{managers_loose}
+use Rattle.laws_store.proofs.Entries.{fresh_new}
+use Rattle.laws_store.proofs.Edited.{here as updated_here, apart as updated_apart}
+use Rattle.laws_store.proofs.Editing.{make_steps, same_steps}
+use Rattle.laws_store.proofs.Numbered.{in_here, in_store, entries_here, kind_here}
+use Rattle.laws_store.proofs.Owners.{owned_some, directory_owner}
+use Rattle.laws_store.proofs.Parts.{made_then_short}
+use Rattle.palm_store.specs.Databases.{HasNumber}
+use Rattle.palm_store.specs.declared.entries.infos.NewEntry.{NewEntry}
+use Rattle.palm_store.specs.declared.entries.infos.NewEntry.TheVariants as new
+use Rattle.palm_store.specs.EntryInfos.{IsMadeOf}
+use Rattle.palm_store.specs.NewEntries.{PutsIn}
+use Rattle.laws_store.proofs.Keeping.{bytes_like}
+use Rattle.palm_store.proofs.TwoSteps.{then_respelled, database_kept, still_between}
+
+-- ---- when the chunk was made
+
+chunk_made : ℕ → Option LiveChunk
+chunk_made size = Some (record { bytes = replicate size 0; lock = 0; owner = data_owner })
+
+-- a name that stood for nothing isn't the database's
+pub fresh_apart : (image : List ℕ) (db name : ℕ) → SpellsHere image db → held image name ≡ None → name ≢ db
+unfolding owner_under
+fresh_apart image db name s none e = (let owner = s.owner in let nothing : owner_under image db ≡ 16 = ap (λ (n : ℕ). owner_under image n) (sym e) ∙ ap owner_of none in omega arith)
+
+pub db_kept : (old mid : List ℕ) (db name size : ℕ) → SpellsHere old db → MakesNew old mid name size 15 → held mid db ≡ held old db
+unfolding chunk_made
+db_kept old mid db name size s m = m.leaves.map db ∙ updated_apart (held old) name (chunk_made size) db (λ e. fresh_apart old db name s m.fresh (sym e))
+
+-- the database is spelled as it was
+pub spells_still : (old mid : List ℕ) (db name size : ℕ) → SpellsHere old db → MakesNew old mid name size 15 → SpellsHere mid db
+unfolding owner_under
+spells_still old mid db name size s m =
+    let kept = db_kept old mid db name size s m in
+    record {
+      heap = m.leaves.frame.accepted;
+      owner = ap owner_of kept ∙ s.owner;
+      spelled = subst (λ (bytes : List ℕ). IsSpelled (database_in bytes) bytes) (sym (bytes_like old mid db kept)) s.spelled;
+    }
+
+pub database_still : (old mid : List ℕ) (db name size : ℕ) → SpellsHere old db → MakesNew old mid name size 15 → database_here mid db ≡ database_here old db
+database_still old mid db name size s m = database_kept old mid db (db_kept old mid db name size s m)
+
+made_here : (old mid : List ℕ) (name size : ℕ) → MakesNew old mid name size 15 → held mid name ≡ chunk_made size
+unfolding chunk_made
+made_here old mid name size m = m.leaves.map name ∙ updated_here (held old) name (chunk_made size) name refl
+
+pub made_there : (old mid : List ℕ) (name size : ℕ) → MakesNew old mid name size 15 → IsSome (held mid name)
+unfolding chunk_made
+made_there old mid name size m = subst (λ (o : Option LiveChunk). IsSome o) (sym (made_here old mid name size m)) (search rules)
+
+pub made_no_directory : (old mid : List ℕ) (name size : ℕ) → HeapAccepted old → MakesNew old mid name size 15 → name ≢ directory_of mid
+unfolding owner_under chunk_made
+made_no_directory old mid name size h m e =
+    let own : owner_under mid name ≡ 15 = ap owner_of (made_here old mid name size m) in
+    let some = owned_some mid name 15 m.leaves.frame.accepted own (omega arith) in
+    let nothing : owner_under old name ≡ 16 = ap owner_of m.fresh in
+    let directory = ap (owner_under old) (e ∙ m.leaves.frame.directory) ∙ directory_owner old h (let same_word = m.leaves.frame.directory in omega arith) in
+    omega arith
+
+-- ---- the entry is put in
+
+pub puts_in : (old mid new : List ℕ) (db at : ℕ) (entry after : Entry ℕ) (name size : ℕ) → SpellsHere old db → MakesNew old mid name size 15 → after ≡ entry → Respells mid new db (with_entry_at at after (database_here mid db)) → PutsIn old new db at entry name size
+unfolding chunk_made
+puts_in old mid new db at entry after name size s m is l = record {
+  fresh = m.fresh;
+  leaves = then_respelled old mid new db name (with_entry_at at entry (database_here old db)) (chunk_made size) (fresh_apart old db name s m.fresh) m.fresh m.leaves
+      (subst (λ (e : Entry ℕ). Respells mid new db (with_entry_at at e (database_here old db))) is (subst (λ (d : Database ℕ). Respells mid new db (with_entry_at at after d)) (database_still old mid db name size s m) l));
+}
+
+-- ---- there was no room
+
+-- what spells a database has no lock
+pub record Header (image : List ℕ) (db : ℕ) : Type 0 where
+  pub live : LiveChunk
+  pub there : held image db ≡ Some live
+  pub loose : live.lock ≡ 0
+
+header : (image : List ℕ) (db : ℕ) → SpellsHere image db → Header image db
+unfolding owner_under
+header image db s = by (held image db) refl s.owner where
+  by : (o : Option LiveChunk) → held image db ≡ o → owner_of o ≡ 0 → Header image db
+  by None e own = absurd (omega arith)
+  by (Some live) e own = record { live = live; there = e; loose = managers_loose image db live s.heap e own }
+
+pub no_header_room : (old mid : List ℕ) (db : Db) (name size : ℕ) → HasNumber old db.0 → SpellsHere old db.0 → MakesNew old mid name size 15 → Lowers old mid (need size)
+    → ShortFor mid db.0 (need (length (bytes_under mid db.0) + entry_size (has_resources (database_here mid db.0).header.attributes)))
+    → (free_slots old < 1) ⊎ Stuck (rooms old) (making size ∷ growth old db.0 (length (bytes_under old db.0) + entry_size (resources_under (store_of old) db)) ∷ [])
+no_header_room old mid db name size has s m lowers short =
+    let kept = db_kept old mid db.0 name size s m in
+    let head = header old db.0 s in
+    let kind : has_resources (database_here mid db.0).header.attributes ≡ resources_under (store_of old) db = ap (λ (d : Database ℕ). has_resources d.header.attributes) (database_kept old mid db.0 kept) ∙ sym (kind_here old db has) in
+    let count : length (bytes_under mid db.0) + entry_size (has_resources (database_here mid db.0).header.attributes) ≡ length (bytes_under old db.0) + entry_size (resources_under (store_of old) db) =
+    ap (λ (bytes : List ℕ). length bytes + entry_size (has_resources (database_here mid db.0).header.attributes)) (bytes_like old mid db.0 kept) ∙ ap (λ (k : Bool). length (bytes_under old db.0) + entry_size k) kind in
+    inr (made_then_short old mid (need size) db.0 (length (bytes_under old db.0) + entry_size (resources_under (store_of old) db)) head.live m.leaves.frame.accepted lowers head.there (kept ∙ head.there) head.loose
+    (subst (λ (n : ℕ). ShortFor mid db.0 (need n)) count short))
+
+-- the chunk is freed again
+pub given_back : (old mid new : List ℕ) (name size : ℕ) → MakesNew old mid name size 15 → Leaves mid new (gone (held mid) name) → Leaves old new (held old)
+unfolding chunk_made
+given_back old mid new name size m g = record {
+  map = λ other. elim (cases_eq other name) [
+    | inl e ↦ g.map other ∙ updated_here (held mid) name None other e ∙ sym (ap (held old) e ∙ m.fresh)
+    | inr ne ↦ g.map other ∙ updated_apart (held mid) name None other ne ∙ m.leaves.map other ∙ updated_apart (held old) name (chunk_made size) other ne
+  ];
+  frame = record { accepted = g.frame.accepted; len = g.frame.len ∙ m.leaves.frame.len; count = g.frame.count ∙ m.leaves.frame.count; directory = g.frame.directory ∙ m.leaves.frame.directory };
+  still = still_between old mid new m.leaves.still g.still (λ other live e locked there. elim (cases_eq other name) [
+    | inl is ↦ absurd (no_both (held old name) live m.fresh (ap (held old) (sym is) ∙ e))
+    | inr ne ↦ (live, m.leaves.map other ∙ updated_apart (held old) name (chunk_made size) other ne ∙ e, locked)
+  ]);
+} where
+  no_both : (o : Option LiveChunk) (live : LiveChunk) → o ≡ None → o ≡ Some live → ⊥
+  no_both o live none e = cc
+
+-- ---- the step of the store
+
+pub named_so : (slot : ℕ) (entry : Entry ℕ) → entry_data (entry_with (λ none. slot) entry) ≡ slot
+named_so slot (a_record attributes id none) = refl
+named_so slot (a_resource kind id none) = refl
+
+pub made_of : (image : List ℕ) (db : Db) (entry : NewEntry) (slot : ℕ) (one : Entry ℕ) → IsMadeOf (store_of image) db entry 0 one → IsMadeOf (store_of image) db entry slot (entry_with (λ none. slot) one)
+made_of image db (new.Record attributes) slot one is = (is.0, is.1, ap (entry_with (λ none. slot)) is.2)
+made_of image db (new.Resource kind id) slot one is = ap (entry_with (λ none. slot)) is
+
+names_some : (slot : ℕ) (entry : Entry ℕ) → 0 < slot → NamesData (entry_with (λ none. slot) entry)
+names_some slot (a_record attributes id none) some = λ e. absurd (omega arith)
+names_some slot (a_resource kind id none) some = some
+
+new_id : (image : List ℕ) (db : Db) (entry : NewEntry) (slot : ℕ) (one : Entry ℕ) → HasNumber image db.0 → IsMadeOf (store_of image) db entry slot one → HasNewId (unique_ids (database_here image db.0)) one
+new_id image db (new.Record attributes) slot one has is =
+    let fresh = in_here image db (λ (database : Database ℕ). IsFresh (unique_ids database) (seed_in database.header.seed) is.0) has is.1 in
+    let new = fresh_new (unique_ids (database_here image db.0)) (database_here image db.0).header.seed is.0 fresh in
+    subst (HasNewId (unique_ids (database_here image db.0))) (sym is.2) (new.0, new.2)
+new_id image db (new.Resource kind id) slot one has is = subst (HasNewId (unique_ids (database_here image db.0))) (sym is) tt
+
+-- the name of the data is not 0
+put_some : (old after : List ℕ) (db at : ℕ) (entry : Entry ℕ) (slot size : ℕ) → PutsIn old after db at entry slot size → 0 < slot
+unfolding owner_under chunk_made
+put_some old after db at entry slot size puts =
+    let here = updated_here (rewritten (held old) db (spelled (with_entry_at at entry (database_here old db)))) slot (chunk_made size) slot refl in
+    owned_some after slot 15 puts.leaves.frame.accepted (ap owner_of (puts.leaves.map slot ∙ here)) (omega arith)
+
+pub new_steps : (old after : List ℕ) (db : Db) (at : ℕ) (entry : NewEntry) (one : Entry ℕ) (kind : Bool) (slot size : ℕ) → Accepted old → HasNumber old db.0 → IsMadeOf (store_of old) db entry 0 one → PutsIn old after db.0 at (entry_with (λ none. slot) one) slot size
+    → kind ≡ resources_under (store_of old) db → EntryFits kind (entry_with (λ none. slot) one) → at ≤ length (entries_in (store_of old) db) → length (entries_in (store_of old) db) < 65535
+    → (made : Entry ℕ) × IsMadeOf (store_of old) db entry slot made × LeavesStore old after (entry_made (store_of old) db at made size)
+new_steps old after db at entry one kind slot size a has is puts same_kind fits inside few =
+    let some = put_some old after db.0 at (entry_with (λ none. slot) one) slot size puts in
+    let one_made : Entry ℕ = entry_with (λ none. slot) one in
+    let name = named_so slot one in
+    let made_is = made_of old db entry slot one is in
+    let count = ap length (entries_here old db has) in (
+      one_made,
+      made_is,
+      make_steps old after db at one_made size a has
+          (subst (λ (n : ℕ). Leaves old after (made (rewritten (held old) db.0 (spelled (with_entry_at at one_made (database_here old db.0)))) n size data_owner 0)) (sym name) puts.leaves)
+          (ap (held old) name ∙ puts.fresh) (subst (λ (k : Bool). EntryFits k one_made) (same_kind ∙ kind_here old db has) fits) (names_some slot one some) (new_id old db entry slot one_made has made_is) (omega arith) (omega arith),
+    )
+
+-- ---- a new record
+
+pub record_made : (image body : List ℕ) (db : Db) (attributes given id : ℕ) → HasNumber image db.0 → body ≡ bytes_under image db.0 → IsFresh (unique_ids (database_in body)) (seed_in (database_in body).header.seed) id → given ≡ attributes
+    → IsMadeOf (store_of image) db (new.Record attributes) 0 (a_record given id 0)
+record_made image body db attributes given id has body_is fresh is = (
+  id,
+  in_store image db (λ (database : Database ℕ). IsFresh (unique_ids database) (seed_in database.header.seed) id) has (subst (λ (xs : List ℕ). IsFresh (unique_ids (database_in xs)) (seed_in (database_in xs).header.seed) id) body_is fresh),
+  ap (λ (a : ℕ). a_record a id 0) is,
+)
+
+-- ---- a refusal leaves the store as it was
+
+pub left_as_before : (old new : Memory) → Accepted old.bytes → Leaves old.bytes new.bytes (held old.bytes) → StoreAsBefore old new
+left_as_before old new a l =
+    let same = same_steps old.bytes new.bytes a l in
+    let free = as_before old.bytes new.bytes a.heap l.frame l.map in
+    record { store = same.same; free = free.0; slots = free.1 }

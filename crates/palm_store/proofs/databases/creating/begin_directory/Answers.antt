@@ -1,0 +1,26 @@
+-- The directory that was made has four bytes, over which the slot's are written.
+use Rattle.std.proofs.Common.{ap, ◌∙◌, arith, ℕ, length, replicate, ◌≡◌}
+use Rattle.std.proofs.lemmas.List.{length-replicate}
+use Rattle.heap_model.specs.Bytes.{overwritten}
+use Rattle.laws_heap.proofs.Frames.{length-u32_bytes}
+use Rattle.palm_store.proofs.ListedSlots.{made_here, put_here, begun, chunk_of}
+use Rattle.palm_store.proofs.Maps.{bytes_held, owner_held}
+use Rattle.palm_store.proofs.databases.creating.begin_directory.Goals as goal
+
+pub sys_write-requires-clause-within : goal.sys_write-requires-clause-within
+sys_write-requires-clause-within c =
+    let bytes = ap length (bytes_held c.sys_new.new.self.bytes c.in_ok-directory.directory.0 (chunk_of (replicate 4 0)) (made_here c.args.heap.now.bytes c.sys_new.new.self.bytes c.in_ok-directory.directory.0 4 c.in_ok-directory.ensures.made)) in
+    let four : length (replicate {A = ℕ} 4 0) ≡ 4 = length-replicate {A = ℕ} 4 0 in
+    let word = ap length c.slot_bytes.ensures ∙ length-u32_bytes c.args.slot.0 in
+    omega (arith, bytes, four, word)
+
+pub set_directory-requires : goal.set_directory-requires
+set_directory-requires c = record {
+  managers = owner_held c.sys_write.new.self.bytes c.in_ok-directory.directory.0 (record (chunk_of (replicate 4 0)) { bytes = overwritten (replicate 4 0) 0 c.slot_bytes.result })
+      (put_here c.sys_new.new.self.bytes c.sys_write.new.self.bytes c.in_ok-directory.directory.0 0 c.slot_bytes.result (chunk_of (replicate 4 0)) c.sys_write.ensures.leaves
+      (made_here c.args.heap.now.bytes c.sys_new.new.self.bytes c.in_ok-directory.directory.0 4 c.in_ok-directory.ensures.made));
+}
+
+pub returns-clause-lists : goal.returns-clause-lists
+returns-clause-lists c = begun c.args.heap.now.bytes c.sys_new.new.self.bytes c.sys_write.new.self.bytes c.set_directory.new.self.bytes c.in_ok-directory.directory.0 c.args.slot.0 c.slot_bytes.result c.requires.heap c.requires.none c.in_ok-directory.ensures.made
+    c.sys_write.ensures.leaves c.set_directory.ensures.names c.slot_bytes.ensures

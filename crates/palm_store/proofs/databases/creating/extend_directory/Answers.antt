@@ -1,0 +1,56 @@
+-- The directory has no lock, so that only want of room refuses it to grow; the slot's bytes are written over
+-- the last four.
+use Rattle.std.proofs.Common.{refl, ap, arith, ◌≡◌, ◌+◌, length}
+use Rattle.std.specs.Option.{is_some}
+use Rattle.heap_model.specs.Chunk.{need}
+use Rattle.heap_model.specs.Heap.{directory_of}
+use Rattle.heap_model.specs.Space.{ShortFor}
+use Rattle.heap_model.specs.Store.{directory_bytes}
+use Rattle.heap_model.specs.declared.refusal.Refusal.TheVariants.{NotEnoughSpace}
+use Rattle.laws_store.proofs.Creating.{managers_loose}
+use Rattle.laws_heap.proofs.Results.{if_err, on_err}
+use Rattle.palm_store.proofs.ListedSlots.{the_directory, directory_loose, directory_few, directory_short, grown_room, growth_short, sized_here, extended}
+use Rattle.palm_store.proofs.databases.creating.extend_directory.Goals as goal
+
+pub sys_body-requires : goal.sys_body-requires
+sys_body-requires c = ap is_some (the_directory c.args.heap.now.bytes c.directory-directory.result.0 c.requires.heap c.requires.some c.directory-directory.ensures).there
+
+pub overflow_cast-length : goal.overflow_cast-length
+overflow_cast-length c = let few = directory_few c.args.heap.now.bytes c.sys_body.result.now c.directory-directory.result.0 c.directory-directory.ensures c.requires.few c.sys_body.ensures in omega (arith, few)
+
+pub overflow_add-length : goal.overflow_add-length
+overflow_add-length c = let few = directory_few c.args.heap.now.bytes c.sys_body.result.now c.directory-directory.result.0 c.directory-directory.ensures c.requires.few c.sys_body.ensures in omega (arith, few)
+
+pub sys_resize-requires : goal.sys_resize-requires
+sys_resize-requires c = record {
+  movable = directory_loose c.args.heap.now.bytes c.directory-directory.result.0 c.requires.heap (the_directory c.args.heap.now.bytes c.directory-directory.result.0 c.requires.heap c.requires.some c.directory-directory.ensures);
+}
+
+pub returns-in_err-sys_resize-clause-no_room : goal.returns-in_err-sys_resize-clause-no_room
+returns-in_err-sys_resize-clause-no_room c =
+    let o = the_directory c.args.heap.now.bytes c.directory-directory.result.0 c.requires.heap c.requires.some c.directory-directory.ensures in
+    let loose = managers_loose c.args.heap.now.bytes c.directory-directory.result.0 o.live c.requires.heap o.there o.own in
+    on_err (ShortFor c.args.heap.now.bytes (directory_of c.args.heap.now.bytes) (need (length (directory_bytes c.args.heap.now.bytes) + 4))) c.from_residual.result
+    (directory_short c.args.heap.now.bytes c.sys_body.result.now c.directory-directory.result.0 (length c.sys_body.result.now + 4) c.directory-directory.ensures c.sys_body.ensures refl
+    (growth_short c.args.heap.now.bytes c.directory-directory.result.0 (length c.sys_body.result.now + 4) o.live c.in_err-sys_resize.field-0.0 o.there loose c.in_err-sys_resize.ensures.why).2)
+
+pub returns-in_err-sys_resize-clause-refusal : goal.returns-in_err-sys_resize-clause-refusal
+returns-in_err-sys_resize-clause-refusal c =
+    let o = the_directory c.args.heap.now.bytes c.directory-directory.result.0 c.requires.heap c.requires.some c.directory-directory.ensures in
+    let loose = managers_loose c.args.heap.now.bytes c.directory-directory.result.0 o.live c.requires.heap o.there o.own in
+    if_err (λ refusal. refusal ≡ NotEnoughSpace) c.from_residual.result (let e = c.from_residual.ensures in (e.0, e.1))
+    (growth_short c.args.heap.now.bytes c.directory-directory.result.0 (length c.sys_body.result.now + 4) o.live c.in_err-sys_resize.field-0.0 o.there loose c.in_err-sys_resize.ensures.why).0
+
+pub sys_write-requires-clause-there : goal.sys_write-requires-clause-there
+sys_write-requires-clause-there c =
+    let o = the_directory c.args.heap.now.bytes c.directory-directory.result.0 c.requires.heap c.requires.some c.directory-directory.ensures in
+    ap is_some (sized_here c.args.heap.now.bytes c.sys_resize.new.self.bytes c.directory-directory.result.0 (length c.sys_body.result.now + 4) o.live c.in_ok-sys_resize.ensures.done o.there)
+
+pub sys_write-requires-clause-within : goal.sys_write-requires-clause-within
+sys_write-requires-clause-within c =
+    let o = the_directory c.args.heap.now.bytes c.directory-directory.result.0 c.requires.heap c.requires.some c.directory-directory.ensures in
+    grown_room c.args.heap.now.bytes c.sys_resize.new.self.bytes c.sys_body.result.now c.slot_bytes.result c.directory-directory.result.0 (length c.sys_body.result.now + 4) c.args.slot.0 o c.in_ok-sys_resize.ensures.done c.sys_body.ensures refl c.slot_bytes.ensures
+
+pub returns-clause-lists : goal.returns-clause-lists
+returns-clause-lists c = extended c.args.heap.now.bytes c.sys_resize.new.self.bytes c.sys_write.new.self.bytes c.directory-directory.result.0 c.args.slot.0 (length c.sys_body.result.now + 4) (length c.sys_body.result.now) c.slot_bytes.result c.requires.heap c.requires.some
+    c.directory-directory.ensures (ap length c.sys_body.ensures) refl c.in_ok-sys_resize.ensures.done c.sys_write.ensures.leaves c.slot_bytes.ensures

@@ -1,0 +1,28 @@
+-- A header's chunk is made, and then listed; or freed again, and then all is held that was held.
+use Rattle.std.proofs.Common.{sym, subst, ℕ, List, length, ◌≤◌, ◌≢◌}
+use Rattle.heap_model.specs.Memory.{Memory}
+use Rattle.heap_model.specs.Heap.{directory_of}
+use Rattle.heap_model.specs.Maps.{gone}
+use Rattle.heap_model.specs.Leaving.{Leaves}
+use Rattle.heap_model.specs.Reading.{held}
+use Rattle.palm_store.proofs.ListedSlots.{listed_new, made_directory, few_bytes, given_back, no_listing, fresh_apart}
+use Rattle.palm_store.proofs.databases.creating.list_new.Goals as goal
+
+pub list_last-requires-clause-few : goal.list_last-requires-clause-few
+list_last-requires-clause-few c =
+    subst (λ (bytes : List ℕ). length bytes ≤ 4096) (sym (made_directory c.args.heap.now.bytes c.sys_new.new.self.bytes c.in_ok-slot.slot.0 78 c.requires.accepted.heap c.in_ok-slot.ensures.made)) (few_bytes c.args.heap.now.bytes c.requires.accepted)
+
+pub sys_free-requires-clause-no_directory : goal.sys_free-requires-clause-no_directory
+sys_free-requires-clause-no_directory c =
+    subst (λ (m : Memory). c.in_ok-slot.slot.0 ≢ directory_of m.bytes) (sym c.in-Err.ensures.refused) (fresh_apart c.args.heap.now.bytes c.sys_new.new.self.bytes c.in_ok-slot.slot.0 78 c.requires.accepted.heap c.in_ok-slot.ensures.made)
+
+pub returns-in-Err-clause-no_room : goal.returns-in-Err-clause-no_room
+returns-in-Err-clause-no_room c = no_listing c.args.heap.now.bytes c.sys_new.new.self.bytes c.in_ok-slot.slot.0 c.requires.accepted.heap c.in_ok-slot.ensures.made c.in_ok-slot.ensures.lowers c.in-Err.ensures.no_room
+
+pub returns-in-Err-clause-refused : goal.returns-in-Err-clause-refused
+returns-in-Err-clause-refused c =
+    let back = subst (λ (m : Memory). Leaves m.bytes c.sys_free.new.self.bytes (gone (held m.bytes) c.in_ok-slot.slot.0)) c.in-Err.ensures.refused c.sys_free.ensures.leaves in
+    given_back c.args.heap.now.bytes c.sys_new.new.self.bytes c.sys_free.new.self.bytes c.in_ok-slot.slot.0 78 c.in_ok-slot.ensures.made back
+
+pub returns-clause-lists : goal.returns-clause-lists
+returns-clause-lists c = listed_new c.args.heap.now.bytes c.sys_new.new.self.bytes c.list_last.new.heap.bytes c.in_ok-slot.slot.0 78 c.requires.accepted.heap c.in_ok-slot.ensures.made c.in_default.ensures.lists

@@ -1,0 +1,74 @@
+-- The directory has no lock, and a chunk without one is never refused to shrink.
+use Rattle.std.proofs.Common.{refl, ap, subst, ◌≡◌, ◌+◌, ◌-◌, ◌*◌, arith, ℕ, length, Result}
+use Rattle.std.specs.Prelude.{OnOk}
+use Rattle.std.specs.Option.{is_some}
+use Rattle.heap_model.specs.Leaving.{Leaves}
+use Rattle.heap_model.specs.Maps.{sized}
+use Rattle.heap_model.specs.MemorySteps.{growth_checks}
+use Rattle.heap_model.specs.Reading.{held}
+use Rattle.heap_model.specs.Refusals.{FirstBrings}
+use Rattle.heap_model.specs.declared.refusal.Refusal.{Refusal}
+use Rattle.heap_model.specs.Store.{bytes_under}
+use Rattle.palm_store.proofs.ListedSlots.{the_directory}
+use Rattle.palm_store.proofs.UnlistedSlots.{never_refused, shrinks, unlisted, directory_slid, slid_movable, directory_long}
+use Rattle.palm_store.proofs.databases.deleting.unlist.Goals as goal
+
+pub sys_body-requires : goal.sys_body-requires
+sys_body-requires c = ap is_some (the_directory c.args.heap.now.bytes c.directory-directory.result.0 c.requires.heap c.requires.some c.directory-directory.ensures).there
+
+pub overflow_cast-length : goal.overflow_cast-length
+overflow_cast-length c = let long = directory_long c.args.heap.now.bytes c.sys_body.result.now c.directory-directory.result.0 c.directory-directory.ensures c.sys_body.ensures in let few = c.requires.few in omega (arith, long, few)
+
+pub overflow_sub-length : goal.overflow_sub-length
+overflow_sub-length c = let long = directory_long c.args.heap.now.bytes c.sys_body.result.now c.directory-directory.result.0 c.directory-directory.ensures c.sys_body.ensures in let inside = c.requires.inside in omega (arith, long, inside)
+
+pub sys_slide-requires-clause-there : goal.sys_slide-requires-clause-there
+sys_slide-requires-clause-there c = ap is_some (the_directory c.args.heap.now.bytes c.directory-directory.result.0 c.requires.heap c.requires.some c.directory-directory.ensures).there
+
+pub sys_slide-requires-clause-from_within : goal.sys_slide-requires-clause-from_within
+sys_slide-requires-clause-from_within c =
+    let long = directory_long c.args.heap.now.bytes c.sys_body.result.now c.directory-directory.result.0 c.directory-directory.ensures c.sys_body.ensures in
+    let inside = c.requires.inside in
+    let body = ap length c.sys_body.ensures in
+    omega (arith, long, inside, body)
+
+pub sys_slide-requires-clause-to_within : goal.sys_slide-requires-clause-to_within
+sys_slide-requires-clause-to_within c =
+    let long = directory_long c.args.heap.now.bytes c.sys_body.result.now c.directory-directory.result.0 c.directory-directory.ensures c.sys_body.ensures in
+    let inside = c.requires.inside in
+    let body = ap length c.sys_body.ensures in
+    omega (arith, long, inside, body)
+
+pub overflow_sub-length-2 : goal.overflow_sub-length-2
+overflow_sub-length-2 c = let long = directory_long c.args.heap.now.bytes c.sys_body.result.now c.directory-directory.result.0 c.directory-directory.ensures c.sys_body.ensures in let inside = c.requires.inside in omega (arith, long, inside)
+
+pub sys_resize-requires : goal.sys_resize-requires
+sys_resize-requires c =
+    let long = directory_long c.args.heap.now.bytes c.sys_body.result.now c.directory-directory.result.0 c.directory-directory.ensures c.sys_body.ensures in
+    let inside = c.requires.inside in
+    let body : length c.sys_body.result.now ≡ length (bytes_under c.args.heap.now.bytes c.directory-directory.result.0) = ap length c.sys_body.ensures in
+    record {
+      movable = slid_movable c.sys_slide.new.self.bytes c.directory-directory.result.0 (length (bytes_under c.args.heap.now.bytes c.directory-directory.result.0))
+          (directory_slid c.args.heap.now.bytes c.sys_slide.new.self.bytes c.directory-directory.result.0 (4 * c.args.index) (4 * c.args.index + 4 + (length c.sys_body.result.now - (4 * c.args.index + 4))) c.requires.heap c.requires.some c.directory-directory.ensures
+          (omega (arith, long, inside, body)) (omega (arith, long, inside, body)) c.sys_slide.ensures.leaves);
+    }
+
+pub unwrap-requires : goal.unwrap-requires
+unwrap-requires c =
+    let long = directory_long c.args.heap.now.bytes c.sys_body.result.now c.directory-directory.result.0 c.directory-directory.ensures c.sys_body.ensures in
+    let inside = c.requires.inside in
+    let body : length c.sys_body.result.now ≡ length (bytes_under c.args.heap.now.bytes c.directory-directory.result.0) = ap length c.sys_body.ensures in
+    let s = directory_slid c.args.heap.now.bytes c.sys_slide.new.self.bytes c.directory-directory.result.0 (4 * c.args.index) (4 * c.args.index + 4 + (length c.sys_body.result.now - (4 * c.args.index + 4))) c.requires.heap c.requires.some c.directory-directory.ensures
+    (omega (arith, long, inside, body)) (omega (arith, long, inside, body)) c.sys_slide.ensures.leaves in
+    let size = s.size in
+    never_refused c.sys_resize.result (FirstBrings (growth_checks c.sys_slide.new.self.bytes (held c.sys_slide.new.self.bytes) c.directory-directory.result.0 (length c.sys_body.result.now - 4))) c.sys_resize.ensures.why
+    (λ refusal why. shrinks c.sys_slide.new.self.bytes c.directory-directory.result.0 (length c.sys_body.result.now - 4) s.live refusal s.there s.loose (omega (arith, size, body)) why)
+
+pub returns-clause-unlists : goal.returns-clause-unlists
+returns-clause-unlists c =
+    let long = directory_long c.args.heap.now.bytes c.sys_body.result.now c.directory-directory.result.0 c.directory-directory.ensures c.sys_body.ensures in
+    let inside = c.requires.inside in
+    let body : length c.sys_body.result.now ≡ length (bytes_under c.args.heap.now.bytes c.directory-directory.result.0) = ap length c.sys_body.ensures in
+    unlisted c.args.heap.now.bytes c.sys_slide.new.self.bytes c.sys_resize.new.self.bytes c.directory-directory.result.0 c.args.index (4 * c.args.index) (4 * c.args.index + 4 + (length c.sys_body.result.now - (4 * c.args.index + 4)))
+    (length c.sys_body.result.now - 4) c.requires.heap c.requires.some c.directory-directory.ensures refl (omega (arith, long, inside, body)) (omega (arith, long, inside, body)) (ap (λ (k : ℕ). k - 4) body) c.sys_slide.ensures.leaves
+    (subst (λ (result : Result Unit Refusal). OnOk result (Leaves c.sys_slide.new.self.bytes c.sys_resize.new.self.bytes (sized (held c.sys_slide.new.self.bytes) c.directory-directory.result.0 (length c.sys_body.result.now - 4)))) c.unwrap.ensures c.sys_resize.ensures.done)

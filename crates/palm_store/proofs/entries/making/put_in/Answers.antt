@@ -1,0 +1,50 @@
+-- The header spells what it spelled while the chunk is made; where it can't grow, the chunk is freed again.
+use Rattle.std.proofs.Common.{◌≤◌, ◌<◌, ◌≢◌, ◌∙◌, sym, ap, subst, ℕ, List, length}
+use Rattle.heap_model.specs.Memory.{Memory}
+use Rattle.heap_model.specs.Heap.{directory_of}
+use Rattle.heap_model.specs.Reading.{held}
+use Rattle.heap_model.specs.Maps.{gone}
+use Rattle.heap_model.specs.Leaving.{Leaves}
+use Rattle.heap_model.specs.Database.{Entry, Database, entry_with, has_resources}
+use Rattle.db_format.specs.EitherEntry.{entry_of}
+use Rattle.laws_store.proofs.Numbered.{accepted_spells, entries_here, kind_here}
+use Rattle.palm_store.proofs.EntriesHere.{index_most}
+use Rattle.palm_store.proofs.NewEntries.{spells_still, database_still, made_no_directory, puts_in, no_header_room, given_back}
+use Rattle.palm_store.proofs.entries.making.put_in.Goals as goal
+
+pub insert_entry-requires-clause-spells : goal.insert_entry-requires-clause-spells
+insert_entry-requires-clause-spells c = spells_still c.args.heap.now.bytes c.sys_new.new.self.bytes c.args.db.0 c.in_ok-name.name.0 c.args.size (accepted_spells c.args.heap.now.bytes c.args.db.0 c.requires.accepted c.requires.number) c.in_ok-name.ensures.made
+
+pub insert_entry-requires-clause-inside : goal.insert_entry-requires-clause-inside
+insert_entry-requires-clause-inside c =
+    let still = database_still c.args.heap.now.bytes c.sys_new.new.self.bytes c.args.db.0 c.in_ok-name.name.0 c.args.size (accepted_spells c.args.heap.now.bytes c.args.db.0 c.requires.accepted c.requires.number) c.in_ok-name.ensures.made in
+    subst (λ (d : Database ℕ). c.args.at ≤ length d.entries) (sym still) (index_most c.args.heap.now.bytes c.args.db c.args.at c.requires.number c.requires.inside)
+
+pub insert_entry-requires-clause-few : goal.insert_entry-requires-clause-few
+insert_entry-requires-clause-few c =
+    let still = database_still c.args.heap.now.bytes c.sys_new.new.self.bytes c.args.db.0 c.in_ok-name.name.0 c.args.size (accepted_spells c.args.heap.now.bytes c.args.db.0 c.requires.accepted c.requires.number) c.in_ok-name.ensures.made in
+    subst (λ (d : Database ℕ). length d.entries < 65535) (sym still) (subst (λ (entries : List (Entry ℕ)). length entries < 65535) (entries_here c.args.heap.now.bytes c.args.db c.requires.number) c.requires.few)
+
+pub insert_entry-requires-clause-kind : goal.insert_entry-requires-clause-kind
+insert_entry-requires-clause-kind c =
+    let still = database_still c.args.heap.now.bytes c.sys_new.new.self.bytes c.args.db.0 c.in_ok-name.name.0 c.args.size (accepted_spells c.args.heap.now.bytes c.args.db.0 c.requires.accepted c.requires.number) c.in_ok-name.ensures.made in
+    c.with_slot.ensures.kind ∙ c.requires.kind ∙ kind_here c.args.heap.now.bytes c.args.db c.requires.number ∙ ap (λ (d : Database ℕ). has_resources d.header.attributes) (sym still)
+
+pub sys_free-requires-clause-no_directory : goal.sys_free-requires-clause-no_directory
+sys_free-requires-clause-no_directory c =
+    subst (λ (m : Memory). c.in_ok-name.name.0 ≢ directory_of m.bytes) (sym c.in-Err.ensures.refused) (made_no_directory c.args.heap.now.bytes c.sys_new.new.self.bytes c.in_ok-name.name.0 c.args.size c.requires.accepted.heap c.in_ok-name.ensures.made)
+
+pub returns-in-Err-clause-no_room : goal.returns-in-Err-clause-no_room
+returns-in-Err-clause-no_room c =
+    no_header_room c.args.heap.now.bytes c.sys_new.new.self.bytes c.args.db c.in_ok-name.name.0 c.args.size c.requires.number (accepted_spells c.args.heap.now.bytes c.args.db.0 c.requires.accepted c.requires.number) c.in_ok-name.ensures.made c.in_ok-name.ensures.lowers
+    c.in-Err.ensures.no_room
+
+pub returns-in-Err-clause-refused : goal.returns-in-Err-clause-refused
+returns-in-Err-clause-refused c =
+    let back = subst (λ (m : Memory). Leaves m.bytes c.sys_free.new.self.bytes (gone (held m.bytes) c.in_ok-name.name.0)) c.in-Err.ensures.refused c.sys_free.ensures.leaves in
+    given_back c.args.heap.now.bytes c.sys_new.new.self.bytes c.sys_free.new.self.bytes c.in_ok-name.name.0 c.args.size c.in_ok-name.ensures.made back
+
+pub returns-clause-puts : goal.returns-clause-puts
+returns-clause-puts c =
+    puts_in c.args.heap.now.bytes c.sys_new.new.self.bytes c.insert_entry.new.heap.bytes c.args.db.0 c.args.at (entry_with (λ (none : ℕ). c.in_ok-name.name.0) (entry_of c.args.entry)) (entry_of c.with_slot.result) c.in_ok-name.name.0 c.args.size
+    (accepted_spells c.args.heap.now.bytes c.args.db.0 c.requires.accepted c.requires.number) c.in_ok-name.ensures.made c.with_slot.ensures.is c.in_default.ensures.respells

@@ -1,0 +1,57 @@
+-- What making and deleting a database leaves of the directory: a slot that is listed last, with a chunk for
+-- its header, and one that is listed no longer.
+use Rattle.std.specs.Prelude.{◌≡◌, ◌≢◌, ◌<◌, ◌+◌, ◌*◌, ◌++◌, ◌⊎◌, ℕ, List, length, take, drop, None, Some}
+use Rattle.heap_model.specs.Bytes.{u32_bytes}
+use Rattle.heap_model.specs.Chunk.{need}
+use Rattle.heap_model.specs.Slots.{slot_count}
+use Rattle.heap_model.specs.Heap.{HeapAccepted, directory_of}
+use Rattle.heap_model.specs.Reading.{held}
+use Rattle.heap_model.specs.Space.{Still, ShortFor}
+use Rattle.heap_model.specs.Store.{managers_owner, directory_bytes}
+use Rattle.mem_manager.specs.Lookup.{HasNoRoomFor}
+
+-- The new image is an accepted heap of the same length with as many slots, whose directory lists this slot
+-- behind those of the old one. The directory is the same chunk, or one is made where there was none; every
+-- other name stands for what it stood for. No chunk that stays has moved.
+pub record ListsLast (old new : List ℕ) (slot : ℕ) : Type 0 where
+  pub accepted : HeapAccepted new
+  pub len : length new ≡ length old
+  pub count : slot_count new ≡ slot_count old
+  pub still : Still old new
+  pub some : 0 < directory_of new
+  pub directory : (directory_of new ≡ directory_of old) ⊎ ((directory_of old ≡ 0) × (held old (directory_of new) ≡ None))
+  pub last : directory_bytes new ≡ directory_bytes old ++ u32_bytes slot
+  pub others : (name : ℕ) → name ≢ directory_of new → held new name ≡ held old name
+
+-- The same, where the slot stood for nothing, and is the name of a chunk of the manager's with these bytes
+-- now.
+pub record ListsNew (old new : List ℕ) (slot : ℕ) (bytes : List ℕ) : Type 0 where
+  pub accepted : HeapAccepted new
+  pub len : length new ≡ length old
+  pub count : slot_count new ≡ slot_count old
+  pub still : Still old new
+  pub some : 0 < directory_of new
+  pub directory : (directory_of new ≡ directory_of old) ⊎ ((directory_of old ≡ 0) × (held old (directory_of new) ≡ None))
+  pub last : directory_bytes new ≡ directory_bytes old ++ u32_bytes slot
+  pub fresh : held old slot ≡ None
+  pub apart : slot ≢ directory_of new
+  pub chunk : held new slot ≡ Some (record { bytes = bytes; lock = 0; owner = managers_owner })
+  pub others : (name : ℕ) → name ≢ slot → name ≢ directory_of new → held new name ≡ held old name
+
+-- a directory of one slot can't be made where there is none, or the one that there is can't grow by a slot
+abbrev pub HasNoRoomToList : List ℕ → Type 0
+HasNoRoomToList image =
+    ((directory_of image ≡ 0) × HasNoRoomFor image 4)
+    ⊎ ((0 < directory_of image) × ShortFor image (directory_of image) (need (length (directory_bytes image) + 4)))
+
+-- The new image is an accepted heap of the same length with as many slots, and the directory is the same
+-- chunk. It has the bytes of the old one but the four of the slot at this index. Every other name stands for
+-- what it stood for, and no chunk that stays has moved.
+pub record Unlists (old new : List ℕ) (index : ℕ) : Type 0 where
+  pub accepted : HeapAccepted new
+  pub len : length new ≡ length old
+  pub count : slot_count new ≡ slot_count old
+  pub directory : directory_of new ≡ directory_of old
+  pub still : Still old new
+  pub others : (name : ℕ) → name ≢ directory_of old → held new name ≡ held old name
+  pub left : directory_bytes new ≡ take (4 * index) (directory_bytes old) ++ drop (4 * index + 4) (directory_bytes old)

@@ -1,0 +1,77 @@
+-- What the calls on entries ask and promise of the store that an image means, by the image.
+use Rattle.std.specs.Prelude.{◌≡◌, ◌<◌, ℕ, Bool, List, length}
+use Rattle.heap_model.specs.Memory.{Memory}
+use Rattle.heap_model.specs.Database.{Entry}
+use Rattle.heap_model.specs.Lists.{moved}
+use Rattle.heap_model.specs.Maps.{sized}
+use Rattle.heap_model.specs.Refusals.{Check}
+use Rattle.heap_model.specs.MemorySteps.{Of, IsLocked, growth_checks}
+use Rattle.heap_model.specs.Store.{Store, store_of}
+use Rattle.heap_model.specs.StoreWords.{In}
+use Rattle.heap_model.specs.EntrySteps.{entries_in, entry_under, data_under, resources_under, with_entries, with_chunks, entry_made, entry_changed, making_checks, LeavesStore}
+use Rattle.heap_model.specs.declared.names.Db.{Db}
+use Rattle.palm_store.specs.declared.entries.infos.EntryInfo.{EntryInfo}
+use Rattle.palm_store.specs.declared.entries.infos.NewEntry.{NewEntry}
+use Rattle.palm_store.specs.Databases.{HasNumber}
+use Rattle.palm_store.specs.EntryInfos.{with_info, IsMadeOf, CanHave}
+
+-- ---- a database of the image
+
+abbrev pub entries_of_image : List ℕ → Db → List (Entry ℕ)
+entries_of_image image db = entries_in (store_of image) db
+
+abbrev pub resources_of_image : List ℕ → Db → Bool
+resources_of_image image db = resources_under (store_of image) db
+
+abbrev pub data_of_image : List ℕ → Db → ℕ → ℕ
+data_of_image image db index = data_under (store_of image) db index
+
+-- the database has these attributes, and so many entries
+abbrev pub HasDbAttributes : List ℕ → Db → ℕ → Type 0
+HasDbAttributes image db attributes = In (store_of image) db (λ database. database.header.attributes ≡ attributes)
+
+abbrev pub HasCount : List ℕ → Db → ℕ → Type 0
+HasCount image db count = count ≡ length (entries_of_image image db)
+
+-- the data of an entry is locked
+abbrev pub HasLockedData : List ℕ → Db → ℕ → Type 0
+HasLockedData image db index = Of ((store_of image).map (data_of_image image db index)) IsLocked
+
+-- this is the name of some entry's data
+pub record IsEntryData (image : List ℕ) (name : ℕ) : Type 0 where
+  pub db : Db
+  pub index : ℕ
+  pub number : HasNumber image db.0
+  pub is : data_of_image image db index ≡ name
+  pub some : 0 < name
+
+abbrev pub MayHave : List ℕ → Db → ℕ → EntryInfo → Type 0
+MayHave image db index info = CanHave (store_of image) db (resources_of_image image db) index info
+
+-- ---- what refuses a call
+
+abbrev pub checks_of_making : List ℕ → Db → ℕ → List Check
+checks_of_making image db size = making_checks image (store_of image) db size
+
+abbrev pub checks_of_growth : List ℕ → ℕ → ℕ → List Check
+checks_of_growth image name size = growth_checks image (store_of image).map name size
+
+-- ---- what a call leaves
+
+-- the store that is left is what the old one becomes by a change
+abbrev pub LeavesChanged : Memory → Memory → (Store → Store) → Type 0
+LeavesChanged old new change = LeavesStore old.bytes new.bytes (change (store_of old.bytes))
+
+-- an entry that was made of what the caller said is there, with its data under a slot
+abbrev pub LeavesMade : Memory → Memory → Db → ℕ → NewEntry → ℕ → ℕ → Type 0
+LeavesMade old new db at entry slot size =
+    (made : Entry ℕ) × IsMadeOf (store_of old.bytes) db entry slot made × LeavesChanged old new (λ store. entry_made store db at made size)
+
+abbrev pub entry_informed : Store → Db → ℕ → EntryInfo → Store
+entry_informed store db index info = entry_changed store db index (with_info info)
+
+abbrev pub entry_moved : Store → Db → ℕ → ℕ → Store
+entry_moved store db from to = with_entries store db (λ entries. moved entries from to)
+
+abbrev pub data_sized : Store → ℕ → ℕ → Store
+data_sized store name size = with_chunks store (sized store.map name size)

@@ -1,0 +1,59 @@
+-- What callers say of an entry: of a new one, and of one that is set.
+use Rattle.std.specs.Prelude.{◌≡◌, ◌≢◌, ◌<◌, ◌≤◌, ℕ, Bool, true, false, Option, Some, None}
+use Rattle.heap_model.specs.Database.{Entry, a_record, a_resource, is_deleted}
+use Rattle.heap_model.specs.UniqueIds.{greatest_id}
+use Rattle.heap_model.specs.Store.{Store, unique_id}
+use Rattle.heap_model.specs.EntrySteps.{entry_under, OfEntry, data_under, IsFreshIn, entry_dropped, entry_handed_over}
+use Rattle.heap_model.specs.declared.names.Db.{Db}
+use Rattle.palm_store.specs.declared.entries.infos.EntryInfo.{EntryInfo}
+use Rattle.palm_store.specs.declared.entries.infos.EntryInfo.TheVariants as infos
+use Rattle.palm_store.specs.declared.entries.infos.NewEntry.{NewEntry}
+use Rattle.palm_store.specs.declared.entries.infos.NewEntry.TheVariants as new
+
+-- ---- a new entry
+
+-- it is a resource, and else a record
+abbrev pub makes_resource : NewEntry → Bool
+makes_resource (new.Record attributes) = false
+makes_resource (new.Resource kind id) = true
+
+-- This is the new entry, with its data under a slot: a record gets a fresh ID.
+abbrev pub IsMadeOf : Store → Db → NewEntry → ℕ → Entry ℕ → Type 0
+IsMadeOf store db (new.Record attributes) slot entry = (id : ℕ) × IsFreshIn store db id × (entry ≡ a_record attributes id slot)
+IsMadeOf store db (new.Resource kind id) slot entry = entry ≡ a_resource kind id slot
+
+-- ---- an entry that is set
+
+-- an entry with a info, and the data that it had
+abbrev pub with_info : EntryInfo → Entry ℕ → Entry ℕ
+with_info (infos.Record attributes id) (a_record old_attributes old_id slot) = a_record attributes id slot
+with_info (infos.Record attributes id) (a_resource kind old_id slot) = a_resource kind old_id slot
+with_info (infos.Resource kind id) (a_record attributes old_id slot) = a_record attributes old_id slot
+with_info (infos.Resource kind id) (a_resource old_kind old_id slot) = a_resource kind id slot
+
+-- a record's ID has room in its field
+abbrev pub HasFittingInfo : EntryInfo → Type 0
+HasFittingInfo (infos.Record attributes id) = id ≤ greatest_id
+HasFittingInfo (infos.Resource kind id) = Unit {0}
+
+-- another entry of the database has the ID
+abbrev pub HasOther : Store → Db → ℕ → ℕ → Type 0
+HasOther store db index id = (other : ℕ) × (other ≢ index) × OfEntry (entry_under store db other) (λ entry. unique_id entry ≡ Some id)
+
+-- An entry can have this info: it is one for records, with an ID of its own, deleted where there is no data;
+-- or one for resources.
+abbrev pub CanHave : Store → Db → Bool → ℕ → EntryInfo → Type 0
+CanHave store db resources index (infos.Record attributes id) =
+    (resources ≡ false) × (0 < id) × (id ≤ greatest_id) × (HasOther store db index id → ⊥) × (data_under store db index ≡ 0 → is_deleted attributes ≡ true)
+CanHave store db resources index (infos.Resource kind id) = resources ≡ true
+
+-- ---- an entry that is dropped
+
+-- an owner that a caller may give
+abbrev pub MayOwn : ℕ → Type 0
+MayOwn owner = (0 < owner) × (owner < 15)
+
+-- a store where an entry is dropped, and its data freed or handed over to an owner
+abbrev pub dropped_to : Store → Db → ℕ → Option ℕ → Store
+dropped_to store db index None = entry_dropped store db index
+dropped_to store db index (Some owner) = entry_handed_over store db index owner

@@ -1,0 +1,34 @@
+-- The calls on a store by their kinds, and the reply of one that may be refused: what it answers, or the
+-- refusal.
+use Rattle.std.specs.Prelude.{ℕ, Result}
+use Rattle.heap_model.specs.Memory.{Memory}
+use Rattle.heap_model.specs.MemorySteps.{reply_of}
+use Rattle.heap_model.specs.StoreSteps.{DoesInStore}
+use Rattle.heap_model.specs.declared.names.Db.{Db}
+use Rattle.heap_model.specs.declared.names.Name.{Name}
+use Rattle.heap_model.specs.declared.refusal.Refusal.{Refusal}
+use Rattle.heap_model.specs.declared.call.MemoryCall.{MemoryCall}
+use Rattle.heap_model.specs.declared.call.DatabaseCall.{DatabaseCall}
+use Rattle.heap_model.specs.declared.call.Call.TheVariants as calls
+use Rattle.heap_model.specs.declared.call.Reply.{Reply}
+use Rattle.heap_model.specs.declared.call.Reply.TheVariants as replies
+
+abbrev pub DoesMemory : Memory → MemoryCall → Reply → Memory → Type 0
+DoesMemory old call reply new = DoesInStore old (calls.Memory call) reply new
+
+abbrev pub DoesDatabase : Memory → DatabaseCall → Reply → Memory → Type 0
+DoesDatabase old call reply new = DoesInStore old (calls.Database call) reply new
+
+-- ---- replies
+
+abbrev pub done_or_refused : {A : Type 0} → Result A Refusal → Reply
+done_or_refused result = reply_of (λ done. replies.Done) result
+
+abbrev pub number_or_refused : Result ℕ Refusal → Reply
+number_or_refused result = reply_of (λ number. replies.Number number) result
+
+abbrev pub name_or_refused : Result Name Refusal → Reply
+name_or_refused result = reply_of (λ name. replies.Named name) result
+
+abbrev pub database_or_refused : Result Db Refusal → Reply
+database_or_refused result = reply_of (λ db. replies.Database db) result

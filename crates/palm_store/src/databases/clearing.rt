@@ -1,0 +1,86 @@
+//! The chunks that a database names: whether one is locked, and all of them freed.
+
+ghost use Rattle.std.specs.Prelude.{◌≡◌, ◌<◌, ◌↔◌, length, slice_index, IsTrue, IsSome, Any};
+ghost use Rattle.heap_model.specs.Heap.{HeapAccepted};
+ghost use Rattle.heap_model.specs.Reading.{held};
+ghost use Rattle.heap_model.specs.Maps.{callers_map};
+ghost use Rattle.heap_model.specs.Leaving.{Leaves};
+ghost use Rattle.heap_model.specs.Database.{IsSpelled, database_in, data_in};
+ghost use Rattle.heap_model.specs.MemorySteps.{Of, IsLocked};
+ghost use Rattle.heap_model.specs.Store.{Accepted};
+ghost use Rattle.heap_model.specs.StoreWords.{all_gone};
+ghost use Rattle.palm_store.specs.Databases.{HasNumber};
+ghost use Rattle.palm_store.specs.Databases.{named_under};
+
+use crate::chunks::free_chunk_of;
+use crate::lookup::header_of;
+use db_format::{app_info, entry_count, entry_slot, has_resources, sort_info};
+use heap_model::{Db, Name};
+use mem_manager::{FIXED_LOCK, Heap};
+
+/// How many slots a database has: those of its info blocks, and one for each entry.
+fn slot_count(body: &[u8]) -> u32
+    requires { IsSpelled (database_in body.now) body.now }
+    ensures { result ≡ length (data_in (database_in body.now)) }
+{
+    2 + entry_count(body) as u32
+}
+
+/// The slot at an index among those of a database: that of its AppInfo block, that of its SortInfo block,
+/// and then those of its entries. It is 0 where there is no chunk.
+fn slot_at(body: &[u8], index: u32) -> Name
+    requires spelled { IsSpelled (database_in body.now) body.now }
+    requires inside { index < length (data_in (database_in body.now)) }
+    ensures { result.0 ≡ slice_index (data_in (database_in body.now)) index }
+{
+    Name(match index {
+        0 => app_info(body),
+        1 => sort_info(body),
+        _ => entry_slot(body, has_resources(body), (index - 2) as u16),
+    })
+}
+
+/// Whether a slot has a locked chunk.
+fn is_locked(heap: &Heap, slot: Name) -> bool
+    requires heap { HeapAccepted heap.now.bytes }
+    requires there { 0 < slot.0 → IsSome (held heap.now.bytes slot.0) }
+    ensures { IsTrue result ↔ Of (held heap.now.bytes slot.0) IsLocked }
+{
+    if slot.0 == 0 {
+        return false;
+    }
+    let locks = heap.sys_locks(slot);
+    0 < locks && locks < FIXED_LOCK
+}
+
+/// Whether a database names a locked chunk.
+pub(crate) fn has_locked(heap: &Heap, db: Db) -> bool
+    requires accepted { Accepted heap.now.bytes }
+    requires number { HasNumber heap.now.bytes db.0 }
+    ensures { IsTrue result
+        ↔ Any (λ name. Of (callers_map heap.now.bytes name) IsLocked)
+            (named_under heap.now.bytes db.0) }
+{
+    let body = header_of(heap, db);
+    for index in 0..slot_count(body) {
+        if is_locked(heap, slot_at(body, index)) {
+            return true;
+        }
+    }
+    false
+}
+
+/// Frees all chunks that a database names. Its header stays as it is, and is read anew for each.
+pub(crate) fn free_data(heap: &mut Heap, db: Db)
+    requires accepted { Accepted heap.old.bytes }
+    requires number { HasNumber heap.old.bytes db.0 }
+    ensures leaves { Leaves heap.old.bytes heap.new.bytes
+        (all_gone (held heap.old.bytes) (named_under heap.old.bytes db.0)) }
+    ensures rest { heap.new ≡ record heap.old { bytes = heap.new.bytes } }
+{
+    let count = slot_count(header_of(heap, db));
+    for index in 0..count {
+        let slot = slot_at(heap.sys_body(Name(db.0)), index);
+        free_chunk_of(heap, slot);
+    }
+}

@@ -1,0 +1,130 @@
+//! A database that is made: its slot in the directory, and its header.
+
+ghost use Rattle.std.specs.Prelude.{◌≡◌, ◌<◌, ◌≤◌, ◌+◌, ◌⊎◌, length, replicate, IfOk, IfErr, OnOk, OnErr};
+ghost use Rattle.heap_model.specs.Bytes.{u32_bytes};
+ghost use Rattle.heap_model.specs.Chunk.{need};
+ghost use Rattle.heap_model.specs.Heap.{HeapAccepted, directory_of};
+ghost use Rattle.heap_model.specs.Reading.{held};
+ghost use Rattle.heap_model.specs.Space.{ShortFor, free_slots, rooms};
+ghost use Rattle.heap_model.specs.DatabaseFields.{header_size};
+ghost use Rattle.heap_model.specs.Leaving.{Leaves};
+ghost use Rattle.heap_model.specs.Rooms.{Stuck};
+ghost use Rattle.heap_model.specs.Store.{Accepted, managers_owner, directory_bytes, owner_under};
+ghost use Rattle.heap_model.specs.DatabaseSteps.{empty_database, create_parts, create_slots};
+ghost use Rattle.mem_manager.specs.Lookup.{HasNoRoomFor};
+ghost use Rattle.db_format.specs.Headers.{HasHeader};
+ghost use Rattle.palm_store.specs.Directory.{ListsLast, ListsNew, HasNoRoomToList};
+
+use crate::lookup::SLOT_SIZE;
+use byteorder::{BigEndian, ByteOrder};
+use db_format::{DbHeader, HEADER_SIZE, NameField, RESOURCE_DATABASE};
+use heap_model::{Name, Refusal};
+use mem_manager::{Heap, MANAGERS_OWNER};
+
+/// The bytes of a slot, as the directory has them.
+fn slot_bytes(slot: Name) -> [u8; 4]
+    ensures { result ≡ u32_bytes slot.0 }
+{
+    let mut bytes = [0; SLOT_SIZE];
+    BigEndian::write_u32(&mut bytes, slot.0);
+    bytes
+}
+
+/// Makes the directory, with one slot. Refused `NotEnoughSpace` alone, and then nothing has changed.
+fn begin_directory(heap: &mut Heap, slot: Name) -> Result<(), Refusal>
+    requires heap { HeapAccepted heap.old.bytes }
+    requires none { directory_of heap.old.bytes ≡ 0 }
+    ensures lists { OnOk result (ListsLast heap.old.bytes heap.new.bytes slot.0) }
+    ensures no_room { OnErr result (HasNoRoomFor heap.old.bytes 4) }
+    ensures refusal { IfErr result (λ refusal. refusal ≡ Refusal.NotEnoughSpace) }
+    ensures refused { OnErr result (heap.new ≡ heap.old) }
+    ensures rest { heap.new ≡ record heap.old { bytes = heap.new.bytes; slid = heap.new.slid } }
+{
+    let directory = heap.sys_new(SLOT_SIZE as u32, MANAGERS_OWNER)?;
+    heap.sys_write(directory, 0, &slot_bytes(slot));
+    heap.set_directory(directory);
+    Ok(())
+}
+
+/// Lists a slot behind those of the directory. Refused `NotEnoughSpace` alone, and then nothing has changed.
+fn extend_directory(heap: &mut Heap, slot: Name) -> Result<(), Refusal>
+    requires heap { HeapAccepted heap.old.bytes }
+    requires some { 0 < directory_of heap.old.bytes }
+    requires few { length (directory_bytes heap.old.bytes) ≤ 4096 }
+    ensures lists { OnOk result (ListsLast heap.old.bytes heap.new.bytes slot.0) }
+    ensures no_room { OnErr result (ShortFor heap.old.bytes (directory_of heap.old.bytes)
+        (need (length (directory_bytes heap.old.bytes) + 4))) }
+    ensures refusal { IfErr result (λ refusal. refusal ≡ Refusal.NotEnoughSpace) }
+    ensures refused { OnErr result (heap.new ≡ heap.old) }
+    ensures rest { heap.new ≡ record heap.old { bytes = heap.new.bytes; slid = heap.new.slid } }
+{
+    let directory = heap.directory();
+    let length = heap.sys_body(directory).len() as u32;
+    heap.sys_resize(directory, length + SLOT_SIZE as u32)?;
+    heap.sys_write(directory, length, &slot_bytes(slot));
+    Ok(())
+}
+
+/// Lists a slot last. Refused `NotEnoughSpace` alone, and then nothing has changed.
+fn list_last(heap: &mut Heap, slot: Name) -> Result<(), Refusal>
+    requires heap { HeapAccepted heap.old.bytes }
+    requires few { length (directory_bytes heap.old.bytes) ≤ 4096 }
+    ensures lists { OnOk result (ListsLast heap.old.bytes heap.new.bytes slot.0) }
+    ensures no_room { OnErr result (HasNoRoomToList heap.old.bytes) }
+    ensures refusal { IfErr result (λ refusal. refusal ≡ Refusal.NotEnoughSpace) }
+    ensures refused { OnErr result (heap.new ≡ heap.old) }
+    ensures rest { heap.new ≡ record heap.old { bytes = heap.new.bytes; slid = heap.new.slid } }
+{
+    if heap.directory().0 == 0 {
+        begin_directory(heap, slot)
+    } else {
+        extend_directory(heap, slot)
+    }
+}
+
+/// Makes a chunk for a header, of zeros, and lists its slot last. Refused `NotEnoughSpace` alone, and then
+/// the heap holds what it held.
+pub(crate) fn list_new(heap: &mut Heap) -> Result<Name, Refusal>
+    requires accepted { Accepted heap.old.bytes }
+    ensures lists { IfOk result (λ slot.
+        ListsNew heap.old.bytes heap.new.bytes slot.0 (replicate header_size 0)) }
+    ensures no_room { OnErr result ((free_slots heap.old.bytes < create_slots heap.old.bytes)
+        ⊎ Stuck (rooms heap.old.bytes) (create_parts heap.old.bytes)) }
+    ensures refusal { IfErr result (λ refusal. refusal ≡ Refusal.NotEnoughSpace) }
+    ensures refused { OnErr result (Leaves heap.old.bytes heap.new.bytes (held heap.old.bytes)) }
+    ensures rest { heap.new ≡ record heap.old { bytes = heap.new.bytes; slid = heap.new.slid } }
+{
+    let slot = heap.sys_new(HEADER_SIZE as u32, MANAGERS_OWNER)?;
+    if let Err(refusal) = list_last(heap, slot) {
+        heap.sys_free(slot);
+        return Err(refusal);
+    }
+    Ok(slot)
+}
+
+/// The header of a database without entries.
+pub(crate) fn empty_header(
+    name: NameField,
+    kind: u32,
+    creator: u32,
+    resources: bool,
+    date: u32,
+) -> DbHeader
+    ensures { HasHeader (empty_database name kind creator resources date) result }
+{
+    DbHeader {
+        name,
+        attributes: if resources { RESOURCE_DATABASE } else { 0 },
+        version: 0,
+        creation_date: date,
+        modification_date: date,
+        backup_date: 0,
+        modification_number: 0,
+        app_info: 0,
+        sort_info: 0,
+        kind,
+        creator,
+        seed: 0,
+        entry_count: 0,
+    }
+}

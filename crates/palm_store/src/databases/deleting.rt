@@ -1,0 +1,27 @@
+//! A database that is deleted: its slot in the directory.
+
+ghost use Rattle.std.specs.Prelude.{◌≡◌, ◌<◌, ◌≤◌, ◌+◌, ◌*◌, length};
+ghost use Rattle.heap_model.specs.Heap.{HeapAccepted, directory_of};
+ghost use Rattle.heap_model.specs.Store.{directory_bytes};
+ghost use Rattle.palm_store.specs.Directory.{Unlists};
+
+use crate::lookup::SLOT_SIZE;
+use mem_manager::Heap;
+
+/// Takes the slot at an index out of the directory: those behind it move to the front.
+pub(crate) fn unlist(heap: &mut Heap, index: u32)
+    requires heap { HeapAccepted heap.old.bytes }
+    requires some { 0 < directory_of heap.old.bytes }
+    requires few { length (directory_bytes heap.old.bytes) ≤ 4096 }
+    requires inside { 4 * index + 4 ≤ length (directory_bytes heap.old.bytes) }
+    ensures unlists { Unlists heap.old.bytes heap.new.bytes index }
+    ensures rest { heap.new ≡ record heap.old { bytes = heap.new.bytes; slid = heap.new.slid } }
+{
+    let directory = heap.directory();
+    let length = heap.sys_body(directory).len() as u32;
+    let at = SLOT_SIZE as u32 * index;
+    let behind = at + SLOT_SIZE as u32;
+    heap.sys_slide(directory, behind, at, length - behind);
+    heap.sys_resize(directory, length - SLOT_SIZE as u32)
+        .unwrap();
+}

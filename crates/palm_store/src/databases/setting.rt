@@ -1,0 +1,29 @@
+//! The header of a database, set.
+
+ghost use Rattle.std.specs.Prelude.{◌≡◌};
+ghost use Rattle.heap_model.specs.DatabaseSteps.{header_set};
+ghost use Rattle.db_format.specs.Headers as headers;
+ghost use Rattle.palm_store.specs.HeaderInfos.{KeepsEntries};
+
+use db_format::{DbHeader, NameField};
+use heap_model::DbInfo;
+
+/// A header with what is given of another, and this name.
+pub(crate) fn with_info(header: DbHeader, name: NameField, info: &DbInfo) -> DbHeader
+    requires { name ≡ info.now.name }
+    ensures set { headers.header_of result ≡ header_set info.now (headers.header_of header) }
+    ensures keeps { KeepsEntries header result }
+{
+    DbHeader {
+        name,
+        attributes: info.attributes / 2 * 2 + header.attributes % 2,
+        version: info.version,
+        creation_date: info.creation_date,
+        modification_date: info.modification_date,
+        backup_date: info.backup_date,
+        modification_number: header.modification_number.wrapping_add(1),
+        kind: info.kind,
+        creator: info.creator,
+        ..header
+    }
+}

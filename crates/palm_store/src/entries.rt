@@ -1,0 +1,11 @@
+//! What the calls on the entries of databases are made of, for records and resources alike.
+
+mod infos;
+mod making;
+mod reading;
+mod shapes;
+
+pub use infos::{EntryInfo, NewEntry, Overview};
+pub(crate) use making::{new_entry, put_in};
+pub(crate) use reading::{count_entries, read_entry};
+pub(crate) use shapes::{emptied, entry_with, told};

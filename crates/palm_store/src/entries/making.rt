@@ -1,0 +1,81 @@
+//! Entries that are made.
+
+ghost use Rattle.std.specs.Prelude.{◌≡◌, ◌⊎◌, ℕ, ◌+◌, ◌<◌, ◌≤◌, [], ◌∷◌, length, IfOk, OnErr, IfErr};
+ghost use Rattle.heap_model.specs.Reading.{held};
+ghost use Rattle.heap_model.specs.Space.{free_slots, rooms};
+ghost use Rattle.heap_model.specs.Rooms.{making, growth, Stuck};
+ghost use Rattle.heap_model.specs.DatabaseFields.{entry_size};
+ghost use Rattle.heap_model.specs.Database.{entry_with, EntryFits};
+ghost use Rattle.heap_model.specs.Store.{Accepted, bytes_under, store_of};
+ghost use Rattle.heap_model.specs.Leaving.{Leaves};
+ghost use Rattle.heap_model.specs.EntrySteps.{entries_in, resources_under};
+ghost use Rattle.db_format.specs.EitherEntry.{entry_of, is_resource, HasFittingId};
+ghost use Rattle.palm_store.specs.Databases.{HasNumber};
+ghost use Rattle.palm_store.specs.EntryInfos.{makes_resource, IsMadeOf};
+ghost use Rattle.palm_store.specs.NewEntries.{PutsIn};
+
+use crate::entries::infos::NewEntry;
+use crate::entries::shapes::with_slot;
+use crate::lookup::header_of;
+use bitflags::Flags;
+use database_edits::alone::insert_entry;
+use db_format::{DbEntry, RecordAttrs, RecordEntry, ResourceEntry};
+use fresh_ids::fresh_id;
+use heap_model::{Db, Name, Refusal};
+use mem_manager::{DATA_OWNER, Heap};
+
+/// Makes a chunk of zeros for data, and puts an entry with it in at an index. Refused `NotEnoughSpace` alone,
+/// and then the heap holds what it held.
+pub(crate) fn put_in(
+    heap: &mut Heap,
+    db: Db,
+    at: u32,
+    entry: DbEntry,
+    size: u32,
+) -> Result<Name, Refusal>
+    requires accepted { Accepted heap.old.bytes }
+    requires number { HasNumber heap.old.bytes db.0 }
+    requires inside { at ≤ length (entries_in (store_of heap.old.bytes) db) }
+    requires few { length (entries_in (store_of heap.old.bytes) db) < 65535 }
+    requires kind { is_resource entry ≡ resources_under (store_of heap.old.bytes) db }
+    requires id { HasFittingId entry }
+    ensures puts { IfOk result (λ name. PutsIn heap.old.bytes heap.new.bytes db.0 at
+        (entry_with (λ (none : ℕ). name.0) (entry_of entry)) name.0 size) }
+    ensures name_fits { IfOk result (λ name. EntryFits (is_resource entry) (entry_of entry)
+        → EntryFits (is_resource entry) (entry_with (λ (none : ℕ). name.0) (entry_of entry))) }
+    ensures no_room { OnErr result ((free_slots heap.old.bytes < 1)
+        ⊎ Stuck (rooms heap.old.bytes) (making size ∷ growth heap.old.bytes db.0
+            (length (bytes_under heap.old.bytes db.0)
+                + entry_size (resources_under (store_of heap.old.bytes) db)) ∷ [])) }
+    ensures refusal { IfErr result (λ refusal. refusal ≡ Refusal.NotEnoughSpace) }
+    ensures refused { OnErr result (Leaves heap.old.bytes heap.new.bytes (held heap.old.bytes)) }
+    ensures rest { heap.new ≡ record heap.old { bytes = heap.new.bytes; slid = heap.new.slid } }
+{
+    let name = heap.sys_new(size, DATA_OWNER)?;
+    if let Err(refusal) = insert_entry(heap, db, at as u16, with_slot(entry, name)) {
+        heap.sys_free(name);
+        return Err(refusal);
+    }
+    Ok(name)
+}
+
+/// The new entry, without data yet: a record gets a fresh ID.
+pub(crate) fn new_entry(heap: &Heap, db: Db, entry: NewEntry) -> DbEntry
+    requires accepted { Accepted heap.now.bytes }
+    requires number { HasNumber heap.now.bytes db.0 }
+    requires kind { makes_resource entry ≡ resources_under (store_of heap.now.bytes) db }
+    requires few { length (entries_in (store_of heap.now.bytes) db) < 65535 }
+    ensures is { IsMadeOf (store_of heap.now.bytes) db entry 0 (entry_of result) }
+    ensures kind { is_resource result ≡ makes_resource entry }
+    ensures id { HasFittingId result }
+    ensures fits { EntryFits (is_resource result) (entry_of result) }
+{
+    match entry {
+        NewEntry::Record { attributes } => DbEntry::Record(RecordEntry {
+            attributes: RecordAttrs::from_bits_retain(attributes),
+            id: fresh_id(header_of(heap, db)),
+            slot: 0,
+        }),
+        NewEntry::Resource { kind, id } => DbEntry::Resource(ResourceEntry { kind, id, slot: 0 }),
+    }
+}

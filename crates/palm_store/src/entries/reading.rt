@@ -1,0 +1,38 @@
+//! Entries, read.
+
+ghost use Rattle.std.specs.Prelude.{◌≡◌, ◌<◌, Some, length, slice_get};
+ghost use Rattle.heap_model.specs.Database.{has_resources, EntryFits};
+ghost use Rattle.heap_model.specs.Store.{Accepted, store_of};
+ghost use Rattle.heap_model.specs.EntrySteps.{entries_in};
+ghost use Rattle.heap_model.specs.Leaving.{database_here};
+ghost use Rattle.db_format.specs.EitherEntry.{entry_of, is_resource, HasFittingId};
+ghost use Rattle.palm_store.specs.Databases.{HasNumber};
+
+use crate::lookup::header_of;
+use db_format::DbEntry;
+use heap_model::Db;
+use mem_manager::Heap;
+
+/// How many entries a database has.
+pub(crate) fn count_entries(heap: &Heap, db: Db) -> u32
+    requires accepted { Accepted heap.now.bytes }
+    requires number { HasNumber heap.now.bytes db.0 }
+    ensures { result ≡ length (entries_in (store_of heap.now.bytes) db) }
+{
+    db_format::entry_count(header_of(heap, db)) as u32
+}
+
+/// The entry at an index, as the database has it.
+pub(crate) fn read_entry(heap: &Heap, db: Db, index: u32) -> DbEntry
+    requires accepted { Accepted heap.now.bytes }
+    requires number { HasNumber heap.now.bytes db.0 }
+    requires inside { index < length (entries_in (store_of heap.now.bytes) db) }
+    ensures is { slice_get (database_here heap.now.bytes db.0).entries index
+        ≡ Some (entry_of result) }
+    ensures kind { is_resource result
+        ≡ has_resources (database_here heap.now.bytes db.0).header.attributes }
+    ensures id { HasFittingId result }
+    ensures fits { EntryFits (is_resource result) (entry_of result) }
+{
+    DbEntry::read(header_of(heap, db), index as u16)
+}

@@ -1,0 +1,13 @@
+//! What is asked of the databases of a store: by name, by index and by number.
+//!
+//! The functions take a heap of which the caller shows that its image is `Accepted`, the invariant of the
+//! store, and leave it as it is. Only names and indexes are searched for; a number costs the same however
+//! many databases there are.
+
+mod directory;
+mod header;
+mod name;
+
+pub(crate) use directory::{SLOT_SIZE, count_databases, directory_bytes, index_of, listed_in};
+pub(crate) use header::{find_header, header_of, info_in};
+pub(crate) use name::{find_named, has_other_name};

@@ -1,0 +1,63 @@
+//! The directory: the numbers of the databases, in its order.
+
+ghost use Rattle.std.specs.Prelude.{◌≡◌, ◌<◌, ◌≤◌, ◌+◌, ◌*◌, ◌/◌, length};
+ghost use Rattle.heap_model.specs.Bytes.{u32_at};
+ghost use Rattle.heap_model.specs.Store.{Accepted, listed, most_databases};
+ghost use Rattle.heap_model.specs.Store as stores;
+ghost use Rattle.palm_store.specs.Databases.{HasNumber, IsListedAt};
+
+use byteorder::{BigEndian, ByteOrder};
+use heap_model::Db;
+use mem_manager::Heap;
+
+/// What a number, the slot of a header, takes in the directory.
+pub(crate) const SLOT_SIZE: usize = 4;
+
+/// The bytes of the directory, as they lie in the image. There are none where no database was made yet.
+pub(crate) fn directory_bytes(heap: &Heap) -> &[u8]
+    requires { Accepted heap.now.bytes }
+    ensures is { result.now ≡ stores.directory_bytes heap.now.bytes }
+    ensures listed { length (listed heap.now.bytes) ≡ length result.now / 4 }
+    ensures few { length (listed heap.now.bytes) ≤ most_databases }
+{
+    let directory = heap.directory();
+    if directory.0 == 0 {
+        &[]
+    } else {
+        heap.sys_body(directory)
+    }
+}
+
+/// The number at an index of the directory's bytes.
+#[inline]
+#[tactic(auto, using(db_format::proofs::WordLaws::u32_at_part))]
+pub(crate) fn listed_in(directory: &[u8], index: usize) -> Db
+    requires { 4 * index + 4 ≤ length directory.now }
+    ensures { result.0 ≡ u32_at directory.now (4 * index) }
+{
+    let at = index * SLOT_SIZE;
+    Db(BigEndian::read_u32(&directory[at..at + SLOT_SIZE]))
+}
+
+/// How many databases there are.
+pub(crate) fn count_databases(heap: &Heap) -> u32
+    requires { Accepted heap.now.bytes }
+    ensures { result ≡ length (listed heap.now.bytes) }
+{
+    (directory_bytes(heap).len() / SLOT_SIZE) as u32
+}
+
+/// The index of a database in the directory, for which the directory is searched.
+pub(crate) fn index_of(heap: &Heap, db: Db) -> u32
+    requires accepted { Accepted heap.now.bytes }
+    requires number { HasNumber heap.now.bytes db.0 }
+    ensures { IsListedAt heap.now.bytes db.0 result }
+{
+    let directory = directory_bytes(heap);
+    for index in 0..directory.len() / SLOT_SIZE {
+        if listed_in(directory, index) == db {
+            return index as u32;
+        }
+    }
+    unreachable!()
+}

@@ -1,0 +1,66 @@
+//! The header of a database, by its number.
+
+ghost use Rattle.std.specs.Prelude.{◌≡◌, None, IfOk, IfErr, OnOk, OnErr};
+ghost use Rattle.heap_model.specs.Database.{IsSpelled, HasShape, database_in};
+ghost use Rattle.heap_model.specs.Store.{Accepted, bytes_under, store_of};
+ghost use Rattle.heap_model.specs.StoreWords.{with_number};
+ghost use Rattle.heap_model.specs.DatabaseSteps.{info_of};
+ghost use Rattle.palm_store.specs.Databases.{HasNumber};
+
+use db_format::DbHeader;
+use heap_model::{Db, DbInfo, DbName, Name, Refusal};
+use mem_manager::{Heap, MANAGERS_OWNER};
+
+/// The bytes of the database that has a number, as `header_of` lends them. It costs the same however many
+/// there are: each chunk of the manager's is a header or the directory.
+///
+/// Refused: `NoSuchDatabase`.
+pub(crate) fn find_header(heap: &Heap, db: Db) -> Result<&[u8], Refusal>
+    requires { Accepted heap.now.bytes }
+    ensures known { OnOk result (HasNumber heap.now.bytes db.0) }
+    ensures is { IfOk result (λ header. header.now ≡ bytes_under heap.now.bytes db.0) }
+    ensures spelled { IfOk result (λ header. IsSpelled (database_in header.now) header.now) }
+    ensures shape { IfOk result (λ header. HasShape header.now) }
+    ensures unknown { OnErr result (with_number (store_of heap.now.bytes) db.0 ≡ None) }
+    ensures refusal { IfErr result (λ refusal. refusal ≡ Refusal.NoSuchDatabase) }
+{
+    let Some((owner, header)) = heap.sys_chunk(Name(db.0)) else {
+        return Err(Refusal::NoSuchDatabase);
+    };
+    if owner != MANAGERS_OWNER || db.0 == heap.directory().0 {
+        return Err(Refusal::NoSuchDatabase);
+    }
+    Ok(header)
+}
+
+/// The bytes of a database, as they lie in the image: its header, and its entries behind that.
+pub(crate) fn header_of(heap: &Heap, db: Db) -> &[u8]
+    requires accepted { Accepted heap.now.bytes }
+    requires number { HasNumber heap.now.bytes db.0 }
+    ensures is { result.now ≡ bytes_under heap.now.bytes db.0 }
+    ensures spelled { IsSpelled (database_in result.now) result.now }
+    ensures shape { HasShape result.now }
+{
+    heap.sys_body(Name(db.0))
+}
+
+/// What the header in these bytes says.
+pub(crate) fn info_in(bytes: &[u8]) -> DbInfo
+    requires { HasShape bytes.now }
+    ensures { result ≡ info_of (database_in bytes.now) }
+{
+    let header = DbHeader::read(bytes);
+    DbInfo {
+        name: DbName::of(header.name.name()),
+        attributes: header.attributes,
+        version: header.version,
+        creation_date: header.creation_date,
+        modification_date: header.modification_date,
+        backup_date: header.backup_date,
+        modification_number: header.modification_number,
+        kind: header.kind,
+        creator: header.creator,
+        seed: header.seed,
+        entry_count: header.entry_count,
+    }
+}

@@ -1,4 +1,0 @@
-pub mod Listing
-pub mod Infos
-pub mod Named
-pub mod Unlisting

@@ -1,9 +1,0 @@
-use Rattle.std.proofs.Common.{sym, ◌∙◌}
-use Rattle.store_entries.proofs.Numbered.{header_inside, count_here}
-use Rattle.store_entries.proofs.asking.entry_count.Goals as goal
-
-pub entry_count-requires : goal.entry_count-requires
-entry_count-requires c = header_inside c.args.heap.now.bytes c.header_of.result.now c.args.db c.requires.accepted c.requires.number c.header_of.ensures.is
-
-pub returns : goal.returns
-returns c = c.entry_count.ensures ∙ sym (count_here c.args.heap.now.bytes c.header_of.result.now c.args.db c.requires.number c.header_of.ensures.is)

@@ -1,6 +1,0 @@
-use Rattle.std.proofs.Common.{take, ap, ◌∙◌}
-use Rattle.store_lookup.proofs.Asking.{info_read}
-use Rattle.store_lookup.proofs.header.info_in.Goals as goal
-
-pub returns : goal.returns
-returns c = info_read _ c.read-header.result c.of.result c.read-header.ensures (c.of.ensures ∙ ap (take 32) c.name.ensures.is) c.name.ensures.valid.room
