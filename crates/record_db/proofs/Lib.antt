@@ -1,4 +1,4 @@
 mod Bits
 mod Entries
-mod Attributes
+mod SetAttributes
 mod Raising

@@ -4,7 +4,7 @@ use Rattle.heap_model.specs.declared.call.Call.TheVariants as calls
 use Rattle.heap_model.specs.declared.call.RecordCall.TheVariants.{Archive}
 use Rattle.heap_model.specs.declared.call.Reply.TheVariants.{Done}
 use Rattle.laws_store.proofs.Doing.{changes, kept_then}
-use Rattle.record_db.proofs.Attributes.{may_have, attributes_set}
+use Rattle.record_db.proofs.SetAttributes.{may_have, attributes_set}
 use Rattle.record_db.proofs.Raising.{number_left, raised_after}
 use Rattle.record_db.proofs.changing.archive.Goals as goal
 

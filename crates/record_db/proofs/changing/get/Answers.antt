@@ -8,7 +8,7 @@ use Rattle.heap_model.specs.declared.call.RecordCall.TheVariants.{Get}
 use Rattle.heap_model.specs.declared.call.Reply.TheVariants.{Named}
 use Rattle.heap_model.specs.declared.refusal.Refusal.TheVariants.{RecordBusy}
 use Rattle.laws_store.proofs.Doing.{refused, changes}
-use Rattle.record_db.proofs.Attributes.{may_have, attributes_set}
+use Rattle.record_db.proofs.SetAttributes.{may_have, attributes_set}
 use Rattle.record_db.proofs.changing.get.Goals as goal
 
 pub returns-then-is_busy : goal.returns-then-is_busy

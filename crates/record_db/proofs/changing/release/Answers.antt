@@ -9,7 +9,7 @@ use Rattle.heap_model.specs.declared.call.Reply.TheVariants.{Done}
 use Rattle.laws_store.proofs.Doing.{changes}
 use Rattle.record_db.proofs.Bits.{released_deleted}
 use Rattle.record_db.proofs.Entries.{info_is, no_data}
-use Rattle.record_db.proofs.Attributes.{may_have, attributes_set}
+use Rattle.record_db.proofs.SetAttributes.{may_have, attributes_set}
 use Rattle.record_db.proofs.changing.release.Goals as goal
 
 pub entry_set-requires-clause-info : goal.entry_set-requires-clause-info
