@@ -2,13 +2,12 @@
 -- refusal.
 use Rattle.std.specs.Prelude.{ℕ, Result}
 use Rattle.heap_model.specs.Memory.{Memory}
-use Rattle.heap_model.specs.MemorySteps.{reply_of}
+use Rattle.heap_model.specs.MemorySteps.{MemoryCall, reply_of}
 use Rattle.heap_model.specs.StoreSteps.{DoesInStore}
 use Rattle.heap_model.specs.declared.names.Db.{Db}
 use Rattle.heap_model.specs.declared.names.Name.{Name}
 use Rattle.heap_model.specs.declared.refusal.Refusal.{Refusal}
-use Rattle.heap_model.specs.declared.call.MemoryCall.{MemoryCall}
-use Rattle.heap_model.specs.declared.call.DatabaseCall.{DatabaseCall}
+use Rattle.heap_model.specs.DatabaseSteps.{DatabaseCall}
 use Rattle.heap_model.specs.declared.call.Call.TheVariants as calls
 use Rattle.heap_model.specs.declared.call.Reply.{Reply}
 use Rattle.heap_model.specs.declared.call.Reply.TheVariants as replies

@@ -7,11 +7,10 @@ use Rattle.heap_model.specs.StoreSteps.{DoesInStore}
 use Rattle.heap_model.specs.Store.{store_of}
 use Rattle.heap_model.specs.Refusals.{Check}
 use Rattle.heap_model.specs.StoreWords.{no_database}
-use Rattle.heap_model.specs.RecordSteps.{no_records, read_only, no_entry, deleted}
+use Rattle.heap_model.specs.RecordSteps.{RecordCall, no_records, read_only, no_entry, deleted}
 use Rattle.heap_model.specs.declared.names.Db.{Db}
 use Rattle.heap_model.specs.declared.names.Name.{Name}
 use Rattle.heap_model.specs.declared.entry.RecordInfo.{RecordInfo}
-use Rattle.heap_model.specs.declared.call.RecordCall.{RecordCall}
 use Rattle.heap_model.specs.declared.call.Call.TheVariants as calls
 use Rattle.heap_model.specs.declared.call.Reply.{Reply}
 use Rattle.heap_model.specs.declared.call.Reply.TheVariants as replies
