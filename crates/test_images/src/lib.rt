@@ -32,6 +32,17 @@ pub const DATABASE: &str =
     00000018 00 000001 0000001C 00 000002 00*2 \
     00000010 0FFFFFB8 4141414141414141 00000010 0FFFFFB2 4242424242424242 80000008 00*4";
 
+/// Two databases with a record each, and 88 free bytes: a third header has room there, and then the
+/// directory, which would take 8 bytes more, has none.
+pub const TWO_DATABASES: &str =
+    "50484931 00000178 0008 0000 00000010 00000038 00000048 000000A8 00000108 00000118 00*12 \
+    00000010 00FFFFF0 00000014 00000018 02000060 00FFFFEA \
+    41 00*31 0000 0000 00*24 44415441 54657374 00000001 00000000 0001 \
+    0000001C 00 000001 00*2 02000060 00FFFFBC \
+    42 00*31 0000 0000 00*24 44415441 54657374 00000001 00000000 0001 \
+    00000020 00 000001 00*2 \
+    00000010 0FFFFF8E 4141414141414141 00000010 0FFFFF88 4242424242424242 80000058 00*84";
+
 /// The bytes of a listing: hex between spaces, and `00*n` for n zeros.
 pub fn bytes_of(alloc: Global, listing: &str) -> Result<Vec<u8>, Fail> {
     let mut bytes = Vec::new(alloc);

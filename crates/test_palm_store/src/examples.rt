@@ -1,11 +1,11 @@
 //! Calls with the replies that they must have, by hand: what lists seldom meet.
 
 use crate::beside::Beside;
-use crate::images::{MIXED, TWO_DATABASES};
+use crate::images::MIXED;
 use heap_model::{Call, DatabaseCall, Db, DbName, MemoryCall, Name, Refusal, Reply};
 use std::process::Abort;
 use std::test::*;
-use test_images::bytes_of as listed;
+use test_images::{TWO_DATABASES, bytes_of as listed};
 
 /// Does a call, which must be answered by this reply.
 fn check(

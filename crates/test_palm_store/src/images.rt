@@ -41,17 +41,6 @@ pub(crate) const MIXED: &str = "50484931 00000400 0011 0000 00000010 \
     04000020 0FFFFEB4 74686520 73616D65 20747970 6520616E 64204944 00000000 \
     80000128 00*292";
 
-/// Two databases with a record each, and 88 free bytes: a third header has room there, and then the
-/// directory, which would take 8 bytes more, has none.
-pub(crate) const TWO_DATABASES: &str =
-    "50484931 00000178 0008 0000 00000010 00000038 00000048 000000A8 00000108 00000118 00*12 \
-    00000010 00FFFFF0 00000014 00000018 02000060 00FFFFEA \
-    41 00*31 0000 0000 00*24 44415441 54657374 00000001 00000000 0001 \
-    0000001C 00 000001 00*2 02000060 00FFFFBC \
-    42 00*31 0000 0000 00*24 44415441 54657374 00000001 00000000 0001 \
-    00000020 00 000001 00*2 \
-    00000010 0FFFFF8E 4141414141414141 00000010 0FFFFF88 4242424242424242 80000058 00*84";
-
 /// A blank image.
 pub(crate) fn blank_image(alloc: Global, size: u32, slots: u16) -> Result<Vec<u8>, Fail> {
     let region = changed_words(alloc, size, slots, &[])?;

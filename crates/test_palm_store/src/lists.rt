@@ -3,7 +3,7 @@
 use crate::beside::{Beside, bytes_of, store_of};
 use crate::calls::do_call;
 use crate::counts::Counts;
-use crate::images::{MIXED, TWO_DATABASES, blank_image};
+use crate::images::{MIXED, blank_image};
 use heap_model::{Call, Refusal, Reply};
 use rand::RngExt;
 use rand_pcg::Pcg32;
@@ -11,7 +11,7 @@ use std::alloc::Global;
 use std::process::Abort;
 use std::test::*;
 use test_calls::{database_call, memory_call, record_call};
-use test_images::{DATABASE, bytes_of as listed};
+use test_images::{DATABASE, TWO_DATABASES, bytes_of as listed};
 use test_model::Image;
 
 /// Each call with the refusals that it must have met, beside being accepted. That there are too many

@@ -107,17 +107,17 @@ fn reply_to(alloc: Global, store: &mut Store, call: MemoryCall) -> Reply {
     do_call(alloc, store, &Call::Memory(call))
 }
 
-/// How many bytes a read of so many answers, from a chunk of 70,000; none where it is refused.
+/// How many bytes a read of so many answers, from the greatest chunk; none where it is refused.
 fn bytes_read(alloc: Global, count: u32) -> Result<Option<usize>, Fail> {
-    let mut store = blank_store(alloc, 80_000)?;
-    let name = chunk_of(&mut store, 70_000)?;
+    let mut store = blank_store(alloc, 16_777_208)?;
+    let name = chunk_of(&mut store, 16_777_168)?;
     match reply_to(alloc, &mut store, MemoryCall::Read { name, at: 0, count }) {
         Reply::Data(bytes) => Ok(Some(bytes.as_slice().len())),
         _ => Ok(None),
     }
 }
 
-const COUNTS: [u32; 6] = [0, 1, 4096, 65_535, 65_536, 70_000];
+const COUNTS: [u32; 6] = [0, 1, 4096, 65_536, 100_001, 16_777_168];
 
 /// Where memory isn't refused, a read of any size is answered.
 #[test]

@@ -10,7 +10,7 @@ use palm_store::Store;
 use std::alloc::Global;
 use std::fmt::Write;
 use std::test::Fail;
-use test_images::{BLANK, DATABASE, bytes_of, image};
+use test_images::{BLANK, DATABASE, TWO_DATABASES, bytes_of, image};
 
 /// A blank image of 1,024 bytes with 16 slots.
 pub(crate) const WIDE: &str = "50484931 00000400 0010 0000 00000000 00*64 800003B0 00*940";
@@ -19,26 +19,30 @@ pub(crate) const WIDE: &str = "50484931 00000400 0010 0000 00000000 00*64 800003
 const TWO_ROOMS: &str = "50484931 00000090 0004 0000 00000000 00000080 00*12 80000058 00*84 \
     00000008 11FFFFCC 80000010 00*12";
 
-/// What is changed in the image of one database, and the fault that comes of it.
-const FAULTS: [(&str, &str); 12] = [
-    ("59: 10", "BadDirectorySlot 0"),
-    ("149: 03", "BadHeader 0"),
-    ("147: 01", "BadHeader 0"),
-    ("127: 14", "BadHeader 0"),
-    ("158: 00000014", "BadEntry 0 1"),
-    ("158: 00000000", "BadEntry 0 1"),
-    ("158: 00000018", "SharedChunk 24"),
-    ("158: 0000000080", "StrayChunk 28"),
-    ("15: 00", "StrayChunk 16"),
-    ("163: 000001", "BadId 0 1"),
-    ("163: 000000", "BadId 0 1"),
-    ("72: 00", "BadName 0"),
+/// What is changed in an image, and the fault that comes of it.
+const FAULTS: [(&str, &str, &str); 15] = [
+    (DATABASE, "59: 10", "BadDirectorySlot 0"),
+    (DATABASE, "149: 03", "BadHeader 0"),
+    (DATABASE, "147: 01", "BadHeader 0"),
+    (DATABASE, "127: 14", "BadHeader 0"),
+    (DATABASE, "158: 00000014", "BadEntry 0 1"),
+    (DATABASE, "158: 00000000", "BadEntry 0 1"),
+    (DATABASE, "158: 00000018", "SharedChunk 24"),
+    (DATABASE, "158: 0000000080", "StrayChunk 28"),
+    (DATABASE, "15: 00", "StrayChunk 16"),
+    (DATABASE, "163: 000001", "BadId 0 1"),
+    (DATABASE, "163: 000000", "BadId 0 1"),
+    (DATABASE, "72: 00", "BadName 0"),
+    // in the second of two databases
+    (TWO_DATABASES, "251: 000000", "BadId 1 0"),
+    (TWO_DATABASES, "168: 00", "BadName 1"),
+    (TWO_DATABASES, "168: 41", "SameName 1"),
 ];
 
 #[test]
 fn check_names_what_is_wrong_with_databases(rt: HostRuntime) -> Result<(), Fail> {
-    for (changes, fault) in &FAULTS {
-        let region = image(rt.alloc(), DATABASE, changes)?;
+    for (listing, changes, fault) in &FAULTS {
+        let region = image(rt.alloc(), listing, changes)?;
         let said = check_said(rt.alloc(), region.slice(0, region.len()))?;
         let wanted = format!(in rt.alloc(); "Refused bad {fault}\n")?;
         assert_eq!(rt; said.as_str(), wanted.as_str());

@@ -135,6 +135,31 @@ fn permissions_are_kept(rt: HostRuntime) -> Result<(), Fail> {
     Ok(())
 }
 
+/// Why a path takes no bytes, and what is there then. They aren't flushed, so that they take no place.
+fn refusal_of(rt: &HostRuntime, path: &str) -> Result<Option<io::ErrorKind>, Fail> {
+    let mut file = OutputFile::new(rt, path)?;
+    let written = file.write_all(b"new");
+    let there = found(rt, path);
+    file.close();
+    if there != Some((true, false)) {
+        return Err("a file beside")?;
+    }
+    Ok(written.err().map(|error| error.kind()))
+}
+
+/// A device and a folder are written to directly, and these take no byte.
+#[test]
+fn what_is_no_file_is_not_replaced(rt: HostRuntime) -> Result<(), Fail> {
+    let folder = std::env::temp_dir(&rt)?.into_string();
+    for (path, kind) in [
+        ("/dev/full", io::ErrorKind::StorageFull),
+        (folder.as_str(), io::ErrorKind::IsADirectory),
+    ] {
+        assert_eq!(rt; refusal_of(&rt, path)?, Some(kind), "{path}");
+    }
+    Ok(())
+}
+
 /// The status of a text whose file is to take the place of a folder, and the reason.
 fn over_a_folder(rt: &HostRuntime, path: &str) -> Result<(Status, Option<io::Error>), Fail> {
     let mut file = Counted::new(Noted::new(OutputFile::new(rt, path)?));

@@ -6,7 +6,7 @@ use crate::grammar::label_count;
 use crate::runs::run_on;
 use heap_model::Counted;
 use palmheap_commands::cmd_new;
-use program_io::Status;
+use program_io::{INPUT_LIMIT, Status};
 use std::alloc::{AllocError, Global};
 use std::test::Fail;
 
@@ -14,7 +14,17 @@ use std::test::Fail;
 fn long_scripts(rt: HostRuntime) -> Result<(), Fail> {
     let text = lines(rt.alloc(), 100_000, "new h", " 8 1")?;
     assert_eq!(rt; label_count(rt.alloc(), text.as_bytes()), Some(100_000));
+    let text = passed_over(rt.alloc(), 4_096)?;
+    assert_eq!(rt; text.len(), INPUT_LIMIT);
+    assert_eq!(rt; label_count(rt.alloc(), text.as_bytes()), Some(0));
     Ok(())
+}
+
+/// So many lines of 4,096 bytes that are passed over.
+fn passed_over(alloc: Global, count: u32) -> Result<String, AllocError> {
+    let filling = repeated(alloc, "x", 4_094)?;
+    let line = format!(in alloc; "#{filling}\n")?;
+    repeated(alloc, line.as_str(), count)
 }
 
 /// A line for each of so many labels, `before` and `behind` around the label.
@@ -47,9 +57,15 @@ fn gives(alloc: Global, image: &[u8], script: &str, said: &str, after: &[u8]) ->
 fn a_script_has_as_many_labels_as_it_likes(rt: HostRuntime) -> Result<(), Fail> {
     let alloc = rt.alloc();
     let image = new_image(alloc, 128)?;
-    let script = lines(alloc, 1025, "bind h", " 0")?;
-    let said = repeated(alloc, "refused 1 InvalidHandle\n", 1025)?;
-    assert!(rt; gives(alloc, &image, script.as_str(), said.as_str(), &image));
+    for (front, behind, reply) in [
+        ("bind h", " 0", "refused 1 InvalidHandle\n"),
+        ("find h", " \"None\"", "refused 10 NoSuchDatabase\n"),
+    ] {
+        let script = lines(alloc, 1025, front, behind)?;
+        let said = repeated(alloc, reply, 1025)?;
+        let is_run = gives(alloc, &image, script.as_str(), said.as_str(), &image);
+        assert!(rt; is_run, "{front}");
+    }
     Ok(())
 }
 
@@ -57,8 +73,8 @@ fn a_script_has_as_many_labels_as_it_likes(rt: HostRuntime) -> Result<(), Fail> 
 fn a_script_is_as_long_as_it_likes(rt: HostRuntime) -> Result<(), Fail> {
     let alloc = rt.alloc();
     let image = new_image(alloc, 128)?;
-    let script = repeated(alloc, "freebytes\n", 7000)?;
-    let said = repeated(alloc, "ok 96\n", 7000)?;
+    let script = repeated(alloc, "freebytes\n", 200_000)?;
+    let said = repeated(alloc, "ok 96\n", 200_000)?;
     assert!(rt; gives(alloc, &image, script.as_str(), said.as_str(), &image));
     Ok(())
 }
@@ -74,6 +90,19 @@ fn a_line_has_as_many_bytes_as_it_likes(rt: HostRuntime) -> Result<(), Fail> {
     let ran = run_on(alloc, image.as_slice(), script.as_str());
     let said = format!(in alloc; "ok\nok 1\nok\nok {hex}\nok -\n")?;
     assert!(rt; ran.status == Status::Done && ran.out.as_slice() == said.as_bytes());
+    Ok(())
+}
+
+/// An image of the greatest size, a script of 8 MB, and a reply line of as many bytes.
+#[test]
+fn a_run_is_as_large_as_it_likes(rt: HostRuntime) -> Result<(), Fail> {
+    let alloc = rt.alloc();
+    let image = new_image(alloc, 16_777_208)?;
+    let mut script = passed_over(alloc, 2_000)?;
+    script.push_str("new a 4000000 1\nlock a\nread a 0 4000000\n")?;
+    let ran = run_on(alloc, image.as_slice(), script.as_str());
+    assert!(rt; ran.status == Status::Done && ran.image.len() == 16_777_208);
+    assert_eq!(rt; ran.out.len(), 3 + 5 + 3 + 8_000_000 + 1);
     Ok(())
 }
 
