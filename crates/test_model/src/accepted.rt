@@ -41,20 +41,40 @@ pub(crate) fn databases_of(alloc: Global, image: &Image) -> Result<Vec<Database>
     let headers = headers_of(alloc, image)?;
     let mut databases: Vec<Database> = Vec::new(alloc);
     for header in &headers {
-        let db = Db(header.0);
-        let body = managers_body(image, *header).ok_or(Unaccepted::Directory)?;
-        let database = Database::decode(alloc, db, body)?;
-        check_entries(alloc, &database)?;
-        if databases
-            .iter()
-            .any(|other| other.header.name == database.header.name)
-        {
-            return Err(Unaccepted::Name(db));
-        }
+        let database = database_of(alloc, image, *header, &databases)?;
         databases.push(database).map_err(AllocError::from)?;
     }
-    check_chunks(alloc, image, &headers, &databases)?;
+    let named = names_in(alloc, &databases)?;
+    check_named(image, &named)?;
+    check_chunks(image, &headers, &named)?;
     Ok(databases)
+}
+
+/// The database of a header, behind others, none of which has its name.
+fn database_of(
+    alloc: Global,
+    image: &Image,
+    header: Name,
+    others: &[Database],
+) -> Result<Database, Unaccepted> {
+    let body = managers_body(image, header).ok_or(Unaccepted::Directory)?;
+    let database = Database::decode(alloc, Db(header.0), body)?;
+    check_database(alloc, &database, others)?;
+    Ok(database)
+}
+
+/// Whether the entries of a database are right, and no other one has its name.
+fn check_database(
+    alloc: Global,
+    database: &Database,
+    others: &[Database],
+) -> Result<(), Unaccepted> {
+    for other in others {
+        if other.header.name == database.header.name {
+            return Err(Unaccepted::Name(database.db));
+        }
+    }
+    check_entries(alloc, database)
 }
 
 /// The body of a chunk of the manager's.
@@ -65,24 +85,27 @@ fn managers_body<'a>(image: &Image<'a>, name: Name) -> Option<&'a [u8]> {
 
 /// The slots that the directory lists.
 fn headers_of(alloc: Global, image: &Image) -> Result<Vec<Name>, Unaccepted> {
-    let mut headers = Vec::new(alloc);
     let Some(directory) = image.directory() else {
-        return Ok(headers);
+        return Ok(Vec::new(alloc));
     };
     let mut left = managers_body(image, directory).ok_or(Unaccepted::Directory)?;
-    for _ in 0..=MOST_DATABASES {
-        if left.is_empty() {
-            return Ok(headers);
-        }
-        let (front, behind) = left.split_first_chunk().ok_or(Unaccepted::Directory)?;
+    let mut headers = Vec::new(alloc);
+    for _ in 0..MOST_DATABASES {
+        let Some((front, behind)) = left.split_first_chunk() else {
+            break;
+        };
         let header = Name(u32::from_be_bytes(*front));
-        if header == directory || headers.contains(&header) || headers.len() == MOST_DATABASES {
+        if header == directory || headers.contains(&header) {
             return Err(Unaccepted::Directory);
         }
         headers.push(header).map_err(AllocError::from)?;
         left = behind;
     }
-    Err(Unaccepted::Directory)
+    if left.is_empty() {
+        Ok(headers)
+    } else {
+        Err(Unaccepted::Directory)
+    }
 }
 
 /// Whether each record has data, if it isn't deleted, and an ID that no other one has.
@@ -108,29 +131,36 @@ fn check_entries(alloc: Global, database: &Database) -> Result<(), Unaccepted> {
     Ok(())
 }
 
-/// Whether databases name chunks of databases alone, and all of them, each once; and each chunk of the
-/// manager's is the directory or a header.
-fn check_chunks(
-    alloc: Global,
-    image: &Image,
-    headers: &[Name],
-    databases: &[Database],
-) -> Result<(), Unaccepted> {
-    let mut named = Vec::new(alloc);
+/// The names of all chunks of databases but their headers.
+fn names_in(alloc: Global, databases: &[Database]) -> Result<Vec<Name>, AllocError> {
+    let mut names = Vec::new(alloc);
     for database in databases {
-        named
-            .extend_from_slice(&database.named(alloc)?)
-            .map_err(AllocError::from)?;
+        database.put_names(&mut names)?;
     }
-    for name in &named {
-        if image.live(*name).is_none_or(|live| live.owner != 15) {
-            return Err(Unaccepted::Named(*name));
+    Ok(names)
+}
+
+/// Whether databases name chunks of databases alone.
+fn check_named(image: &Image, named: &[Name]) -> Result<(), Unaccepted> {
+    for name in named {
+        match image.live(*name) {
+            Some(live) if live.owner == 15 => {}
+            _ => return Err(Unaccepted::Named(*name)),
         }
     }
-    for live in image.pieces.iter().filter_map(|piece| piece.live) {
+    Ok(())
+}
+
+/// Whether each chunk of databases is named once, and each chunk of the manager's is the directory or a
+/// header.
+fn check_chunks(image: &Image, headers: &[Name], named: &[Name]) -> Result<(), Unaccepted> {
+    for piece in &image.pieces {
+        let Some(live) = piece.live else {
+            continue;
+        };
         let is_right = match live.owner {
             0 => headers.contains(&live.name) || image.directory() == Some(live.name),
-            15 => named.iter().filter(|name| **name == live.name).count() == 1,
+            15 => count_of(named, live.name) == 1,
             _ => true,
         };
         if !is_right {
@@ -138,4 +168,9 @@ fn check_chunks(
         }
     }
     Ok(())
+}
+
+/// How often a name stands among others.
+fn count_of(names: &[Name], name: Name) -> usize {
+    names.iter().filter(|other| **other == name).count()
 }

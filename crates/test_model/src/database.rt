@@ -1,7 +1,7 @@
 //! A database, as the body of its header's chunk spells it (docs/FORMAT.md).
 
 use crate::accepted::Unaccepted;
-use crate::image::{u8_at, u16_at, u32_at};
+use crate::image::{are_zeros, up_to_zero};
 use heap_model::{Db, Name};
 use std::alloc::{AllocError, Global};
 
@@ -65,20 +65,21 @@ pub struct Database {
 impl Database {
     /// The database that a body spells. Which chunks there are is not looked at.
     pub(crate) fn decode(alloc: Global, db: Db, body: &[u8]) -> Result<Database, Unaccepted> {
-        let name = name_in(alloc, db, body)?;
         let shape = Unaccepted::Header(db);
-        let header = header_in(name, body).ok_or(shape)?;
-        let count = u16_at(body, 76).ok_or(shape)?;
-        let listed = body.get(HEADER_LENGTH..).ok_or(shape)?;
-        let entries = entries_in(alloc, &header, count, listed)?.ok_or(shape)?;
-        if u32_at(body, 72) != Some(0) {
+        let Some((front, listed)) = body.split_first_chunk::<HEADER_LENGTH>() else {
+            return Err(shape);
+        };
+        let count = number_in(&front[76..]);
+        if number_in(&front[72..76]) != 0 {
             return Err(shape);
         }
+        let header = Header::decode(alloc, db, front)?;
+        let entries = entries_in(alloc, header.attributes, count, listed)?.ok_or(shape)?;
         Ok(Database {
             db,
             header,
-            app_info: chunk_at(body, 52),
-            sort_info: chunk_at(body, 56),
+            app_info: name_of(number_in(&front[52..56])),
+            sort_info: name_of(number_in(&front[56..60])),
             entries,
         })
     }
@@ -91,16 +92,14 @@ impl Database {
         }
     }
 
-    /// The names of all its chunks but its header: of its info blocks, and of the data of its entries.
-    pub(crate) fn named(&self, alloc: Global) -> Result<Vec<Name>, AllocError> {
-        let mut names = Vec::new(alloc);
-        for name in [self.app_info, self.sort_info].into_iter().flatten() {
-            names.push(name)?;
-        }
+    /// Adds the names of all its chunks but its header: of its info blocks, and of the data of its entries.
+    pub(crate) fn put_names(&self, names: &mut Vec<Name>) -> Result<(), AllocError> {
+        put_name(names, self.app_info)?;
+        put_name(names, self.sort_info)?;
         match &self.entries {
             Entries::Records(records) => {
-                for name in records.iter().filter_map(|record| record.data) {
-                    names.push(name)?;
+                for record in records {
+                    put_name(names, record.data)?;
                 }
             }
             Entries::Resources(resources) => {
@@ -109,16 +108,25 @@ impl Database {
                 }
             }
         }
-        Ok(names)
+        Ok(())
     }
 }
 
-/// The name in front of a body: 1 to 31 bytes, and zeros up to 32.
-fn name_in(alloc: Global, db: Db, body: &[u8]) -> Result<Vec<u8>, Unaccepted> {
-    let field = body.get(..32).ok_or(Unaccepted::Header(db))?;
-    let length = field.iter().take_while(|byte| **byte != 0).count();
-    let name = field.get(..length).ok_or(Unaccepted::Name(db))?;
-    let is_filled = field.iter().skip(length).all(|byte| *byte == 0);
+/// Adds a name, if there is one.
+fn put_name(names: &mut Vec<Name>, name: Option<Name>) -> Result<(), AllocError> {
+    if let Some(name) = name {
+        names.push(name)?;
+    }
+    Ok(())
+}
+
+/// The name in a field of 32 bytes: 1 to 31 bytes, and zeros up to the end.
+fn name_in(alloc: Global, db: Db, field: &[u8]) -> Result<Vec<u8>, Unaccepted> {
+    let name = up_to_zero(field);
+    let is_filled = match field.get(name.len()..) {
+        Some(behind) => are_zeros(behind),
+        None => false,
+    };
     if !is_filled || !is_name(name) {
         return Err(Unaccepted::Name(db));
     }
@@ -130,39 +138,47 @@ pub(crate) fn is_name(name: &[u8]) -> bool {
     !name.is_empty() && name.len() <= 31 && !name.contains(&0)
 }
 
-/// The fields behind the name.
-fn header_in(name: Vec<u8>, body: &[u8]) -> Option<Header> {
-    Some(Header {
-        name,
-        attributes: u16_at(body, 32)?,
-        version: u16_at(body, 34)?,
-        creation_date: u32_at(body, 36)?,
-        modification_date: u32_at(body, 40)?,
-        backup_date: u32_at(body, 44)?,
-        modification_number: u32_at(body, 48)?,
-        kind: u32_at(body, 60)?,
-        creator: u32_at(body, 64)?,
-        seed: u32_at(body, 68)?,
-    })
+impl Header {
+    /// The header that the bytes in front of the entries spell.
+    fn decode(alloc: Global, db: Db, front: &[u8; HEADER_LENGTH]) -> Result<Header, Unaccepted> {
+        Ok(Header {
+            name: name_in(alloc, db, &front[..32])?,
+            attributes: u16::from_be_bytes([front[32], front[33]]),
+            version: u16::from_be_bytes([front[34], front[35]]),
+            creation_date: number_in(&front[36..40]),
+            modification_date: number_in(&front[40..44]),
+            backup_date: number_in(&front[44..48]),
+            modification_number: number_in(&front[48..52]),
+            kind: number_in(&front[60..64]),
+            creator: number_in(&front[64..68]),
+            seed: number_in(&front[68..72]),
+        })
+    }
+}
+
+/// The number that bytes spell, the first of them the highest; of more than four bytes the last four count.
+fn number_in(bytes: &[u8]) -> u32 {
+    let mut number = 0u32;
+    for byte in bytes {
+        number = number.wrapping_mul(256).wrapping_add(u32::from(*byte));
+    }
+    number
 }
 
 /// The chunk that a word names, none where it is 0.
-fn chunk_at(bytes: &[u8], at: usize) -> Option<Name> {
-    match u32_at(bytes, at)? {
-        0 => None,
-        slot => Some(Name(slot)),
-    }
+fn name_of(word: u32) -> Option<Name> {
+    if word == 0 { None } else { Some(Name(word)) }
 }
 
 /// So many entries, which take all of the bytes; none where they take others.
 fn entries_in(
     alloc: Global,
-    header: &Header,
-    count: u16,
+    attributes: u16,
+    count: u32,
     listed: &[u8],
 ) -> Result<Option<Entries>, AllocError> {
-    let count = usize::from(count);
-    if header.attributes & OF_RESOURCES == 0 {
+    let count = count as usize;
+    if attributes & OF_RESOURCES == 0 {
         let records = records_in(alloc, count, listed)?;
         Ok((listed.len() == 8 * count).then_some(Entries::Records(records)))
     } else {
@@ -176,13 +192,13 @@ fn records_in(alloc: Global, count: usize, listed: &[u8]) -> Result<Vec<Record>,
     let mut records = Vec::new(alloc);
     let mut left = listed;
     for _ in 0..count {
-        let Some((front, behind)) = left.split_at_checked(8) else {
+        let Some((front, behind)) = left.split_first_chunk::<8>() else {
             break;
         };
         records.push(Record {
-            data: chunk_at(front, 0),
-            attributes: u8_at(front, 4).unwrap_or(0),
-            id: u32_at(front, 4).unwrap_or(0) & 0xFF_FFFF,
+            data: name_of(number_in(&front[..4])),
+            attributes: front[4],
+            id: number_in(&front[5..]),
         })?;
         left = behind;
     }
@@ -194,13 +210,13 @@ fn resources_in(alloc: Global, count: usize, listed: &[u8]) -> Result<Vec<Resour
     let mut resources = Vec::new(alloc);
     let mut left = listed;
     for _ in 0..count {
-        let Some((front, behind)) = left.split_at_checked(10) else {
+        let Some((front, behind)) = left.split_first_chunk::<10>() else {
             break;
         };
         resources.push(Resource {
-            kind: u32_at(front, 0).unwrap_or(0),
-            id: u16_at(front, 4).unwrap_or(0),
-            data: Name(u32_at(front, 6).unwrap_or(0)),
+            kind: number_in(&front[..4]),
+            id: u16::from_be_bytes([front[4], front[5]]),
+            data: Name(number_in(&front[6..])),
         })?;
         left = behind;
     }

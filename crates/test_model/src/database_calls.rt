@@ -30,8 +30,11 @@ impl PlainStore {
                 resources,
                 date,
             } => {
-                let header = Header::new(alloc, name, *kind, *creator, *resources, *date);
-                self.create(alloc, header.map_err(no_memory)?, before, reply)
+                let db = self.number_for(alloc, name.as_slice(), before, reply)?;
+                match Database::new(alloc, db, name, *kind, *creator, *resources, *date) {
+                    Ok(database) => self.add(database),
+                    Err(_) => Err(Refusal::OutOfMemory),
+                }
             }
             DatabaseCall::Delete(db) => self.delete(alloc, *db),
             DatabaseCall::Find(name) => self.find(name.as_slice()),
@@ -42,51 +45,42 @@ impl PlainStore {
         }
     }
 
-    /// A database without entries, behind the others, whose number is that of a free slot.
-    fn create(
-        &mut self,
+    /// The number of a database that is made, which is that of a free slot.
+    fn number_for(
+        &self,
         alloc: Global,
-        header: Header,
+        name: &[u8],
         before: &Image,
         reply: &Reply,
-    ) -> Result<Reply, Refusal> {
-        self.check_name(&header.name, Db(0))?;
+    ) -> Result<Db, Refusal> {
+        self.check_name(name, Db(0))?;
         if self.databases.len() >= MOST_DATABASES {
             return Err(Refusal::TooManyEntries);
         }
         let first = before.first_free_slot().ok_or(Refusal::NotEnoughSpace)?;
-        let db = match reply {
+        match reply {
             Reply::Refused(Refusal::NotEnoughSpace) if may_lack_room(alloc, before)? => {
-                return Err(Refusal::NotEnoughSpace);
+                Err(Refusal::NotEnoughSpace)
             }
-            Reply::Database(db) if before.is_free_slot(Name(db.0)) => *db,
-            _ => Db(first.0),
-        };
-        let entries = if header.attributes & OF_RESOURCES == 0 {
-            Entries::Records(Vec::new(alloc))
-        } else {
-            Entries::Resources(Vec::new(alloc))
-        };
-        let database = Database {
-            db,
-            header,
-            app_info: None,
-            sort_info: None,
-            entries,
-        };
-        self.databases.push(database).map_err(no_memory)?;
-        Ok(Reply::Database(db))
+            Reply::Database(db) if before.is_free_slot(Name(db.0)) => Ok(*db),
+            _ => Ok(Db(first.0)),
+        }
+    }
+
+    /// Adds a database behind the others.
+    fn add(&mut self, database: Database) -> Result<Reply, Refusal> {
+        let db = database.db;
+        match self.databases.push(database) {
+            Ok(()) => Ok(Reply::Database(db)),
+            Err(_) => Err(Refusal::OutOfMemory),
+        }
     }
 
     /// A database goes, with all the chunks that it names. None of them may be locked.
     fn delete(&mut self, alloc: Global, db: Db) -> Result<Reply, Refusal> {
-        let named = self.database(db)?.named(alloc).map_err(no_memory)?;
-        if named.iter().any(|name| self.heap.is_locked(*name)) {
-            return Err(Refusal::ChunkLocked);
-        }
-        for name in &named {
-            self.heap.chunks.remove(&name.0);
-        }
+        let mut named = Vec::new(alloc);
+        self.database(db)?.put_names(&mut named).map_err(no_memory)?;
+        self.heap.free_all(&named)?;
         self.databases.retain(|database| database.db != db);
         Ok(Reply::Done)
     }
@@ -139,8 +133,34 @@ impl PlainStore {
     }
 }
 
+impl Database {
+    /// A database that is made: it has no entries.
+    fn new(
+        alloc: Global,
+        db: Db,
+        name: &DbName,
+        kind: u32,
+        creator: u32,
+        resources: bool,
+        date: u32,
+    ) -> Result<Database, AllocError> {
+        let header = Header::new(alloc, name, kind, creator, resources, date)?;
+        let entries = if resources {
+            Entries::Resources(Vec::new(alloc))
+        } else {
+            Entries::Records(Vec::new(alloc))
+        };
+        Ok(Database {
+            db,
+            header,
+            app_info: None,
+            sort_info: None,
+            entries,
+        })
+    }
+}
+
 impl Header {
-    /// The header of a database that is made.
     fn new(
         alloc: Global,
         name: &DbName,

@@ -23,9 +23,20 @@ pub struct PlainHeap {
 impl PlainHeap {
     /// All chunks that an image holds.
     pub fn of(alloc: Global, image: &Image) -> Result<PlainHeap, AllocError> {
+        PlainHeap::owned_from(alloc, image, 0)
+    }
+
+    /// The chunks that an image holds whose owner has this number, or a higher one.
+    pub(crate) fn owned_from(
+        alloc: Global,
+        image: &Image,
+        least: u8,
+    ) -> Result<PlainHeap, AllocError> {
         let mut chunks = BTreeMap::new(alloc);
         for piece in &image.pieces {
-            if let Some(live) = piece.live {
+            if let Some(live) = piece.live
+                && live.owner >= least
+            {
                 let chunk = Chunk {
                     kind: live.kind,
                     owner: live.owner,
@@ -35,6 +46,19 @@ impl PlainHeap {
             }
         }
         Ok(PlainHeap { chunks })
+    }
+
+    /// Frees chunks. Refused where one of them is locked.
+    pub(crate) fn free_all(&mut self, names: &[Name]) -> Result<(), Refusal> {
+        for name in names {
+            if self.is_locked(*name) {
+                return Err(Refusal::ChunkLocked);
+            }
+        }
+        for name in names {
+            self.chunks.remove(&name.0);
+        }
+        Ok(())
     }
 
     /// A name under which the heap and an image have different chunks, or only one of them has one.

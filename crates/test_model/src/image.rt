@@ -85,10 +85,10 @@ impl<'a> Image<'a> {
     /// Takes an image apart. Refused where it is no accepted heap.
     pub fn decode(alloc: Global, bytes: &'a [u8]) -> Result<Image<'a>, Unreadable> {
         let slot_count = framed_slots(bytes).ok_or(Unreadable::Frame)?;
-        let slots = slots_of(alloc, bytes, slot_count)?;
         let area = padded_end(bytes, slot_count).ok_or(Unreadable::Frame)?;
         let pieces = pieces_of(alloc, bytes, area)?;
         let runs = runs_of(alloc, &pieces)?;
+        let slots = slots_of(alloc, bytes, slot_count)?;
         let image = Image {
             bytes,
             pieces,
@@ -345,7 +345,7 @@ fn padded_end(bytes: &[u8], slot_count: u16) -> Option<u32> {
     let end = 16 + 4 * u32::from(slot_count);
     let area = end.next_multiple_of(8);
     let padding = bytes.get(end as usize..area as usize)?;
-    let is_padded = padding.iter().all(|byte| *byte == 0) && area as usize + 8 <= bytes.len();
+    let is_padded = are_zeros(padding) && area as usize + 8 <= bytes.len();
     if is_padded { Some(area) } else { None }
 }
 
@@ -451,11 +451,17 @@ fn runs_of(alloc: Global, pieces: &[Piece]) -> Result<Vec<Run>, AllocError> {
     Ok(runs)
 }
 
-pub(crate) fn u8_at(bytes: &[u8], at: usize) -> Option<u8> {
-    bytes.get(at).copied()
+/// The bytes in front of the first zero byte, all if there is none.
+pub(crate) fn up_to_zero(bytes: &[u8]) -> &[u8] {
+    let length = bytes.iter().take_while(|byte| **byte != 0).count();
+    bytes.get(..length).unwrap_or(bytes)
 }
 
-pub(crate) fn u16_at(bytes: &[u8], at: usize) -> Option<u16> {
+pub(crate) fn are_zeros(bytes: &[u8]) -> bool {
+    bytes.iter().all(|byte| *byte == 0)
+}
+
+fn u16_at(bytes: &[u8], at: usize) -> Option<u16> {
     let number = bytes.get(at..)?.first_chunk()?;
     Some(u16::from_be_bytes(*number))
 }

@@ -2,7 +2,7 @@
 //! what it does and what it answers.
 
 use crate::heap::{Chunk, PlainHeap};
-use crate::image::{Image, Kind};
+use crate::image::{Image, Kind, up_to_zero};
 use heap_model::{Bytes, MemoryCall, Name, Place, Refusal, Reply};
 use std::alloc::Global;
 
@@ -202,9 +202,7 @@ impl PlainHeap {
 
     fn write(&mut self, name: Name, at: u32, bytes: &[u8]) -> Result<Reply, Refusal> {
         let part = self.chunk_mut(name)?.part_mut(at, bytes.len())?;
-        for (to, from) in part.iter_mut().zip(bytes) {
-            *to = *from;
-        }
+        copy(part, bytes);
         Ok(Reply::Done)
     }
 
@@ -216,14 +214,12 @@ impl PlainHeap {
 
     /// Writes the bytes in front of the first zero byte, all if there is none, and one zero byte.
     fn str_copy(&mut self, name: Name, at: u32, text: &[u8]) -> Result<Reply, Refusal> {
-        let length = text.iter().take_while(|byte| **byte != 0).count();
+        let text = up_to_zero(text);
         let part = self
             .chunk_mut(name)?
-            .part_mut(at, length.saturating_add(1))?;
+            .part_mut(at, text.len().saturating_add(1))?;
         part.fill(0);
-        for (to, from) in part.iter_mut().zip(text.iter().take(length)) {
-            *to = *from;
-        }
+        copy(part, text);
         Ok(Reply::Done)
     }
 
@@ -279,6 +275,13 @@ impl Chunk {
             None => return Err(Refusal::OutOfBounds),
         };
         behind.get_mut(..count).ok_or(Refusal::OutOfBounds)
+    }
+}
+
+/// Writes bytes over as many others.
+fn copy(to: &mut [u8], from: &[u8]) {
+    for (to, from) in to.iter_mut().zip(from) {
+        *to = *from;
     }
 }
 

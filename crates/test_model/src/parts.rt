@@ -61,22 +61,32 @@ fn place(
     part: &Part,
     choices: &mut Vec<Vec<u64>>,
 ) -> Result<bool, AllocError> {
-    let mut rooms = Vec::from_slice(alloc, rooms)?;
-    if let Some((stretch, size)) = part.leaves
-        && let Some(room) = rooms.get_mut(stretch)
-    {
-        *room = room.saturating_add(size);
-    }
     let mut has_room = false;
     for stretch in 0..rooms.len() {
-        let mut left = rooms.clone()?;
-        if let Some(room) = left.get_mut(stretch)
-            && *room >= part.need
-        {
-            *room -= part.need;
+        if let Some(left) = left_behind(alloc, rooms, part, stretch)? {
             choices.push(left)?;
             has_room = true;
         }
     }
     Ok(has_room)
+}
+
+/// The rooms that are left where a part gets its bytes in one stretch, none where that has too few.
+fn left_behind(
+    alloc: Global,
+    rooms: &[u64],
+    part: &Part,
+    stretch: usize,
+) -> Result<Option<Vec<u64>>, AllocError> {
+    let mut left = Vec::from_slice(alloc, rooms)?;
+    if let Some((own, size)) = part.leaves
+        && let Some(room) = left.get_mut(own)
+    {
+        *room = room.saturating_add(size);
+    }
+    match left.get_mut(stretch) {
+        Some(room) if *room >= part.need => *room -= part.need,
+        _ => return Ok(None),
+    }
+    Ok(Some(left))
 }

@@ -37,8 +37,7 @@ impl PlainStore {
     ) -> Result<Reply, Refusal> {
         match call {
             RecordCall::New { db, at, size } => {
-                let name = self.room_for_record(alloc, *db, *size, before, reply)?;
-                self.insert_record(alloc, *db, *at, name, *size)
+                self.new_record(alloc, *db, *at, *size, before, reply)
             }
             RecordCall::Delete(db, index) => self.delete_record(*db, *index),
             RecordCall::Archive(db, index) => self.archive_record(*db, *index),
@@ -49,14 +48,24 @@ impl PlainStore {
             RecordCall::Release { db, index, dirty } => self.release_record(*db, *index, *dirty),
             RecordCall::Info(db, index) => Ok(info_of(self.record(*db, *index)?)),
             RecordCall::Resize { db, index, size } => {
-                self.check_written(*db)?;
-                let record = self.kept_record(*db, *index)?;
-                let data = record.data.ok_or(Refusal::RecordDeleted)?;
-                self.heap.set_length(data, *size, before)?;
-                self.count_change(*db)
+                self.resize_record(*db, *index, *size, before)
             }
             RecordCall::Count(db) => Ok(number(self.records(*db)?.len())),
         }
+    }
+
+    /// A record at an index or at the end, with data of so many bytes.
+    fn new_record(
+        &mut self,
+        alloc: Global,
+        db: Db,
+        at: u32,
+        size: u32,
+        before: &Image,
+        reply: &Reply,
+    ) -> Result<Reply, Refusal> {
+        let name = self.room_for_record(alloc, db, size, before, reply)?;
+        self.insert_record(alloc, db, at, name, size)
     }
 
     /// The name for the data of a new record, a free slot. The data may find no room, or the header none for
@@ -169,6 +178,21 @@ impl PlainStore {
         self.count_change(db)
     }
 
+    /// Its data has another length.
+    fn resize_record(
+        &mut self,
+        db: Db,
+        index: u32,
+        size: u32,
+        before: &Image,
+    ) -> Result<Reply, Refusal> {
+        self.check_written(db)?;
+        let record = self.kept_record(db, index)?;
+        let data = record.data.ok_or(Refusal::RecordDeleted)?;
+        self.heap.set_length(data, size, before)?;
+        self.count_change(db)
+    }
+
     /// It is in use from then on.
     fn get_record(&mut self, db: Db, index: u32) -> Result<Reply, Refusal> {
         let record = self.kept_record(db, index)?;
@@ -240,10 +264,7 @@ impl PlainStore {
     /// Frees the data of a record, if there is some. Refused where it is locked.
     fn free_data(&mut self, data: Option<Name>) -> Result<(), Refusal> {
         if let Some(name) = data {
-            if self.heap.is_locked(name) {
-                return Err(Refusal::ChunkLocked);
-            }
-            self.heap.chunks.remove(&name.0);
+            self.heap.free_all(&[name])?;
         }
         Ok(())
     }

@@ -28,8 +28,7 @@ impl PlainStore {
     /// The store that an image means. Refused where the image isn't accepted with its databases.
     pub fn of(alloc: Global, image: &Image) -> Result<PlainStore, Unaccepted> {
         let databases = databases_of(alloc, image)?;
-        let mut heap = PlainHeap::of(alloc, image)?;
-        heap.chunks.retain(|_, chunk| chunk.owner > 0);
+        let heap = PlainHeap::owned_from(alloc, image, 1)?;
         Ok(PlainStore { heap, databases })
     }
 
