@@ -60,7 +60,7 @@ pub(crate) fn find_live(
     ensures inside { OnOk result (index < length (entries_of_image store.now.bytes db)) }
     ensures is { IfOk result (λ live.
         entry_under (store_of store.now.bytes) db index
-            ≡ Some (a_record live.attributes live.id live.«data».0)) }
+        ≡ Some (a_record live.attributes live.id live.«data».0)) }
     ensures some { IfOk result (λ live. 0 < live.«data».0) }
     ensures passes { OnOk result (NoneHolds (living_checks store.now.bytes db index)) }
     ensures refused { IfErr result (FirstBrings (living_checks store.now.bytes db index)) }

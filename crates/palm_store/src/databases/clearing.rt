@@ -59,7 +59,7 @@ pub(crate) fn has_locked(heap: &Heap, db: Db) -> bool
     requires number { HasNumber heap.now.bytes db.0 }
     ensures { IsTrue result
         ↔ Any (λ name. Of (callers_map heap.now.bytes name) IsLocked)
-            (named_under heap.now.bytes db.0) }
+        (named_under heap.now.bytes db.0) }
 {
     let body = header_of(heap, db);
     for index in 0..slot_count(body) {

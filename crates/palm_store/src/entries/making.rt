@@ -45,8 +45,8 @@ pub(crate) fn put_in(
         → EntryFits (is_resource entry) (entry_with (λ (none : ℕ). name.0) (entry_of entry))) }
     ensures no_room { OnErr result ((free_slots heap.old.bytes < 1)
         ⊎ Stuck (rooms heap.old.bytes) (making size ∷ growth heap.old.bytes db.0
-            (length (bytes_under heap.old.bytes db.0)
-                + entry_size (resources_under (store_of heap.old.bytes) db)) ∷ [])) }
+        (length (bytes_under heap.old.bytes db.0)
+        + entry_size (resources_under (store_of heap.old.bytes) db)) ∷ [])) }
     ensures refusal { IfErr result (λ refusal. refusal ≡ Refusal.NotEnoughSpace) }
     ensures refused { OnErr result (Leaves heap.old.bytes heap.new.bytes (held heap.old.bytes)) }
     ensures rest { heap.new ≡ record heap.old { bytes = heap.new.bytes; slid = heap.new.slid } }
