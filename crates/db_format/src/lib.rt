@@ -14,7 +14,8 @@
 //!
 //! The numbers are big-endian. A reader takes the bytes as a slice, which a heap lends; what is to be
 //! written comes as a small array, since no slice is lent over a write. To change a field, read the
-//! header or the entry, set the field, and write the bytes of the whole back. `specs/Headers.antt` and
+//! header or the entry, set the field, and write the bytes of the whole back; the modification number, the
+//! seed and the number of entries have bytes of their own too. `specs/Headers.antt` and
 //! `specs/Entries.antt` say what such a write does to the database: start there.
 #![tactic(auto)]
 

@@ -28,6 +28,8 @@
 //! | `Store` | the databases of an image, the accepted image, and the store that it means |
 //! | `Counts` | an image and its databases, by how often each name is listed and named |
 //! | `Rooms` | the rooms that are left for a call of several parts |
+//! | `Leaving` | what a call leaves that is no step for callers, and a chunk that spells a database |
+//! | `Numbers` | the numbers and the names of refusals |
 //! | `Refusals` | checks in order, and the refusal that the first one brings |
 //! | `Steps` | what a row says of a call, and the step that it makes, whatever the call acts on |
 //! | `MemorySteps` | the row of each call of the memory manager: what it refuses, answers and does |

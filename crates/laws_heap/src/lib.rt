@@ -6,7 +6,7 @@
 //! | file | laws of |
 //! |---|---|
 //! | `Frames`, `Writing` | where two lists of bytes agree, and what a write leaves |
-//! | `Deciding` | tests and the facts that they decide |
+//! | `Deciding`, `Results` | tests and the facts that they decide; the error of a result, where it is known |
 //! | `Chunks` | runs of chunks, which are put together, taken apart and framed |
 //! | `Placed` | what holds of every chunk where it stands, or of some one |
 //! | `Shapes`, `Runs` | chunks that are read and chunks that are spelled, one or all from an offset on |
@@ -20,13 +20,16 @@
 //! | `Plain` | the same: first words of free chunks, of which no other bits are set |
 //! | `Freeing`, `Altering` | the same: free chunks split, joined and claimed, live ones freed and altered |
 //! | `Exchanging` | a chunk of a layout exchanged for others: by parts, and what all names stand for |
-//! | `Changing` | the same by what is done: what its name stands for afterwards |
+//! | `Changing`, `ChangedName` | the same by what is done: what its name stands for afterwards, and what all others do |
+//! | `Directory` | the directory word written: all else of the image is as it was |
 //! | `OwnedChunks` | all chunks of an owner made free |
 //! | `Packings` | what packing leaves: it is packed, and one list alone |
+//! | `CarriedBytes` | bytes carried up or down, and what they spelled |
 //! | `Sliding` | chunks that slide: what names stand for, which stay, and the rooms are as they were |
 //! | `StretchNumbers` | the number of the stretch that a chunk is in, in lists of one layout, and where chunks slide |
 //! | `Compacting` | the same of an image; and which of its chunks have moved, and how much |
-//! | `Holding` | how much is free, by what is held |
+//! | `Holding`, `Fits` | how much is free, by what is held; whether so many bytes fit into a run, a stretch or a place |
+//! | `Unmoved` | where one chunk alone has moved, or none |
 //! | `Stretches` | one stretch of an image: the one around a chunk, and its room among the others |
 //! | `LoweredRoom` | a chunk that is made lowers one room, and no other changes its stretch |
 //! | `Resizings`, `Relocation` | a chunk that takes another length, in its place or elsewhere: what its name stands for then |

@@ -8,7 +8,7 @@
 //! | `Numbers` | numbers and the bytes that they stand in, both ways; lists by index |
 //! | `Listing` | how often a number stands in a list, and what this says of its elements; least numbers |
 //! | `Moving` | an element of a list moved: what stands where |
-//! | `Fresh` | fresh unique IDs: there is one, and one alone |
+//! | `Fresh`, `RecordIds` | fresh unique IDs: there is one, and one alone; those of records, by the indexes of their entries |
 //! | `Names` | names in their fields |
 //! | `Spellings` | what spells a database is read as that one |
 //! | `Shapes` | bytes in shape spell what is read off them |
@@ -22,7 +22,7 @@
 //! | `Deciding` | the tests of `specs/StoreTests` decide which image is accepted |
 //! | `Keeping` | an image whose manager's chunks are as they were |
 //! | `Calling` | the memory manager's calls, which leave the databases |
-//! | `Lifting` | the memory manager's calls, which are steps of the store |
+//! | `Lifting`, `Doing` | the memory manager's calls, which are steps of the store; what is left to show of a step |
 //! | `Rewriting` | an image in which one database was rewritten |
 //! | `Found` | databases by their numbers: found, changed and taken out |
 //! | `Numbered` | databases of an accepted image by their numbers: what is spelled there |
