@@ -106,24 +106,35 @@ edit_steps old new db change name now a has s =
 
 -- ---- an entry that came, with its data
 
+-- what comes with a database that is written for it
+pub made_edit : (old new : List ℕ) (db : ℕ) (d : Database ℕ) (slot size : ℕ) → Leaves old new (made (rewritten (held old) db (spelled d)) slot size data_owner 0)
+    → held old slot ≡ None → IsSound d → d.header.name ≡ (database_here old db).header.name
+    → ((q : ℕ) → times q (data_in d) ≡ times q (data_in (database_here old db)) + same slot q)
+    → Edits old new db d slot (Some (record { bytes = replicate size 0; lock = 0; owner = data_owner }))
+unfolding owner_under
+made_edit old new db d slot size l none sound name counts =
+    let chunk : LiveChunk = record { bytes = replicate size 0; lock = 0; owner = data_owner } in
+    let was : owner_under old slot ≡ 16 = ap owner_of none in
+    record {
+      leaves = l;
+      sound = sound;
+      same_name = name;
+      callers = λ z. omega arith;
+      callers_now = λ z. omega arith;
+      locks = λ before after there is. absurd (none_some (held old slot) before none there);
+      balance = made_balance old new db (spelled d) slot (Some chunk) l (database_here old db) d (λ z. omega arith) refl counts;
+    }
+
 pub make_steps : (old new : List ℕ) (db : Db) (index : ℕ) (e : Entry ℕ) (size : ℕ) → Accepted old → IsSome (with_number (store_of old) db.0)
     → Leaves old new (made (rewritten (held old) db.0 (spelled (with_entry_at index e (database_here old db.0)))) (entry_data e) size data_owner 0) → held old (entry_data e) ≡ None
     → EntryFits (has_resources (database_here old db.0).header.attributes) e → NamesData e → HasNewId (unique_ids (database_here old db.0)) e → index ≤ length (database_here old db.0).entries → length (database_here old db.0).entries < most_entries
     → LeavesStore old new (entry_made (store_of old) db index e size)
-unfolding store_of owner_under
+unfolding store_of
 make_steps old new db index e size a has l none fits names own inside few =
     let d : Database ℕ = database_here old db.0 in
-    let chunk : LiveChunk = record { bytes = replicate size 0; lock = 0; owner = data_owner } in
-    let was : owner_under old (entry_data e) ≡ 16 = ap owner_of none in
-    edit_steps old new db (with_entry_at index e) (entry_data e) (Some chunk) a has (record {
-      leaves = l;
-      sound = inserted_sound d index e (accepted_sound old db.0 a has) fits names own inside few;
-      same_name = seeded_name e d.header;
-      callers = λ z. omega arith;
-      callers_now = λ z. omega arith;
-      locks = λ before after there is. absurd (none_some (held old (entry_data e)) before none there);
-      balance = made_balance old new db.0 (spelled (with_entry_at index e d)) (entry_data e) (Some chunk) l d (with_entry_at index e d) (λ z. omega arith) refl (λ q. inserted_names q d index e);
-    })
+    edit_steps old new db (with_entry_at index e) (entry_data e) (Some (record { bytes = replicate size 0; lock = 0; owner = data_owner })) a has
+    (made_edit old new db.0 (with_entry_at index e d) (entry_data e) size l none (inserted_sound d index e (accepted_sound old db.0 a has) fits names own inside few)
+    (seeded_name e d.header) (λ q. inserted_names q d index e))
 
 -- ---- one database alone
 

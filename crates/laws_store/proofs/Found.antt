@@ -8,7 +8,7 @@ use Rattle.heap_model.specs.Heap.{directory_of}
 use Rattle.heap_model.specs.Lists.{same, times, Distinct}
 use Rattle.heap_model.specs.Database.{Database}
 use Rattle.heap_model.specs.Store.{StoredDatabase, owner_under, IsHeaderSlot, numbers_of}
-use Rattle.heap_model.specs.StoreWords.{with_changed, without_database}
+use Rattle.heap_model.specs.StoreWords.{changed_if, with_changed, without_database}
 use Rattle.heap_model.specs.Counts.{HasDatabases}
 use Rattle.laws_heap.proofs.Deciding.{cond-true, cond-false, same_some, none_some}
 use Rattle.laws_store.proofs.Listing.{same-yes, same-no, times-cons, times-some, all-times, distinct-times}
@@ -105,6 +105,28 @@ changed_by_number db change (x ∷ xs) (suc i) d once below e =
     let more = behind_counts db xs i d (omega arith) e in
     let ne : x.db ≢ db = λ z. (let yes = same-yes x.db db z in omega arith) in
     ap (λ (y : StoredDatabase). y ∷ with_changed xs db change) (cond-false (x.db == db) (now_is db change x) x (ne_eqb x.db db ne)) ∙ ap (onto x) (changed_by_number db change xs i d (omega arith) (omega arith) e)
+
+-- one database changed twice
+pub changed_twice : (db : ℕ) (first second : Database ℕ → Database ℕ) (stored : List StoredDatabase)
+    → with_changed (with_changed stored db first) db second ≡ with_changed stored db (λ database. second (first database))
+changed_twice db first second [] = refl
+changed_twice db first second (x ∷ xs) =
+    let both : Database ℕ → Database ℕ = λ database. second (first database) in
+    let rest : List StoredDatabase = with_changed (with_changed xs db first) db second in
+    elim (cases_eq x.db db) [
+      | inl e ↦
+          let once = cond-true (x.db == db) (now_is db first x) x (eq-eqb x.db db e) in
+          let twice = cond-true (db == db) (now_is db second (now_is db first x)) (now_is db first x) (eq-eqb db db refl) in
+          let same = cond-true (x.db == db) (now_is db both x) x (eq-eqb x.db db e) in
+          ap (λ (y : StoredDatabase). changed_if db second y ∷ rest) once ∙ ap (λ (y : StoredDatabase). y ∷ rest) (twice ∙ sym same)
+          ∙ ap (onto (changed_if db both x)) (changed_twice db first second xs)
+      | inr ne ↦
+          let once = cond-false (x.db == db) (now_is db first x) x (ne_eqb x.db db ne) in
+          let twice = cond-false (x.db == db) (now_is db second x) x (ne_eqb x.db db ne) in
+          let same = cond-false (x.db == db) (now_is db both x) x (ne_eqb x.db db ne) in
+          ap (λ (y : StoredDatabase). changed_if db second y ∷ rest) once ∙ ap (λ (y : StoredDatabase). y ∷ rest) (twice ∙ sym same)
+          ∙ ap (onto (changed_if db both x)) (changed_twice db first second xs)
+    ]
 
 -- ---- taken out
 
