@@ -11,8 +11,7 @@ use Rattle.heap_model.specs.Store.{bytes_under}
 use Rattle.heap_model.specs.StoreWords.{next_modification}
 use Rattle.laws_store.proofs.Edits.{spelled_remove}
 use Rattle.laws_store.proofs.Spellings.{length-header_bytes}
-use Rattle.db_format.specs.declared.header.DbHeader.{DbHeader}
-use Rattle.db_format.specs.Headers.{HasHeader, HasEntryCount, HasModificationNumber}
+use Rattle.db_format.specs.Headers.{HasEntryCount, HasModificationNumber}
 use Rattle.database_edits.specs.Managers.{IsManagers, Rebodies, HasHeaderOf, PutsHeader}
 use Rattle.database_edits.specs.Edits.{counted, entry_removed}
 use Rattle.database_edits.proofs.Chunks.{leaves_as, through}
@@ -24,14 +23,6 @@ use Rattle.database_edits.proofs.Pieces.{taken_out}
 
 unfoldable pub without : Database ℕ → ℕ → Database ℕ
 without d index = record d { entries = remove d.entries index }
-
--- the header counts one less
-pub fewer_has : (d : Database ℕ) (index left : ℕ) (h : DbHeader) → index < length d.entries → HasHeader d h → left ≡ h.entry_count - 1 → HasHeader (without d index) (record h { entry_count = left })
-unfolding without
-fewer_has d index left h inside has is =
-    let out = length-remove d.entries index inside in
-    let count = has.entry_count in
-    record { values = has.values; app_info = has.app_info; sort_info = has.sort_info; entry_count = omega (arith, out, count, is, inside) }
 
 -- the bytes afterwards spell the database without it
 closed : (d other : Database ℕ) (body : List ℕ) (index size : ℕ) (resources : Bool) → IsSpelled d body → index < length d.entries → other.entries ≡ remove d.entries index → IsDatabaseName other.header.name → resources ≡ has_resources d.header.attributes → length body ≡ entry_offset resources (length d.entries) → size ≡ entry_offset resources (length d.entries - 1)

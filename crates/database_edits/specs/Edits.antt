@@ -34,8 +34,12 @@ abbrev pub entry_removed : ℕ → Database ℕ → Database ℕ
 entry_removed index database = counted (record database { entries = remove database.entries index })
 
 -- an entry moves in front of the one that stands at another index, or behind the last
+abbrev pub with_moved : ℕ → ℕ → Database ℕ → Database ℕ
+with_moved from to database = record database { entries = moved database.entries from to }
+
+-- it does, and the call is counted
 abbrev pub entry_moved : ℕ → ℕ → Database ℕ → Database ℕ
-entry_moved from to database = counted (record database { entries = moved database.entries from to })
+entry_moved from to database = counted (with_moved from to database)
 
 -- an entry takes the place of the one at an index, and the call is counted where that is asked
 abbrev pub entry_written : Bool → ℕ → Entry ℕ → Database ℕ → Database ℕ

@@ -1,58 +1,33 @@
 //! Parts of the bytes of a database, read and written where they stand.
 
-ghost use Rattle.std.specs.Prelude.{◌≡◌, ◌+◌, ◌-◌, ◌<◌, ◌≤◌, ℕ, length, slice_range, OnOk, OnErr, IfErr};
+ghost use Rattle.std.specs.Prelude.{◌≡◌, ◌+◌, ◌-◌, ◌<◌, ◌≤◌, length, slice_range, OnOk, OnErr, IfErr};
 ghost use Rattle.heap_model.specs.Bytes.{overwritten, sized_to};
 ghost use Rattle.heap_model.specs.Chunk.{need};
-ghost use Rattle.heap_model.specs.Space.{ShortFor, MovesNothing};
-ghost use Rattle.heap_model.specs.DatabaseFields.{header_size};
-ghost use Rattle.heap_model.specs.Database.{Database, header_bytes, entry_bytes};
+ghost use Rattle.heap_model.specs.Space.{ShortFor};
+ghost use Rattle.heap_model.specs.Database.{entry_bytes};
 ghost use Rattle.heap_model.specs.Database as databases;
 ghost use Rattle.heap_model.specs.Leaving.{SpellsHere, database_here};
 ghost use Rattle.heap_model.specs.Store.{bytes_under};
 ghost use Rattle.db_format.specs.EitherEntry.{entry_of, is_resource, HasFittingId};
 ghost use Rattle.db_format.specs.Entries.{WritesEntry};
-ghost use Rattle.db_format.specs.Headers.{HasHeader};
+ghost use Rattle.database_edits.specs.Edits.{HasKindHere};
 ghost use Rattle.database_edits.specs.Managers.{IsManagers, Rebodies};
 
-use db_format::{DbEntry, DbHeader, entry_offset, has_resources};
+use db_format::{DbEntry, entry_offset};
 use heap_model::{Db, Name, Refusal};
 use mem_manager::Heap;
-
-/// The header of a database.
-pub(crate) fn header_here(heap: &Heap, db: Db) -> DbHeader
-    requires spells { SpellsHere heap.now.bytes db.0 }
-    ensures header { HasHeader (database_here heap.now.bytes db.0) result }
-{
-    DbHeader::read(heap.sys_body(Name(db.0)))
-}
-
-/// Whether the entries of a database are resources, and else records.
-pub(crate) fn resources_here(heap: &Heap, db: Db) -> bool
-    requires spells { SpellsHere heap.now.bytes db.0 }
-    ensures kind { result ≡ databases.has_resources (database_here heap.now.bytes db.0).header.attributes }
-{
-    has_resources(heap.sys_body(Name(db.0)))
-}
-
-/// Writes a header over the one that is there.
-pub(crate) fn put_header(heap: &mut Heap, db: Db, header: &DbHeader)
-    requires managers { IsManagers heap.old.bytes db.0 }
-    requires inside { header_size ≤ length (bytes_under heap.old.bytes db.0) }
-    ensures writes { (database : Database ℕ) → HasHeader database header.now → Rebodies heap.old.bytes heap.new.bytes db.0 (overwritten (bytes_under heap.old.bytes db.0) 0 (header_bytes database)) }
-    ensures unmoved { MovesNothing heap.old.bytes heap.new.bytes }
-    ensures rest { heap.new ≡ record heap.old { bytes = heap.new.bytes } }
-{
-    heap.sys_write(Name(db.0), 0, &header.to_bytes());
-}
 
 /// Writes an entry where that of an index stands, or is to stand, among resources or among records.
 pub(crate) fn put_entry(heap: &mut Heap, db: Db, index: u16, entry: DbEntry, resources: bool)
     requires managers { IsManagers heap.old.bytes db.0 }
-    requires inside { databases.entry_offset resources (index + 1) ≤ length (bytes_under heap.old.bytes db.0) }
+    requires inside { databases.entry_offset resources (index + 1)
+        ≤ length (bytes_under heap.old.bytes db.0) }
     requires kind { is_resource entry ≡ resources }
     requires id { HasFittingId entry }
     ensures entry { WritesEntry resources (entry_of entry) (entry_bytes (entry_of entry)) }
-    ensures writes { Rebodies heap.old.bytes heap.new.bytes db.0 (overwritten (bytes_under heap.old.bytes db.0) (databases.entry_offset resources index) (entry_bytes (entry_of entry))) }
+    ensures writes { Rebodies heap.old.bytes heap.new.bytes db.0
+        (overwritten (bytes_under heap.old.bytes db.0)
+        (databases.entry_offset resources index) (entry_bytes (entry_of entry))) }
     ensures len { length (bytes_under heap.new.bytes db.0) ≡ length (bytes_under heap.old.bytes db.0) }
     ensures rest { heap.new ≡ record heap.old { bytes = heap.new.bytes } }
 {
@@ -62,12 +37,24 @@ pub(crate) fn put_entry(heap: &mut Heap, db: Db, index: u16, entry: DbEntry, res
 
 /// Copies the entries from `first` on and below `end` to where the entry of the index `to` stands, or is to
 /// stand.
-pub(crate) fn slide_entries(heap: &mut Heap, db: Db, first: u16, end: u16, to: u16, resources: bool)
+pub(crate) fn slide_entries(
+    heap: &mut Heap,
+    db: Db,
+    first: u16,
+    end: u16,
+    to: u16,
+    resources: bool,
+)
     requires managers { IsManagers heap.old.bytes db.0 }
     requires order { first ≤ end }
-    requires from_inside { databases.entry_offset resources end ≤ length (bytes_under heap.old.bytes db.0) }
-    requires to_inside { databases.entry_offset resources (to + (end - first)) ≤ length (bytes_under heap.old.bytes db.0) }
-    ensures slides { Rebodies heap.old.bytes heap.new.bytes db.0 (overwritten (bytes_under heap.old.bytes db.0) (databases.entry_offset resources to) (slice_range (bytes_under heap.old.bytes db.0) (databases.entry_offset resources first) (databases.entry_offset resources end))) }
+    requires from_inside { databases.entry_offset resources end
+        ≤ length (bytes_under heap.old.bytes db.0) }
+    requires to_inside { databases.entry_offset resources (to + (end - first))
+        ≤ length (bytes_under heap.old.bytes db.0) }
+    ensures slides { Rebodies heap.old.bytes heap.new.bytes db.0
+        (overwritten (bytes_under heap.old.bytes db.0) (databases.entry_offset resources to)
+        (slice_range (bytes_under heap.old.bytes db.0)
+        (databases.entry_offset resources first) (databases.entry_offset resources end))) }
     ensures len { length (bytes_under heap.new.bytes db.0) ≡ length (bytes_under heap.old.bytes db.0) }
     ensures rest { heap.new ≡ record heap.old { bytes = heap.new.bytes; slid = heap.new.slid } }
 {
@@ -83,7 +70,8 @@ pub(crate) fn slide_entries(heap: &mut Heap, db: Db, first: u16, end: u16, to: u
 /// alone, and then nothing has changed.
 pub(crate) fn grow(heap: &mut Heap, db: Db, size: u32) -> Result<(), Refusal>
     requires managers { IsManagers heap.old.bytes db.0 }
-    ensures grows { OnOk result (Rebodies heap.old.bytes heap.new.bytes db.0 (sized_to (bytes_under heap.old.bytes db.0) size)) }
+    ensures grows { OnOk result (Rebodies heap.old.bytes heap.new.bytes db.0
+        (sized_to (bytes_under heap.old.bytes db.0) size)) }
     ensures no_room { OnErr result (ShortFor heap.old.bytes db.0 (need size)) }
     ensures refusal { IfErr result (λ refusal. refusal ≡ Refusal.NotEnoughSpace) }
     ensures refused { OnErr result (heap.new ≡ heap.old) }
@@ -96,7 +84,8 @@ pub(crate) fn grow(heap: &mut Heap, db: Db, size: u32) -> Result<(), Refusal>
 pub(crate) fn shrink(heap: &mut Heap, db: Db, size: u32)
     requires managers { IsManagers heap.old.bytes db.0 }
     requires inside { size ≤ length (bytes_under heap.old.bytes db.0) }
-    ensures shrinks { Rebodies heap.old.bytes heap.new.bytes db.0 (sized_to (bytes_under heap.old.bytes db.0) size) }
+    ensures shrinks { Rebodies heap.old.bytes heap.new.bytes db.0
+        (sized_to (bytes_under heap.old.bytes db.0) size) }
     ensures rest { heap.new ≡ record heap.old { bytes = heap.new.bytes; slid = heap.new.slid } }
 {
     match heap.sys_resize(Name(db.0), size) {
@@ -110,7 +99,7 @@ pub(crate) fn entry_here(heap: &Heap, db: Db, index: u16) -> DbEntry
     requires spells { SpellsHere heap.now.bytes db.0 }
     requires inside { index < length (database_here heap.now.bytes db.0).entries }
     ensures is { entry_of result ≡ databases.entry_in (bytes_under heap.now.bytes db.0) index }
-    ensures kind { is_resource result ≡ databases.has_resources (database_here heap.now.bytes db.0).header.attributes }
+    ensures kind { HasKindHere heap.now.bytes db.0 (is_resource result) }
     ensures id { HasFittingId result }
 {
     DbEntry::read(heap.sys_body(Name(db.0)), index)

@@ -6,15 +6,12 @@
 //! were. What the entries name isn't looked at.
 #![tactic(auto)]
 
-pub mod alone;
 mod bodies;
 mod headers;
-mod inserting;
 mod insertion;
 mod moving;
 mod raising;
 mod removal;
-mod removing;
 mod replacement;
 mod writing;
 

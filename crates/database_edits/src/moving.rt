@@ -1,8 +1,8 @@
 //! An entry moved.
 
 ghost use Rattle.std.specs.Prelude.{◌≡◌, ◌<◌, ◌≤◌, ◌+◌, length};
-ghost use Rattle.heap_model.specs.Lists.{moved};
-ghost use Rattle.heap_model.specs.Leaving.{SpellsHere, Respells, database_here};
+ghost use Rattle.heap_model.specs.Leaving.{SpellsHere, database_here};
+ghost use Rattle.database_edits.specs.Edits.{Changes, with_moved};
 
 use crate::bodies::{entry_here, put_entry, slide_entries};
 use heap_model::Db;
@@ -14,7 +14,7 @@ pub fn move_entry(heap: &mut Heap, db: Db, from: u16, to: u16)
     requires spells { SpellsHere heap.old.bytes db.0 }
     requires from_inside { from < length (database_here heap.old.bytes db.0).entries }
     requires to_inside { to ≤ length (database_here heap.old.bytes db.0).entries }
-    ensures respells { Respells heap.old.bytes heap.new.bytes db.0 (record (database_here heap.old.bytes db.0) { entries = moved (database_here heap.old.bytes db.0).entries from to }) }
+    ensures respells { Changes heap.old.bytes heap.new.bytes db.0 (with_moved from to) }
     ensures rest { heap.new ≡ record heap.old { bytes = heap.new.bytes; slid = heap.new.slid } }
 {
     if to < from {
@@ -29,7 +29,7 @@ fn move_to_front(heap: &mut Heap, db: Db, from: u16, to: u16)
     requires spells { SpellsHere heap.old.bytes db.0 }
     requires inside { from < length (database_here heap.old.bytes db.0).entries }
     requires front { to < from }
-    ensures respells { Respells heap.old.bytes heap.new.bytes db.0 (record (database_here heap.old.bytes db.0) { entries = moved (database_here heap.old.bytes db.0).entries from to }) }
+    ensures respells { Changes heap.old.bytes heap.new.bytes db.0 (with_moved from to) }
     ensures rest { heap.new ≡ record heap.old { bytes = heap.new.bytes; slid = heap.new.slid } }
 {
     let entry = entry_here(heap, db, from);
@@ -43,7 +43,7 @@ fn move_to_back(heap: &mut Heap, db: Db, from: u16, to: u16)
     requires spells { SpellsHere heap.old.bytes db.0 }
     requires inside { to ≤ length (database_here heap.old.bytes db.0).entries }
     requires back { from + 1 < to }
-    ensures respells { Respells heap.old.bytes heap.new.bytes db.0 (record (database_here heap.old.bytes db.0) { entries = moved (database_here heap.old.bytes db.0).entries from to }) }
+    ensures respells { Changes heap.old.bytes heap.new.bytes db.0 (with_moved from to) }
     ensures rest { heap.new ≡ record heap.old { bytes = heap.new.bytes; slid = heap.new.slid } }
 {
     let entry = entry_here(heap, db, from);

@@ -17,7 +17,8 @@ pub fn write_entry(heap: &mut Heap, db: Db, index: u16, entry: DbEntry, counts: 
     requires inside { index < length (database_here heap.old.bytes db.0).entries }
     requires kind { HasKindHere heap.old.bytes db.0 (is_resource entry) }
     requires id { HasFittingId entry }
-    ensures written { Changes heap.old.bytes heap.new.bytes db.0 (entry_written counts index (entry_of entry)) }
+    ensures written { Changes heap.old.bytes heap.new.bytes db.0
+        (entry_written counts index (entry_of entry)) }
     ensures rest { heap.new ≡ record heap.old { bytes = heap.new.bytes } }
 {
     raise_if(heap, db, counts);

@@ -1,10 +1,10 @@
 //! An entry written in place of another.
 
 ghost use Rattle.std.specs.Prelude.{◌≡◌, ◌<◌, length};
-ghost use Rattle.heap_model.specs.Database.{has_resources};
-ghost use Rattle.heap_model.specs.Leaving.{SpellsHere, Respells, database_here};
+ghost use Rattle.heap_model.specs.Leaving.{SpellsHere, database_here};
 ghost use Rattle.db_format.specs.EitherEntry.{entry_of, is_resource, HasFittingId};
 ghost use Rattle.db_format.specs.Entries.{with_entry};
+ghost use Rattle.database_edits.specs.Edits.{Changes, HasKindHere};
 
 use crate::bodies::put_entry;
 use db_format::DbEntry;
@@ -15,9 +15,10 @@ use mem_manager::Heap;
 pub fn write_entry(heap: &mut Heap, db: Db, index: u16, entry: DbEntry)
     requires spells { SpellsHere heap.old.bytes db.0 }
     requires inside { index < length (database_here heap.old.bytes db.0).entries }
-    requires kind { is_resource entry ≡ has_resources (database_here heap.old.bytes db.0).header.attributes }
+    requires kind { HasKindHere heap.old.bytes db.0 (is_resource entry) }
     requires id { HasFittingId entry }
-    ensures respells { Respells heap.old.bytes heap.new.bytes db.0 (with_entry (database_here heap.old.bytes db.0) index (entry_of entry)) }
+    ensures respells { Changes heap.old.bytes heap.new.bytes db.0
+        (λ database. with_entry database index (entry_of entry)) }
     ensures rest { heap.new ≡ record heap.old { bytes = heap.new.bytes } }
 {
     put_entry(heap, db, index, entry, entry.is_resource());
