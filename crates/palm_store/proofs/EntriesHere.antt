@@ -1,19 +1,21 @@
 -- The entries of the database of a number, as its header spells them.
-use Rattle.std.proofs.Common.{◌≡◌, ℕ, ◌+◌, ◌<◌, ◌≤◌, ◌^◌, Bool, false, List, length, Option, Some, refl, sym, ap, subst, ◌∙◌, arith}
+use Rattle.std.proofs.Common.{◌≡◌, ℕ, ◌+◌, ◌<◌, ◌≤◌, ◌^◌, Bool, false, List, length, Option, Some, None, refl, sym, ap, subst, ◌∙◌, arith}
 use Rattle.std.proofs.lemmas.List.FromFn.{length-map-range_with_len, get_or-map-range_with_len}
 use Rattle.std.proofs.lemmas.Option.{slice_get-get_or}
-use Rattle.std.specs.Prelude.{slice_get}
+use Rattle.std.specs.Prelude.{slice_get, IfSome, IfNone}
 use Rattle.heap_model.specs.Bytes.{u16_at}
 use Rattle.heap_model.specs.DatabaseFields.{header_size, attributes_at}
-use Rattle.heap_model.specs.Database.{Entry, Database, database_in, header_in, entry_in, entry_count_in, resources_in, entry_offset, has_resources, EntryFits}
+use Rattle.heap_model.specs.Database.{Entry, Database, database_in, header_in, entry_in, entry_count_in, resources_in, entry_offset, has_resources, EntryFits, HasShape}
 use Rattle.heap_model.specs.Store.{bytes_under, Accepted, store_of}
 use Rattle.heap_model.specs.StoreWords.{In}
 use Rattle.heap_model.specs.Leaving.{database_here}
-use Rattle.heap_model.specs.EntrySteps.{entries_in, OfEntry, resources_under}
+use Rattle.heap_model.specs.EntrySteps.{entries_in, OfEntry, Tells, resources_under}
 use Rattle.heap_model.specs.declared.names.Db.{Db}
+use Rattle.heap_model.specs.declared.entry.Entry as heard
 use Rattle.laws_store.proofs.Shapes.{offset_below}
 use Rattle.laws_store.proofs.Numbered.{in_store, number_spelled, entries_here, kind_here, entry_fits, accepted_sound}
 use Rattle.palm_store.specs.Databases.{HasNumber}
+use Rattle.palm_store.specs.EntryCalls.{IsHeard}
 use Rattle.palm_store.proofs.Numbers.{number_shape}
 
 attributes_read : (body : List ℕ) → (database_in body).header.attributes ≡ u16_at body attributes_at
@@ -86,3 +88,22 @@ index_most image db index has most = subst (λ (entries : List (Entry ℕ)). ind
 
 pub records_here : (image body : List ℕ) (db : Db) → HasNumber image db.0 → body ≡ bytes_under image db.0 → resources_under (store_of image) db ≡ false → resources_in body ≡ false
 records_here image body db has body_is records = ap resources_in body_is ∙ ap has_resources (sym (attributes_read (bytes_under image db.0))) ∙ sym (kind_here image db has) ∙ records
+
+-- ---- what is heard of an index
+
+pub offset_inside : (body : List ℕ) (index : ℕ) → HasShape body → index < entry_count_in body → entry_offset (resources_in body) (index + 1) ≤ length body
+offset_inside body index shape below =
+    let ends = shape.ends in
+    let least = offset_below (resources_in body) index (entry_count_in body) below in
+    omega (arith, ends, least)
+
+pub told_at : (body : List ℕ) (index : ℕ) (entry : Entry ℕ) (P : Entry ℕ → Type 0) → index < entry_count_in body → entry ≡ entry_in body index → P entry → OfEntry (slice_get (database_in body).entries index) P
+told_at body index entry P below is p =
+    of_entry (slice_get (database_in body).entries index) entry P (entry_read body index below ∙ ap (λ (e : Entry ℕ). Some e) (sym is)) p
+
+pub heard_here : (image body : List ℕ) (db : Db) (index : ℕ) (found : Option heard.Entry) → HasNumber image db.0 → body ≡ bytes_under image db.0
+    → IfSome found (λ entry. OfEntry (slice_get (database_in body).entries index) (Tells entry)) → IfNone found (entry_count_in body ≤ index) → IsHeard image db index found
+heard_here image body db index None has body_is there none = let count = count_here image body db has body_is in omega (arith, count, none)
+heard_here image body db index (Some entry) has body_is there none =
+    subst (λ (entries : List (Entry ℕ)). OfEntry (slice_get entries index) (Tells entry)) (sym (entries_here image db has))
+    (subst (λ (xs : List ℕ). OfEntry (slice_get (database_in xs).entries index) (Tells entry)) body_is there)

@@ -1,5 +1,5 @@
 -- Changes of one database, and of one chunk for data that it names, are changes of the store.
-use Rattle.std.proofs.Common.{◌≡◌, ◌≢◌, ℕ, ◌+◌, ◌<◌, ◌≤◌, List, length, Option, Some, None, refl, sym, ap, subst, ◌∙◌, arith, rules}
+use Rattle.std.proofs.Common.{◌≡◌, ◌≢◌, ℕ, ◌+◌, ◌<◌, ◌≤◌, Bool, true, false, List, length, Option, Some, None, refl, sym, ap, subst, ◌∙◌, arith, rules}
 use Rattle.std.specs.Prelude.{IsSome, slice_get, slice_set}
 use Rattle.std.specs.List.{remove}
 use Rattle.heap_model.specs.Heap.{directory_of}
@@ -8,14 +8,16 @@ use Rattle.heap_model.specs.Reading.{held}
 use Rattle.heap_model.specs.Lists.{same, times, moved}
 use Rattle.heap_model.specs.Maps.{updated, changed, gone, reowned, callers_map}
 use Rattle.heap_model.specs.Database.{Entry, entry_data, Database, data_in, spelled, has_resources, EntryFits}
-use Rattle.heap_model.specs.Store.{data_owner, managers_owner, owner_of, owner_under, databases, unique_id, Accepted, store_of}
+use Rattle.heap_model.specs.Store.{StoredDatabase, Store, data_owner, managers_owner, owner_of, owner_under, databases, unique_id, Accepted, store_of}
 use Rattle.heap_model.specs.StoreWords.{with_changed}
 use Rattle.heap_model.specs.Counts.{IsSound, NamesData}
 use Rattle.heap_model.specs.Leaving.{Leaves, Respells, database_here}
-use Rattle.heap_model.specs.EntrySteps.{entry_under, data_of_entry, data_under, replaced, without_data, raised_header, with_entries, entry_changed, data_freed, entry_dropped, entry_handed_over, raised, LeavesStore, MakesNone}
+use Rattle.heap_model.specs.EntrySteps.{entry_under, data_of_entry, data_under, replaced, without_data, with_entries, entry_changed, data_freed, entry_dropped, entry_handed_over, raised, LeavesStore, MakesNone}
 use Rattle.heap_model.specs.declared.names.Db.{Db}
+use Rattle.db_format.specs.Entries.{with_entry}
 use Rattle.laws_heap.proofs.Deciding.{same_some, none_some}
 use Rattle.laws_store.specs.Entries.{HasOwnId}
+use Rattle.laws_store.proofs.Found.{changed_twice}
 use Rattle.laws_store.proofs.Listing.{same-no}
 use Rattle.laws_store.proofs.Owners.{owned_some}
 use Rattle.laws_store.proofs.Numbered.{accepted_sound, number_slot, number_some, number_held, data_here, entry_here, entry_owner}
@@ -23,8 +25,9 @@ use Rattle.laws_store.proofs.Edited.{edited, gone_balance, respelled}
 use Rattle.laws_store.proofs.Editing.{edit_steps, respell_steps}
 use Rattle.laws_store.proofs.Entries.{raised_sound, replaced_is, replaced_kept, replaced_own, replaced_names, removed_sound, removed_names, moved_sound, moved_names}
 use Rattle.mem_manager.specs.Lookup.{IsMovable}
+use Rattle.database_edits.specs.Edits.{counted, counted_if, with_moved, entry_moved, entry_written, entry_removed}
 use Rattle.palm_store.specs.Databases.{HasNumber}
-use Rattle.palm_store.specs.EntryCalls.{IsEntryData}
+use Rattle.palm_store.specs.EntryCalls.{IsEntryData, raised_if}
 use Rattle.palm_store.proofs.DataChunks.{for_data, data_callers, data_movable, data_no_directory}
 use Rattle.palm_store.proofs.TwoSteps.{rewritten_apart, respelled_then, none_made, no_chunk}
 
@@ -49,41 +52,74 @@ pub respelled_none : (old new : List ℕ) (db : ℕ) (d : Database ℕ) → Acce
 respelled_none old new db d a has l =
     none_made old new db 0 (spelled d) None (respelled old new db d l) (number_held old db a has) (λ there. absurd (no_chunk None refl there))
 
+-- ---- a change that is counted
+
+-- one that is and one that isn't
+pub counted_sound : (counts : Bool) (d : Database ℕ) → IsSound d → IsSound (counted_if counts d)
+counted_sound true d s = raised_sound d s
+counted_sound false d s = s
+
+counted_name : (counts : Bool) (d : Database ℕ) → (counted_if counts d).header.name ≡ d.header.name
+counted_name true d = refl
+counted_name false d = refl
+
+counted_names : (q : ℕ) (counts : Bool) (d : Database ℕ) → times q (data_in (counted_if counts d)) ≡ times q (data_in d)
+counted_names q true d = refl
+counted_names q false d = refl
+
+-- a store whose database was changed and counted is the one that was changed, with its number raised
+pub then_raised : (old new : List ℕ) (db : Db) (change : Database ℕ → Database ℕ) (store : Store) → LeavesStore old new (record store { databases = with_changed store.databases db.0 (λ database. counted (change database)) })
+    → LeavesStore old new (raised (record store { databases = with_changed store.databases db.0 change }) db)
+then_raised old new db change store leaves =
+    subst (λ (stored : List StoredDatabase). LeavesStore old new (record store { databases = stored })) (sym (changed_twice db.0 change counted store.databases)) leaves
+
+then_raised_if : (counts : Bool) (old new : List ℕ) (db : Db) (change : Database ℕ → Database ℕ) (store : Store) → LeavesStore old new (record store { databases = with_changed store.databases db.0 (λ database. counted_if counts (change database)) })
+    → LeavesStore old new (raised_if counts (record store { databases = with_changed store.databases db.0 change }) db)
+then_raised_if true old new db change store leaves = then_raised old new db change store leaves
+then_raised_if false old new db change store leaves = leaves
+
 -- ---- the modification number
 
-pub raise_steps : (old new : List ℕ) (db : Db) → Accepted old → HasNumber old db.0 → Respells old new db.0 (record (database_here old db.0) { header = raised_header (database_here old db.0).header }) → LeavesStore old new (raised (store_of old) db)
-raise_steps old new db a has l = respell_steps old new db (λ (database : Database ℕ). record database { header = raised_header database.header }) a has l (raised_sound (database_here old db.0) (accepted_sound old db.0 a has)) refl (λ q some. refl)
+pub raise_steps : (old new : List ℕ) (db : Db) → Accepted old → HasNumber old db.0 → Respells old new db.0 (counted (database_here old db.0)) → LeavesStore old new (raised (store_of old) db)
+raise_steps old new db a has l = respell_steps old new db counted a has l (raised_sound (database_here old db.0) (accepted_sound old db.0 a has)) refl (λ q some. refl)
 
 -- ---- an entry moved
 
 pub move_steps : (old new : List ℕ) (db : Db) (from to : ℕ) → Accepted old → HasNumber old db.0 → from < length (database_here old db.0).entries → to ≤ length (database_here old db.0).entries
-    → Respells old new db.0 (record (database_here old db.0) { entries = moved (database_here old db.0).entries from to }) → LeavesStore old new (with_entries (store_of old) db (λ entries. moved entries from to))
+    → Respells old new db.0 (entry_moved from to (database_here old db.0)) → LeavesStore old new (raised (with_entries (store_of old) db (λ entries. moved entries from to)) db)
 move_steps old new db from to a has inside most l =
-    respell_steps old new db (λ (database : Database ℕ). record database { entries = moved database.entries from to }) a has l (moved_sound (database_here old db.0) from to (accepted_sound old db.0 a has) inside most) refl
-    (λ q some. moved_names q (database_here old db.0) from to inside)
+    let d : Database ℕ = database_here old db.0 in
+    then_raised old new db (with_moved from to) (store_of old)
+    (respell_steps old new db (entry_moved from to) a has l (raised_sound (with_moved from to d) (moved_sound d from to (accepted_sound old db.0 a has) inside most)) refl
+    (λ q some. moved_names q d from to inside))
 
 -- ---- an entry set
 
 -- a database with another entry at an index
-with_entry_set : Database ℕ → ℕ → (Entry ℕ → Entry ℕ) → Database ℕ
-with_entry_set d index change = record d { entries = replaced d.entries index change }
+unfoldable pub with_entry_set : ℕ → (Entry ℕ → Entry ℕ) → Database ℕ → Database ℕ
+with_entry_set index change d = record d { entries = replaced d.entries index change }
 
 pub set_is : (d : Database ℕ) (index : ℕ) (change : Entry ℕ → Entry ℕ) (entry after : Entry ℕ) → slice_get d.entries index ≡ Some entry → after ≡ change entry
-    → record d { entries = slice_set d.entries index after } ≡ record d { entries = replaced d.entries index change }
+    → with_entry d index after ≡ with_entry_set index change d
+unfolding with_entry_set
 set_is d index change entry after at is =
     ap (λ (es : List (Entry ℕ)). with_list d es) (ap (λ (e : Entry ℕ). slice_set d.entries index e) is ∙ sym (replaced_is d.entries index change entry at)) where
       with_list : Database ℕ → List (Entry ℕ) → Database ℕ
       with_list d es = record d { entries = es }
 
-pub set_steps : (old new : List ℕ) (db : Db) (index : ℕ) (change : Entry ℕ → Entry ℕ) (entry after : Entry ℕ) → Accepted old → HasNumber old db.0 → slice_get (database_here old db.0).entries index ≡ Some entry → after ≡ change entry
-    → Respells old new db.0 (record (database_here old db.0) { entries = slice_set (database_here old db.0).entries index after })
+pub set_steps : (counts : Bool) (old new : List ℕ) (db : Db) (index : ℕ) (change : Entry ℕ → Entry ℕ) (entry after : Entry ℕ) → Accepted old → HasNumber old db.0 → slice_get (database_here old db.0).entries index ≡ Some entry → after ≡ change entry
+    → Respells old new db.0 (entry_written counts index after (database_here old db.0))
     → EntryFits (has_resources (database_here old db.0).header.attributes) (change entry) → NamesData (change entry) → HasOwnId (database_here old db.0).entries index (change entry) → entry_data (change entry) ≡ entry_data entry
-    → LeavesStore old new (entry_changed (store_of old) db index change)
-set_steps old new db index change entry after a has at is l fits names own slots =
-    respell_steps old new db (λ (database : Database ℕ). record database { entries = replaced database.entries index change }) a has
-    (subst (λ (d : Database ℕ). Respells old new db.0 d) (set_is (database_here old db.0) index change entry after at is) l)
-    (replaced_own (database_here old db.0) index change entry (accepted_sound old db.0 a has) at fits names own) refl
-    (λ q some. (let counts = replaced_names q (database_here old db.0) index change entry at in let kept = ap (λ (slot : ℕ). same slot q) slots in omega arith))
+    → LeavesStore old new (raised_if counts (entry_changed (store_of old) db index change) db)
+unfolding with_entry_set
+set_steps counts old new db index change entry after a has at is l fits names own slots =
+    let d : Database ℕ = database_here old db.0 in
+    let set : Database ℕ = with_entry_set index change d in
+    then_raised_if counts old new db (with_entry_set index change) (store_of old)
+    (respell_steps old new db (λ (database : Database ℕ). counted_if counts (with_entry_set index change database)) a has
+    (subst (λ (other : Database ℕ). Respells old new db.0 (counted_if counts other)) (set_is d index change entry after at is) l)
+    (counted_sound counts set (replaced_own d index change entry (accepted_sound old db.0 a has) at fits names own)) (counted_name counts set)
+    (λ q some. (let same_data = counted_names q counts set in let sums = replaced_names q d index change entry at in let kept = ap (λ (slot : ℕ). same slot q) slots in omega arith)))
 
 -- ---- one database changed, and a chunk that it names no more
 
@@ -141,18 +177,19 @@ slot_movable old mid db index slot entry d a has at is l some =
 -- ---- the data of an entry freed
 
 pub free_steps : (old mid new : List ℕ) (db : Db) (index : ℕ) (entry after : Entry ℕ) → Accepted old → HasNumber old db.0 → slice_get (database_here old db.0).entries index ≡ Some entry → after ≡ without_data entry
-    → Respells old mid db.0 (record (database_here old db.0) { entries = slice_set (database_here old db.0).entries index after }) → Leaves mid new (gone (held mid) (entry_data entry))
+    → Respells old mid db.0 (entry_written true index after (database_here old db.0)) → Leaves mid new (gone (held mid) (entry_data entry))
     → EntryFits (has_resources (database_here old db.0).header.attributes) (without_data entry) → NamesData (without_data entry) → unique_id (without_data entry) ≡ unique_id entry → entry_data (without_data entry) ≡ 0
-    → LeavesStore old new (data_freed (store_of old) db index) × MakesNone old new
-unfolding store_of
+    → LeavesStore old new (raised (data_freed (store_of old) db index) db) × MakesNone old new
+unfolding store_of with_entry_set
 free_steps old mid new db index entry after a has at is first second fits names same_id none =
     let d : Database ℕ = database_here old db.0 in
-    let change : Database ℕ → Database ℕ = λ database. record database { entries = replaced database.entries index without_data } in
+    let emptied : Database ℕ → Database ℕ = with_entry_set index without_data in
+    let change : Database ℕ → Database ℕ = λ database. counted (with_entry_set index without_data database) in
     let slot : ℕ = entry_data entry in
     let own = entry_owner old db.0 index entry a has at in
     let apart = name_apart old db.0 slot a has own in
-    let leaves = respelled_then old mid new db.0 slot (change d) None apart (subst (λ (other : Database ℕ). Respells old mid db.0 other) (set_is d index without_data entry after at is) first) second in
-    let sound = replaced_kept d index without_data entry (accepted_sound old db.0 a has) at fits names same_id in
+    let leaves = respelled_then old mid new db.0 slot (change d) None apart (subst (λ (other : Database ℕ). Respells old mid db.0 (counted other)) (set_is d index without_data entry after at is) first) second in
+    let sound = raised_sound (emptied d) (replaced_kept d index without_data entry (accepted_sound old db.0 a has) at fits names same_id) in
     let counts : (q : ℕ) → 0 < q → times q (data_in (change d)) + same slot q ≡ times q (data_in d) = λ q some.
     (let sums = replaced_names q d index without_data entry at in let zero_is = same-no (entry_data (without_data entry)) q (λ e. omega arith) in omega arith) in
     let store = edit_steps old new db change slot None a has (record {
@@ -164,25 +201,31 @@ free_steps old mid new db index entry after a has at is first second fits names 
       locks = λ before later was now. absurd (none_some None later refl now);
       balance = gone_balance old new db.0 (spelled (change d)) slot None leaves d (change d) own (λ e. omega arith) counts;
     }) in (
-      subst (λ (name : ℕ). LeavesStore old new (record { map = gone (callers_map old) name; databases = with_changed (databases old) db.0 change })) (sym (data_here old db index entry has at)) store,
+      subst (λ (name : ℕ). LeavesStore old new (raised (record { map = gone (callers_map old) name; databases = with_changed (databases old) db.0 emptied }) db)) (sym (data_here old db index entry has at))
+          (then_raised old new db emptied (record { map = gone (callers_map old) slot; databases = databases old }) store),
       none_made old new db.0 slot (spelled (change d)) None leaves (number_held old db.0 a has) (λ there. absurd (no_chunk None refl there)),
     )
 
 -- ---- an entry dropped
 
+unfoldable pub without_entry : ℕ → Database ℕ → Database ℕ
+without_entry index d = record d { entries = remove d.entries index }
+
 pub drop_steps : (old mid new : List ℕ) (db : Db) (index : ℕ) (entry : Entry ℕ) → Accepted old → HasNumber old db.0 → slice_get (database_here old db.0).entries index ≡ Some entry → index < length (database_here old db.0).entries
-    → Respells old mid db.0 (record (database_here old db.0) { entries = remove (database_here old db.0).entries index }) → Leaves mid new (gone (held mid) (entry_data entry))
-    → LeavesStore old new (entry_dropped (store_of old) db index) × MakesNone old new
-unfolding store_of
+    → Respells old mid db.0 (entry_removed index (database_here old db.0)) → Leaves mid new (gone (held mid) (entry_data entry))
+    → LeavesStore old new (raised (entry_dropped (store_of old) db index) db) × MakesNone old new
+unfolding store_of without_entry
 drop_steps old mid new db index entry a has at inside first second =
     let d : Database ℕ = database_here old db.0 in
-    let change : Database ℕ → Database ℕ = λ database. record database { entries = remove database.entries index } in
+    let out : Database ℕ → Database ℕ = without_entry index in
+    let change : Database ℕ → Database ℕ = λ database. counted (without_entry index database) in
     let slot : ℕ = entry_data entry in
     let own = entry_owner old db.0 index entry a has at in
     let leaves = respelled_then old mid new db.0 slot (change d) None (name_apart old db.0 slot a has own) first second in
-    let store = unnamed old new db change slot None a has leaves (removed_sound d index (accepted_sound old db.0 a has) inside) refl own (λ e. omega arith) (λ e. omega arith)
+    let store = unnamed old new db change slot None a has leaves (raised_sound (out d) (removed_sound d index (accepted_sound old db.0 a has) inside)) refl own (λ e. omega arith) (λ e. omega arith)
     (λ before later was now. absurd (none_some None later refl now)) (λ q. removed_names q d index entry at) in (
-      subst (λ (name : ℕ). LeavesStore old new (record { map = gone (callers_map old) name; databases = with_changed (databases old) db.0 change })) (sym (data_here old db index entry has at)) store,
+      subst (λ (name : ℕ). LeavesStore old new (raised (record { map = gone (callers_map old) name; databases = with_changed (databases old) db.0 out }) db)) (sym (data_here old db index entry has at))
+          (then_raised old new db out (record { map = gone (callers_map old) slot; databases = databases old }) store),
       none_made old new db.0 slot (spelled (change d)) None leaves (number_held old db.0 a has) (λ there. absurd (no_chunk None refl there)),
     )
 
@@ -190,12 +233,13 @@ given_to : ℕ → LiveChunk → LiveChunk
 given_to owner live = record live { owner = owner }
 
 pub hand_over_steps : (old mid new : List ℕ) (db : Db) (index owner slot : ℕ) (entry : Entry ℕ) → Accepted old → HasNumber old db.0 → slice_get (database_here old db.0).entries index ≡ Some entry → slot ≡ entry_data entry → index < length (database_here old db.0).entries
-    → 0 < data_under (store_of old) db index → 0 < owner → owner < 15 → Respells old mid db.0 (record (database_here old db.0) { entries = remove (database_here old db.0).entries index }) → Leaves mid new (reowned (held mid) slot owner)
-    → LeavesStore old new (entry_handed_over (store_of old) db index owner) × MakesNone old new
-unfolding store_of given_to
+    → 0 < data_under (store_of old) db index → 0 < owner → owner < 15 → Respells old mid db.0 (entry_removed index (database_here old db.0)) → Leaves mid new (reowned (held mid) slot owner)
+    → LeavesStore old new (raised (entry_handed_over (store_of old) db index owner) db) × MakesNone old new
+unfolding store_of given_to without_entry
 hand_over_steps old mid new db index owner slot entry a has at is_slot inside there low high first second =
     let d : Database ℕ = database_here old db.0 in
-    let change : Database ℕ → Database ℕ = λ database. record database { entries = remove database.entries index } in
+    let out : Database ℕ → Database ℕ = without_entry index in
+    let change : Database ℕ → Database ℕ = λ database. counted (without_entry index database) in
     let own : 0 < slot → owner_under old slot ≡ data_owner = slot_owner old db index slot entry a has at is_slot in
     let chunk = for_data old slot (own (slot_some old db index slot entry has at is_slot there)) in
     let kept = slot_kept old mid db index slot entry (change d) a has at is_slot first in
@@ -204,9 +248,10 @@ hand_over_steps old mid new db index owner slot entry a has at is_slot inside th
     let some : now ≡ Some (given_to owner chunk.live) = ap (changed (given_to owner)) (data_callers old slot chunk) in
     let owner_is : owner_of now ≡ owner = ap owner_of some in
     let leaves = respelled_then old mid new db.0 slot (change d) now (name_apart old db.0 slot a has own) first (subst (λ (o : Option LiveChunk). Leaves mid new (updated (held mid) slot o)) is second) in
-    let store = unnamed old new db change slot now a has leaves (removed_sound d index (accepted_sound old db.0 a has) inside) refl own (λ e. omega arith) (λ e. omega arith)
+    let store = unnamed old new db change slot now a has leaves (raised_sound (out d) (removed_sound d index (accepted_sound old db.0 a has) inside)) refl own (λ e. omega arith) (λ e. omega arith)
     (λ before later was then. ap (λ (live : LiveChunk). live.lock) (same_some later (given_to owner chunk.live) (sym then ∙ some)) ∙ ap (λ (live : LiveChunk). live.lock) (same_some chunk.live before (sym chunk.there ∙ was)))
     (λ q. (let counts = removed_names q d index entry at in let name = ap (λ (n : ℕ). same n q) is_slot in omega arith)) in (
-      subst (λ (name : ℕ). LeavesStore old new (record { map = reowned (callers_map old) name owner; databases = with_changed (databases old) db.0 change })) (is_slot ∙ sym (data_here old db index entry has at)) store,
+      subst (λ (name : ℕ). LeavesStore old new (raised (record { map = reowned (callers_map old) name owner; databases = with_changed (databases old) db.0 out }) db)) (is_slot ∙ sym (data_here old db index entry has at))
+          (then_raised old new db out (record { map = updated (callers_map old) slot now; databases = databases old }) store),
       none_made old new db.0 slot (spelled (change d)) now leaves (number_held old db.0 a has) (λ z. subst (λ (o : Option LiveChunk). IsSome o) (sym chunk.there) (search rules)),
     )

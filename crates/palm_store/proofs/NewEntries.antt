@@ -7,34 +7,36 @@ use Rattle.heap_model.specs.Chunk.{need}
 use Rattle.heap_model.specs.Heap.{HeapAccepted, directory_of}
 use Rattle.heap_model.specs.Meaning.{LiveChunk}
 use Rattle.heap_model.specs.Reading.{held}
-use Rattle.heap_model.specs.Maps.{gone, made}
+use Rattle.heap_model.specs.Maps.{gone, made, callers_map}
 use Rattle.heap_model.specs.Space.{free_slots, rooms, ShortFor}
 use Rattle.heap_model.specs.Rooms.{Lowers, making, growth, Stuck}
 use Rattle.heap_model.specs.DatabaseFields.{entry_size}
-use Rattle.heap_model.specs.Database.{Entry, a_record, a_resource, entry_data, entry_with, Database, database_in, spelled, has_resources, EntryFits, IsSpelled}
-use Rattle.heap_model.specs.Store.{data_owner, owner_of, bytes_under, owner_under, unique_ids, Accepted, store_of}
+use Rattle.heap_model.specs.Database.{Entry, a_record, a_resource, entry_data, entry_with, Database, database_in, spelled, EntryFits, IsSpelled}
+use Rattle.heap_model.specs.Store.{data_owner, owner_of, bytes_under, owner_under, databases, unique_ids, Accepted, store_of}
 use Rattle.heap_model.specs.UniqueIds.{IsFresh, seed_in}
 use Rattle.heap_model.specs.Counts.{NamesData}
 use Rattle.heap_model.specs.Leaving.{Leaves, Respells, rewritten, SpellsHere, database_here}
-use Rattle.heap_model.specs.EntrySteps.{entries_in, resources_under, with_entry_at, entry_made, LeavesStore}
+use Rattle.heap_model.specs.EntrySteps.{entries_in, resources_under, with_entry_at, entry_made, raised, LeavesStore}
 use Rattle.heap_model.specs.StoreSteps.{StoreAsBefore}
 use Rattle.heap_model.specs.declared.names.Db.{Db}
 use Rattle.laws_heap.proofs.Holding.{as_before}
 use Rattle.mem_manager.specs.Lookup.{MakesNew}
 use Rattle.laws_store.specs.Entries.{HasNewId}
 use Rattle.laws_store.proofs.Creating.{managers_loose}
-use Rattle.laws_store.proofs.Entries.{fresh_new}
+use Rattle.laws_store.proofs.Entries.{fresh_new, inserted_sound, inserted_names, raised_sound, seeded_name}
 use Rattle.laws_store.proofs.Edited.{here as updated_here, apart as updated_apart}
-use Rattle.laws_store.proofs.Editing.{make_steps, same_steps}
-use Rattle.laws_store.proofs.Numbered.{in_here, in_store, entries_here, kind_here}
+use Rattle.laws_store.proofs.Editing.{edit_steps, made_edit, same_steps}
+use Rattle.laws_store.proofs.Numbered.{accepted_sound, in_here, in_store, entries_here, kind_here}
 use Rattle.laws_store.proofs.Owners.{owned_some, directory_owner}
 use Rattle.laws_store.proofs.Parts.{made_then_short}
+use Rattle.database_edits.specs.Edits.{entry_inserted, HasNoRoomFor}
 use Rattle.palm_store.specs.Databases.{HasNumber}
 use Rattle.palm_store.specs.declared.entries.infos.NewEntry.{NewEntry}
 use Rattle.palm_store.specs.declared.entries.infos.NewEntry.TheVariants as new
 use Rattle.palm_store.specs.EntryInfos.{IsMadeOf}
 use Rattle.palm_store.specs.NewEntries.{PutsIn}
 use Rattle.laws_store.proofs.Keeping.{bytes_like}
+use Rattle.palm_store.proofs.EntryChanges.{then_raised}
 use Rattle.palm_store.proofs.TwoSteps.{then_respelled, database_kept, still_between}
 
 -- ---- when the chunk was made
@@ -84,12 +86,12 @@ made_no_directory old mid name size h m e =
 
 -- ---- the entry is put in
 
-pub puts_in : (old mid new : List ℕ) (db at : ℕ) (entry after : Entry ℕ) (name size : ℕ) → SpellsHere old db → MakesNew old mid name size 15 → after ≡ entry → Respells mid new db (with_entry_at at after (database_here mid db)) → PutsIn old new db at entry name size
+pub puts_in : (old mid new : List ℕ) (db at : ℕ) (entry after : Entry ℕ) (name size : ℕ) → SpellsHere old db → MakesNew old mid name size 15 → after ≡ entry → Respells mid new db (entry_inserted at after (database_here mid db)) → PutsIn old new db at entry name size
 unfolding chunk_made
 puts_in old mid new db at entry after name size s m is l = record {
   fresh = m.fresh;
-  leaves = then_respelled old mid new db name (with_entry_at at entry (database_here old db)) (chunk_made size) (fresh_apart old db name s m.fresh) m.fresh m.leaves
-      (subst (λ (e : Entry ℕ). Respells mid new db (with_entry_at at e (database_here old db))) is (subst (λ (d : Database ℕ). Respells mid new db (with_entry_at at after d)) (database_still old mid db name size s m) l));
+  leaves = then_respelled old mid new db name (entry_inserted at entry (database_here old db)) (chunk_made size) (fresh_apart old db name s m.fresh) m.fresh m.leaves
+      (subst (λ (e : Entry ℕ). Respells mid new db (entry_inserted at e (database_here old db))) is (subst (λ (d : Database ℕ). Respells mid new db (entry_inserted at after d)) (database_still old mid db name size s m) l));
 }
 
 -- ---- there was no room
@@ -107,15 +109,14 @@ header image db s = by (held image db) refl s.owner where
   by None e own = absurd (omega arith)
   by (Some live) e own = record { live = live; there = e; loose = managers_loose image db live s.heap e own }
 
-pub no_header_room : (old mid : List ℕ) (db : Db) (name size : ℕ) → HasNumber old db.0 → SpellsHere old db.0 → MakesNew old mid name size 15 → Lowers old mid (need size)
-    → ShortFor mid db.0 (need (length (bytes_under mid db.0) + entry_size (has_resources (database_here mid db.0).header.attributes)))
+pub no_header_room : (old mid : List ℕ) (db : Db) (name size : ℕ) (resources : Bool) → resources ≡ resources_under (store_of old) db → SpellsHere old db.0 → MakesNew old mid name size 15 → Lowers old mid (need size)
+    → HasNoRoomFor mid db.0 resources
     → (free_slots old < 1) ⊎ Stuck (rooms old) (making size ∷ growth old db.0 (length (bytes_under old db.0) + entry_size (resources_under (store_of old) db)) ∷ [])
-no_header_room old mid db name size has s m lowers short =
+no_header_room old mid db name size resources kind s m lowers short =
     let kept = db_kept old mid db.0 name size s m in
     let head = header old db.0 s in
-    let kind : has_resources (database_here mid db.0).header.attributes ≡ resources_under (store_of old) db = ap (λ (d : Database ℕ). has_resources d.header.attributes) (database_kept old mid db.0 kept) ∙ sym (kind_here old db has) in
-    let count : length (bytes_under mid db.0) + entry_size (has_resources (database_here mid db.0).header.attributes) ≡ length (bytes_under old db.0) + entry_size (resources_under (store_of old) db) =
-    ap (λ (bytes : List ℕ). length bytes + entry_size (has_resources (database_here mid db.0).header.attributes)) (bytes_like old mid db.0 kept) ∙ ap (λ (k : Bool). length (bytes_under old db.0) + entry_size k) kind in
+    let count : length (bytes_under mid db.0) + entry_size resources ≡ length (bytes_under old db.0) + entry_size (resources_under (store_of old) db) =
+    ap (λ (bytes : List ℕ). length bytes + entry_size resources) (bytes_like old mid db.0 kept) ∙ ap (λ (k : Bool). length (bytes_under old db.0) + entry_size k) kind in
     inr (made_then_short old mid (need size) db.0 (length (bytes_under old db.0) + entry_size (resources_under (store_of old) db)) head.live m.leaves.frame.accepted lowers head.there (kept ∙ head.there) head.loose
     (subst (λ (n : ℕ). ShortFor mid db.0 (need n)) count short))
 
@@ -161,23 +162,28 @@ new_id image db (new.Resource kind id) slot one has is = subst (HasNewId (unique
 put_some : (old after : List ℕ) (db at : ℕ) (entry : Entry ℕ) (slot size : ℕ) → PutsIn old after db at entry slot size → 0 < slot
 unfolding owner_under chunk_made
 put_some old after db at entry slot size puts =
-    let here = updated_here (rewritten (held old) db (spelled (with_entry_at at entry (database_here old db)))) slot (chunk_made size) slot refl in
+    let here = updated_here (rewritten (held old) db (spelled (entry_inserted at entry (database_here old db)))) slot (chunk_made size) slot refl in
     owned_some after slot 15 puts.leaves.frame.accepted (ap owner_of (puts.leaves.map slot ∙ here)) (omega arith)
 
 pub new_steps : (old after : List ℕ) (db : Db) (at : ℕ) (entry : NewEntry) (one : Entry ℕ) (kind : Bool) (slot size : ℕ) → Accepted old → HasNumber old db.0 → IsMadeOf (store_of old) db entry 0 one → PutsIn old after db.0 at (entry_with (λ none. slot) one) slot size
     → kind ≡ resources_under (store_of old) db → EntryFits kind (entry_with (λ none. slot) one) → at ≤ length (entries_in (store_of old) db) → length (entries_in (store_of old) db) < 65535
-    → (made : Entry ℕ) × IsMadeOf (store_of old) db entry slot made × LeavesStore old after (entry_made (store_of old) db at made size)
+    → (made : Entry ℕ) × IsMadeOf (store_of old) db entry slot made × LeavesStore old after (raised (entry_made (store_of old) db at made size) db)
+unfolding store_of chunk_made
 new_steps old after db at entry one kind slot size a has is puts same_kind fits inside few =
+    let d : Database ℕ = database_here old db.0 in
     let some = put_some old after db.0 at (entry_with (λ none. slot) one) slot size puts in
     let one_made : Entry ℕ = entry_with (λ none. slot) one in
     let name = named_so slot one in
     let made_is = made_of old db entry slot one is in
-    let count = ap length (entries_here old db has) in (
+    let count = ap length (entries_here old db has) in
+    let put_in : Database ℕ → Database ℕ = with_entry_at at one_made in
+    let sound = inserted_sound d at one_made (accepted_sound old db.0 a has) (subst (λ (k : Bool). EntryFits k one_made) (same_kind ∙ kind_here old db has) fits) (names_some slot one some) (new_id old db entry slot one_made has made_is) (omega arith) (omega arith) in
+    let leaves = subst (λ (n : ℕ). Leaves old after (made (rewritten (held old) db.0 (spelled (entry_inserted at one_made d))) n size data_owner 0)) (sym name) puts.leaves in
+    let edit = made_edit old after db.0 (entry_inserted at one_made d) (entry_data one_made) size leaves (ap (held old) name ∙ puts.fresh) (raised_sound (put_in d) sound) (seeded_name one_made d.header) (λ q. inserted_names q d at one_made) in (
       one_made,
       made_is,
-      make_steps old after db at one_made size a has
-          (subst (λ (n : ℕ). Leaves old after (made (rewritten (held old) db.0 (spelled (with_entry_at at one_made (database_here old db.0)))) n size data_owner 0)) (sym name) puts.leaves)
-          (ap (held old) name ∙ puts.fresh) (subst (λ (k : Bool). EntryFits k one_made) (same_kind ∙ kind_here old db has) fits) (names_some slot one some) (new_id old db entry slot one_made has made_is) (omega arith) (omega arith),
+      then_raised old after db put_in (record { map = made (callers_map old) (entry_data one_made) size data_owner 0; databases = databases old })
+          (edit_steps old after db (entry_inserted at one_made) (entry_data one_made) (chunk_made size) a has edit),
     )
 
 -- ---- a new record

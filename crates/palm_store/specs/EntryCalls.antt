@@ -1,5 +1,5 @@
 -- What the calls on entries ask and promise of the store that an image means, by the image.
-use Rattle.std.specs.Prelude.{◌≡◌, ◌<◌, ℕ, Bool, List, length}
+use Rattle.std.specs.Prelude.{◌≡◌, ◌<◌, ◌≤◌, ℕ, Bool, true, false, List, length, Option, Some, None}
 use Rattle.heap_model.specs.Memory.{Memory}
 use Rattle.heap_model.specs.Database.{Entry}
 use Rattle.heap_model.specs.Lists.{moved}
@@ -8,8 +8,9 @@ use Rattle.heap_model.specs.Refusals.{Check}
 use Rattle.heap_model.specs.MemorySteps.{Of, IsLocked, growth_checks}
 use Rattle.heap_model.specs.Store.{Store, store_of}
 use Rattle.heap_model.specs.StoreWords.{In}
-use Rattle.heap_model.specs.EntrySteps.{entries_in, entry_under, data_under, resources_under, with_entries, with_chunks, entry_made, entry_changed, making_checks, LeavesStore}
+use Rattle.heap_model.specs.EntrySteps.{entries_in, entry_under, OfEntry, Tells, data_under, resources_under, with_entries, with_chunks, entry_made, entry_changed, raised, making_checks, LeavesStore}
 use Rattle.heap_model.specs.declared.names.Db.{Db}
+use Rattle.heap_model.specs.declared.entry.Entry as heard
 use Rattle.palm_store.specs.declared.entries.infos.EntryInfo.{EntryInfo}
 use Rattle.palm_store.specs.declared.entries.infos.NewEntry.{NewEntry}
 use Rattle.palm_store.specs.Databases.{HasNumber}
@@ -32,6 +33,11 @@ HasDbAttributes image db attributes = In (store_of image) db (λ database. datab
 
 abbrev pub HasCount : List ℕ → Db → ℕ → Type 0
 HasCount image db count = count ≡ length (entries_of_image image db)
+
+-- this is heard of an index: what the entry there says, or that there is none
+abbrev pub IsHeard : List ℕ → Db → ℕ → Option heard.Entry → Type 0
+IsHeard image db index None = length (entries_of_image image db) ≤ index
+IsHeard image db index (Some entry) = OfEntry (entry_under (store_of image) db index) (Tells entry)
 
 -- the data of an entry is locked
 abbrev pub HasLockedData : List ℕ → Db → ℕ → Type 0
@@ -62,10 +68,15 @@ checks_of_growth image name size = growth_checks image (store_of image).map name
 abbrev pub LeavesChanged : Memory → Memory → (Store → Store) → Type 0
 LeavesChanged old new change = LeavesStore old.bytes new.bytes (change (store_of old.bytes))
 
--- an entry that was made of what the caller said is there, with its data under a slot
+-- a store where a database counts a call more, if that is asked
+abbrev pub raised_if : Bool → Store → Db → Store
+raised_if true store db = raised store db
+raised_if false store db = store
+
+-- an entry that was made of what the caller said is there, with its data under a slot, and the call is counted
 abbrev pub LeavesMade : Memory → Memory → Db → ℕ → NewEntry → ℕ → ℕ → Type 0
 LeavesMade old new db at entry slot size =
-    (made : Entry ℕ) × IsMadeOf (store_of old.bytes) db entry slot made × LeavesChanged old new (λ store. entry_made store db at made size)
+    (made : Entry ℕ) × IsMadeOf (store_of old.bytes) db entry slot made × LeavesChanged old new (λ store. raised (entry_made store db at made size) db)
 
 abbrev pub entry_informed : Store → Db → ℕ → EntryInfo → Store
 entry_informed store db index info = entry_changed store db index (with_info info)

@@ -5,10 +5,10 @@ use Rattle.heap_model.specs.Maps.{made}
 use Rattle.heap_model.specs.Database.{Entry, spelled}
 use Rattle.heap_model.specs.Store.{data_owner}
 use Rattle.heap_model.specs.Leaving.{Leaves, rewritten, database_here}
-use Rattle.heap_model.specs.EntrySteps.{with_entry_at}
+use Rattle.database_edits.specs.Edits.{entry_inserted}
 
 -- A chunk of so many zeros was made for data, under a name that stood for nothing, and the database has
--- the entry at an index. All other chunks are as they were.
+-- the entry at an index, and counts a call more. All other chunks are as they were.
 pub record PutsIn (old new : List ℕ) (db at : ℕ) (entry : Entry ℕ) (name size : ℕ) : Type 0 where
   pub fresh : held old name ≡ None
-  pub leaves : Leaves old new (made (rewritten (held old) db (spelled (with_entry_at at entry (database_here old db)))) name size data_owner 0)
+  pub leaves : Leaves old new (made (rewritten (held old) db (spelled (entry_inserted at entry (database_here old db)))) name size data_owner 0)

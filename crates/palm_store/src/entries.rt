@@ -5,7 +5,7 @@ mod making;
 mod reading;
 mod shapes;
 
-pub use infos::{EntryInfo, NewEntry, Overview};
+pub use infos::{EntryInfo, FoundEntry, NewEntry, Overview};
 pub(crate) use making::{new_entry, put_in};
-pub(crate) use reading::{count_entries, read_entry};
-pub(crate) use shapes::{emptied, entry_with, told};
+pub(crate) use reading::{count_entries, entry_at, read_entry};
+pub(crate) use shapes::{emptied, entry_with};

@@ -1,11 +1,22 @@
 //! What callers say of entries, and what is told them.
 
+use db_format::DbAttrs;
+use heap_model::Entry;
+
 /// What the calls on the entries of a database look at first.
 #[derive(Clone, Copy, Debug, PartialEq, Eq)]
 pub struct Overview {
-    /// Of the attributes 0x0001 says that the database holds resources, and 0x0002 that it may only be read.
-    pub attributes: u16,
+    pub attributes: DbAttrs,
     pub entry_count: u32,
+}
+
+/// What is found at an index of a database.
+#[derive(Clone, Copy, Debug, PartialEq, Eq)]
+pub struct FoundEntry {
+    /// The attributes of the database.
+    pub attributes: DbAttrs,
+    /// What the entry of the index says, if there are so many.
+    pub entry: Option<Entry>,
 }
 
 /// What an entry says but for its data.

@@ -18,14 +18,14 @@ use crate::entries::infos::NewEntry;
 use crate::entries::shapes::with_slot;
 use crate::lookup::header_of;
 use bitflags::Flags;
-use database_edits::alone::insert_entry;
+use database_edits::insert_entry;
 use db_format::{DbEntry, RecordAttrs, RecordEntry, ResourceEntry};
 use fresh_ids::fresh_id;
 use heap_model::{Db, Name, Refusal};
 use mem_manager::{DATA_OWNER, Heap};
 
-/// Makes a chunk of zeros for data, and puts an entry with it in at an index. Refused `NotEnoughSpace` alone,
-/// and then the heap holds what it held.
+/// Makes a chunk of zeros for data, and puts an entry with it in at an index; the database counts the call.
+/// Refused `NotEnoughSpace` alone, and then the heap holds what it held.
 pub(crate) fn put_in(
     heap: &mut Heap,
     db: Db,

@@ -1,16 +1,17 @@
 //! Entries, read.
 
-ghost use Rattle.std.specs.Prelude.{◌≡◌, ◌<◌, Some, length, slice_get};
-ghost use Rattle.heap_model.specs.Database.{has_resources, EntryFits};
+ghost use Rattle.std.specs.Prelude.{◌≡◌, ◌<◌, ◌≤◌, Some, length, slice_get, IfSome, IfNone};
+ghost use Rattle.heap_model.specs.Database.{has_resources, EntryFits, HasShape, database_in, entry_count_in};
 ghost use Rattle.heap_model.specs.Store.{Accepted, store_of};
-ghost use Rattle.heap_model.specs.EntrySteps.{entries_in};
+ghost use Rattle.heap_model.specs.EntrySteps.{entries_in, OfEntry, Tells};
 ghost use Rattle.heap_model.specs.Leaving.{database_here};
 ghost use Rattle.db_format.specs.EitherEntry.{entry_of, is_resource, HasFittingId};
 ghost use Rattle.palm_store.specs.Databases.{HasNumber};
 
+use crate::entries::shapes::told;
 use crate::lookup::header_of;
-use db_format::DbEntry;
-use heap_model::Db;
+use db_format::{DbEntry, entry_count};
+use heap_model::{Db, Entry};
 use mem_manager::Heap;
 
 /// How many entries a database has.
@@ -19,7 +20,7 @@ pub(crate) fn count_entries(heap: &Heap, db: Db) -> u32
     requires number { HasNumber heap.now.bytes db.0 }
     ensures { result ≡ length (entries_in (store_of heap.now.bytes) db) }
 {
-    db_format::entry_count(header_of(heap, db)) as u32
+    entry_count(header_of(heap, db)) as u32
 }
 
 /// The entry at an index, as the database has it.
@@ -35,4 +36,17 @@ pub(crate) fn read_entry(heap: &Heap, db: Db, index: u32) -> DbEntry
     ensures fits { EntryFits (is_resource result) (entry_of result) }
 {
     DbEntry::read(header_of(heap, db), index as u16)
+}
+
+/// What the entry at an index says, of the database with these bytes, if there are so many.
+pub(crate) fn entry_at(body: &[u8], index: u32) -> Option<Entry>
+    requires { HasShape body.now }
+    ensures there { IfSome result
+        (λ entry. OfEntry (slice_get (database_in body.now).entries index) (Tells entry)) }
+    ensures none { IfNone result (entry_count_in body.now ≤ index) }
+{
+    if index >= entry_count(body) as u32 {
+        return None;
+    }
+    Some(told(DbEntry::read(body, index as u16)))
 }

@@ -8,22 +8,22 @@ ghost use Rattle.heap_model.specs.Space.{FitsInPlace, MovesNothing, MovesOneStre
 ghost use Rattle.heap_model.specs.Store.{Accepted, store_of};
 ghost use Rattle.heap_model.specs.Refusals.{NoneHolds, FirstBrings};
 ghost use Rattle.heap_model.specs.StoreWords.{with_number};
-ghost use Rattle.heap_model.specs.EntrySteps.{entry_under, OfEntry, Tells, data_freed, raised, MakesNone};
+ghost use Rattle.heap_model.specs.EntrySteps.{data_freed, raised, MakesNone};
 ghost use Rattle.heap_model.specs.StoreSteps.{StoreAsBefore};
 ghost use Rattle.palm_store.specs.Databases.{HasNumber};
 ghost use Rattle.palm_store.specs.EntryInfos.{makes_resource, MayOwn, dropped_to};
-ghost use Rattle.palm_store.specs.EntryCalls.{entries_of_image, resources_of_image, data_of_image, HasDbAttributes, HasCount, HasLockedData, IsEntryData, MayHave, checks_of_making, checks_of_growth, LeavesChanged, LeavesMade, entry_informed, entry_moved, data_sized};
+ghost use Rattle.palm_store.specs.EntryCalls.{entries_of_image, resources_of_image, data_of_image, HasDbAttributes, HasCount, HasLockedData, IsEntryData, IsHeard, MayHave, checks_of_making, checks_of_growth, raised_if, LeavesChanged, LeavesMade, entry_informed, entry_moved, data_sized};
 
 use crate::chunks::free_chunk_of;
 use crate::entries::{
-    EntryInfo, NewEntry, Overview, count_entries, emptied, entry_with, new_entry, put_in,
-    read_entry, told,
+    EntryInfo, FoundEntry, NewEntry, Overview, count_entries, emptied, entry_at, entry_with,
+    new_entry, put_in, read_entry,
 };
 use crate::lookup::find_header;
 use crate::store::Store;
-use database_edits::alone::{move_entry, remove_entry, write_entry};
-use database_edits::raise_modification;
-use heap_model::{Db, Entry, Name, Refusal};
+use database_edits::{move_entry, raise_modification, remove_entry, write_entry};
+use db_format::DbAttrs;
+use heap_model::{Db, Name, Refusal};
 
 /// The most entries that a database may have.
 const MOST_ENTRIES: u32 = 65535;
@@ -36,28 +36,39 @@ impl Store {
         ensures accepted { Accepted self.now.bytes }
         ensures known { OnOk result (HasNumber self.now.bytes db.0) }
         ensures attributes { IfOk result (λ overview.
-            HasDbAttributes self.now.bytes db overview.attributes) }
+            HasDbAttributes self.now.bytes db overview.attributes.0) }
         ensures count { IfOk result (λ overview. HasCount self.now.bytes db overview.entry_count) }
         ensures unknown { OnErr result (with_number (store_of self.now.bytes) db.0 ≡ None) }
         ensures refusal { IfErr result (λ refusal. refusal ≡ Refusal.NoSuchDatabase) }
     {
         let header = find_header(&self.heap, db)?;
         Ok(Overview {
-            attributes: db_format::attributes(header),
+            attributes: DbAttrs(db_format::attributes(header)),
             entry_count: db_format::entry_count(header) as u32,
         })
     }
 
-    /// The entry at an index.
-    pub fn entry(&self, db: Db, index: u32) -> Entry
-        requires number { HasNumber self.now.bytes db.0 }
-        requires inside { index < length (entries_of_image self.now.bytes db) }
-        ensures { OfEntry (entry_under (store_of self.now.bytes) db index) (Tells result) }
+    /// The attributes of a database, and what its entry at an index says, if there is one.
+    ///
+    /// Refused: `NoSuchDatabase`.
+    pub fn find_entry(&self, db: Db, index: u32) -> Result<FoundEntry, Refusal>
+        ensures accepted { Accepted self.now.bytes }
+        ensures known { OnOk result (HasNumber self.now.bytes db.0) }
+        ensures attributes { IfOk result (λ found.
+            HasDbAttributes self.now.bytes db found.attributes.0) }
+        ensures entry { IfOk result (λ found. IsHeard self.now.bytes db index found.entry) }
+        ensures unknown { OnErr result (with_number (store_of self.now.bytes) db.0 ≡ None) }
+        ensures refusal { IfErr result (λ refusal. refusal ≡ Refusal.NoSuchDatabase) }
     {
-        told(read_entry(&self.heap, db, index))
+        let header = find_header(&self.heap, db)?;
+        Ok(FoundEntry {
+            attributes: DbAttrs(db_format::attributes(header)),
+            entry: entry_at(header, index),
+        })
     }
 
-    /// Makes an entry at an index, with so many bytes of zeros for its data. The name of the data is answered.
+    /// Makes an entry at an index, with so many bytes of zeros for its data. The name of the data is answered,
+    /// and the database counts the call.
     ///
     /// Refused: `TooManyEntries`, where there are 65,535; `NotEnoughSpace`, where no slot is free, or room for
     /// the data and for one entry more in the header can run out. Then nothing is left of it.
@@ -108,27 +119,28 @@ impl Store {
         Ok(())
     }
 
-    /// Sets what an entry says. Its data stays.
-    pub fn entry_set(&mut self, db: Db, index: u32, info: EntryInfo)
+    /// Sets what an entry says. Its data stays. The database counts the call if `counts` says so.
+    pub fn entry_set(&mut self, db: Db, index: u32, info: EntryInfo, counts: bool)
         requires number { HasNumber self.old.bytes db.0 }
         requires inside { index < length (entries_of_image self.old.bytes db) }
         requires info { MayHave self.old.bytes db index info }
         ensures set { LeavesChanged self.old self.new
-            (λ store. entry_informed store db index info) }
+            (λ store. raised_if counts (entry_informed store db index info) db) }
         ensures none_made { MakesNone self.old.bytes self.new.bytes }
         ensures rest { self.new ≡ record self.old { bytes = self.new.bytes } }
     {
         let entry = entry_with(read_entry(&self.heap, db, index), info);
-        write_entry(&mut self.heap, db, index as u16, entry);
+        write_entry(&mut self.heap, db, index as u16, entry, counts);
     }
 
     /// Moves the entry at an index in front of the one that stands at another, or behind the last: `to` counts
-    /// the entries as they stand before.
+    /// the entries as they stand before. The database counts the call.
     pub fn entry_move(&mut self, db: Db, from: u32, to: u32)
         requires number { HasNumber self.old.bytes db.0 }
         requires from_inside { from < length (entries_of_image self.old.bytes db) }
         requires to_inside { to ≤ length (entries_of_image self.old.bytes db) }
-        ensures moved { LeavesChanged self.old self.new (λ store. entry_moved store db from to) }
+        ensures moved { LeavesChanged self.old self.new
+            (λ store. raised (entry_moved store db from to) db) }
         ensures none_made { MakesNone self.old.bytes self.new.bytes }
         ensures rest { self.new ≡ record self.old { bytes = self.new.bytes; slid = self.new.slid } }
     {
@@ -136,22 +148,24 @@ impl Store {
     }
 
     /// Frees the data of a record, if it has any. The record is deleted then, and keeps its ID and its other
-    /// attributes.
+    /// attributes. The database counts the call.
     pub fn entry_free_data(&mut self, db: Db, index: u32)
         requires number { HasNumber self.old.bytes db.0 }
         requires records { resources_of_image self.old.bytes db ≡ false }
         requires inside { index < length (entries_of_image self.old.bytes db) }
         requires unlocked { HasLockedData self.old.bytes db index → ⊥ }
-        ensures freed { LeavesChanged self.old self.new (λ store. data_freed store db index) }
+        ensures freed { LeavesChanged self.old self.new
+            (λ store. raised (data_freed store db index) db) }
         ensures none_made { MakesNone self.old.bytes self.new.bytes }
         ensures rest { self.new ≡ record self.old { bytes = self.new.bytes } }
     {
         let entry = read_entry(&self.heap, db, index);
-        write_entry(&mut self.heap, db, index as u16, emptied(entry));
+        write_entry(&mut self.heap, db, index as u16, emptied(entry), true);
         free_chunk_of(&mut self.heap, Name(entry.slot()));
     }
 
-    /// Drops an entry: its data, if it has any, is freed, or handed over to an owner.
+    /// Drops an entry: its data, if it has any, is freed, or handed over to an owner. The database counts the
+    /// call.
     pub fn entry_drop(&mut self, db: Db, index: u32, owner: Option<u8>)
         requires number { HasNumber self.old.bytes db.0 }
         requires inside { index < length (entries_of_image self.old.bytes db) }
@@ -159,7 +173,7 @@ impl Store {
         requires owner { IfSome owner MayOwn }
         requires there { IfSome owner (λ owner. 0 < data_of_image self.old.bytes db index) }
         ensures dropped { LeavesChanged self.old self.new
-            (λ store. dropped_to store db index owner) }
+            (λ store. raised (dropped_to store db index owner) db) }
         ensures none_made { MakesNone self.old.bytes self.new.bytes }
         ensures rest { self.new ≡ record self.old { bytes = self.new.bytes; slid = self.new.slid } }
     {

@@ -36,7 +36,7 @@ sys_free-requires-clause-no_directory c =
 
 pub returns-in-Err-clause-no_room : goal.returns-in-Err-clause-no_room
 returns-in-Err-clause-no_room c =
-    no_header_room c.args.heap.now.bytes c.sys_new.new.self.bytes c.args.db c.in_ok-name.name.0 c.args.size c.requires.number (accepted_spells c.args.heap.now.bytes c.args.db.0 c.requires.accepted c.requires.number) c.in_ok-name.ensures.made c.in_ok-name.ensures.lowers
+    no_header_room c.args.heap.now.bytes c.sys_new.new.self.bytes c.args.db c.in_ok-name.name.0 c.args.size _ (c.with_slot.ensures.kind ∙ c.requires.kind) (accepted_spells c.args.heap.now.bytes c.args.db.0 c.requires.accepted c.requires.number) c.in_ok-name.ensures.made c.in_ok-name.ensures.lowers
     c.in-Err.ensures.no_room
 
 pub returns-in-Err-clause-refused : goal.returns-in-Err-clause-refused
@@ -47,4 +47,4 @@ returns-in-Err-clause-refused c =
 pub returns-clause-puts : goal.returns-clause-puts
 returns-clause-puts c =
     puts_in c.args.heap.now.bytes c.sys_new.new.self.bytes c.insert_entry.new.heap.bytes c.args.db.0 c.args.at (entry_with (λ (none : ℕ). c.in_ok-name.name.0) (entry_of c.args.entry)) (entry_of c.with_slot.result) c.in_ok-name.name.0 c.args.size
-    (accepted_spells c.args.heap.now.bytes c.args.db.0 c.requires.accepted c.requires.number) c.in_ok-name.ensures.made c.with_slot.ensures.is c.in_default.ensures.respells
+    (accepted_spells c.args.heap.now.bytes c.args.db.0 c.requires.accepted c.requires.number) c.in_ok-name.ensures.made c.with_slot.ensures.is c.in_default.ensures.inserted

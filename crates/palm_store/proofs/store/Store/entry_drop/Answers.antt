@@ -4,7 +4,7 @@ use Rattle.heap_model.specs.Maps.{gone}
 use Rattle.heap_model.specs.Leaving.{Leaves}
 use Rattle.heap_model.specs.Reading.{held}
 use Rattle.heap_model.specs.Store.{store_of}
-use Rattle.heap_model.specs.EntrySteps.{LeavesStore, data_under, entries_in}
+use Rattle.heap_model.specs.EntrySteps.{LeavesStore, raised, data_under, entries_in}
 use Rattle.db_format.specs.EitherEntry.{entry_of}
 use Rattle.laws_store.proofs.Numbered.{accepted_spells}
 use Rattle.palm_store.specs.EntryInfos.{MayOwn, dropped_to}
@@ -35,19 +35,19 @@ remove_entry-requires-clause-inside c =
 pub free_chunk_of-requires-clause-there : goal.free_chunk_of-requires-clause-there
 free_chunk_of-requires-clause-there c =
     let number : HasNumber c.self.inside.heap.bytes c.args.db.0 = rw c.self.view_is c.requires.number in
-    slot_there c.self.inside.heap.bytes c.remove_entry.new.heap.bytes c.args.db c.args.index c.slot.result _ _ c.self.invariant number c.read_entry.ensures.is c.slot.ensures c.remove_entry.ensures.respells
+    slot_there c.self.inside.heap.bytes c.remove_entry.new.heap.bytes c.args.db c.args.index c.slot.result _ _ c.self.invariant number c.read_entry.ensures.is c.slot.ensures c.remove_entry.ensures.removed
 
 pub free_chunk_of-requires-clause-no_directory : goal.free_chunk_of-requires-clause-no_directory
 free_chunk_of-requires-clause-no_directory c =
     let number : HasNumber c.self.inside.heap.bytes c.args.db.0 = rw c.self.view_is c.requires.number in
-    slot_no_directory c.self.inside.heap.bytes c.remove_entry.new.heap.bytes c.args.db c.args.index c.slot.result _ _ c.self.invariant number c.read_entry.ensures.is c.slot.ensures c.remove_entry.ensures.respells
+    slot_no_directory c.self.inside.heap.bytes c.remove_entry.new.heap.bytes c.args.db c.args.index c.slot.result _ _ c.self.invariant number c.read_entry.ensures.is c.slot.ensures c.remove_entry.ensures.removed
 
 pub sys_set_owner-requires-clause-movable : goal.sys_set_owner-requires-clause-movable
 sys_set_owner-requires-clause-movable c =
     let number : HasNumber c.self.inside.heap.bytes c.args.db.0 = rw c.self.view_is c.requires.number in
     let there_is : IfSome c.args.owner (λ owner. 0 < data_under (store_of c.self.inside.heap.bytes) c.args.db c.args.index) = rw c.self.view_is c.requires.there in
     let there = subst (λ (owner : Option ℕ). IfSome owner (λ o. 0 < data_under (store_of c.self.inside.heap.bytes) c.args.db c.args.index)) c.in-Some.is there_is in
-    slot_movable c.self.inside.heap.bytes c.remove_entry.new.heap.bytes c.args.db c.args.index c.slot.result _ _ c.self.invariant number c.read_entry.ensures.is c.slot.ensures c.remove_entry.ensures.respells
+    slot_movable c.self.inside.heap.bytes c.remove_entry.new.heap.bytes c.args.db c.args.index c.slot.result _ _ c.self.invariant number c.read_entry.ensures.is c.slot.ensures c.remove_entry.ensures.removed
     (slot_some c.self.inside.heap.bytes c.args.db c.args.index c.slot.result _ number c.read_entry.ensures.is c.slot.ensures there)
 
 pub sys_set_owner-requires-clause-no_directory : goal.sys_set_owner-requires-clause-no_directory
@@ -55,7 +55,7 @@ sys_set_owner-requires-clause-no_directory c =
     let number : HasNumber c.self.inside.heap.bytes c.args.db.0 = rw c.self.view_is c.requires.number in
     let there_is : IfSome c.args.owner (λ owner. 0 < data_under (store_of c.self.inside.heap.bytes) c.args.db c.args.index) = rw c.self.view_is c.requires.there in
     let there = subst (λ (owner : Option ℕ). IfSome owner (λ o. 0 < data_under (store_of c.self.inside.heap.bytes) c.args.db c.args.index)) c.in-Some.is there_is in
-    slot_no_directory c.self.inside.heap.bytes c.remove_entry.new.heap.bytes c.args.db c.args.index c.slot.result _ _ c.self.invariant number c.read_entry.ensures.is c.slot.ensures c.remove_entry.ensures.respells
+    slot_no_directory c.self.inside.heap.bytes c.remove_entry.new.heap.bytes c.args.db c.args.index c.slot.result _ _ c.self.invariant number c.read_entry.ensures.is c.slot.ensures c.remove_entry.ensures.removed
     (slot_some c.self.inside.heap.bytes c.args.db c.args.index c.slot.result _ number c.read_entry.ensures.is c.slot.ensures there)
 
 pub returns-in-None-clause-dropped : goal.returns-in-None-clause-dropped
@@ -65,8 +65,8 @@ returns-in-None-clause-dropped c =
     rw (← c.self.view_is) (let image : List ℕ = c.self.inside.heap.bytes in
     let mid : List ℕ = c.remove_entry.new.heap.bytes in
     let new : List ℕ = c.free_chunk_of.new.heap.bytes in
-    subst (λ (owner : Option ℕ). LeavesStore image new (dropped_to (store_of image) c.args.db c.args.index owner)) (sym c.in-None.is)
-    (drop_steps image mid new c.args.db c.args.index (entry_of c.read_entry.result) c.self.invariant number c.read_entry.ensures.is (index_below image c.args.db c.args.index number inside) c.remove_entry.ensures.respells
+    subst (λ (owner : Option ℕ). LeavesStore image new (raised (dropped_to (store_of image) c.args.db c.args.index owner) c.args.db)) (sym c.in-None.is)
+    (drop_steps image mid new c.args.db c.args.index (entry_of c.read_entry.result) c.self.invariant number c.read_entry.ensures.is (index_below image c.args.db c.args.index number inside) c.remove_entry.ensures.removed
     (subst (λ (slot : ℕ). Leaves mid new (gone (held mid) slot)) c.slot.ensures c.free_chunk_of.ensures.leaves)).0)
 
 pub invariant_of-self : goal.invariant_of-self
@@ -76,7 +76,7 @@ invariant_of-self c =
     let image : List ℕ = c.self.inside.heap.bytes in
     let mid : List ℕ = c.remove_entry.new.heap.bytes in
     let new : List ℕ = c.free_chunk_of.new.heap.bytes in
-    let left = (drop_steps image mid new c.args.db c.args.index (entry_of c.read_entry.result) c.self.invariant number c.read_entry.ensures.is (index_below image c.args.db c.args.index number inside) c.remove_entry.ensures.respells
+    let left = (drop_steps image mid new c.args.db c.args.index (entry_of c.read_entry.result) c.self.invariant number c.read_entry.ensures.is (index_below image c.args.db c.args.index number inside) c.remove_entry.ensures.removed
     (subst (λ (slot : ℕ). Leaves mid new (gone (held mid) slot)) c.slot.ensures c.free_chunk_of.ensures.leaves)).0 in
     left.accepted
 
@@ -87,7 +87,7 @@ returns-in-None-clause-none_made c =
     rw (← c.self.view_is) (let image : List ℕ = c.self.inside.heap.bytes in
     let mid : List ℕ = c.remove_entry.new.heap.bytes in
     let new : List ℕ = c.free_chunk_of.new.heap.bytes in
-    (drop_steps image mid new c.args.db c.args.index (entry_of c.read_entry.result) c.self.invariant number c.read_entry.ensures.is (index_below image c.args.db c.args.index number inside) c.remove_entry.ensures.respells
+    (drop_steps image mid new c.args.db c.args.index (entry_of c.read_entry.result) c.self.invariant number c.read_entry.ensures.is (index_below image c.args.db c.args.index number inside) c.remove_entry.ensures.removed
     (subst (λ (slot : ℕ). Leaves mid new (gone (held mid) slot)) c.slot.ensures c.free_chunk_of.ensures.leaves)).1)
 
 pub returns-in-Some-clause-dropped : goal.returns-in-Some-clause-dropped
@@ -100,9 +100,9 @@ returns-in-Some-clause-dropped c =
     let new : List ℕ = c.sys_set_owner.new.self.bytes in
     let may : MayOwn c.in-Some.owner = subst (λ (owner : Option ℕ). IfSome owner MayOwn) c.in-Some.is c.requires.owner in
     let there = subst (λ (owner : Option ℕ). IfSome owner (λ o. 0 < data_under (store_of image) c.args.db c.args.index)) c.in-Some.is there_is in
-    subst (λ (owner : Option ℕ). LeavesStore image new (dropped_to (store_of image) c.args.db c.args.index owner)) (sym c.in-Some.is)
+    subst (λ (owner : Option ℕ). LeavesStore image new (raised (dropped_to (store_of image) c.args.db c.args.index owner) c.args.db)) (sym c.in-Some.is)
     (hand_over_steps image mid new c.args.db c.args.index c.in-Some.owner c.slot.result (entry_of c.read_entry.result) c.self.invariant number c.read_entry.ensures.is c.slot.ensures (index_below image c.args.db c.args.index number inside) there may.0 may.1
-    c.remove_entry.ensures.respells c.sys_set_owner.ensures.leaves).0)
+    c.remove_entry.ensures.removed c.sys_set_owner.ensures.leaves).0)
 
 pub invariant_of-self-in-Some : goal.invariant_of-self-in-Some
 invariant_of-self-in-Some c =
@@ -115,7 +115,7 @@ invariant_of-self-in-Some c =
     let may : MayOwn c.in-Some.owner = subst (λ (owner : Option ℕ). IfSome owner MayOwn) c.in-Some.is c.requires.owner in
     let there = subst (λ (owner : Option ℕ). IfSome owner (λ o. 0 < data_under (store_of image) c.args.db c.args.index)) c.in-Some.is there_is in
     let left = (hand_over_steps image mid new c.args.db c.args.index c.in-Some.owner c.slot.result (entry_of c.read_entry.result) c.self.invariant number c.read_entry.ensures.is c.slot.ensures (index_below image c.args.db c.args.index number inside) there may.0 may.1
-    c.remove_entry.ensures.respells c.sys_set_owner.ensures.leaves).0 in
+    c.remove_entry.ensures.removed c.sys_set_owner.ensures.leaves).0 in
     left.accepted
 
 pub returns-in-Some-clause-none_made : goal.returns-in-Some-clause-none_made
@@ -129,4 +129,4 @@ returns-in-Some-clause-none_made c =
     let may : MayOwn c.in-Some.owner = subst (λ (owner : Option ℕ). IfSome owner MayOwn) c.in-Some.is c.requires.owner in
     let there = subst (λ (owner : Option ℕ). IfSome owner (λ o. 0 < data_under (store_of image) c.args.db c.args.index)) c.in-Some.is there_is in
     (hand_over_steps image mid new c.args.db c.args.index c.in-Some.owner c.slot.result (entry_of c.read_entry.result) c.self.invariant number c.read_entry.ensures.is c.slot.ensures (index_below image c.args.db c.args.index number inside) there may.0 may.1
-    c.remove_entry.ensures.respells c.sys_set_owner.ensures.leaves).1)
+    c.remove_entry.ensures.removed c.sys_set_owner.ensures.leaves).1)

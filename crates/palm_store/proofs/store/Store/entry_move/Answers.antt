@@ -46,7 +46,7 @@ invariant_of-self c =
     let from_inside : c.args.from < length (entries_in (store_of c.self.inside.heap.bytes) c.args.db) = rw c.self.view_is c.requires.from_inside in
     let to_inside : c.args.to ≤ length (entries_in (store_of c.self.inside.heap.bytes) c.args.db) = rw c.self.view_is c.requires.to_inside in
     let left = move_steps c.self.inside.heap.bytes c.move_entry.new.heap.bytes c.args.db c.args.from c.args.to c.self.invariant number (index_below c.self.inside.heap.bytes c.args.db c.args.from number from_inside) (index_most c.self.inside.heap.bytes c.args.db c.args.to number to_inside)
-    c.move_entry.ensures.respells in
+    c.move_entry.ensures.moved in
     left.accepted
 
 pub returns-clause-moved : goal.returns-clause-moved
@@ -55,9 +55,9 @@ returns-clause-moved c =
     let from_inside : c.args.from < length (entries_in (store_of c.self.inside.heap.bytes) c.args.db) = rw c.self.view_is c.requires.from_inside in
     let to_inside : c.args.to ≤ length (entries_in (store_of c.self.inside.heap.bytes) c.args.db) = rw c.self.view_is c.requires.to_inside in
     rw (← c.self.view_is) (move_steps c.self.inside.heap.bytes c.move_entry.new.heap.bytes c.args.db c.args.from c.args.to c.self.invariant number (index_below c.self.inside.heap.bytes c.args.db c.args.from number from_inside) (index_most c.self.inside.heap.bytes c.args.db c.args.to number to_inside)
-    c.move_entry.ensures.respells)
+    c.move_entry.ensures.moved)
 
 pub returns-clause-none_made : goal.returns-clause-none_made
 returns-clause-none_made c =
     let number : HasNumber c.self.inside.heap.bytes c.args.db.0 = rw c.self.view_is c.requires.number in
-    rw (← c.self.view_is) (respelled_none c.self.inside.heap.bytes c.move_entry.new.heap.bytes c.args.db.0 _ c.self.invariant number c.move_entry.ensures.respells)
+    rw (← c.self.view_is) (respelled_none c.self.inside.heap.bytes c.move_entry.new.heap.bytes c.args.db.0 _ c.self.invariant number c.move_entry.ensures.moved)

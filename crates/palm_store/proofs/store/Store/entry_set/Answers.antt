@@ -45,7 +45,7 @@ invariant_of-self c =
     let can : CanHave (store_of c.self.inside.heap.bytes) c.args.db (resources_under (store_of c.self.inside.heap.bytes) c.args.db) c.args.index c.args.info = rw c.self.view_is c.requires.info in
     let image : List ℕ = c.self.inside.heap.bytes in
     let entry : Entry ℕ = entry_of c.read_entry.result in
-    let left = set_steps image c.write_entry.new.heap.bytes c.args.db c.args.index (with_info c.args.info) entry (entry_of c.entry_with-entry.result) c.self.invariant number c.read_entry.ensures.is c.entry_with-entry.ensures.is c.write_entry.ensures.respells
+    let left = set_steps c.args.counts image c.write_entry.new.heap.bytes c.args.db c.args.index (with_info c.args.info) entry (entry_of c.entry_with-entry.result) c.self.invariant number c.read_entry.ensures.is c.entry_with-entry.ensures.is c.write_entry.ensures.written
     (fits_here (with_info c.args.info entry) _ _ _ (c.entry_with-entry.ensures.kind ∙ c.read_entry.ensures.kind) c.entry_with-entry.ensures.is c.entry_with-entry.ensures.fits)
     (informed_names image c.args.db c.args.index c.args.info entry c.self.invariant number c.read_entry.ensures.is can)
     (informed_own image c.args.db c.args.index c.args.info entry c.self.invariant number c.read_entry.ensures.is can)
@@ -58,7 +58,7 @@ returns-clause-set c =
     let can : CanHave (store_of c.self.inside.heap.bytes) c.args.db (resources_under (store_of c.self.inside.heap.bytes) c.args.db) c.args.index c.args.info = rw c.self.view_is c.requires.info in
     rw (← c.self.view_is) (let image : List ℕ = c.self.inside.heap.bytes in
     let entry : Entry ℕ = entry_of c.read_entry.result in
-    set_steps image c.write_entry.new.heap.bytes c.args.db c.args.index (with_info c.args.info) entry (entry_of c.entry_with-entry.result) c.self.invariant number c.read_entry.ensures.is c.entry_with-entry.ensures.is c.write_entry.ensures.respells
+    set_steps c.args.counts image c.write_entry.new.heap.bytes c.args.db c.args.index (with_info c.args.info) entry (entry_of c.entry_with-entry.result) c.self.invariant number c.read_entry.ensures.is c.entry_with-entry.ensures.is c.write_entry.ensures.written
     (fits_here (with_info c.args.info entry) _ _ _ (c.entry_with-entry.ensures.kind ∙ c.read_entry.ensures.kind) c.entry_with-entry.ensures.is c.entry_with-entry.ensures.fits)
     (informed_names image c.args.db c.args.index c.args.info entry c.self.invariant number c.read_entry.ensures.is can)
     (informed_own image c.args.db c.args.index c.args.info entry c.self.invariant number c.read_entry.ensures.is can)
@@ -67,4 +67,4 @@ returns-clause-set c =
 pub returns-clause-none_made : goal.returns-clause-none_made
 returns-clause-none_made c =
     let number : HasNumber c.self.inside.heap.bytes c.args.db.0 = rw c.self.view_is c.requires.number in
-    rw (← c.self.view_is) (respelled_none c.self.inside.heap.bytes c.write_entry.new.heap.bytes c.args.db.0 _ c.self.invariant number c.write_entry.ensures.respells)
+    rw (← c.self.view_is) (respelled_none c.self.inside.heap.bytes c.write_entry.new.heap.bytes c.args.db.0 _ c.self.invariant number c.write_entry.ensures.written)

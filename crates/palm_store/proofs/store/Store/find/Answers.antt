@@ -1,4 +1,3 @@
-use Rattle.std.proofs.Common.{◌∙◌}
 use Rattle.palm_store.proofs.Forwarding.{ask_viewed}
 use Rattle.palm_store.proofs.Lookups.{answered}
 use Rattle.palm_store.proofs.store.Store.find.Goals as goal
