@@ -37,14 +37,7 @@ pub(crate) fn put_entry(heap: &mut Heap, db: Db, index: u16, entry: DbEntry, res
 
 /// Copies the entries from `first` on and below `end` to where the entry of the index `to` stands, or is to
 /// stand.
-pub(crate) fn slide_entries(
-    heap: &mut Heap,
-    db: Db,
-    first: u16,
-    end: u16,
-    to: u16,
-    resources: bool,
-)
+pub(crate) fn slide_entries(heap: &mut Heap, db: Db, first: u16, end: u16, to: u16, resources: bool)
     requires managers { IsManagers heap.old.bytes db.0 }
     requires order { first ≤ end }
     requires from_inside { databases.entry_offset resources end

@@ -16,12 +16,6 @@ use crate::words::{u16_in, u32_in};
 /// The most databases that a store may have.
 pub const MOST_DATABASES: u32 = 1024;
 
-/// The attribute of a database of resources.
-pub const RESOURCE_DATABASE: u16 = 0x0001;
-
-/// The attribute of a database that is read and not written.
-pub const READ_ONLY: u16 = 0x0002;
-
 /// The attributes of a database.
 #[inline]
 pub fn attributes(bytes: &[u8]) -> u16

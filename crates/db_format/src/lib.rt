@@ -32,7 +32,7 @@ mod record_attributes;
 mod words;
 
 pub use body::{
-    MOST_DATABASES, READ_ONLY, RESOURCE_DATABASE, app_info, attributes, entry_count, has_resources,
+    MOST_DATABASES, app_info, attributes, entry_count, has_resources,
     is_whole, modification_number, seed, sort_info,
 };
 pub use database_attributes::DbAttrs;

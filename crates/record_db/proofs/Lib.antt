@@ -1,4 +1,5 @@
 mod Bits
 mod Entries
+mod Opening
 mod SetAttributes
 mod Raising

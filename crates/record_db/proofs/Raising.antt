@@ -1,48 +1,18 @@
 -- A change of a store, and then the modification number raised.
-use Rattle.std.proofs.Common.{◌≡◌, ℕ, List, [], ◌∷◌, Option, Some, None, refl, sym, ap, subst, ◌∙◌, arith, inl, inr}
-use Rattle.std.proofs.lemmas.Bool.{cases_eq, eq-eqb, ne_eqb}
-use Rattle.std.specs.Prelude.{◌==◌, IsSome}
-use Rattle.std.specs.List.{find}
+use Rattle.std.proofs.Common.{◌≡◌, ℕ, List, Option, Some, None, refl, ap, ◌∙◌, arith}
+use Rattle.std.specs.Prelude.{IsSome}
 use Rattle.std.specs.Option.{is_some}
 use Rattle.heap_model.specs.Reading.{held}
 use Rattle.heap_model.specs.Space.{MovesNothing, MovesOneStretchAnd}
-use Rattle.heap_model.specs.Database.{Database}
 use Rattle.heap_model.specs.Store.{StoredDatabase, Store, store_of}
-use Rattle.heap_model.specs.StoreWords.{with_changed, with_number}
+use Rattle.heap_model.specs.StoreWords.{with_changed}
 use Rattle.heap_model.specs.EntrySteps.{raised, raised_header, LeavesStore, MakesNone}
 use Rattle.heap_model.specs.declared.names.Db.{Db}
-use Rattle.laws_heap.proofs.Deciding.{cond-true, cond-false}
 
 -- what is there
 pub is_there : {X : Type 0} (x : Option X) → IsSome x → (one : X) × (x ≡ Some one)
 is_there None some = absurd cc
 is_there (Some one) some = (one, refl)
-
--- ---- the number stays
-
-abbrev found : ℕ → List StoredDatabase → Option StoredDatabase
-found db stored = find (λ (one : StoredDatabase). one.db == db) stored
-
-abbrev now_is : ℕ → (Database ℕ → Database ℕ) → StoredDatabase → StoredDatabase
-now_is db change one = record { db = db; database = change one.database }
-
-number_changed : (stored : List StoredDatabase) (db : ℕ) (change : Database ℕ → Database ℕ) → IsSome (found db stored) → IsSome (found db (with_changed stored db change))
-number_changed [] db change has = has
-number_changed (x ∷ xs) db change has =
-    let rest : List StoredDatabase = with_changed xs db change in
-    elim (cases_eq x.db db) [
-      | inl e ↦ ap is_some (ap (λ (y : StoredDatabase). found db (y ∷ rest)) (cond-true (x.db == db) (now_is db change x) x (eq-eqb x.db db e)) ∙ cond-true (db == db) (Some (now_is db change x)) (found db rest) (eq-eqb db db refl))
-      | inr ne ↦
-          let past : found db (x ∷ xs) ≡ found db xs = cond-false (x.db == db) (Some x) (found db xs) (ne_eqb x.db db ne) in
-          ap is_some (ap (λ (y : StoredDatabase). found db (y ∷ rest)) (cond-false (x.db == db) (now_is db change x) x (ne_eqb x.db db ne)) ∙ cond-false (x.db == db) (Some x) (found db rest) (ne_eqb x.db db ne))
-          ∙ number_changed xs db change (ap is_some (sym past) ∙ has)
-    ]
-
--- a database that is changed has its number afterwards
-pub number_left : (old mid : List ℕ) (db : Db) (store : Store) (change : Database ℕ → Database ℕ) → LeavesStore old mid store → store.databases ≡ with_changed (store_of old).databases db.0 change → IsSome (with_number (store_of old) db.0)
-    → IsSome (with_number (store_of mid) db.0)
-number_left old mid db store change leaves is has =
-    subst (λ (stored : List StoredDatabase). IsSome (found db.0 stored)) (sym (leaves.same.databases ∙ is)) (number_changed (store_of old).databases db.0 change has)
 
 -- ---- both changes
 

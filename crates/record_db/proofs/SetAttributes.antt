@@ -1,5 +1,5 @@
 -- Records whose attributes are set: their IDs stay.
-use Rattle.std.proofs.Common.{◌≡◌, ◌≢◌, ℕ, zero, suc, ◌+◌, ◌<◌, ◌≤◌, true, false, List, [], ◌∷◌, set, Option, Some, refl, sym, ap, subst, ◌∙◌, arith}
+use Rattle.std.proofs.Common.{◌≡◌, ◌≢◌, ℕ, zero, suc, ◌+◌, ◌<◌, ◌≤◌, Bool, true, false, List, [], ◌∷◌, set, Option, Some, refl, sym, ap, subst, ◌∙◌, arith}
 use Rattle.std.specs.Prelude.{IsSome, slice_get, slice_set}
 use Rattle.std.specs.List.{filter_map}
 use Rattle.heap_model.specs.Lists.{times}
@@ -13,6 +13,7 @@ use Rattle.laws_store.proofs.Listing.{same-yes, times-cons, all-times, distinct-
 use Rattle.laws_store.proofs.Found.{changed_by_number}
 use Rattle.laws_store.proofs.Stepping.{number_once}
 use Rattle.palm_store.specs.EntryInfos.{with_info, HasOther, CanHave}
+use Rattle.palm_store.specs.EntryCalls.{raised_if}
 use Rattle.palm_store.specs.declared.entries.infos.EntryInfo.TheVariants as infos
 use Rattle.record_db.proofs.Entries.{Here, here, entry_is, fits}
 
@@ -91,9 +92,9 @@ changed_alike image db one other h a alike =
     ∙ sym (changed_by_number db other (databases image) h.index h.one once h.inside number)
 
 -- where it is said with the record's ID, its attributes change alone
-pub attributes_set : (image new : List ℕ) (db : Db) (index attributes id slot now : ℕ) (change : ℕ → ℕ) → Accepted image → IsSome (with_number (store_of image) db.0) → entry_under (store_of image) db index ≡ Some (a_record attributes id slot) → now ≡ change attributes
-    → LeavesStore image new (entry_changed (store_of image) db index (with_info (infos.Record now id))) → LeavesStore image new (entry_changed (store_of image) db index (with_attributes change))
-attributes_set image new db index attributes id slot now change a has e is leaves =
+pub attributes_set : (counts : Bool) (image new : List ℕ) (db : Db) (index attributes id slot now : ℕ) (change : ℕ → ℕ) → Accepted image → IsSome (with_number (store_of image) db.0) → entry_under (store_of image) db index ≡ Some (a_record attributes id slot) → now ≡ change attributes
+    → LeavesStore image new (raised_if counts (entry_changed (store_of image) db index (with_info (infos.Record now id))) db) → LeavesStore image new (raised_if counts (entry_changed (store_of image) db index (with_attributes change)) db)
+attributes_set counts image new db index attributes id slot now change a has e is leaves =
     let h = here image db.0 a has in
     let all : List (Entry ℕ) = h.one.database.entries in
     let entry : Entry ℕ = a_record attributes id slot in
@@ -103,12 +104,4 @@ attributes_set image new db index attributes id slot now change a has e is leave
     ap (replaced_if all index info) there ∙ ap (λ (x : ℕ). slice_set all index (a_record x id slot)) is ∙ sym (ap (replaced_if all index (with_attributes change)) there) in
     let same = changed_alike image db.0 (λ database. record database { entries = replaced database.entries index info }) (λ database. record database { entries = replaced database.entries index (with_attributes change) }) h a
     (ap (λ (entries : List (Entry ℕ)). record h.one.database { entries = entries }) alike) in
-    record {
-      accepted = leaves.accepted;
-      same = record { map = leaves.same.map; databases = leaves.same.databases ∙ same };
-      len = leaves.len;
-      count = leaves.count;
-      directory = leaves.directory;
-      locks = leaves.locks;
-      still = leaves.still;
-    }
+    subst (λ (stored : List StoredDatabase). LeavesStore image new (raised_if counts (record (store_of image) { databases = stored }) db)) same leaves

@@ -6,7 +6,7 @@ ghost use Rattle.heap_model.specs.declared.call.Reply.{Reply};
 ghost use Rattle.palm_store.specs.Replies.{number_or_refused, name_or_refused};
 ghost use Rattle.record_db.specs.Checks.{DoesRecord};
 
-use crate::checks::check_readable;
+use crate::checks::{Access, count_records};
 use crate::records::{find_live, find_record};
 use heap_model::{Db, Name, RecordInfo, Refusal};
 use palm_store::Store;
@@ -17,7 +17,7 @@ use palm_store::Store;
 pub fn num_records(store: &Store, db: Db) -> Result<u32, Refusal>
     ensures { DoesRecord store.now (RecordCall.Count db) (number_or_refused result) store.now }
 {
-    check_readable(store, db)
+    count_records(store, db, Access::Read)
 }
 
 /// The name of a record's data. The record isn't marked as busy by it, and may be busy already.
@@ -26,8 +26,7 @@ pub fn num_records(store: &Store, db: Db) -> Result<u32, Refusal>
 pub fn query(store: &Store, db: Db, index: u32) -> Result<Name, Refusal>
     ensures { DoesRecord store.now (RecordCall.Query db index) (name_or_refused result) store.now }
 {
-    let count = check_readable(store, db)?;
-    Ok(find_live(store, db, index, count)?.data)
+    Ok(find_live(store, db, index, Access::Read)?.data)
 }
 
 /// What the entry of a record says, of a deleted one too.
@@ -37,6 +36,5 @@ pub fn record_info(store: &Store, db: Db, index: u32) -> Result<RecordInfo, Refu
     ensures { DoesRecord store.now (RecordCall.Info db index)
         (reply_of (λ info. Reply.Record info) result) store.now }
 {
-    let count = check_readable(store, db)?;
-    find_record(store, db, index, count)
+    find_record(store, db, index, Access::Read)
 }

@@ -5,7 +5,7 @@ ghost use Rattle.palm_store.specs.Replies.{done_or_refused, name_or_refused};
 ghost use Rattle.record_db.specs.Checks.{DoesRecord};
 
 use crate::attributes::{is_busy, marked_busy, marked_deleted, released};
-use crate::checks::{check_readable, check_writable};
+use crate::checks::{Access, count_records};
 use crate::records::{find_live, find_record, has_locked, is_locked};
 use heap_model::{Db, Name, Refusal};
 use palm_store::{EntryInfo, Store};
@@ -17,13 +17,11 @@ use palm_store::{EntryInfo, Store};
 pub fn delete(store: &mut Store, db: Db, index: u32) -> Result<(), Refusal>
     ensures { DoesRecord store.old (RecordCall.Delete db index) (done_or_refused result) store.new }
 {
-    let count = check_writable(store, db)?;
-    let live = find_live(store, db, index, count)?;
+    let live = find_live(store, db, index, Access::Write)?;
     if is_locked(store, live.data) {
         return Err(Refusal::ChunkLocked);
     }
     store.entry_free_data(db, index);
-    store.raise(db);
     Ok(())
 }
 
@@ -34,14 +32,12 @@ pub fn archive(store: &mut Store, db: Db, index: u32) -> Result<(), Refusal>
     ensures { DoesRecord store.old (RecordCall.Archive db index)
         (done_or_refused result) store.new }
 {
-    let count = check_writable(store, db)?;
-    let live = find_live(store, db, index, count)?;
+    let live = find_live(store, db, index, Access::Write)?;
     let archived = EntryInfo::Record {
         attributes: marked_deleted(live.attributes),
         id: live.id,
     };
-    store.entry_set(db, index, archived);
-    store.raise(db);
+    store.entry_set(db, index, archived, true);
     Ok(())
 }
 
@@ -52,13 +48,11 @@ pub fn archive(store: &mut Store, db: Db, index: u32) -> Result<(), Refusal>
 pub fn remove(store: &mut Store, db: Db, index: u32) -> Result<(), Refusal>
     ensures { DoesRecord store.old (RecordCall.Remove db index) (done_or_refused result) store.new }
 {
-    let count = check_writable(store, db)?;
-    let info = find_record(store, db, index, count)?;
+    let info = find_record(store, db, index, Access::Write)?;
     if has_locked(store, info.data) {
         return Err(Refusal::ChunkLocked);
     }
     store.entry_drop(db, index, None);
-    store.raise(db);
     Ok(())
 }
 
@@ -69,12 +63,11 @@ pub fn remove(store: &mut Store, db: Db, index: u32) -> Result<(), Refusal>
 pub fn move_record(store: &mut Store, db: Db, from: u32, to: u32) -> Result<(), Refusal>
     ensures { DoesRecord store.old (RecordCall.Move db from to) (done_or_refused result) store.new }
 {
-    let count = check_writable(store, db)?;
+    let count = count_records(store, db, Access::Write)?;
     if from >= count || to > count {
         return Err(Refusal::IndexOutOfRange);
     }
     store.entry_move(db, from, to);
-    store.raise(db);
     Ok(())
 }
 
@@ -84,8 +77,7 @@ pub fn move_record(store: &mut Store, db: Db, from: u32, to: u32) -> Result<(), 
 pub fn get(store: &mut Store, db: Db, index: u32) -> Result<Name, Refusal>
     ensures { DoesRecord store.old (RecordCall.Get db index) (name_or_refused result) store.new }
 {
-    let count = check_readable(store, db)?;
-    let live = find_live(store, db, index, count)?;
+    let live = find_live(store, db, index, Access::Read)?;
     if is_busy(live.attributes) {
         return Err(Refusal::RecordBusy);
     }
@@ -93,7 +85,7 @@ pub fn get(store: &mut Store, db: Db, index: u32) -> Result<Name, Refusal>
         attributes: marked_busy(live.attributes),
         id: live.id,
     };
-    store.entry_set(db, index, busy);
+    store.entry_set(db, index, busy, false);
     Ok(live.data)
 }
 
@@ -104,12 +96,11 @@ pub fn release(store: &mut Store, db: Db, index: u32, dirty: bool) -> Result<(),
     ensures { DoesRecord store.old (RecordCall.Release db index dirty)
         (done_or_refused result) store.new }
 {
-    let count = check_readable(store, db)?;
-    let info = find_record(store, db, index, count)?;
+    let info = find_record(store, db, index, Access::Read)?;
     let left = EntryInfo::Record {
         attributes: released(info.attributes, dirty),
         id: info.id,
     };
-    store.entry_set(db, index, left);
+    store.entry_set(db, index, left, false);
     Ok(())
 }

@@ -10,7 +10,7 @@ ghost use Rattle.palm_store.specs.Replies.{done_or_refused};
 ghost use Rattle.record_db.specs.Checks.{DoesRecord, made_reply};
 
 use crate::attributes::of_new_record;
-use crate::checks::check_writable;
+use crate::checks::{Access, count_records};
 use crate::records::find_live;
 use heap_model::{Db, Name, Refusal};
 use palm_store::{NewEntry, Store};
@@ -24,13 +24,12 @@ pub fn new_record(store: &mut Store, db: Db, at: u32, size: u32) -> Result<(u32,
     ensures { DoesRecord store.old (RecordCall.New db at size)
         (reply_of made_reply result) store.new }
 {
-    let count = check_writable(store, db)?;
+    let count = count_records(store, db, Access::Write)?;
     let index = at.min(count);
     let entry = NewEntry::Record {
         attributes: of_new_record(),
     };
     let name = store.entry_new(db, index, entry, size)?;
-    store.raise(db);
     Ok((index, name))
 }
 
@@ -49,8 +48,7 @@ pub fn resize_record(store: &mut Store, db: Db, index: u32, size: u32) -> Result
         (data_of_image store.old.bytes db index) }
     ensures refused { OnErr result (store.new ≡ store.old) }
 {
-    let count = check_writable(store, db)?;
-    let live = find_live(store, db, index, count)?;
+    let live = find_live(store, db, index, Access::Write)?;
     store.entry_resize(live.data, size)?;
     store.raise(db);
     Ok(())

@@ -6,10 +6,11 @@ ghost use Rattle.heap_model.specs.Store.{Accepted, store_of};
 ghost use Rattle.heap_model.specs.Refusals.{NoneHolds, FirstBrings};
 ghost use Rattle.heap_model.specs.EntrySteps.{entry_under};
 ghost use Rattle.palm_store.specs.Databases.{HasNumber};
-ghost use Rattle.palm_store.specs.EntryCalls.{entries_of_image, resources_of_image, HasCount};
+ghost use Rattle.palm_store.specs.EntryCalls.{entries_of_image, resources_of_image};
 ghost use Rattle.record_db.specs.Checks.{IsTold, IsLockedChunk, finding_checks, living_checks};
 
 use crate::attributes::is_deleted;
+use crate::checks::{Access, check_attributes};
 use heap_model::{Db, Entry, Name, RecordInfo, Refusal};
 use palm_store::{FIXED_LOCK, Store};
 
@@ -21,51 +22,53 @@ pub(crate) struct LiveRecord {
     pub(crate) data: Name,
 }
 
-/// The record of an index, deleted or not, of the `count` that the database has.
+/// The record of an index, deleted or not, of a database that may be used so.
 pub(crate) fn find_record(
     store: &Store,
     db: Db,
     index: u32,
-    count: u32,
+    access: Access,
 ) -> Result<RecordInfo, Refusal>
-    requires accepted { Accepted store.now.bytes }
-    requires number { HasNumber store.now.bytes db.0 }
-    requires records { resources_of_image store.now.bytes db ≡ false }
-    requires count { HasCount store.now.bytes db count }
+    ensures accepted { Accepted store.now.bytes }
+    ensures known { OnOk result (HasNumber store.now.bytes db.0) }
+    ensures records { OnOk result (resources_of_image store.now.bytes db ≡ false) }
     ensures inside { OnOk result (index < length (entries_of_image store.now.bytes db)) }
     ensures is { IfOk result (IsTold store.now.bytes db index) }
-    ensures passes { OnOk result (NoneHolds (finding_checks store.now.bytes db index)) }
-    ensures refused { IfErr result (FirstBrings (finding_checks store.now.bytes db index)) }
+    ensures passes { OnOk result (NoneHolds (finding_checks store.now.bytes db index access)) }
+    ensures refused { IfErr result
+        (FirstBrings (finding_checks store.now.bytes db index access)) }
 {
-    if index >= count {
+    let found = store.find_entry(db, index)?;
+    check_attributes(found.attributes, access)?;
+    let Some(entry) = found.entry else {
         return Err(Refusal::IndexOutOfRange);
-    }
-    match store.entry(db, index) {
+    };
+    match entry {
         Entry::Record(info) => Ok(info),
         Entry::Resource(_) => unreachable!(),
     }
 }
 
-/// The record of an index that is not deleted.
+/// The record of an index that is not deleted, of a database that may be used so.
 pub(crate) fn find_live(
     store: &Store,
     db: Db,
     index: u32,
-    count: u32,
+    access: Access,
 ) -> Result<LiveRecord, Refusal>
-    requires accepted { Accepted store.now.bytes }
-    requires number { HasNumber store.now.bytes db.0 }
-    requires records { resources_of_image store.now.bytes db ≡ false }
-    requires count { HasCount store.now.bytes db count }
+    ensures accepted { Accepted store.now.bytes }
+    ensures known { OnOk result (HasNumber store.now.bytes db.0) }
+    ensures records { OnOk result (resources_of_image store.now.bytes db ≡ false) }
     ensures inside { OnOk result (index < length (entries_of_image store.now.bytes db)) }
     ensures is { IfOk result (λ live.
         entry_under (store_of store.now.bytes) db index
         ≡ Some (a_record live.attributes live.id live.«data».0)) }
     ensures some { IfOk result (λ live. 0 < live.«data».0) }
-    ensures passes { OnOk result (NoneHolds (living_checks store.now.bytes db index)) }
-    ensures refused { IfErr result (FirstBrings (living_checks store.now.bytes db index)) }
+    ensures passes { OnOk result (NoneHolds (living_checks store.now.bytes db index access)) }
+    ensures refused { IfErr result
+        (FirstBrings (living_checks store.now.bytes db index access)) }
 {
-    let info = find_record(store, db, index, count)?;
+    let info = find_record(store, db, index, access)?;
     if is_deleted(info.attributes) {
         return Err(Refusal::RecordDeleted);
     }

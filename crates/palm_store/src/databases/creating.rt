@@ -16,8 +16,9 @@ ghost use Rattle.db_format.specs.Headers.{HasHeader};
 ghost use Rattle.palm_store.specs.Directory.{ListsLast, ListsNew, HasNoRoomToList};
 
 use crate::lookup::SLOT_SIZE;
+use bitflags::Flags;
 use byteorder::{BigEndian, ByteOrder};
-use db_format::{DbHeader, HEADER_SIZE, NameField, RESOURCE_DATABASE};
+use db_format::{DbAttrs, DbHeader, HEADER_SIZE, NameField};
 use heap_model::{Name, Refusal};
 use mem_manager::{Heap, MANAGERS_OWNER};
 
@@ -112,9 +113,14 @@ pub(crate) fn empty_header(
 ) -> DbHeader
     ensures { HasHeader (empty_database name kind creator resources date) result }
 {
+    let attributes = if resources {
+        DbAttrs::RESOURCE
+    } else {
+        DbAttrs::empty()
+    };
     DbHeader {
         name,
-        attributes: if resources { RESOURCE_DATABASE } else { 0 },
+        attributes: attributes.bits(),
         version: 0,
         creation_date: date,
         modification_date: date,

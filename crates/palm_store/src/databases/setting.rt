@@ -5,7 +5,8 @@ ghost use Rattle.heap_model.specs.DatabaseSteps.{header_set};
 ghost use Rattle.db_format.specs.Headers as headers;
 ghost use Rattle.palm_store.specs.HeaderInfos.{KeepsEntries};
 
-use db_format::{DbHeader, NameField};
+use bitflags::Flags;
+use db_format::{DbAttrs, DbHeader, NameField};
 use heap_model::DbInfo;
 
 /// A header with what is given of another, and this name.
@@ -14,9 +15,10 @@ pub(crate) fn with_info(header: DbHeader, name: NameField, info: &DbInfo) -> DbH
     ensures set { headers.header_of result ≡ header_set info.now (headers.header_of header) }
     ensures keeps { KeepsEntries header result }
 {
+    let attributes = DbAttrs(info.attributes).with_kind_of(DbAttrs(header.attributes));
     DbHeader {
         name,
-        attributes: info.attributes / 2 * 2 + header.attributes % 2,
+        attributes: attributes.bits(),
         version: info.version,
         creation_date: info.creation_date,
         modification_date: info.modification_date,

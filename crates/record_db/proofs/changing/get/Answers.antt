@@ -13,27 +13,27 @@ use Rattle.record_db.proofs.changing.get.Goals as goal
 
 pub returns-then-is_busy : goal.returns-then-is_busy
 returns-then-is_busy c =
-    let passed = c.in_ok-count.ensures.passes in
-    let alive = c.in_ok-live.ensures.passes in
-    let busy = subst (λ (x : Option (Entry ℕ)). OfEntry x (HasAttributes is_busy)) (sym c.in_ok-live.ensures.is) (sym c.is_busy.ensures ∙ c.if-is_busy.true) in
-    refused c.args.store.now (calls.Record (Get c.args.db c.args.index)) RecordBusy c.in_ok-count.ensures.accepted (inr (passed.0, inr (passed.1.0, inr (alive.0, inr (alive.1.0, inl (busy, refl))))))
+    let found = c.in_ok-live.ensures in
+    let none = found.passes in
+    let busy = subst (λ (x : Option (Entry ℕ)). OfEntry x (HasAttributes is_busy)) (sym found.is) (sym c.is_busy.ensures ∙ c.if-is_busy.true) in
+    refused c.args.store.now (calls.Record (Get c.args.db c.args.index)) RecordBusy found.accepted (inr (none.0, inr (none.1.0, inr (none.1.1.0, inr (none.1.1.1.0, inl (busy, refl))))))
 
 pub entry_set-requires-clause-info : goal.entry_set-requires-clause-info
 entry_set-requires-clause-info c =
-    let some = c.in_ok-live.ensures.some in
-    may_have c.args.store.now.bytes c.args.db c.args.index c.in_ok-live.live.attributes c.in_ok-live.live.id c.in_ok-live.live.«data».0 c.marked_busy.result c.in_ok-count.ensures.accepted c.in_ok-count.ensures.known c.in_ok-count.ensures.records
-    c.in_ok-live.ensures.is (λ none. absurd (omega (arith, none, some)))
+    let found = c.in_ok-live.ensures in
+    let some = found.some in
+    may_have c.args.store.now.bytes c.args.db c.args.index c.in_ok-live.live.attributes c.in_ok-live.live.id c.in_ok-live.live.«data».0 c.marked_busy.result found.accepted found.known found.records found.is (λ none. absurd (omega (arith, none, some)))
 
 pub returns : goal.returns
 returns c =
-    let passed = c.in_ok-count.ensures.passes in
-    let alive = c.in_ok-live.ensures.passes in
-    let is = c.in_ok-live.ensures.is in
-    let leaves = attributes_set c.args.store.now.bytes c.entry_set.new.self.bytes c.args.db c.args.index c.in_ok-live.live.attributes c.in_ok-live.live.id c.in_ok-live.live.«data».0 c.marked_busy.result (λ (attributes : ℕ). bit_or attributes busy_bit)
-    c.in_ok-count.ensures.accepted c.in_ok-count.ensures.known is c.marked_busy.ensures c.entry_set.ensures.set in
+    let found = c.in_ok-live.ensures in
+    let none = found.passes in
+    let is = found.is in
+    let leaves = attributes_set false c.args.store.now.bytes c.entry_set.new.self.bytes c.args.db c.args.index c.in_ok-live.live.attributes c.in_ok-live.live.id c.in_ok-live.live.«data».0 c.marked_busy.result (λ (attributes : ℕ). bit_or attributes busy_bit)
+    found.accepted found.known is c.marked_busy.ensures c.entry_set.ensures.set in
     let free : OfEntry (entry_under (store_of c.args.store.now.bytes) c.args.db c.args.index) (HasAttributes is_busy) → ⊥ = λ busy.
     (let yes : is_busy c.in_ok-live.live.attributes ≡ true = subst (λ (x : Option (Entry ℕ)). OfEntry x (HasAttributes is_busy)) is busy in
     let no : is_busy c.in_ok-live.live.attributes ≡ false = sym c.is_busy.ensures ∙ c.if-is_busy.false in
     absurd cc) in
-    changes c.args.store.now c.entry_set.new.self (calls.Record (Get c.args.db c.args.index)) (Named c.in_ok-live.live.«data») _ c.in_ok-count.ensures.accepted leaves
-    ((passed.0, (passed.1.0, (alive.0, (alive.1.0, (free, tt))))), (sym (ap data_of_entry is), leaves.same)) tt c.entry_set.ensures.rest
+    changes c.args.store.now c.entry_set.new.self (calls.Record (Get c.args.db c.args.index)) (Named c.in_ok-live.live.«data») _ found.accepted leaves
+    ((none.0, (none.1.0, (none.1.1.0, (none.1.1.1.0, (free, tt))))), (sym (ap data_of_entry is), leaves.same)) tt c.entry_set.ensures.rest

@@ -1,4 +1,4 @@
-use Rattle.std.proofs.Common.{ap, ◌∙◌}
+use Rattle.std.proofs.Common.{false, ap, ◌∙◌}
 use Rattle.heap_model.specs.Database.{is_deleted}
 use Rattle.heap_model.specs.Store.{store_of}
 use Rattle.heap_model.specs.EntrySteps.{entry_under}
@@ -14,18 +14,18 @@ use Rattle.record_db.proofs.changing.release.Goals as goal
 
 pub entry_set-requires-clause-info : goal.entry_set-requires-clause-info
 entry_set-requires-clause-info c =
-    let is = info_is (entry_under (store_of c.args.store.now.bytes) c.args.db c.args.index) c.in_ok-info.info c.in_ok-info.ensures.is in
-    may_have c.args.store.now.bytes c.args.db c.args.index c.in_ok-info.info.attributes c.in_ok-info.info.id is.0 c.released.result c.in_ok-count.ensures.accepted c.in_ok-count.ensures.known c.in_ok-count.ensures.records is.1
+    let found = c.in_ok-info.ensures in
+    let is = info_is (entry_under (store_of c.args.store.now.bytes) c.args.db c.args.index) c.in_ok-info.info found.is in
+    may_have c.args.store.now.bytes c.args.db c.args.index c.in_ok-info.info.attributes c.in_ok-info.info.id is.0 c.released.result found.accepted found.known found.records is.1
     (λ none.
     ap is_deleted c.released.ensures
     ∙ released_deleted c.args.dirty c.in_ok-info.info.attributes
-    (no_data c.args.store.now.bytes c.args.db c.args.index c.in_ok-info.info.attributes c.in_ok-info.info.id is.0 c.in_ok-count.ensures.accepted c.in_ok-count.ensures.known is.1 none))
+    (no_data c.args.store.now.bytes c.args.db c.args.index c.in_ok-info.info.attributes c.in_ok-info.info.id is.0 found.accepted found.known is.1 none))
 
 pub returns : goal.returns
 returns c =
-    let passed = c.in_ok-count.ensures.passes in
-    let is = info_is (entry_under (store_of c.args.store.now.bytes) c.args.db c.args.index) c.in_ok-info.info c.in_ok-info.ensures.is in
-    let leaves = attributes_set c.args.store.now.bytes c.entry_set.new.self.bytes c.args.db c.args.index c.in_ok-info.info.attributes c.in_ok-info.info.id is.0 c.released.result (released c.args.dirty)
-    c.in_ok-count.ensures.accepted c.in_ok-count.ensures.known is.1 c.released.ensures c.entry_set.ensures.set in
-    changes c.args.store.now c.entry_set.new.self (calls.Record (Release c.args.db c.args.index c.args.dirty)) Done _ c.in_ok-count.ensures.accepted leaves
-    ((passed.0, (passed.1.0, c.in_ok-info.ensures.passes)), (tt, leaves.same)) tt c.entry_set.ensures.rest
+    let found = c.in_ok-info.ensures in
+    let is = info_is (entry_under (store_of c.args.store.now.bytes) c.args.db c.args.index) c.in_ok-info.info found.is in
+    let leaves = attributes_set false c.args.store.now.bytes c.entry_set.new.self.bytes c.args.db c.args.index c.in_ok-info.info.attributes c.in_ok-info.info.id is.0 c.released.result (released c.args.dirty)
+    found.accepted found.known is.1 c.released.ensures c.entry_set.ensures.set in
+    changes c.args.store.now c.entry_set.new.self (calls.Record (Release c.args.db c.args.index c.args.dirty)) Done _ found.accepted leaves (found.passes, (tt, leaves.same)) tt c.entry_set.ensures.rest

@@ -16,38 +16,33 @@ use Rattle.palm_store.specs.EntryCalls.{checks_of_growth, data_sized}
 use Rattle.record_db.proofs.Raising.{raised_after, nothing_moved, one_stretch_moved}
 use Rattle.record_db.proofs.making.resize_record.Goals as goal
 
-pub returns-in_err-count-clause-one_stretch : goal.returns-in_err-count-clause-one_stretch
-returns-in_err-count-clause-one_stretch c = itself_alone c.args.store.now.bytes (data_under (store_of c.args.store.now.bytes) c.args.db c.args.index)
-
 pub returns-in_err-live-clause-one_stretch : goal.returns-in_err-live-clause-one_stretch
 returns-in_err-live-clause-one_stretch c = itself_alone c.args.store.now.bytes (data_under (store_of c.args.store.now.bytes) c.args.db c.args.index)
 
 pub entry_resize-requires : goal.entry_resize-requires
 entry_resize-requires c = record {
-  own = record { db = c.args.db; index = c.args.index; number = c.in_ok-count.ensures.known; is = ap data_of_entry c.in_ok-live.ensures.is; some = c.in_ok-live.ensures.some };
+  own = record { db = c.args.db; index = c.args.index; number = c.in_ok-live.ensures.known; is = ap data_of_entry c.in_ok-live.ensures.is; some = c.in_ok-live.ensures.some };
 }
 
 pub returns-in_err-entry_resize-clause-does : goal.returns-in_err-entry_resize-clause-does
 returns-in_err-entry_resize-clause-does c =
-    let passed = c.in_ok-count.ensures.passes in
     let alive = c.in_ok-live.ensures.passes in
     let refusal : Refusal = c.in_err-entry_resize.field-0.0 in
     let named : c.in_ok-live.live.«data».0 ≡ data_under (store_of c.args.store.now.bytes) c.args.db c.args.index = sym (ap data_of_entry c.in_ok-live.ensures.is) in
     let brings = subst (λ (name : ℕ). FirstBrings (checks_of_growth c.args.store.now.bytes name c.args.size) refusal) named c.in_err-entry_resize.ensures.why in
     handed_on (λ done. Done) (calls.Record (Resize c.args.db c.args.index c.args.size)) c.from_residual-in_err-entry_resize.result (let e = c.from_residual-in_err-entry_resize.ensures in (e.0, e.1))
     (subst (λ (new : Memory). DoesInStore c.args.store.now (calls.Record (Resize c.args.db c.args.index c.args.size)) (Refused refusal) new) (sym c.in_err-entry_resize.ensures.refused)
-    (refused c.args.store.now (calls.Record (Resize c.args.db c.args.index c.args.size)) refusal c.in_ok-count.ensures.accepted (inr (passed.0, inr (passed.1.0, inr (passed.1.1.0, inr (alive.0, inr (alive.1.0, brings))))))))
+    (refused c.args.store.now (calls.Record (Resize c.args.db c.args.index c.args.size)) refusal c.in_ok-live.ensures.accepted (inr (alive.0, inr (alive.1.0, inr (alive.1.1.0, inr (alive.1.1.1.0, inr (alive.1.1.1.1.0, brings))))))))
 
 pub returns-clause-does : goal.returns-clause-does
 returns-clause-does c =
-    let passed = c.in_ok-count.ensures.passes in
     let alive = c.in_ok-live.ensures.passes in
     let named : c.in_ok-live.live.«data».0 ≡ data_under (store_of c.args.store.now.bytes) c.args.db c.args.index = sym (ap data_of_entry c.in_ok-live.ensures.is) in
     let grows = subst (λ (name : ℕ). NoneHolds (checks_of_growth c.args.store.now.bytes name c.args.size)) named c.in_ok-entry_resize.ensures.could in
     let sized = subst (λ (name : ℕ). LeavesStore c.args.store.now.bytes c.entry_resize.new.self.bytes (data_sized (store_of c.args.store.now.bytes) name c.args.size)) named c.in_ok-entry_resize.ensures.done in
     let leaves = raised_after c.args.store.now.bytes c.entry_resize.new.self.bytes c.raise.new.self.bytes c.args.db _ sized c.raise.ensures.raised c.raise.ensures.none_made in
-    changes c.args.store.now c.raise.new.self (calls.Record (Resize c.args.db c.args.index c.args.size)) Done _ c.in_ok-count.ensures.accepted leaves
-    ((passed.0, (passed.1.0, (passed.1.1.0, (alive.0, (alive.1.0, grows))))), (tt, leaves.same)) tt refl
+    changes c.args.store.now c.raise.new.self (calls.Record (Resize c.args.db c.args.index c.args.size)) Done _ c.in_ok-live.ensures.accepted leaves
+    ((alive.0, (alive.1.0, (alive.1.1.0, (alive.1.1.1.0, (alive.1.1.1.1.0, grows))))), (tt, leaves.same)) tt refl
 
 pub returns-clause-unmoved : goal.returns-clause-unmoved
 returns-clause-unmoved c = λ fits.
