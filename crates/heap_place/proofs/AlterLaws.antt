@@ -11,6 +11,7 @@ use Rattle.heap_model.specs.Placing.{Finds}
 use Rattle.heap_model.specs.Layout.{Becomes, Alters, with_lock, with_owner, with_bytes, WritesPlain}
 use Rattle.laws_heap.proofs.Frames.{overwritten-behind}
 use Rattle.laws_heap.proofs.Writing.{WroteWithin, wrote_word, wrote_wider}
+use Rattle.laws_heap.proofs.FixedNames.{fixed_live_is}
 use Rattle.laws_heap.proofs.Finding.{finds_spelled}
 use Rattle.laws_heap.proofs.Exchanging.{exchanges_parts}
 use Rattle.laws_heap.proofs.Changing.{named_live_chunk}
@@ -43,7 +44,7 @@ relocks old new name at lock found live (movable bytes count holder slot) h f k 
     let s : Spelled old at (movable bytes count holder slot) = finds_spelled old name live (movable bytes count holder slot) at h f in
     let same : found.owner ≡ holder = k.owner_is ∙ ap (λ (x : LiveChunk). x.owner) (sym f.named.1) in
     movable_relabelled old new name at live bytes bytes count holder slot lock holder h f (λ directory none. none) w (re bytes count holder slot (subst (λ (n : ℕ). (lock ≡ 0) ⊎ (0 < n)) same owned) s) refl
-relocks old new name at lock found live (fixed bytes holder) h f k loose owned re w = let e : fixed_lock ≡ live.lock = ap (λ (x : LiveChunk). x.lock) f.named.1 in let same = k.lock_is in absurd (omega arith)
+relocks old new name at lock found live (fixed bytes holder) h f k loose owned re w = let e : fixed_lock ≡ live.lock = ap (λ (x : LiveChunk). x.lock) (fixed_live_is at bytes holder f.named) in let same = k.lock_is in absurd (omega arith)
 
 pub relocked_there : (old new : List ℕ) (found : Found) (lock word : ℕ) → HeapAccepted old → IsOne old found → found.lock < fixed_lock → (lock ≡ 0) ⊎ (0 < found.owner) → Relocks old new (found.place.0 - 8) lock → new ≡ overwritten old (found.place.0 - 8 + 4) (u32_bytes word) → Alters old new (found.place.0 - 8) (with_lock lock) × WritesPlain old new
 relocked_there old new found lock word h f loose owned re is =
@@ -65,7 +66,7 @@ reowns old new name at owner found live (movable bytes count holder slot) h f k 
     (re.movable_too bytes count holder slot (may_stand count found.lock owner same can.locked) s) refl
 reowns old new name at owner found live (fixed bytes holder) h f k can re w =
     let s : Spelled old at (fixed bytes holder) = finds_spelled old name live (fixed bytes holder) at h f in
-    let is : found.lock ≡ fixed_lock = k.lock_is ∙ ap (λ (x : LiveChunk). x.lock) (sym f.named.1) in
+    let is : found.lock ≡ fixed_lock = k.lock_is ∙ ap (λ (x : LiveChunk). x.lock) (sym (fixed_live_is at bytes holder f.named)) in
     fixed_relabelled old new name at live bytes bytes holder owner h f (can.locked (omega arith)) (can.fixed is) w (re.fixed_too bytes holder s) refl
 
 pub reowned_there : (old new : List ℕ) (found : Found) (owner word : ℕ) → HeapAccepted old → IsOne old found → CanGoTo old found owner → Reowns old new (found.place.0 - 8) owner → new ≡ overwritten old (found.place.0 - 8 + 4) (u32_bytes word) → Alters old new (found.place.0 - 8) (with_owner owner) × WritesPlain old new

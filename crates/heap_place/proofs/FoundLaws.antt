@@ -10,6 +10,7 @@ use Rattle.heap_model.specs.Placing.{Finds}
 use Rattle.laws_heap.proofs.Chunks.{Spelled-size, SpelledAll-split, SpelledAll-end}
 use Rattle.laws_heap.proofs.Placed.{AnyPlaced-mid}
 use Rattle.laws_heap.proofs.Accepted.{heap_of_read}
+use Rattle.laws_heap.proofs.FixedNames.{fixed_live_is}
 use Rattle.laws_heap.proofs.Finding.{finds_held, named_size, finds_spelled, finds_body}
 use Rattle.heap_place.specs.declared.found.Found.{Found}
 use Rattle.heap_place.specs.Found.{IsFound, IsOne}
@@ -99,7 +100,7 @@ when_movable image name found f P loose of_movable = by_chunk f.chunk f.finds wh
   by_chunk : (c : Chunk) (g : Finds image name f.live c (found.place.0 - 8)) → P c g
   by_chunk (free size) g = absurd g.named
   by_chunk (movable bytes lock owner slot) g = of_movable bytes lock owner slot g
-  by_chunk (fixed bytes owner) g = absurd (loose (f.lock_is ∙ ap (λ (x : LiveChunk). x.lock) (sym g.named.1)))
+  by_chunk (fixed bytes owner) g = absurd (loose (f.lock_is ∙ ap (λ (x : LiveChunk). x.lock) (sym (fixed_live_is (found.place.0 - 8) bytes owner g.named))))
 
 -- ---- its bytes
 

@@ -1,5 +1,5 @@
 -- Live chunks by their names and by their places.
-use Rattle.std.proofs.Common.{◌≡◌, ℕ, ◌+◌, ◌-◌, ◌<◌, ◌≤◌, List, ◌∷◌, ◌++◌, length, Option, Some, None, MatchOption, refl, sym, ap, subst, ◌∙◌, arith, inl, inr}
+use Rattle.std.proofs.Common.{◌≡◌, ℕ, ◌+◌, ◌-◌, ◌<◌, ◌≤◌, List, [], ◌∷◌, ◌++◌, length, Option, Some, None, MatchOption, refl, sym, ap, subst, ◌∙◌, arith, inl, inr}
 use Rattle.std.proofs.lemmas.Bool.{cases_eq, eq-eqb}
 use Rattle.std.proofs.lemmas.Bool.Decides.{nat_tests}
 use Rattle.std.specs.Prelude.{◌==◌, IfNone}
@@ -8,7 +8,7 @@ use Rattle.heap_model.specs.Chunk.{Chunk, free, movable, fixed, fixed_lock, tota
 use Rattle.heap_model.specs.Slots.{area_start}
 use Rattle.heap_model.specs.Heap.{BodyHere, IsHeap, HeapAccepted}
 use Rattle.heap_model.specs.Placed.{EveryPlaced}
-use Rattle.heap_model.specs.Meaning.{LiveChunk}
+use Rattle.heap_model.specs.Meaning.{LiveChunk, NamedHere}
 use Rattle.heap_model.specs.Reading.{chunk_at, chunks_of, held}
 use Rattle.heap_model.specs.Space.{place_of}
 use Rattle.heap_model.specs.Placing.{Finds, NotFixedAs}
@@ -16,6 +16,8 @@ use Rattle.heap_model.specs.declared.names.Name.{Name}
 use Rattle.heap_model.specs.declared.names.Place.{Place}
 use Rattle.laws_heap.proofs.Deciding.{cond-true, cond-false}
 use Rattle.laws_heap.proofs.Placed.{EveryPlaced-push, EveryPlaced-split, AnyPlaced-mid}
+use Rattle.laws_heap.proofs.Slots.{heap_hold_none}
+use Rattle.laws_heap.proofs.FixedNames.{fixed_name, fixed_live, fixed_has_name, fixed_name_is, fixed_place, fixed_not, not_fixed_as}
 use Rattle.laws_heap.proofs.Finding.{finds_spelled, InSlot, in_slot, finds_read, held_finds, none_held, read_heap}
 use Rattle.laws_heap.proofs.Shapes.{chunk_at-spelled}
 use Rattle.laws_heap.proofs.Lives.{live_placed}
@@ -43,14 +45,14 @@ record FixedAs (at : ℕ) (name : Name) (c : Chunk) (found : Found) : Type 0 whe
   owner : ℕ
   chunk : c ≡ fixed bytes owner
   is : found ≡ as_found at name (length bytes) owner
-  there : at + 8 ≡ name.0
+  there : fixed_name at ≡ name.0
 
 fixed_named : (at : ℕ) (name : Name) (header : Header) (c : Chunk) (found : Found) → header ≡ header_of c → fixed_by header (placed (at + 8)) name ≡ Some found → FixedAs at name c found
 fixed_named at name header (free size) found e f = let g : fixed_by (headers.Free size) (placed (at + 8)) name ≡ Some found = subst (λ (h : Header). fixed_by h (placed (at + 8)) name ≡ Some found) e f in absurd cc
 fixed_named at name header (movable bytes lock owner slot) found e f = let g : fixed_by (headers.Movable (length bytes) lock owner slot) (placed (at + 8)) name ≡ Some found = subst (λ (h : Header). fixed_by h (placed (at + 8)) name ≡ Some found) e f in absurd cc
 fixed_named at name header (fixed bytes owner) found e f = elim (cases_eq (at + 8) name.0) [
-  | inl same ↦ record { bytes = bytes; owner = owner; chunk = refl; is = one (sym (cond-true ((at + 8) == name.0) _ _ (eq-eqb (at + 8) name.0 same)) ∙ g); there = same }
-  | inr apart ↦ let none : fixed_by (headers.Fixed (length bytes) owner) (placed (at + 8)) name ≡ None = cond-false ((at + 8) == name.0) _ _ (grind (arith, nat_tests)) in absurd cc
+  | inl same ↦ record { bytes = bytes; owner = owner; chunk = refl; is = one (sym (cond-true ((placed (at + 8)).0 == name.0) _ _ (eq-eqb (at + 8) name.0 same)) ∙ g); there = fixed_place at ∙ same }
+  | inr apart ↦ let none : fixed_by (headers.Fixed (length bytes) owner) (placed (at + 8)) name ≡ None = cond-false ((placed (at + 8)).0 == name.0) _ _ (grind (arith, nat_tests)) in absurd cc
 ] where
   g : fixed_by (headers.Fixed (length bytes) owner) (placed (at + 8)) name ≡ Some found
   g = subst (λ (h : Header). fixed_by h (placed (at + 8)) name ≡ Some found) e f
@@ -61,16 +63,18 @@ fixed_named at name header (fixed bytes owner) found e f = elim (cases_eq (at + 
 pub fixed_found : (image : List ℕ) (P : List Chunk → Type 0) (at : ℕ) (name : Name) (header : Header) (found : Found) → HeapAccepted image → Passed image P at → HasHeader image at header → fixed_by header (placed (at + 8)) name ≡ Some found → IsFound image name.0 found
 fixed_found image P at name header found h p has f =
     let n = fixed_named at name header has.chunk found has.header_is f in
-    let live : LiveChunk = record { bytes = n.bytes; lock = fixed_lock; owner = n.owner } in
+    let live : LiveChunk = fixed_live n.bytes n.owner in
     let parts = passed_parts image P at header h p has in
+    let chunks : chunks_of image ≡ p.front ++ fixed n.bytes n.owner ∷ parts.0 = subst (λ (c : Chunk). chunks_of image ≡ p.front ++ c ∷ parts.0) n.chunk parts.1 in
+    let some = (heap_hold_none image p.front (fixed n.bytes n.owner ∷ []) parts.0 (subst (λ (cs : List Chunk). IsHeap image cs) chunks (read_heap image h))).0 in
     let there = passed_at image P at p in
     let place : at + 8 - 8 ≡ at = omega arith in
     let finds : Finds image name.0 live (fixed n.bytes n.owner) at = record {
       before = p.front;
       after = parts.0;
-      chunks = subst (λ (c : Chunk). chunks_of image ≡ p.front ++ c ∷ parts.0) n.chunk parts.1;
+      chunks = chunks;
       there = omega arith;
-      named = (n.there, refl);
+      named = subst (λ (k : ℕ). NamedHere k live at (fixed n.bytes n.owner)) n.there (fixed_has_name at n.bytes n.owner some);
     } in
     subst (λ (x : Found). IsFound image name.0 x) (sym n.is) record {
       live = live;
@@ -85,12 +89,12 @@ fixed_found image P at name header found h p has f =
 
 -- it is where its name says
 pub fixed_there : (at : ℕ) (name : Name) (header : Header) (found : Found) (image : List ℕ) → HasHeader image at header → fixed_by header (placed (at + 8)) name ≡ Some found → found.place.0 ≡ name.0
-fixed_there at name header found image has f = let n = fixed_named at name header has.chunk found has.header_is f in ap (λ (x : Found). x.place.0) n.is ∙ n.there
+fixed_there at name header found image has f = let n = fixed_named at name header has.chunk found has.header_is f in ap (λ (x : Found). x.place.0) n.is ∙ sym (fixed_place at) ∙ n.there
 
 not_fixed : (at : ℕ) (name : Name) (c : Chunk) → fixed_by (header_of c) (placed (at + 8)) name ≡ None → NotFixedAs name.0 at c
 not_fixed at name (free size) f = tt
 not_fixed at name (movable bytes lock owner slot) f = tt
-not_fixed at name (fixed bytes owner) f = λ same. let some = sym (cond-true ((at + 8) == name.0) _ _ (eq-eqb (at + 8) name.0 same)) ∙ f in absurd cc
+not_fixed at name (fixed bytes owner) f = not_fixed_as name.0 at bytes owner (λ same. let some = sym (cond-true ((placed (at + 8)).0 == name.0) _ _ (eq-eqb (at + 8) name.0 (sym (fixed_place at) ∙ same))) ∙ f in absurd cc)
 
 pub fixed_passed : (image : List ℕ) (at : ℕ) (name : Name) (header : Header) → Passed image (NoneFixedAs image name.0) at → HasHeader image at header → fixed_by header (placed (at + 8)) name ≡ None → Passed image (NoneFixedAs image name.0) (at + size_by header)
 fixed_passed image at name header p has f = passed_more image (NoneFixedAs image name.0) (NoneFixedAs image name.0) at header p has
@@ -204,7 +208,8 @@ nothing_at image place h slots none_fixed name at = none (held image name) refl 
   at_place live (fixed bytes owner) there f e =
       let here : EveryPlaced (NotFixedAs place) (area_start image + total f.before) (fixed bytes owner ∷ f.after) =
       (EveryPlaced-split (NotFixedAs place) (area_start image) f.before (fixed bytes owner ∷ f.after) (subst (λ (cs : List Chunk). EveryPlaced (NotFixedAs place) (area_start image) cs) f.chunks none_fixed)).1 in
-      here.0 (ap (λ (n : ℕ). n + 8) (sym f.there) ∙ e)
+      let named : NamedHere place live there (fixed bytes owner) = subst (λ (n : ℕ). NamedHere n live there (fixed bytes owner)) (sym (fixed_name_is there bytes owner f.named) ∙ fixed_place there ∙ e) f.named in
+      fixed_not (area_start image + total f.before) bytes owner (subst (λ (n : ℕ). NamedHere place live n (fixed bytes owner)) f.there named) here.0
 
   same : (m n : ℕ) → Some m ≡ Some n → m ≡ n
   same m n f = cc

@@ -16,11 +16,11 @@ use Rattle.laws_heap.proofs.Deciding.{cond-true, cond-false, true_or_false}
 use Rattle.laws_heap.proofs.Chunks.{total-append, SpelledAll-split, SpelledAll-end}
 use Rattle.laws_heap.proofs.Plain.{plain_same, plain_then}
 use Rattle.laws_heap.proofs.Placed.{TakesBytes, SpelledAll-takes, AnyPlaced-left, AnyPlaced-split, EveryPlaced-split}
+use Rattle.laws_heap.proofs.FixedNames.{fixed_live, fixed_has_name}
 use Rattle.laws_heap.proofs.Finding.{read_heap, finds_held}
-use Rattle.laws_heap.proofs.Layouts.{any-merged}
+use Rattle.laws_heap.proofs.Layouts.{IsNotFree, any-merged}
 use Rattle.laws_heap.proofs.Becoming.{same_frame, frame_then, becomes_start}
 use Rattle.laws_heap.proofs.Exchanging.{exchanges_parts}
-use Rattle.laws_heap.proofs.Changing.{named_live_chunk}
 use Rattle.laws_heap.proofs.OwnedChunks.{owned, counted_one, owned-merged, freed_if, owned_freed-append, owned_freed-merged, owned_freed-layout, owned_freed-none, not_directory}
 use Rattle.chunk_format.specs.declared.header.Header.{Header}
 use Rattle.chunk_format.specs.declared.header.Header.TheVariants as headers
@@ -36,7 +36,8 @@ use Rattle.heap_place.proofs.LookupLaws.{placed}
 -- what the header of an owner's chunk says of it
 record OwnedAs (at owner : ℕ) (c : Chunk) (found : Found) : Type 0 where
   live : LiveChunk
-  named : NamedHere found.name.0 live at c
+  named : 0 < owner → NamedHere found.name.0 live at c
+  is_live : IsNotFree c
   place : found.place.0 ≡ at + 8
   count : found.length ≡ length live.bytes
   lock_is : found.lock ≡ live.lock
@@ -54,7 +55,7 @@ owned_named at owner header (movable bytes lock own slot) found e f = by_test (o
   g = subst (λ (h : Header). owned_by h (placed (at + 8)) owner ≡ Some found) e f
 
   made : own ≡ owner → OwnedAs at owner (movable bytes lock own slot) chunk
-  made same = record { live = record { bytes = bytes; lock = lock; owner = own }; named = (refl, refl); place = refl; count = refl; lock_is = refl; owner_is = sym same; own = refl; is = eq-eqb own owner same }
+  made same = record { live = record { bytes = bytes; lock = lock; owner = own }; named = λ some. (refl, refl); is_live = tt; place = refl; count = refl; lock_is = refl; owner_is = sym same; own = refl; is = eq-eqb own owner same }
 
   one : Some chunk ≡ Some found → chunk ≡ found
   one s = cc
@@ -70,7 +71,7 @@ owned_named at owner header (fixed bytes own) found e f = by_test (own == owner)
   g = subst (λ (h : Header). owned_by h (placed (at + 8)) owner ≡ Some found) e f
 
   made : own ≡ owner → OwnedAs at owner (fixed bytes own) chunk
-  made same = record { live = record { bytes = bytes; lock = fixed_lock; owner = own }; named = (refl, refl); place = refl; count = refl; lock_is = refl; owner_is = sym same; own = refl; is = eq-eqb own owner same }
+  made same = record { live = fixed_live bytes own; named = λ some. fixed_has_name at bytes own (subst (λ (n : ℕ). 0 < n) (sym same) some); is_live = tt; place = refl; count = refl; lock_is = refl; owner_is = sym same; own = refl; is = eq-eqb own owner same }
 
   one : Some chunk ≡ Some found → chunk ≡ found
   one s = cc
@@ -98,13 +99,13 @@ not_owned_named at owner (fixed bytes own) e = by_test (own == owner) e where
   by_test false s = refl
 
 -- it is found where the walk has come to
-pub owned_one : (image : List ℕ) (P : List Chunk → Type 0) (at owner : ℕ) (header : Header) (found : Found) → HeapAccepted image → Passed image P at → HasHeader image at header → owned_by header (placed (at + 8)) owner ≡ Some found → IsOne image found
-owned_one image P at owner header found h p has is =
+pub owned_one : (image : List ℕ) (P : List Chunk → Type 0) (at owner : ℕ) (header : Header) (found : Found) → HeapAccepted image → 0 < owner → Passed image P at → HasHeader image at header → owned_by header (placed (at + 8)) owner ≡ Some found → IsOne image found
+owned_one image P at owner header found h some p has is =
     let o = owned_named at owner header has.chunk found has.header_is is in
     let parts = passed_parts image P at header h p has in
     let place = o.place in
     let back : found.place.0 - 8 ≡ at = omega arith in
-    let finds : Finds image found.name.0 o.live has.chunk at = record { before = p.front; after = parts.0; chunks = parts.1; there = passed_at image P at p; named = o.named } in
+    let finds : Finds image found.name.0 o.live has.chunk at = record { before = p.front; after = parts.0; chunks = parts.1; there = passed_at image P at p; named = o.named some } in
     record { live = o.live; chunk = has.chunk; finds = subst (λ (n : ℕ). Finds image found.name.0 o.live has.chunk n) (sym back) finds; behind_header = omega arith; name_is = refl; count = o.count; lock_is = o.lock_is; owner_is = o.owner_is }
 
 pub owned_place : (image : List ℕ) (at owner : ℕ) (header : Header) (found : Found) → HasHeader image at header → owned_by header (placed (at + 8)) owner ≡ Some found → found.place.0 ≡ at + 8
@@ -222,7 +223,7 @@ freeing_more old now new owner at count size header found f has is x v p =
     let front : List Chunk = f.passed.front in
     let after : List Chunk = parts.0 in
     let c : Chunk = has.chunk in
-    let b = (exchanges_parts now new at (λ chunk. freed chunk ∷ []) front c after f.frame.accepted (named_live_chunk found.name.0 at o.live c o.named) parts.1 there).0 (subst (λ (n : ℕ). Alters now new n freed) back x) in
+    let b = (exchanges_parts now new at (λ chunk. freed chunk ∷ []) front c after f.frame.accepted o.is_live parts.1 there).0 (subst (λ (n : ℕ). Alters now new n freed) back x) in
     let one : cond {A = ℕ} (is_owned_by owner c) 1 0 ≡ 1 = cond-true (is_owned_by owner c) 1 0 o.is in
     let before_is : owned owner (chunks_of now) ≡ owned owner front + (cond {A = ℕ} (is_owned_by owner c) 1 0 + owned owner after) = ap (owned owner) parts.1 ∙ counted_one owner front c after in
     let now_is : owned owner (chunks_of new) ≡ owned owner front + (0 + owned owner after) = sym (owned-merged owner (chunks_of new)) ∙ ap (owned owner) b.layout ∙ owned-merged owner (front ++ freed c ∷ after) ∙ counted_one owner front (freed c) after in

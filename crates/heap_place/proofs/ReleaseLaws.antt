@@ -22,6 +22,7 @@ use Rattle.laws_heap.proofs.Changing.{named_live_chunk}
 use Rattle.laws_heap.proofs.Writing.{WroteWithin, wrote_none, wrote_word, wrote_wider, WroteArea, area_replaces, wrote_slot, area_slots, beside_same, beside_word}
 use Rattle.laws_heap.proofs.Plain.{free_plain, replaced_plain}
 use Rattle.laws_heap.proofs.Freeing.{OtherSlots, ClearsSlot, released}
+use Rattle.laws_heap.proofs.FixedNames.{fixed_live_is}
 use Rattle.chunk_format.specs.declared.header.Header.TheVariants as headers
 use Rattle.chunk_format.specs.Header.{HasHeader}
 use Rattle.heap_place.specs.declared.found.Found.{Found}
@@ -77,7 +78,7 @@ first_word old mid at all chunk g is =
 
 slot_stays : (old mid : List ℕ) (at all name : ℕ) (live : LiveChunk) (chunk : Chunk) → HeapAccepted old → Finds old name live chunk at → live.lock ≢ fixed_lock → mid ≡ overwritten old at (u32_bytes (2 ^ 31 + all)) → (table_end mid ≤ length mid) × IsSlot mid name
 slot_stays old mid at all name live (free size) accepted f loose is = absurd f.named
-slot_stays old mid at all name live (fixed bytes o) accepted f loose is = absurd (loose (ap (λ (x : LiveChunk). x.lock) (sym f.named.1)))
+slot_stays old mid at all name live (fixed bytes o) accepted f loose is = absurd (loose (ap (λ (x : LiveChunk). x.lock) (sym (fixed_live_is at bytes o f.named))))
 slot_stays old mid at all name live (movable bytes l o s) accepted f loose is =
     let g = giving old at name live (movable bytes l o s) accepted f in
     let inside = g.middle.inside in
@@ -182,7 +183,7 @@ own_slot_stays old mid found all h f loose is = slot_stays old mid (found.place.
 pub emptied_movable : (mid new : List ℕ) (at name : ℕ) (live : LiveChunk) (c : Chunk) → NamedHere name live at c → live.lock ≢ fixed_lock → new ≡ overwritten mid name (u32_bytes 0) → Emptied mid c new
 emptied_movable mid new at name live (free size) n loose is = absurd n
 emptied_movable mid new at name live (movable bytes lock owner slot) n loose is = is ∙ ap (λ (k : ℕ). overwritten mid k (u32_bytes 0)) (sym n.0)
-emptied_movable mid new at name live (fixed bytes owner) n loose is = absurd (loose (ap (λ (x : LiveChunk). x.lock) (sym n.1)))
+emptied_movable mid new at name live (fixed bytes owner) n loose is = absurd (loose (ap (λ (x : LiveChunk). x.lock) (sym (fixed_live_is at bytes owner n))))
 
 pub emptied_fixed : (image mid : List ℕ) (at name : ℕ) (live : LiveChunk) (c : Chunk) → HeapAccepted image → Finds image name live c at → live.lock ≡ fixed_lock → Emptied mid c mid
 emptied_fixed image mid at name live (free size) h f is = absurd f.named

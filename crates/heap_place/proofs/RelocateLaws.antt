@@ -17,6 +17,7 @@ use Rattle.heap_model.specs.Resizing.{with_length, Relocates}
 use Rattle.laws_heap.proofs.Finding.{held_finds, finds_spelled, finds_body}
 use Rattle.laws_heap.proofs.Altering.{finds_place, body_stays}
 use Rattle.laws_heap.proofs.Exchanging.{ChangesName}
+use Rattle.laws_heap.proofs.FixedNames.{fixed_name, fixed_live, fixed_has_name, fixed_live_is}
 use Rattle.laws_heap.proofs.Changing.{claim_changes, room_unheld, bytes_changes, freed_changes}
 use Rattle.laws_heap.proofs.Resizings.{length-sized_to}
 use Rattle.laws_heap.proofs.Relocation.{relocates}
@@ -75,13 +76,13 @@ found_kept old new name now there found h ch apart f =
 -- ---- the stand-in
 
 abbrev pub zeros_live : ℕ → LiveChunk
-zeros_live count = record { bytes = replicate count 0; lock = fixed_lock; owner = 1 }
+zeros_live count = fixed_live (replicate count 0) 1
 
-pub stand_changes : (old new : List ℕ) (at size count : ℕ) → HeapAccepted old → IsRoom old at size → need count ≤ size → Exchanges old new at (in_front (fixed (replicate count 0) 1)) → ChangesName old new (at + 8) (Some (zeros_live count)) (Some (at + 8))
+pub stand_changes : (old new : List ℕ) (at size count : ℕ) → HeapAccepted old → IsRoom old at size → need count ≤ size → Exchanges old new at (in_front (fixed (replicate count 0) 1)) → ChangesName old new (fixed_name at) (Some (zeros_live count)) (Some (at + 8))
 stand_changes old new at size count h r fits x =
     let many : length (replicate {A = ℕ} count 0) ≡ count = length-replicate count 0 in
     let takes : need (length (replicate {A = ℕ} count 0)) ≡ need count = ap need many in
-    claim_changes old new at size (at + 8) (zeros_live count) (fixed (replicate count 0) 1) h (omega arith) r (room_unheld old at size h (omega arith) r) x (omega arith) (refl, refl)
+    claim_changes old new at size (fixed_name at) (zeros_live count) (fixed (replicate count 0) 1) h (omega arith) r (room_unheld old at size h (omega arith) r) x (omega arith) (fixed_has_name at (replicate count 0) 1 (omega arith))
 
 pub stands_there : (old new : List ℕ) (at size count : ℕ) → HeapAccepted old → IsRoom old at size → need count ≤ size → Exchanges old new at (in_front (fixed (replicate count 0) 1)) → IsOne new (stand_in at count)
 stands_there old new at size count h r fits x =
@@ -89,7 +90,7 @@ stands_there old new at size count h r fits x =
     found_held new (stand_in at count) (zeros_live count) ch.frame.accepted ch.here ch.place (sym (length-replicate count 0)) refl refl
 
 -- nothing else has its name
-pub stand_apart : (old : List ℕ) (at size count : ℕ) (found : Found) → HeapAccepted old → IsRoom old at size → need count ≤ size → IsOne old found → found.name.0 ≢ at + 8
+pub stand_apart : (old : List ℕ) (at size count : ℕ) (found : Found) → HeapAccepted old → IsRoom old at size → need count ≤ size → IsOne old found → found.name.0 ≢ fixed_name at
 stand_apart old at size count found h r fits f e =
     let none = room_unheld old at size h (omega arith) r in
     absurd (no f.live (sym (one_held old found h f) ∙ ap (held old) e ∙ none)) where
@@ -97,7 +98,7 @@ stand_apart old at size count found h r fits f e =
       no live x = absurd cc
 
 pub stand_keeps : (old new : List ℕ) (at size count : ℕ) → HeapAccepted old → IsRoom old at size → need count ≤ size → Exchanges old new at (in_front (fixed (replicate count 0) 1)) → KeepsFound old new
-stand_keeps old new at size count h r fits x found f = found_kept old new (at + 8) _ _ found h (stand_changes old new at size count h r fits x) (stand_apart old at size count found h r fits f) f
+stand_keeps old new at size count h r fits x found f = found_kept old new (fixed_name at) _ _ found h (stand_changes old new at size count h r fits x) (stand_apart old at size count found h r fits f) f
 
 -- ---- a fixed chunk gets the name of a slot
 
@@ -151,7 +152,7 @@ named_there old mid new there owner slot h one is_fixed s empty mid_is header ne
           let e : lock ≡ live.lock = ap (λ (x : LiveChunk). x.lock) f.named.1 in
           absurd (omega (arith, is_fixed, lock_is))
       by_chunk live (fixed bytes holder) f count lock_is =
-          let same : there.length ≡ length bytes = count ∙ ap (λ (x : LiveChunk). length x.bytes) (sym f.named.1) in
+          let same : there.length ≡ length bytes = count ∙ ap (λ (x : LiveChunk). length x.bytes) (sym (fixed_live_is at bytes holder f.named)) in
           let low = one.behind_header in
           let body : there.place.0 ≡ at + 8 = omega arith in
           named_write old mid new at there.name.0 live bytes holder owner slot h f s empty (mid_is ∙ ap (λ (n : ℕ). overwritten old at (live_words n 0 owner (h_offset_to at slot))) same)
@@ -298,7 +299,7 @@ owner_fits image found h f = by_chunk f.live f.chunk f.finds f.owner_is where
   by_chunk live (fixed bytes owner) g is =
       let s : Spelled image (found.place.0 - 8) (fixed bytes owner) = finds_spelled image found.name.0 live (fixed bytes owner) (found.place.0 - 8) h g in
       let fits = s.owner_fits in
-      let same : owner ≡ live.owner = ap (λ (x : LiveChunk). x.owner) g.named.1 in
+      let same : owner ≡ live.owner = ap (λ (x : LiveChunk). x.owner) (fixed_live_is (found.place.0 - 8) bytes owner g.named) in
       omega arith
 
 -- ---- a run that had the room

@@ -16,6 +16,7 @@ use Rattle.heap_model.specs.Resizing.{with_length, shrunk, Shrinks}
 use Rattle.laws_heap.proofs.Deciding.{cond-true, cond-false}
 use Rattle.laws_heap.proofs.Frames.{SameBetween, SameBetween-then, slice-same, slice-overwritten-within}
 use Rattle.laws_heap.proofs.Layouts.{IsNotFree}
+use Rattle.laws_heap.proofs.FixedNames.{fixed_live_is}
 use Rattle.laws_heap.proofs.Finding.{finds_spelled}
 use Rattle.laws_heap.proofs.Changing.{named_live_chunk}
 use Rattle.laws_heap.proofs.Writing.{WroteWithin, wrote_part, wrote_wider, wrote_then, wrote_apart}
@@ -71,8 +72,9 @@ header_by image name at count live (movable bytes lock owner slot) found h f k =
     let len = length-sized_to bytes count in
     cond-false (found.lock == fixed_lock) _ _ (grind (arith, nat_tests)) ∙ cc
 header_by image name at count live (fixed bytes owner) found h f k =
-    let a : found.lock ≡ fixed_lock = k.lock_is ∙ ap (λ (x : LiveChunk). x.lock) (sym f.named.1) in
-    let b : found.owner ≡ owner = k.owner_is ∙ ap (λ (x : LiveChunk). x.owner) (sym f.named.1) in
+    let is = fixed_live_is at bytes owner f.named in
+    let a : found.lock ≡ fixed_lock = k.lock_is ∙ ap (λ (x : LiveChunk). x.lock) (sym is) in
+    let b : found.owner ≡ owner = k.owner_is ∙ ap (λ (x : LiveChunk). x.owner) (sym is) in
     let len = length-sized_to bytes count in
     cond-true (found.lock == fixed_lock) _ _ (eq-eqb found.lock fixed_lock a) ∙ cc
 
@@ -186,7 +188,7 @@ found_body image found h f = let b = by_chunk f.live f.chunk (finds_spelled imag
       → (slice_range image (found.place.0 - 8 + 8) (found.place.0 - 8 + 8 + length (body_of c)) ≡ body_of c) × (live ≡ f.live → length (body_of c) ≡ found.length)
   by_chunk live (free size) s named = absurd named
   by_chunk live (movable bytes lock owner slot) s named = (s.1.body, λ e. ap (λ (x : LiveChunk). length x.bytes) (named.1 ∙ e) ∙ sym f.count)
-  by_chunk live (fixed bytes owner) s named = (s.body, λ e. ap (λ (x : LiveChunk). length x.bytes) (named.1 ∙ e) ∙ sym f.count)
+  by_chunk live (fixed bytes owner) s named = (s.body, λ e. ap (λ (x : LiveChunk). length x.bytes) (fixed_live_is (found.place.0 - 8) bytes owner named ∙ e) ∙ sym f.count)
 
 -- ---- the chunk with another length
 

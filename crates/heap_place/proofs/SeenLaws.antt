@@ -12,6 +12,7 @@ use Rattle.heap_model.specs.Meaning.{LiveChunk, NamedHere}
 use Rattle.laws_heap.proofs.Sliding.{none_stays-append}
 use Rattle.laws_heap.proofs.Chunks.{Spelled-size, Spelled-unique, SpelledAll-split, SpelledAll-end, SpelledAll-push, SpelledAll-rest}
 use Rattle.laws_heap.proofs.Runs.{chunk_there, chunks_after}
+use Rattle.laws_heap.proofs.FixedNames.{fixed_live_is}
 use Rattle.chunk_format.specs.Header.{header_of, size_by, HasHeader}
 use Rattle.chunk_format.specs.declared.header.Header.{Header}
 use Rattle.chunk_format.proofs.HeaderLaws.{size_by-header_of}
@@ -38,7 +39,7 @@ unlocked image found f none = of_chunk f.chunk f.finds.named f.finds.chunks wher
         there = f.finds.there;
         many = f.count ∙ sym (ap (λ (x : LiveChunk). length x.bytes) named.1);
       }
-  of_chunk (fixed bytes owner) named chunks = let lock_is : 15 ≡ 0 = ap (λ (x : LiveChunk). x.lock) named.1 ∙ sym f.lock_is ∙ none in absurd (omega (arith, lock_is))
+  of_chunk (fixed bytes owner) named chunks = let lock_is : 15 ≡ 0 = ap (λ (x : LiveChunk). x.lock) (fixed_live_is (found.place.0 - 8) bytes owner named) ∙ sym f.lock_is ∙ none in absurd (omega (arith, lock_is))
 
 -- ---- chunks that stay
 

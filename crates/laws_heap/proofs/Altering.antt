@@ -15,6 +15,7 @@ use Rattle.heap_model.specs.Packing.{lives}
 use Rattle.heap_model.specs.Layout.{Becomes, with_bytes, WritesPlain}
 use Rattle.laws_heap.proofs.Becoming.{becomes_heap}
 use Rattle.laws_heap.proofs.Deciding.{cond-true}
+use Rattle.laws_heap.proofs.FixedNames.{is_fixed_name, fixed_live_is, fixed_test}
 use Rattle.laws_heap.proofs.Plain.{lives_plain, replaced_plain}
 use Rattle.laws_heap.proofs.Replacing.{Replaces, replaced_heap, SameSlots, kept_ties, kept_directory}
 use Rattle.laws_heap.proofs.Lives.{or_else}
@@ -34,14 +35,14 @@ named_live name at live (free size) cs n = absurd n
 named_live name at live (movable bytes lock owner slot) cs n = cond-true (slot == name) _ _ (eq-eqb slot name n.0) ∙ ap (λ (x : LiveChunk). some x) n.1 where
   some : LiveChunk → Option LiveChunk
   some x = Some x
-named_live name at live (fixed bytes owner) cs n = cond-true ((at + 8) == name) _ _ (eq-eqb (at + 8) name n.0) ∙ ap (λ (x : LiveChunk). some x) n.1 where
+named_live name at live (fixed bytes owner) cs n = cond-true (is_fixed_name at owner name) _ _ (fixed_test at bytes owner n) ∙ ap (λ (x : LiveChunk). some x) (fixed_live_is at bytes owner n) where
   some : LiveChunk → Option LiveChunk
   some x = Some x
 
 pub named_place : (name at : ℕ) (live : LiveChunk) (c : Chunk) (cs : List Chunk) → NamedHere name live at c → place_under at (c ∷ cs) name ≡ Some (at + 8)
 named_place name at live (free size) cs n = absurd n
 named_place name at live (movable bytes lock owner slot) cs n = cond-true (slot == name) _ _ (eq-eqb slot name n.0)
-named_place name at live (fixed bytes owner) cs n = cond-true ((at + 8) == name) _ _ (eq-eqb (at + 8) name n.0)
+named_place name at live (fixed bytes owner) cs n = cond-true (is_fixed_name at owner name) _ _ (fixed_test at bytes owner n)
 
 read_place : (image : List ℕ) (start : ℕ) (before : List Chunk) (c : Chunk) (after : List Chunk) (name : ℕ) (live : LiveChunk) → IsHeap image (before ++ c ∷ after) → area_start image ≡ start → NamedHere name live (start + total before) c → place_of image name ≡ Some (start + total before + 8)
 read_place image start before c after name live h starts n =
@@ -176,7 +177,7 @@ body_written old new name at k live (movable bytes lock owner slot) part h f wit
     altered_write old new name at live (movable bytes lock owner slot) (movable (overwritten bytes k part) lock owner slot) h f b.1 (s.0, b.0, s.2, s.3, s.4)
     (ap need (length-overwritten bytes k part fits)) refl (λ m. m) tt refl
 body_written old new name at k live (fixed bytes owner) part h f within is =
-    let fits : k + length part ≤ length bytes = subst (λ (x : LiveChunk). k + length part ≤ length x.bytes) (sym f.named.1) within in
+    let fits : k + length part ≤ length bytes = subst (λ (x : LiveChunk). k + length part ≤ length x.bytes) (sym (fixed_live_is at bytes owner f.named)) within in
     let s : Spelled old at (fixed bytes owner) = finds_spelled old name live (fixed bytes owner) at h f in
     let b = overwritten_body old new at k bytes part fixed_lock owner 0 s fits is in
     altered_write old new name at live (fixed bytes owner) (fixed (overwritten bytes k part) owner) h f b.1 b.0 (ap need (length-overwritten bytes k part fits)) tt (λ m. m) (finds_callers old name live (fixed bytes owner) at h f) refl

@@ -12,9 +12,10 @@ use Rattle.heap_model.specs.Placing.{Finds}
 use Rattle.heap_model.specs.Layout.{merged, layout_of, Exchanges, Alters, gap, in_front, freed, with_lock, with_owner, with_bytes, IsRoom}
 use Rattle.laws_heap.proofs.Frames.{length-overwritten}
 use Rattle.laws_heap.proofs.Placed.{At, one_at, AnyPlaced-mid, SpelledAll-takes}
-use Rattle.laws_heap.proofs.Slots.{IsBeside, slot_beside}
+use Rattle.laws_heap.proofs.Slots.{slot_beside, slot_no_fixed}
 use Rattle.laws_heap.proofs.Meanings.{live_under-there, with_offset, slot_place, held-is}
 use Rattle.laws_heap.proofs.Altering.{named_live, named_place}
+use Rattle.laws_heap.proofs.FixedNames.{fixed_name, fixed_live_is, fixed_once, fixed_with_bytes, fixed_with_owner}
 use Rattle.laws_heap.proofs.Finding.{read_heap}
 use Rattle.laws_heap.proofs.Layouts.{IsNotFree, merged-twice, total-merged}
 use Rattle.laws_heap.proofs.Exchanging.{exchanges_layout, exchanges_parts, gap_free, gap_total, room_in_layout, free_no_other, named_no_other, named_beside, unheld_beside, ChangesName, exchange_changes}
@@ -56,7 +57,7 @@ pub lock_changes : (old new : List ℕ) (name place lock : ℕ) (live : LiveChun
 lock_changes old new name place lock live (free size) h low f loose x = absurd f.named
 lock_changes old new name place lock live (movable bytes count owner slot) h low f loose x =
     named_changes old new name place live (record live { lock = lock }) (movable bytes count owner slot) (with_lock lock) h low f x refl (f.named.0, ap (λ (l : LiveChunk). record l { lock = lock }) f.named.1)
-lock_changes old new name place lock live (fixed bytes owner) h low f loose x = absurd (loose (sym (ap (λ (l : LiveChunk). l.lock) f.named.1)))
+lock_changes old new name place lock live (fixed bytes owner) h low f loose x = absurd (loose (sym (ap (λ (l : LiveChunk). l.lock) (fixed_live_is (place - 8) bytes owner f.named))))
 
 -- to any but the manager, if it is fixed
 pub owner_changes : (old new : List ℕ) (name place owner : ℕ) (live : LiveChunk) (c : Chunk) → HeapAccepted old → 8 ≤ place → Finds old name live c (place - 8) → (live.lock ≡ fixed_lock → 0 < owner) → Alters old new (place - 8) (with_owner owner) → ChangesName old new name (Some (record live { owner = owner })) (Some place)
@@ -64,7 +65,8 @@ owner_changes old new name place owner live (free size) h low f some x = absurd 
 owner_changes old new name place owner live (movable bytes count holder slot) h low f some x =
     named_changes old new name place live (record live { owner = owner }) (movable bytes count holder slot) (with_owner owner) h low f x refl (f.named.0, ap (λ (l : LiveChunk). record l { owner = owner }) f.named.1)
 owner_changes old new name place owner live (fixed bytes holder) h low f some x =
-    named_changes old new name place live (record live { owner = owner }) (fixed bytes holder) (with_owner owner) h low f x refl (f.named.0, ap (λ (l : LiveChunk). record l { owner = owner }) f.named.1)
+    named_changes old new name place live (record live { owner = owner }) (fixed bytes holder) (with_owner owner) h low f x refl
+    (fixed_with_owner (place - 8) bytes holder owner (some (sym (ap (λ (l : LiveChunk). l.lock) (fixed_live_is (place - 8) bytes holder f.named)))) f.named)
 
 pub bytes_changes : (old new : List ℕ) (name place at : ℕ) (part : List ℕ) (live : LiveChunk) (c : Chunk) → HeapAccepted old → 8 ≤ place → Finds old name live c (place - 8) → at + length part ≤ length live.bytes → Alters old new (place - 8) (with_bytes at part)
     → ChangesName old new name (Some (record live { bytes = overwritten live.bytes at part })) (Some place)
@@ -73,8 +75,9 @@ bytes_changes old new name place at part live (movable bytes count owner slot) h
     let fits : at + length part ≤ length bytes = subst (λ (l : LiveChunk). at + length part ≤ length l.bytes) (sym f.named.1) within in
     named_changes old new name place live (record live { bytes = overwritten live.bytes at part }) (movable bytes count owner slot) (with_bytes at part) h low f x (ap need (length-overwritten bytes at part fits)) (f.named.0, ap (λ (l : LiveChunk). record l { bytes = overwritten l.bytes at part }) f.named.1)
 bytes_changes old new name place at part live (fixed bytes owner) h low f within x =
-    let fits : at + length part ≤ length bytes = subst (λ (l : LiveChunk). at + length part ≤ length l.bytes) (sym f.named.1) within in
-    named_changes old new name place live (record live { bytes = overwritten live.bytes at part }) (fixed bytes owner) (with_bytes at part) h low f x (ap need (length-overwritten bytes at part fits)) (f.named.0, ap (λ (l : LiveChunk). record l { bytes = overwritten l.bytes at part }) f.named.1)
+    let fits : at + length part ≤ length bytes = subst (λ (l : LiveChunk). at + length part ≤ length l.bytes) (sym (fixed_live_is (place - 8) bytes owner f.named)) within in
+    named_changes old new name place live (record live { bytes = overwritten live.bytes at part }) (fixed bytes owner) (with_bytes at part) h low f x (ap need (length-overwritten bytes at part fits))
+    (fixed_with_bytes (place - 8) bytes owner (λ (body : List ℕ). overwritten body at part) f.named)
 
 -- ---- a chunk of a name that stood for nothing is made at the front of a room
 
@@ -93,11 +96,11 @@ claim_changes old new at size name now d h some r none x fits is =
     (exchange_changes old new (merged r.before) (free room.more) (d ∷ gap left) room.behind name h parts ((exchanges_layout old new at (in_front d) (merged r.before) (free room.more) room.behind h room.layout there).0 x) sizes
     (unheld_beside old (merged r.before) room.more room.behind name parts none) (free_no_other name _ (free room.more ∷ []) tt) (named_no_other name _ now d (gap left) becomes (gap_free left)))
 
--- where a free chunk stands there is no fixed one, so its place names nothing
-pub free_unheld : (image : List ℕ) (before : List Chunk) (size : ℕ) (after : List Chunk) → HeapAccepted image → chunks_of image ≡ before ++ free size ∷ after → held image (area_start image + total before + 8) ≡ None
+-- where a free chunk stands there is no fixed one, so the name of one there names nothing
+pub free_unheld : (image : List ℕ) (before : List Chunk) (size : ℕ) (after : List Chunk) → HeapAccepted image → chunks_of image ≡ before ++ free size ∷ after → held image (fixed_name (area_start image + total before)) ≡ None
 free_unheld image before size after h e = nothing (held image place) refl where
   place : ℕ
-  place = area_start image + total before + 8
+  place = fixed_name (area_start image + total before)
 
   heap : IsHeap image (chunks_of image)
   heap = read_heap image h
@@ -112,28 +115,25 @@ free_unheld image before size after h e = nothing (held image place) refl where
   parts : Tiles image (before ++ free size ∷ after)
   parts = subst (λ (cs : List Chunk). Tiles image cs) e heap.tiles
 
-  no_slot : IsBeside place (area_start image + total before) (area_start image + total before + total (free size ∷ [])) → ⊥
-  no_slot (inl front) = omega arith
-  no_slot (inr back) = omega arith
-
   nothing : (x : Option LiveChunk) → held image place ≡ x → x ≡ None
   nothing None e = refl
   nothing (Some live) e =
       let o = with_offset place live (area_start image) (chunks_of image) (live_under-there (area_start image) (chunks_of image) place live (sym (held-is image (chunks_of image) place heap) ∙ e)) in
       elim o.kind [
-        | inl b ↦ absurd (no_slot (slot_beside image before (free size ∷ []) after (area_start image + total before) place parts tt refl (slot_place image (chunks_of image) place (o.at + 8) heap b).0))
+        | inl b ↦ absurd (slot_no_fixed place (area_start image + total before) (total (free size ∷ []))
+            (slot_beside image before (free size ∷ []) after (area_start image + total before) place parts tt refl (slot_place image (chunks_of image) place (o.at + 8) heap b).0) refl)
         | inr is ↦
-            let same : o.at ≡ area_start image + total before = omega arith in
+            let same : o.at ≡ area_start image + total before = fixed_once o.at (area_start image + total before) is in
             let both = one_at (NamedHere place live) (λ at c. c ≡ free size) (area_start image + total before) (area_start image) (chunks_of image) (SpelledAll-takes image (area_start image) (chunks_of image) (length image) heap.tiles.area)
             (subst (λ (n : ℕ). AnyPlaced (At n (NamedHere place live)) (area_start image) (chunks_of image)) same o.there) free_here in
             absurd (not_free live (area_start image + total before) both.0 both.1 both.2)
       ]
 
--- the place of a room names nothing
-pub room_unheld : (image : List ℕ) (at size : ℕ) → HeapAccepted image → 0 < size → IsRoom image at size → held image (at + 8) ≡ None
+-- nor does that of a room
+pub room_unheld : (image : List ℕ) (at size : ℕ) → HeapAccepted image → 0 < size → IsRoom image at size → held image (fixed_name at) ≡ None
 room_unheld image at size h some r = by_run r.run r.all_free r.sums r.chunks where
-  by_run : (run : List Chunk) → AllFree run → size ≡ total run → chunks_of image ≡ r.before ++ (run ++ r.after) → held image (at + 8) ≡ None
+  by_run : (run : List Chunk) → AllFree run → size ≡ total run → chunks_of image ≡ r.before ++ (run ++ r.after) → held image (fixed_name at) ≡ None
   by_run [] f sums e = absurd (omega arith)
   by_run (movable bytes lock owner slot ∷ run) f sums e = absurd f
   by_run (fixed bytes owner ∷ run) f sums e = absurd f
-  by_run (free n ∷ run) f sums e = ap (λ (k : ℕ). held image (k + 8)) r.there ∙ free_unheld image r.before n (run ++ r.after) h e
+  by_run (free n ∷ run) f sums e = ap (λ (k : ℕ). held image (fixed_name k)) r.there ∙ free_unheld image r.before n (run ++ r.after) h e

@@ -20,6 +20,7 @@ use Rattle.laws_heap.proofs.Chunks.{SpelledAll-same, SpelledAll-end}
 use Rattle.laws_heap.proofs.Slots.{slot_facts, same_slots, slot_alike, start_alike}
 use Rattle.laws_heap.proofs.Runs.{chunks_of-tiled}
 use Rattle.laws_heap.proofs.Placed.{EveryPlaced-split, AnyPlaced-mid, SpelledAll-takes}
+use Rattle.laws_heap.proofs.FixedNames.{fixed_live_is}
 use Rattle.laws_heap.proofs.Finding.{read_heap, held_finds}
 use Rattle.laws_heap.proofs.Plain.{free_inside}
 use Rattle.laws_heap.proofs.OwnedChunks.{not_directory}
@@ -33,7 +34,7 @@ is_managers image name h owned = by_held (held image name) refl owned where
   by_chunk live at (free size) none callers n = n
   by_chunk live at (movable bytes lock owner slot) none callers n = (n.0, ap (λ (x : LiveChunk). x.owner) n.1 ∙ none)
   by_chunk live at (fixed bytes owner) none callers n =
-      let same : owner ≡ live.owner = ap (λ (x : LiveChunk). x.owner) n.1 in
+      let same : owner ≡ live.owner = ap (λ (x : LiveChunk). x.owner) (fixed_live_is at bytes owner n) in
       let some : 0 < owner = callers.0 in
       absurd (omega arith)
 

@@ -15,6 +15,7 @@ use Rattle.heap_model.specs.Placing.{Finds, NotFixedAs}
 use Rattle.laws_heap.proofs.Deciding.{cond-true, cond-false}
 use Rattle.laws_heap.proofs.Chunks.{SpelledAll-split}
 use Rattle.laws_heap.proofs.Placed.{AnyPlaced-parts, AnyPlaced-mid, EveryPlaced-split}
+use Rattle.laws_heap.proofs.FixedNames.{fixed_live_is, fixed_not}
 use Rattle.laws_heap.proofs.Accepted.{heap_of_read}
 use Rattle.laws_heap.proofs.Shapes.{chunk_at-spelled}
 use Rattle.laws_heap.proofs.Meanings.{held-is, live_under-is, same_live}
@@ -53,7 +54,7 @@ finds_spelled image name live chunk at h f =
 pub named_size : (name : ℕ) (live : LiveChunk) (at : ℕ) (c : Chunk) → NamedHere name live at c → need (length live.bytes) ≡ size_of c
 named_size name live at (free size) named = absurd named
 named_size name live at (movable bytes lock owner slot) named = ap (λ (x : LiveChunk). need (length x.bytes)) (sym named.1)
-named_size name live at (fixed bytes owner) named = ap (λ (x : LiveChunk). need (length x.bytes)) (sym named.1)
+named_size name live at (fixed bytes owner) named = ap (λ (x : LiveChunk). need (length x.bytes)) (sym (fixed_live_is at bytes owner named))
 
 -- and its body, which begins behind its header
 pub record HasBody (image : List ℕ) (at : ℕ) (live : LiveChunk) : Type 0 where
@@ -69,7 +70,7 @@ body_of_live image at live bytes lock owner h_offset e s = record {
 pub named_body : (image : List ℕ) (name : ℕ) (live : LiveChunk) (at : ℕ) (c : Chunk) → Spelled image at c → NamedHere name live at c → HasBody image at live
 named_body image name live at (free size) s named = absurd named
 named_body image name live at (movable bytes lock owner slot) s named = body_of_live image at live bytes lock owner s.0 (ap (λ (x : LiveChunk). x.bytes) named.1) s.1
-named_body image name live at (fixed bytes owner) s named = body_of_live image at live bytes fixed_lock owner 0 (ap (λ (x : LiveChunk). x.bytes) named.1) s
+named_body image name live at (fixed bytes owner) s named = body_of_live image at live bytes fixed_lock owner 0 (ap (λ (x : LiveChunk). x.bytes) (fixed_live_is at bytes owner named)) s
 
 pub finds_body : (image : List ℕ) (name : ℕ) (live : LiveChunk) (chunk : Chunk) (at : ℕ) → HeapAccepted image → Finds image name live chunk at → HasBody image at live
 finds_body image name live chunk at h f = named_body image name live at chunk (finds_spelled image name live chunk at h f) f.named
@@ -124,7 +125,7 @@ not_found image name live before (movable bytes lock owner slot) after h n empty
     let zero_there = empty k.0 in
     let place_there = k.1 in
     omega arith
-not_found image name live before (fixed bytes owner) after h n empty none = none n.0
+not_found image name live before (fixed bytes owner) after h n empty none = fixed_not (area_start image + total before) bytes owner n none
 
 pub none_held : (image : List ℕ) (name : ℕ) → HeapAccepted image → (IsSlot image name → u32_at image name ≡ 0) → EveryPlaced (NotFixedAs name) (area_start image) (chunks_of image) → held image name ≡ None
 none_held image name h empty every = nothing (held image name) refl where

@@ -15,6 +15,7 @@ use Rattle.heap_model.specs.Space.{AllFree, place_under, place_of}
 use Rattle.laws_heap.proofs.Deciding.{cond-false}
 use Rattle.laws_heap.proofs.Placed.{AnyPlaced-left, AnyPlaced-right, AnyPlaced-split}
 use Rattle.laws_heap.proofs.Runs.{chunks_of-tiled}
+use Rattle.laws_heap.proofs.FixedNames.{is_fixed_name, fixed_name_is, fixed_place, fixed_other}
 use Rattle.laws_heap.proofs.Slots.{slot_no_place}
 use Rattle.laws_heap.proofs.Replacing.{Replaces, replaced_total, replaced_heap, any_replaced, SameSlots, kept_ties, kept_directory}
 use Rattle.laws_heap.proofs.Lives.{or_else, live_under-append, place_under-append, live_placed}
@@ -201,17 +202,17 @@ cleared : (old new : List ℕ) (before : List Chunk) (c : Chunk) (rest : List Ch
 cleared old new before (free size) rest name place live h n clear s e positive = n
 cleared old new before (movable bytes lock owner own) rest name place live h n clear s e positive = let z : u32_at new name ≡ 0 = ap (u32_at new) (sym n.0) ∙ clear in omega arith
 cleared old new before (fixed bytes owner) rest name place live h n clear s e positive =
-    slot_no_place old before (fixed bytes owner) rest name name live h.tiles n s (sym n.0)
+    slot_no_place old before (fixed bytes owner) rest name name live h.tiles n s (sym (fixed_name_is (area_start old + total before) bytes owner n) ∙ fixed_place (area_start old + total before))
 
 pub other_name : (name other at : ℕ) (live : LiveChunk) (c : Chunk) (run : List Chunk) → NamedHere name live at c → other ≢ name → live_under at (c ∷ run) other ≡ live_under (at + size_of c) run other
 other_name name other at live (free size) run n apart = refl
 other_name name other at live (movable bytes lock owner slot) run n apart = other_live at bytes lock owner slot other run (λ e. apart (e ∙ n.0))
-other_name name other at live (fixed bytes owner) run n apart = cond-false ((at + 8) == other) _ _ (let e : at + 8 ≢ other = λ f. apart (sym f ∙ n.0) in grind (arith, nat_tests))
+other_name name other at live (fixed bytes owner) run n apart = cond-false (is_fixed_name at owner other) _ _ (fixed_other at bytes owner other n apart)
 
 pub other_name_place : (name other at : ℕ) (live : LiveChunk) (c : Chunk) (run : List Chunk) → NamedHere name live at c → other ≢ name → place_under at (c ∷ run) other ≡ place_under (at + size_of c) run other
 other_name_place name other at live (free size) run n apart = refl
 other_name_place name other at live (movable bytes lock owner slot) run n apart = other_place at bytes lock owner slot other run (λ e. apart (e ∙ n.0))
-other_name_place name other at live (fixed bytes owner) run n apart = cond-false ((at + 8) == other) _ _ (let e : at + 8 ≢ other = λ f. apart (sym f ∙ n.0) in grind (arith, nat_tests))
+other_name_place name other at live (fixed bytes owner) run n apart = cond-false (is_fixed_name at owner other) _ _ (fixed_other at bytes owner other n apart)
 
 pub released : (old new : List ℕ) (before : List Chunk) (c : Chunk) (run after : List Chunk) (at size name : ℕ) (live : LiveChunk) → IsHeap old (before ++ ((c ∷ run) ++ after)) → Replaces old new before (c ∷ run) (free size ∷ []) after at
     → AllFree run → NamedHere name live at c → (ManagersHere (directory_of old) at c → ⊥) → ClearsSlot new c → OtherSlots old new name → IsHeap new (before ++ (free size ∷ after))

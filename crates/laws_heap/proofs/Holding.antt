@@ -1,12 +1,12 @@
 -- How much is free follows from what is held: an image's bytes behind its head are free, or those of
 -- chunks that names stand for.
-use Rattle.std.proofs.Common.{◌≡◌, ◌≢◌, ℕ, zero, suc, ◌+◌, ◌<◌, ◌≤◌, cond, List, [], ◌∷◌, ◌++◌, length, Option, Some, None, refl, sym, ap, subst, ◌∙◌, append_assoc, arith, inl, inr}
+use Rattle.std.proofs.Common.{◌≡◌, ◌≢◌, ℕ, zero, suc, ◌+◌, ◌<◌, ◌≤◌, Bool, true, false, cond, List, [], ◌∷◌, ◌++◌, length, Option, Some, None, refl, sym, ap, subst, ◌∙◌, append_assoc, arith, inl, inr}
 use Rattle.std.specs.Prelude.{◌==◌}
 use Rattle.std.proofs.lemmas.Bool.{cases_eq, eq-eqb}
 use Rattle.std.proofs.lemmas.Bool.Decides.{nat_tests}
-use Rattle.heap_model.specs.Chunk.{Chunk, free, movable, fixed, fixed_lock, need, size_of, total, SpelledAll}
+use Rattle.heap_model.specs.Chunk.{Chunk, free, movable, fixed, need, size_of, total, SpelledAll}
 use Rattle.heap_model.specs.Slots.{slot_count, IsSlot, area_start}
-use Rattle.heap_model.specs.Heap.{BodyHere, HeapAccepted}
+use Rattle.heap_model.specs.Heap.{BodyHere, IsHeap, HeapAccepted}
 use Rattle.heap_model.specs.Placed.{AnyPlaced}
 use Rattle.heap_model.specs.Meaning.{LiveChunk}
 use Rattle.heap_model.specs.Reading.{chunks_of, live_under, held}
@@ -16,10 +16,11 @@ use Rattle.heap_model.specs.Packing.{lives}
 use Rattle.laws_heap.proofs.Deciding.{cond-true, cond-false}
 use Rattle.laws_heap.proofs.Chunks.{total-append}
 use Rattle.laws_heap.proofs.Placed.{AnyPlaced-mid}
-use Rattle.laws_heap.proofs.Slots.{slot_facts, same_slots, start_alike}
+use Rattle.laws_heap.proofs.Slots.{slot_facts, same_slots, start_alike, heap_hold_none}
 use Rattle.laws_heap.proofs.Becoming.{frame_slots, frame_start}
 use Rattle.laws_heap.proofs.Meanings.{slot_place, held-is}
 use Rattle.laws_heap.proofs.Finding.{read_heap}
+use Rattle.laws_heap.proofs.FixedNames.{fixed_name, is_fixed_name, fixed_live, fixed_has_name, fixed_place, fixed_test, fixed_other}
 use Rattle.laws_heap.proofs.Exchanging.{named_beside}
 use Rattle.laws_heap.proofs.Sliding.{lives_total}
 use Rattle.laws_heap.proofs.Compacting.{slots_follow}
@@ -67,15 +68,15 @@ abbrev NamedApart : ℕ → ℕ → List Chunk → Type 0
 NamedApart bound at [] = Unit {0}
 NamedApart bound at (free size ∷ chunks) = NamedApart bound (at + size) chunks
 NamedApart bound at (movable bytes lock owner slot ∷ chunks) = (slot < bound) × (live_under (at + need (length bytes)) chunks slot ≡ None) × NamedApart bound (at + need (length bytes)) chunks
-NamedApart bound at (fixed bytes owner ∷ chunks) = (at + 8 < bound) × (live_under (at + need (length bytes)) chunks (at + 8) ≡ None) × NamedApart bound (at + need (length bytes)) chunks
+NamedApart bound at (fixed bytes owner ∷ chunks) = (0 < owner) × (fixed_name at < bound) × (live_under (at + need (length bytes)) chunks (fixed_name at) ≡ None) × NamedApart bound (at + need (length bytes)) chunks
 
 -- a first chunk of a name, which none behind it has
-first_taken : (bound one : ℕ) (live : LiveChunk) (rest : ℕ → Option LiveChunk) → one < bound → rest one ≡ None
-    → sum_below (λ name. taken (cond (one == name) (Some live) (rest name))) bound ≡ need (length live.bytes) + sum_below (λ name. taken (rest name)) bound
-first_taken bound one live rest low none =
-    more_below (λ name. taken (cond (one == name) (Some live) (rest name))) (λ name. taken (rest name)) one (need (length live.bytes)) bound low
-    (λ name apart. ap taken (cond-false (one == name) (Some live) (rest name) (grind (arith, nat_tests))))
-    (let here : taken (cond (one == one) (Some live) (rest one)) ≡ need (length live.bytes) = ap taken (cond-true (one == one) (Some live) (rest one) (eq-eqb one one refl)) in
+first_taken : (bound one : ℕ) (test : ℕ → Bool) (live : LiveChunk) (rest : ℕ → Option LiveChunk) → one < bound → test one ≡ true → ((name : ℕ) → name ≢ one → test name ≡ false) → rest one ≡ None
+    → sum_below (λ name. taken (cond (test name) (Some live) (rest name))) bound ≡ need (length live.bytes) + sum_below (λ name. taken (rest name)) bound
+first_taken bound one test live rest low own other none =
+    more_below (λ name. taken (cond (test name) (Some live) (rest name))) (λ name. taken (rest name)) one (need (length live.bytes)) bound low
+    (λ name apart. ap taken (cond-false (test name) (Some live) (rest name) (other name apart)))
+    (let here : taken (cond (test one) (Some live) (rest one)) ≡ need (length live.bytes) = ap taken (cond-true (test one) (Some live) (rest one) own) in
     let nothing : taken (rest one) ≡ 0 = ap taken none in
     omega arith)
 
@@ -84,10 +85,11 @@ lives_taken bound at [] n = sym (none_below (λ name. taken (live_under at [] na
 lives_taken bound at (free size ∷ cs) n = lives_taken bound (at + size) cs n
 lives_taken bound at (movable bytes lock owner slot ∷ cs) n =
     ap (λ (k : ℕ). need (length bytes) + k) (lives_taken bound (at + need (length bytes)) cs n.2)
-    ∙ sym (first_taken bound slot (record { bytes = bytes; lock = lock; owner = owner }) (live_under (at + need (length bytes)) cs) n.0 n.1)
+    ∙ sym (first_taken bound slot (λ name. slot == name) (record { bytes = bytes; lock = lock; owner = owner }) (live_under (at + need (length bytes)) cs) n.0 (eq-eqb slot slot refl) (λ name apart. grind (arith, nat_tests)) n.1)
 lives_taken bound at (fixed bytes owner ∷ cs) n =
-    ap (λ (k : ℕ). need (length bytes) + k) (lives_taken bound (at + need (length bytes)) cs n.2)
-    ∙ sym (first_taken bound (at + 8) (record { bytes = bytes; lock = fixed_lock; owner = owner }) (live_under (at + need (length bytes)) cs) n.0 n.1)
+    let named = fixed_has_name at bytes owner n.0 in
+    ap (λ (k : ℕ). need (length bytes) + k) (lives_taken bound (at + need (length bytes)) cs n.3)
+    ∙ sym (first_taken bound (fixed_name at) (is_fixed_name at owner) (fixed_live bytes owner) (live_under (at + need (length bytes)) cs) n.1 (fixed_test at bytes owner named) (λ name apart. fixed_other at bytes owner name named apart) n.2)
 
 -- ---- of an image
 
@@ -123,7 +125,9 @@ apart_from image before (c ∷ cs) h e = by c e (apart_from image (before ++ c �
   by (fixed bytes owner) e rest =
       let c : Chunk = fixed bytes owner in
       let inside = within c e in
-      (omega arith, (named_beside image before c cs (here + 8) (record { bytes = bytes; lock = fixed_lock; owner = owner }) h e (refl, refl)).back, behind c rest)
+      let place = fixed_place here in
+      let some = (heap_hold_none image before (c ∷ []) cs (subst (λ (ds : List Chunk). IsHeap image ds) e (read_heap image h))).0 in
+      (some, omega arith, (named_beside image before c cs (fixed_name here) (fixed_live bytes owner) h e (fixed_has_name here bytes owner some)).back, behind c rest)
 
 -- the bytes behind the head are free, or those of live chunks
 area_shared : (image : List ℕ) → HeapAccepted image → area_start image + free_total image + sum_below (λ name. taken (held image name)) (length image + 1) ≡ length image

@@ -2,7 +2,7 @@
 use Rattle.std.proofs.Common.{Bool, false, cond, ◌≡◌, ℕ, zero, suc, ◌+◌, ◌<◌, ◌≤◌, List, [], ◌∷◌, ◌++◌, length, Option, Some, None, refl, sym, ap, subst, ◌∙◌, append-nil, arith, inl, inr}
 use Rattle.std.specs.Prelude.{All, count_by, sum_by, filter, ◌==◌, ◌↔◌, if◌then◌else◌}
 use Rattle.std.proofs.lemmas.List.Sums.{sum_by-cons}
-use Rattle.heap_model.specs.Chunk.{Chunk, free, movable, fixed, fixed_lock, need, total, free_size}
+use Rattle.heap_model.specs.Chunk.{Chunk, free, movable, fixed, need, total, free_size}
 use Rattle.heap_model.specs.Placed.{EveryPlaced, AnyPlaced}
 use Rattle.heap_model.specs.Meaning.{LiveChunk}
 use Rattle.heap_model.specs.Reading.{live_under}
@@ -10,6 +10,7 @@ use Rattle.std.proofs.lemmas.List.Elements.{All-nil, All-cons, All-head, All-tai
 use Rattle.heap_model.specs.Space.{AllFree, NoRun, onto_first, runs_between, has_chunk, stretches, rooms_of, free_front, free_behind_in, place_under}
 use Rattle.heap_model.specs.Layout.{free_onto, merged, AllBelow}
 use Rattle.laws_heap.proofs.Deciding.{cond-false}
+use Rattle.laws_heap.proofs.FixedNames.{is_fixed_name, fixed_live}
 use Rattle.laws_heap.proofs.Placed.{TakesBytes}
 
 -- ---- lists that are put together
@@ -134,13 +135,13 @@ live_under-merged at (free n ∷ cs) name = onto_shifted (λ at cs. live_under a
 live_under-merged at (movable bytes lock owner slot ∷ cs) name =
     ap (λ (o : Option LiveChunk). if slot == name then Some (record { bytes = bytes; lock = lock; owner = owner }) else o) (live_under-merged (at + need (length bytes)) cs name)
 live_under-merged at (fixed bytes owner ∷ cs) name =
-    ap (λ (o : Option LiveChunk). if (at + 8) == name then Some (record { bytes = bytes; lock = fixed_lock; owner = owner }) else o) (live_under-merged (at + need (length bytes)) cs name)
+    ap (λ (o : Option LiveChunk). if is_fixed_name at owner name then Some (fixed_live bytes owner) else o) (live_under-merged (at + need (length bytes)) cs name)
 
 pub place_under-merged : (at : ℕ) (cs : List Chunk) (name : ℕ) → place_under at (merged cs) name ≡ place_under at cs name
 place_under-merged at [] name = refl
 place_under-merged at (free n ∷ cs) name = onto_shifted (λ at cs. place_under at cs name) (λ at n cs. refl) at n (merged cs) ∙ place_under-merged (at + n) cs name
 place_under-merged at (movable bytes lock owner slot ∷ cs) name = ap (λ (o : Option ℕ). if slot == name then Some (at + 8) else o) (place_under-merged (at + need (length bytes)) cs name)
-place_under-merged at (fixed bytes owner ∷ cs) name = ap (λ (o : Option ℕ). if (at + 8) == name then Some (at + 8) else o) (place_under-merged (at + need (length bytes)) cs name)
+place_under-merged at (fixed bytes owner ∷ cs) name = ap (λ (o : Option ℕ). if is_fixed_name at owner name then Some (at + 8) else o) (place_under-merged (at + need (length bytes)) cs name)
 
 pub total-merged : (cs : List Chunk) → total (merged cs) ≡ total cs
 total-merged [] = refl

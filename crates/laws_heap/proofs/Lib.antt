@@ -36,3 +36,4 @@ pub mod ChangedName
 pub mod Directory
 pub mod Fits
 pub mod Results
+pub mod FixedNames

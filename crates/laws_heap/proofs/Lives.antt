@@ -1,10 +1,11 @@
 -- What names stand for, and where, in lists of chunks that are put together.
 use Rattle.std.proofs.Common.{◌≡◌, ℕ, ◌+◌, Bool, true, false, cond, List, [], ◌∷◌, ◌++◌, length, Option, Some, None, refl, sym, ap, ◌∙◌, arith}
 use Rattle.std.specs.Prelude.{◌==◌}
-use Rattle.heap_model.specs.Chunk.{Chunk, free, movable, fixed, fixed_lock, need, total}
+use Rattle.heap_model.specs.Chunk.{Chunk, free, movable, fixed, need, total}
 use Rattle.heap_model.specs.Meaning.{LiveChunk}
 use Rattle.heap_model.specs.Reading.{live_under}
 use Rattle.laws_heap.proofs.Deciding.{none_some}
+use Rattle.laws_heap.proofs.FixedNames.{is_fixed_name, fixed_live}
 use Rattle.heap_model.specs.Space.{AllFree, place_under}
 
 -- the first of two that is there
@@ -27,7 +28,7 @@ live_under-append at (movable bytes lock owner slot ∷ xs) ys name =
     or_cond (slot == name) (record { bytes = bytes; lock = lock; owner = owner }) _ _ _
     (live_under-append (at + need (length bytes)) xs ys name ∙ ap (or_else (live_under (at + need (length bytes)) xs name)) (move_live (at + need (length bytes) + total xs) (at + (need (length bytes) + total xs)) ys name (omega arith)))
 live_under-append at (fixed bytes owner ∷ xs) ys name =
-    or_cond ((at + 8) == name) (record { bytes = bytes; lock = fixed_lock; owner = owner }) _ _ _
+    or_cond (is_fixed_name at owner name) (fixed_live bytes owner) _ _ _
     (live_under-append (at + need (length bytes)) xs ys name ∙ ap (or_else (live_under (at + need (length bytes)) xs name)) (move_live (at + need (length bytes) + total xs) (at + (need (length bytes) + total xs)) ys name (omega arith)))
 
 pub move_place : (m n : ℕ) (cs : List Chunk) (name : ℕ) → m ≡ n → place_under m cs name ≡ place_under n cs name
@@ -41,7 +42,7 @@ place_under-append at (movable bytes lock owner slot ∷ xs) ys name =
     or_cond (slot == name) (at + 8) _ _ _
     (place_under-append (at + need (length bytes)) xs ys name ∙ ap (or_else (place_under (at + need (length bytes)) xs name)) (move_place (at + need (length bytes) + total xs) (at + (need (length bytes) + total xs)) ys name (omega arith)))
 place_under-append at (fixed bytes owner ∷ xs) ys name =
-    or_cond ((at + 8) == name) (at + 8) _ _ _
+    or_cond (is_fixed_name at owner name) (at + 8) _ _ _
     (place_under-append (at + need (length bytes)) xs ys name ∙ ap (or_else (place_under (at + need (length bytes)) xs name)) (move_place (at + need (length bytes) + total xs) (at + (need (length bytes) + total xs)) ys name (omega arith)))
 
 -- ---- the middle replaced
@@ -94,8 +95,8 @@ live_placed at (movable bytes lock owner slot ∷ cs) name e = branch (slot == n
       → cond b (Some (at + 8)) (place_under (at + need (length bytes)) cs name) ≡ None
   branch true e rest = absurd (some_none _ e)
   branch false e rest = rest e
-live_placed at (fixed bytes owner ∷ cs) name e = branch ((at + 8) == name) e (live_placed (at + need (length bytes)) cs name) where
-  branch : (b : Bool) → cond b (Some (record { bytes = bytes; lock = fixed_lock; owner = owner })) (live_under (at + need (length bytes)) cs name) ≡ None
+live_placed at (fixed bytes owner ∷ cs) name e = branch (is_fixed_name at owner name) e (live_placed (at + need (length bytes)) cs name) where
+  branch : (b : Bool) → cond b (Some (fixed_live bytes owner)) (live_under (at + need (length bytes)) cs name) ≡ None
       → (live_under (at + need (length bytes)) cs name ≡ None → place_under (at + need (length bytes)) cs name ≡ None)
       → cond b (Some (at + 8)) (place_under (at + need (length bytes)) cs name) ≡ None
   branch true e rest = absurd (some_none _ e)

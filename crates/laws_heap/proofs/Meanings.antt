@@ -3,7 +3,7 @@ use Rattle.std.proofs.Common.{◌≡◌, ℕ, ◌+◌, ◌≤◌, Bool, true, fa
 use Rattle.std.proofs.lemmas.Bool.{eqb-true, eq-eqb}
 use Rattle.std.specs.Prelude.{◌⊎◌, ◌↔◌, ◌==◌}
 use Rattle.heap_model.specs.Bytes.{u32_at}
-use Rattle.heap_model.specs.Chunk.{Chunk, free, movable, fixed, fixed_lock, need, size_of, total}
+use Rattle.heap_model.specs.Chunk.{Chunk, free, movable, fixed, need, size_of, total}
 use Rattle.heap_model.specs.Slots.{IsSlot, area_start}
 use Rattle.heap_model.specs.Heap.{Tiles, BodyHere, IsBody, IsHeap, HeapAccepted}
 use Rattle.heap_model.specs.Placed.{AnyPlaced}
@@ -11,6 +11,7 @@ use Rattle.heap_model.specs.Meaning.{LiveChunk, ChunkMap, NamedHere, Holds}
 use Rattle.heap_model.specs.Reading.{chunks_of, live_under, held}
 use Rattle.laws_heap.proofs.Deciding.{some, same_some, none_some}
 use Rattle.laws_heap.proofs.Placed.{At, one_at, SpelledAll-takes, AnyPlaced-left, AnyPlaced-right, AnyPlaced-parts}
+use Rattle.laws_heap.proofs.FixedNames.{fixed_name, is_fixed_name, fixed_live, fixed_name_is, fixed_live_is, fixed_place, fixed_once, fixed_some, fixed_test, fixed_tested}
 use Rattle.laws_heap.proofs.Slots.{slot_facts, slot_no_place}
 use Rattle.laws_heap.proofs.Chunks.{total-append}
 use Rattle.laws_heap.proofs.Runs.{chunks_of-tiled, Tiles-unique}
@@ -19,20 +20,19 @@ use Rattle.laws_heap.proofs.Accepted.{heap_of_read}
 
 -- ---- what is read under a name stands there
 
-read_there : (b : Bool) (n m : ℕ) (x y : LiveChunk) (others : Option LiveChunk) (Rest : Type 0) → (b ≡ true → n ≡ m) → (others ≡ Some y → Rest) → cond b (some x) others ≡ Some y
-    → ((n ≡ m) × (x ≡ y)) ⊎ Rest
-read_there true n m x y others Rest same rest is = inl (same refl, same_some x y is)
-read_there false n m x y others Rest same rest is = inr (rest is)
+read_there : (b : Bool) (x y : LiveChunk) (others : Option LiveChunk) (Here : LiveChunk → Type 0) (Rest : Type 0) → (b ≡ true → Here x) → (others ≡ Some y → Rest) → cond b (some x) others ≡ Some y → Here y ⊎ Rest
+read_there true x y others Here Rest here rest is = inl (subst Here (same_some x y is) (here refl))
+read_there false x y others Here Rest here rest is = inr (rest is)
 
 pub live_under-there : (at : ℕ) (cs : List Chunk) (name : ℕ) (live : LiveChunk) → live_under at cs name ≡ Some live → AnyPlaced (NamedHere name live) at cs
 live_under-there at [] name live is = absurd (none_some (live_under at [] name) live refl is)
 live_under-there at (free size ∷ cs) name live is = inr (live_under-there (at + size) cs name live is)
 live_under-there at (movable bytes lock owner slot ∷ cs) name live is =
-    read_there (slot == name) slot name (record { bytes = bytes; lock = lock; owner = owner }) live (live_under (at + need (length bytes)) cs name) (AnyPlaced (NamedHere name live) (at + need (length bytes)) cs)
-    (eqb-true slot name) (live_under-there (at + need (length bytes)) cs name live) is
+    read_there (slot == name) (record { bytes = bytes; lock = lock; owner = owner }) live (live_under (at + need (length bytes)) cs name) (λ (l : LiveChunk). NamedHere name l at (movable bytes lock owner slot)) (AnyPlaced (NamedHere name live) (at + need (length bytes)) cs)
+    (λ same. (eqb-true slot name same, refl)) (live_under-there (at + need (length bytes)) cs name live) is
 live_under-there at (fixed bytes owner ∷ cs) name live is =
-    read_there ((at + 8) == name) (at + 8) name (record { bytes = bytes; lock = fixed_lock; owner = owner }) live (live_under (at + need (length bytes)) cs name) (AnyPlaced (NamedHere name live) (at + need (length bytes)) cs)
-    (eqb-true (at + 8) name) (live_under-there (at + need (length bytes)) cs name live) is
+    read_there (is_fixed_name at owner name) (fixed_live bytes owner) live (live_under (at + need (length bytes)) cs name) (λ (l : LiveChunk). NamedHere name l at (fixed bytes owner)) (AnyPlaced (NamedHere name live) (at + need (length bytes)) cs)
+    (fixed_tested name at bytes owner) (live_under-there (at + need (length bytes)) cs name live) is
 
 -- ---- where a chunk of a name stands, one is read
 
@@ -51,8 +51,8 @@ live_under-some at (movable bytes lock owner slot ∷ cs) name live h = there_fi
   | inl own ↦ inl (eq-eqb slot name own.0)
   | inr later ↦ inr (live_under-some (at + need (length bytes)) cs name live later)
 ])
-live_under-some at (fixed bytes owner ∷ cs) name live h = there_first ((at + 8) == name) _ _ (elim h [
-  | inl own ↦ inl (eq-eqb (at + 8) name own.0)
+live_under-some at (fixed bytes owner ∷ cs) name live h = there_first (is_fixed_name at owner name) _ _ (elim h [
+  | inl own ↦ inl (fixed_test at bytes owner own)
   | inr later ↦ inr (live_under-some (at + need (length bytes)) cs name live later)
 ])
 
@@ -65,17 +65,17 @@ takes_header name live at (free size) h = absurd h
 takes_header name live at (movable bytes lock owner slot) h = omega arith
 takes_header name live at (fixed bytes owner) h = omega arith
 
-kinds : (name : ℕ) (live : LiveChunk) (at : ℕ) (c : Chunk) → NamedHere name live at c → BodyHere name (at + 8) at c ⊎ (at + 8 ≡ name)
+kinds : (name : ℕ) (live : LiveChunk) (at : ℕ) (c : Chunk) → NamedHere name live at c → BodyHere name (at + 8) at c ⊎ (fixed_name at ≡ name)
 kinds name live at (free size) h = absurd h
 kinds name live at (movable bytes lock owner slot) h = inl (h.0, refl)
-kinds name live at (fixed bytes owner) h = inr h.0
+kinds name live at (fixed bytes owner) h = inr (fixed_name_is at bytes owner h)
 
 pub record Offset (name : ℕ) (live : LiveChunk) (start : ℕ) (cs : List Chunk) : Type 0 where
   pub at : ℕ
   pub behind : start ≤ at
   pub within : at + 8 ≤ start + total cs
   pub there : AnyPlaced (At at (NamedHere name live)) start cs
-  pub kind : IsBody start cs name (at + 8) ⊎ (at + 8 ≡ name)
+  pub kind : IsBody start cs name (at + 8) ⊎ (fixed_name at ≡ name)
 
 pub with_offset : (name : ℕ) (live : LiveChunk) (start : ℕ) (cs : List Chunk) → AnyPlaced (NamedHere name live) start cs → Offset name live start cs
 with_offset name live start [] h = absurd h
@@ -93,11 +93,11 @@ pub slot_place : (image : List ℕ) (cs : List Chunk) (name place : ℕ) → IsH
 slot_place image cs name place h b = let low = IsBody-low (area_start image) cs name place b in (h.tied name place (omega arith)).1 b
 
 -- a slot is no place of a named chunk
-apart : (image : List ℕ) (cs : List Chunk) (name : ℕ) (live : LiveChunk) → IsHeap image cs → IsSlot image name → (o : Offset name live (area_start image) cs) → o.at + 8 ≡ name → ⊥
+apart : (image : List ℕ) (cs : List Chunk) (name : ℕ) (live : LiveChunk) → IsHeap image cs → IsSlot image name → (o : Offset name live (area_start image) cs) → fixed_name o.at ≡ name → ⊥
 apart image cs name live h slot o is =
     let p = AnyPlaced-parts (At o.at (NamedHere name live)) (area_start image) cs o.there in
     let there : area_start image + total p.before ≡ o.at = p.holds.0 in
-    slot_no_place image p.before p.chunk p.after name name live (subst (λ (ds : List Chunk). Tiles image ds) p.parts h.tiles) p.holds.1 slot (omega arith)
+    slot_no_place image p.before p.chunk p.after name name live (subst (λ (ds : List Chunk). Tiles image ds) p.parts h.tiles) p.holds.1 slot (sym is ∙ ap fixed_name (sym there) ∙ fixed_place (area_start image + total p.before))
 
 same_offset : (image : List ℕ) (cs : List Chunk) (name : ℕ) (x y : LiveChunk) → IsHeap image cs → (o : Offset name x (area_start image) cs) → (p : Offset name y (area_start image) cs) → o.at ≡ p.at
 same_offset image cs name x y h o p = elim o.kind [
@@ -109,7 +109,7 @@ same_offset image cs name x y h o p = elim o.kind [
       ]
   | inr mine ↦ elim p.kind [
     | inl c ↦ absurd (apart image cs name x h (slot_place image cs name (p.at + 8) h c).0 o mine)
-    | inr is ↦ omega arith
+    | inr is ↦ fixed_once o.at p.at (mine ∙ sym is)
   ]
 ]
 
@@ -168,7 +168,7 @@ named_once image before c after name x y h own = (in_front, behind) where
 pub same_live : (m n : ℕ) (x y : LiveChunk) (at : ℕ) (c : Chunk) → NamedHere m x at c → NamedHere n y at c → x ≡ y
 same_live m n x y at (free size) h k = absurd h
 same_live m n x y at (movable bytes lock owner slot) h k = sym h.1 ∙ k.1
-same_live m n x y at (fixed bytes owner) h k = sym h.1 ∙ k.1
+same_live m n x y at (fixed bytes owner) h k = sym (fixed_live_is at bytes owner h) ∙ fixed_live_is at bytes owner k
 
 pub one_named : (image : List ℕ) (cs : List Chunk) (name : ℕ) (x y : LiveChunk) → IsHeap image cs → AnyPlaced (NamedHere name x) (area_start image) cs → AnyPlaced (NamedHere name y) (area_start image) cs → x ≡ y
 one_named image cs name x y h mine other =
@@ -227,7 +227,7 @@ held-zero image h = nothing (held image 0) refl where
       let o = with_offset 0 live (area_start image) m.chunks ((m.each 0 live).0 e) in
       elim o.kind [
         | inl b ↦ let low : 16 ≤ 0 = (slot_facts image m.chunks 0 m.heap.tiles (slot_place image m.chunks 0 (o.at + 8) m.heap b).0).low in absurd (omega arith)
-        | inr is ↦ absurd (omega arith)
+        | inr is ↦ absurd (fixed_some o.at is)
       ]
 
 -- an empty slot names nothing

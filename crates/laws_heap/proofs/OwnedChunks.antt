@@ -18,6 +18,7 @@ use Rattle.laws_heap.proofs.Placed.{AnyPlaced-parts, AnyPlaced-mid}
 use Rattle.laws_heap.proofs.Lives.{or_else, live_under-append, live_placed}
 use Rattle.laws_heap.proofs.Meanings.{held-is, held-zero, live_under-is}
 use Rattle.laws_heap.proofs.Freeing.{or_front, or_back, live_mid, place_mid}
+use Rattle.laws_heap.proofs.FixedNames.{fixed_live_is}
 use Rattle.laws_heap.proofs.Finding.{read_heap, Found, held_finds}
 use Rattle.laws_heap.proofs.Altering.{named_live, named_place, finds_place}
 use Rattle.laws_heap.proofs.Layouts.{onto_twice, merged-right, count-merged}
@@ -111,12 +112,12 @@ owned_middle owner before c after = owned_freed-append owner before (c ∷ after
 pub named_owned : (owner name at : ℕ) (live : LiveChunk) (c : Chunk) → NamedHere name live at c → live.owner ≡ owner → is_owned_by owner c ≡ true
 named_owned owner name at live (free size) n is = absurd n
 named_owned owner name at live (movable bytes lock own slot) n is = eq-eqb own owner (ap (λ (x : LiveChunk). x.owner) n.1 ∙ is)
-named_owned owner name at live (fixed bytes own) n is = eq-eqb own owner (ap (λ (x : LiveChunk). x.owner) n.1 ∙ is)
+named_owned owner name at live (fixed bytes own) n is = eq-eqb own owner (ap (λ (x : LiveChunk). x.owner) (fixed_live_is at bytes own n) ∙ is)
 
 pub named_not_owned : (owner name at : ℕ) (live : LiveChunk) (c : Chunk) → NamedHere name live at c → live.owner ≢ owner → is_owned_by owner c ≡ false
 named_not_owned owner name at live (free size) n apart = absurd n
 named_not_owned owner name at live (movable bytes lock own slot) n apart = let e : own ≢ owner = λ f. apart (ap (λ (x : LiveChunk). x.owner) (sym n.1) ∙ f) in grind (arith, nat_tests)
-named_not_owned owner name at live (fixed bytes own) n apart = let e : own ≢ owner = λ f. apart (ap (λ (x : LiveChunk). x.owner) (sym n.1) ∙ f) in grind (arith, nat_tests)
+named_not_owned owner name at live (fixed bytes own) n apart = let e : own ≢ owner = λ f. apart (ap (λ (x : LiveChunk). x.owner) (sym (fixed_live_is at bytes own n)) ∙ f) in grind (arith, nat_tests)
 
 -- what a name stands for, where its chunk is the owner's or another's
 record OwnedOut (old new : List ℕ) (owner name : ℕ) : Type 0 where

@@ -18,6 +18,7 @@ use Rattle.heap_model.specs.Layout.{free_onto, merged, layout_of, Becomes, gap}
 use Rattle.heap_model.specs.Packing.{lives, packed, BeginsStaying, WholeStretch, opened, OpensBehind}
 use Rattle.heap_model.specs.Resizing.{with_length, behind_front, grown, GrowsInPlace}
 use Rattle.laws_heap.proofs.Deciding.{cond-true, cond-false, none_some}
+use Rattle.laws_heap.proofs.FixedNames.{is_fixed_name, fixed_with_bytes}
 use Rattle.laws_heap.proofs.Placed.{TakesBytes}
 use Rattle.laws_heap.proofs.Freeing.{or_front, or_back}
 use Rattle.laws_heap.proofs.Altering.{named_live, named_place}
@@ -51,7 +52,7 @@ live_sized count live = record live { bytes = sized_to live.bytes count }
 pub named_sized : (name at count : ℕ) (live : LiveChunk) (c : Chunk) → NamedHere name live at c → NamedHere name (live_sized count live) at (with_length count c)
 named_sized name at count live (free size) n = absurd n
 named_sized name at count live (movable bytes lock owner slot) n = (n.0, ap (live_sized count) n.1)
-named_sized name at count live (fixed bytes owner) n = (n.0, ap (live_sized count) n.1)
+named_sized name at count live (fixed bytes owner) n = fixed_with_bytes at bytes owner (λ (body : List ℕ). sized_to body count) n
 
 -- ---- a chunk and the free ones behind it, for another of its name and free ones
 
@@ -166,7 +167,7 @@ behind_other at (movable bytes lock owner slot ∷ before) cs name e = passed (s
   passed : (b : Bool) (x : LiveChunk) (rest : Option LiveChunk) → cond b (Some x) rest ≡ None → (rest ≡ None → free_behind_in (before ++ cs) name ≡ free_behind_in cs name) → cond b (free_front (before ++ cs)) (free_behind_in (before ++ cs) name) ≡ free_behind_in cs name
   passed true x rest e f = absurd (none_some (Some x) x e refl)
   passed false x rest e f = f e
-behind_other at (fixed bytes owner ∷ before) cs name e = passed ((at + 8) == name) _ _ e (behind_other (at + need (length bytes)) before cs name) where
+behind_other at (fixed bytes owner ∷ before) cs name e = passed (is_fixed_name at owner name) _ _ e (behind_other (at + need (length bytes)) before cs name) where
   passed : (b : Bool) (x : LiveChunk) (rest : Option LiveChunk) → cond b (Some x) rest ≡ None → (rest ≡ None → free_behind_in (before ++ cs) name ≡ free_behind_in cs name) → free_behind_in (before ++ cs) name ≡ free_behind_in cs name
   passed true x rest e f = absurd (none_some (Some x) x e refl)
   passed false x rest e f = f e

@@ -4,7 +4,7 @@ use Rattle.std.proofs.Common.{◌≡◌, ℕ, zero, suc, ◌+◌, ◌<◌, Bool,
 use Rattle.std.specs.Prelude.{All, ◌↔◌, sum_by, ◌==◌, if◌then◌else◌}
 use Rattle.std.proofs.lemmas.List.Elements.{All-nil, All-cons, All-head, All-tail}
 use Rattle.std.proofs.lemmas.List.Sums.{sum_by-cons}
-use Rattle.heap_model.specs.Chunk.{Chunk, free, movable, fixed, fixed_lock, need, total, free_size}
+use Rattle.heap_model.specs.Chunk.{Chunk, free, movable, fixed, need, total, free_size}
 use Rattle.heap_model.specs.Placed.{EveryPlaced}
 use Rattle.heap_model.specs.Meaning.{LiveChunk}
 use Rattle.heap_model.specs.Reading.{live_under}
@@ -14,6 +14,7 @@ use Rattle.heap_model.specs.Packing.{lives, staying, Slid, packed_behind, packed
 use Rattle.laws_heap.proofs.Chunks.{total-append}
 use Rattle.laws_heap.proofs.Placed.{TakesBytes}
 use Rattle.laws_heap.proofs.Lives.{move_live, move_place}
+use Rattle.laws_heap.proofs.FixedNames.{is_fixed_name, fixed_live}
 use Rattle.laws_heap.proofs.Layouts.{onto_shifted, total-merged, no_run-below, below-no_run, marks, marked, mark_onto, marked_rooms, marks_onto, mark_twice}
 use Rattle.laws_heap.proofs.Exchanging.{gap_total}
 use Rattle.laws_heap.proofs.Packings.{merged-packed, slid_packed, lives_gap}
@@ -37,7 +38,7 @@ live_under-packed at room (movable bytes (suc count) owner slot ∷ cs) name =
     (live_under-packed (at + room + need (length bytes)) 0 cs name ∙ move_live (at + room + need (length bytes) + 0) (at + room + need (length bytes)) cs name (omega arith))
 live_under-packed at room (fixed bytes owner ∷ cs) name =
     gap_live at room (fixed bytes owner ∷ packed_behind 0 cs) name
-    ∙ ap (λ (o : Option LiveChunk). if (at + room + 8) == name then Some (record { bytes = bytes; lock = fixed_lock; owner = owner }) else o)
+    ∙ ap (λ (o : Option LiveChunk). if is_fixed_name (at + room) owner name then Some (fixed_live bytes owner) else o)
     (live_under-packed (at + room + need (length bytes)) 0 cs name ∙ move_live (at + room + need (length bytes) + 0) (at + room + need (length bytes)) cs name (omega arith))
 
 packed_live : (at : ℕ) (cs : List Chunk) (name : ℕ) → live_under at (packed cs) name ≡ live_under at cs name
@@ -79,7 +80,7 @@ place_under-packed at room (movable bytes (suc count) owner slot ∷ cs) name li
 place_under-packed at room (fixed bytes owner ∷ cs) name live e some =
     let there : at + room + need (length bytes) + 0 ≡ at + room + need (length bytes) = omega arith in
     gap_place at room (fixed bytes owner ∷ packed_behind 0 cs) name
-    ∙ passed ((at + room + 8) == name) (record { bytes = bytes; lock = fixed_lock; owner = owner }) live (at + room + 8) (at + room + 8) _ _ _ (λ locked. refl) some
+    ∙ passed (is_fixed_name (at + room) owner name) (fixed_live bytes owner) live (at + room + 8) (at + room + 8) _ _ _ (λ locked. refl) some
     (λ f. place_under-packed (at + room + need (length bytes)) 0 cs name live (move_live _ _ cs name there ∙ f) some ∙ move_place _ _ cs name there) e
 
 packed_place : (at : ℕ) (cs : List Chunk) (name : ℕ) (live : LiveChunk) → live_under at cs name ≡ Some live → 0 < live.lock → place_under at (packed cs) name ≡ place_under at cs name

@@ -16,6 +16,7 @@ use Rattle.heap_model.specs.Space.{AllFree}
 use Rattle.laws_heap.proofs.Deciding.{Decides-nat_le}
 use Rattle.laws_heap.proofs.Chunks.{SpelledAll-split, SpellsAgain, spells_same}
 use Rattle.laws_heap.proofs.Placed.{EveryPlaced-split}
+use Rattle.laws_heap.proofs.FixedNames.{fixed_name, fixed_place}
 
 -- ---- where they are
 
@@ -282,6 +283,11 @@ spells_beside old new front cs back at slot t there s same len =
 -- no slot is the place of a chunk that has a name
 pub slot_no_place : (image : List ℕ) (before : List Chunk) (c : Chunk) (after : List Chunk) (name slot : ℕ) (live : LiveChunk) → Tiles image (before ++ c ∷ after) → NamedHere name live (area_start image + total before) c → IsSlot image slot → slot ≢ area_start image + total before + 8
 slot_no_place image before c after name slot live t named s = let high : slot < table_end image = s.in_table in omega arith
+
+-- nor is the name of a fixed chunk, where none stands
+pub slot_no_fixed : (slot at size : ℕ) → IsBeside slot at (at + size) → slot ≢ fixed_name at
+slot_no_fixed slot at size (inl front) is = let place = fixed_place at in absurd (omega arith)
+slot_no_fixed slot at size (inr back) is = let place = fixed_place at in absurd (omega arith)
 
 -- ---- where the chunks begin
 

@@ -14,6 +14,7 @@ use Rattle.heap_model.specs.Space.{stays, NoneStays, onto_first, runs_between, h
 use Rattle.heap_model.specs.Packing.{EndsStaying, BeginsStaying, WholeStretch}
 use Rattle.laws_heap.proofs.Deciding.{cond-true, none_some}
 use Rattle.laws_heap.proofs.Chunks.{total-append, SpelledAll-split, SpelledAll-unique}
+use Rattle.laws_heap.proofs.FixedNames.{is_fixed_name}
 use Rattle.laws_heap.proofs.Finding.{read_heap}
 use Rattle.laws_heap.proofs.Exchanging.{named_beside}
 use Rattle.laws_heap.proofs.Packings.{no_true}
@@ -280,7 +281,7 @@ freed_none at (movable bytes lock owner slot ∷ cs) name e = passed (slot == na
   passed : (b : Bool) (x : LiveChunk) (rest : Option LiveChunk) → cond b (Some x) rest ≡ None → (rest ≡ None → with_freed cs name ≡ cs) → cond b (free (need (length bytes))) (movable bytes lock owner slot) ∷ with_freed cs name ≡ movable bytes lock owner slot ∷ cs
   passed true x rest e f = absurd (none_some (Some x) x e refl)
   passed false x rest e f = ap (λ (ds : List Chunk). movable bytes lock owner slot ∷ ds) (f e)
-freed_none at (fixed bytes owner ∷ cs) name e = passed ((at + 8) == name) _ _ e (freed_none (at + need (length bytes)) cs name) where
+freed_none at (fixed bytes owner ∷ cs) name e = passed (is_fixed_name at owner name) _ _ e (freed_none (at + need (length bytes)) cs name) where
   passed : (b : Bool) (x : LiveChunk) (rest : Option LiveChunk) → cond b (Some x) rest ≡ None → (rest ≡ None → with_freed cs name ≡ cs) → fixed bytes owner ∷ with_freed cs name ≡ fixed bytes owner ∷ cs
   passed true x rest e f = absurd (none_some (Some x) x e refl)
   passed false x rest e f = ap (λ (ds : List Chunk). fixed bytes owner ∷ ds) (f e)

@@ -11,6 +11,7 @@
 //! | `Placed` | what holds of every chunk where it stands, or of some one |
 //! | `Shapes`, `Runs` | chunks that are read and chunks that are spelled, one or all from an offset on |
 //! | `Slots`, `Bodies` | slots by their number, and the two halves of the ties |
+//! | `FixedNames` | what the name of a fixed chunk is |
 //! | `Accepted`, `Meanings` | the test of an accepted heap, and the map that it holds |
 //! | `Finding` | the chunk that a name stands for, among the chunks |
 //! | `Lives` | what names stand for, and where, in lists that are put together |

@@ -22,6 +22,7 @@ use Rattle.byteorder.specs.Numbers.{big_from-take}
 use Rattle.laws_heap.proofs.Slots.{same_slots}
 use Rattle.laws_heap.proofs.Placed.{EveryPlaced-split}
 use Rattle.laws_heap.proofs.Finding.{read_heap, held_finds, finds_spelled}
+use Rattle.laws_heap.proofs.FixedNames.{fixed_live_is}
 use Rattle.laws_heap.proofs.Compacting.{free_slots_held}
 use Rattle.laws_store.proofs.Numbers.{numbered_more, big_from-behind}
 use Rattle.laws_store.proofs.Directories.{u32s_read}
@@ -36,7 +37,7 @@ loose_here image at name live (movable bytes lock owner slot) own n callers s =
     let b : lock ≡ live.lock = ap (λ (l : LiveChunk). l.lock) n.1 in
     elim s.3 [ inl none ↦ sym b ∙ none | inr some ↦ absurd (omega arith) ]
 loose_here image at name live (fixed bytes owner) own n callers s =
-    let a : owner ≡ live.owner = ap (λ (l : LiveChunk). l.owner) n.1 in
+    let a : owner ≡ live.owner = ap (λ (l : LiveChunk). l.owner) (fixed_live_is at bytes owner n) in
     let low = callers.0 in
     absurd (omega arith)
 

@@ -9,6 +9,7 @@ use Rattle.heap_model.specs.Meaning.{LiveChunk, NamedHere}
 use Rattle.heap_model.specs.Reading.{chunks_of, held}
 use Rattle.heap_model.specs.Store.{managers_owner, data_owner, owner_of, owner_under}
 use Rattle.laws_heap.proofs.Placed.{AnyPlaced-parts, AnyPlaced-mid, EveryPlaced-split}
+use Rattle.laws_heap.proofs.FixedNames.{fixed_live_is}
 use Rattle.laws_heap.proofs.Finding.{read_heap, finds_held, held_finds}
 use Rattle.laws_heap.proofs.Meanings.{held-zero}
 
@@ -44,7 +45,7 @@ owned_body : (slot : ℕ) (live : LiveChunk) (at : ℕ) (c : Chunk) → (live.ow
 owned_body slot live at (free size) owner n callers = absurd n
 owned_body slot live at (movable bytes lock own named) owner n callers = (n.0, refl)
 owned_body slot live at (fixed bytes own) owner n callers =
-    let same : own ≡ live.owner = ap (λ (l : LiveChunk). l.owner) n.1 in
+    let same : own ≡ live.owner = ap (λ (l : LiveChunk). l.owner) (fixed_live_is at bytes own n) in
     let low = callers.0 in
     let high = callers.1 in
     absurd (elim owner [ inl e ↦ omega arith | inr e ↦ omega arith ])

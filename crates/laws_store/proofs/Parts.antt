@@ -19,6 +19,7 @@ use Rattle.heap_model.specs.Space.{stays, NoneStays, onto_first, runs_between, h
 use Rattle.heap_model.specs.Store.{bytes_of, bytes_under}
 use Rattle.heap_model.specs.Rooms.{is_movable_as, stretch_of, KeepsStretches, Lowers, Part, makes, grows, growth, rooms_for, Stuck}
 use Rattle.laws_heap.proofs.Deciding.{none_some}
+use Rattle.laws_heap.proofs.FixedNames.{is_fixed_name, fixed_live_is}
 use Rattle.laws_heap.proofs.Finding.{held_finds}
 use Rattle.laws_heap.proofs.Exchanging.{named_beside}
 use Rattle.laws_heap.proofs.Sliding.{none_stays-append}
@@ -57,7 +58,7 @@ unnamed_without at (movable bytes lock owner slot ∷ cs) name e = passed (slot 
   passed : (b : Bool) (x : LiveChunk) (rest : Option LiveChunk) → cond b (Some x) rest ≡ None → (rest ≡ None → Without name cs) → (b || list_any (is_movable_as name) cs) ≡ false
   passed true x rest e f = absurd (none_some (Some x) x e refl)
   passed false x rest e f = f e
-unnamed_without at (fixed bytes owner ∷ cs) name e = passed ((at + 8) == name) _ _ e (unnamed_without (at + need (length bytes)) cs name) where
+unnamed_without at (fixed bytes owner ∷ cs) name e = passed (is_fixed_name at owner name) _ _ e (unnamed_without (at + need (length bytes)) cs name) where
   passed : (b : Bool) (x : LiveChunk) (rest : Option LiveChunk) → cond b (Some x) rest ≡ None → (rest ≡ None → Without name cs) → list_any (is_movable_as name) cs ≡ false
   passed true x rest e f = absurd (none_some (Some x) x e refl)
   passed false x rest e f = f e
@@ -133,7 +134,7 @@ unlocked_chunk name live at (movable bytes lock owner slot) n unlocked =
     same bytes live.bytes lock 0 owner live.owner slot name a b c n.0 where
       same : (a b : List ℕ) (c d e f g h : ℕ) → a ≡ b → c ≡ d → e ≡ f → g ≡ h → movable a c e g ≡ movable b d f h
       same a b c d e f g h p q r s = cc
-unlocked_chunk name live at (fixed bytes owner) n unlocked = let e = ap (λ (l : LiveChunk). l.lock) n.1 ∙ unlocked in absurd (omega arith)
+unlocked_chunk name live at (fixed bytes owner) n unlocked = let e = ap (λ (l : LiveChunk). l.lock) (fixed_live_is at bytes owner n) ∙ unlocked in absurd (omega arith)
 
 around : (image : List ℕ) (name : ℕ) (live : LiveChunk) → HeapAccepted image → held image name ≡ Some live → live.lock ≡ 0 → Around image name live
 around image name live h e unlocked =

@@ -18,6 +18,7 @@ use Rattle.heap_model.specs.declared.refusal.Refusal.TheVariants.{OwnedByDatabas
 use Rattle.laws_heap.proofs.Frames.{slice-of_slice}
 use Rattle.laws_heap.proofs.Finding.{finds_spelled, finds_body}
 use Rattle.laws_heap.proofs.Exchanging.{ChangesName}
+use Rattle.laws_heap.proofs.FixedNames.{fixed_live_is}
 use Rattle.laws_heap.proofs.Changing.{lock_changes, owner_changes, bytes_changes}
 use Rattle.laws_heap.proofs.OwnedChunks.{not_directory}
 use Rattle.heap_place.proofs.FoundLaws.{name_held}
@@ -32,7 +33,7 @@ lock_small image name found h f = let l = f.lock_is in let most = lock_most f.ch
   lock_most : (c : Chunk) → NamedHere name f.live (found.place.0 - 8) c → Spelled image (found.place.0 - 8) c → f.live.lock ≤ fixed_lock
   lock_most (free size) n s = absurd n
   lock_most (movable bytes lock owner slot) n s = let e : lock ≡ f.live.lock = ap (λ (x : LiveChunk). x.lock) n.1 in let fits = s.1.lock_fits in omega arith
-  lock_most (fixed bytes owner) n s = let e : fixed_lock ≡ f.live.lock = ap (λ (x : LiveChunk). x.lock) n.1 in omega arith
+  lock_most (fixed bytes owner) n s = let e : fixed_lock ≡ f.live.lock = ap (λ (x : LiveChunk). x.lock) (fixed_live_is (found.place.0 - 8) bytes owner n) in omega arith
 
 -- its body lies in the image
 pub body_there : (image : List ℕ) (name : ℕ) (found : Found) → HeapAccepted image → (f : IsFound image name found) → (found.place.0 + found.length ≤ length image) × (slice_range image found.place.0 (found.place.0 + found.length) ≡ f.live.bytes)

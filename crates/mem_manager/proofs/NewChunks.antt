@@ -1,5 +1,5 @@
 -- The steps of calls that make chunks and free them.
-use Rattle.std.proofs.Common.{◌≡◌, ◌≢◌, ℕ, ◌+◌, ◌<◌, ◌≤◌, List, length, replicate, Option, Some, None, refl, sym, ap, subst, ◌∙◌, arith, inl, inr}
+use Rattle.std.proofs.Common.{◌≡◌, ◌≢◌, ℕ, zero, suc, ◌+◌, ◌<◌, ◌≤◌, List, length, replicate, Option, Some, None, refl, sym, ap, subst, ◌∙◌, arith, inl, inr}
 use Rattle.std.proofs.lemmas.List.{length-replicate}
 use Rattle.std.specs.Prelude.{count_by, IfSome, Result, Ok, Err, IfOk, IfErr, OnOk, OnErr}
 use Rattle.master_table.specs.declared.table.EmptySlot.{EmptySlot}
@@ -24,6 +24,7 @@ use Rattle.master_table.proofs.TableLaws.{used_fewer, used_apart, used_set}
 use Rattle.laws_heap.proofs.Meanings.{held-is, empty_unheld}
 use Rattle.laws_heap.proofs.Accepted.{heap_of_read}
 use Rattle.laws_heap.proofs.Exchanging.{ChangesName}
+use Rattle.laws_heap.proofs.FixedNames.{fixed_name, fixed_has_name, fixed_place}
 use Rattle.laws_heap.proofs.Changing.{claim_changes, room_unheld}
 use Rattle.laws_heap.proofs.OwnedChunks.{owned-merged, owned_held, owned_place}
 use Rattle.heap_place.specs.declared.found.Found.{Found}
@@ -139,10 +140,15 @@ ptr_made old mid new size owner name there h caller room empty slides first ch r
       rest = rest_then old mid new first rest;
     }
 
-pub ptr_changes : (old new : List ℕ) (at room size owner : ℕ) → HeapAccepted old → IsRoom old at room → need size ≤ room → Exchanges old new at (in_front (fixed (replicate size 0) owner)) → ChangesName old new (at + 8) (Some (zeros size fixed_lock owner)) (Some (at + 8))
-ptr_changes old new at room size owner h r fits x =
+-- its owner is a caller's
+some_owner : (owner : ℕ) → (IsNoCaller owner → ⊥) → 0 < owner
+some_owner zero caller = absurd (caller (inl refl))
+some_owner (suc owner) caller = omega arith
+
+pub ptr_changes : (old new : List ℕ) (at room size owner : ℕ) → HeapAccepted old → (IsNoCaller owner → ⊥) → IsRoom old at room → need size ≤ room → Exchanges old new at (in_front (fixed (replicate size 0) owner)) → ChangesName old new (fixed_name at) (Some (zeros size fixed_lock owner)) (Some (at + 8))
+ptr_changes old new at room size owner h caller r fits x =
     let takes : need (length (replicate {A = ℕ} size 0)) ≡ need size = ap need (length-replicate size 0) in
-    claim_changes old new at room (at + 8) (zeros size fixed_lock owner) (fixed (replicate size 0) owner) h (omega arith) r (room_unheld old at room h (omega arith) r) x (omega arith) (refl, refl)
+    claim_changes old new at room (fixed_name at) (zeros size fixed_lock owner) (fixed (replicate size 0) owner) h (omega arith) r (room_unheld old at room h (omega arith) r) x (omega arith) (fixed_has_name at (replicate size 0) owner (some_owner owner caller))
 
 -- ---- all chunks of an owner
 
@@ -177,14 +183,14 @@ pub as_first : (region read : Memory) (result : Option EmptySlot) (slot : EmptyS
 as_first region read result slot same is first =
     subst (λ (m : Memory). IsFirstEmpty m.bytes slot.name.0 slot.before) same (subst (λ (x : Option EmptySlot). IfSome x (λ slot. IsFirstEmpty read.bytes slot.name.0 slot.before)) is first)
 
-pub ptr_unheld : (old mid : List ℕ) (at room size : ℕ) → SlidesOneStretch old mid → IsRoom mid at room → need size ≤ room → held mid (at + 8) ≡ None
+pub ptr_unheld : (old mid : List ℕ) (at room size : ℕ) → SlidesOneStretch old mid → IsRoom mid at room → need size ≤ room → held mid (fixed_name at) ≡ None
 ptr_unheld old mid at room size s r fits = room_unheld mid at room s.becomes.frame.accepted (omega arith) r
 
-pub ptr_claimed : (old mid new : List ℕ) (at room size owner name : ℕ) → name ≡ at + 8 → SlidesOneStretch old mid → IsRoom mid at room → need size ≤ room → Exchanges mid new at (in_front (fixed (replicate size 0) owner)) → ChangesName mid new name (Some (zeros size fixed_lock owner)) (Some (at + 8))
-ptr_claimed old mid new at room size owner name is s r fits x =
-    subst (λ (n : ℕ). ChangesName mid new n (Some (zeros size fixed_lock owner)) (Some (at + 8))) (sym is) (ptr_changes mid new at room size owner s.becomes.frame.accepted r fits x)
+pub ptr_claimed : (old mid new : List ℕ) (at room size owner name : ℕ) → name ≡ at + 8 → (IsNoCaller owner → ⊥) → SlidesOneStretch old mid → IsRoom mid at room → need size ≤ room → Exchanges mid new at (in_front (fixed (replicate size 0) owner)) → ChangesName mid new name (Some (zeros size fixed_lock owner)) (Some (at + 8))
+ptr_claimed old mid new at room size owner name is caller s r fits x =
+    subst (λ (n : ℕ). ChangesName mid new n (Some (zeros size fixed_lock owner)) (Some (at + 8))) (fixed_place at ∙ sym is) (ptr_changes mid new at room size owner s.becomes.frame.accepted caller r fits x)
 
 -- the same slots are in use
-pub used_ptr : (old mid new : List ℕ) (used at room size owner : ℕ) → IsManaged old used → SlidesOneStretch old mid → IsRoom mid at room → need size ≤ room → Exchanges mid new at (in_front (fixed (replicate size 0) owner)) → IsManaged new used
-used_ptr old mid new used at room size owner m s r fits x =
-    used_altered mid new used (at + 8) _ _ (used_slid old mid used m s.becomes.frame (slides_alike old mid m.accepted s)) (ptr_changes mid new at room size owner s.becomes.frame.accepted r fits x)
+pub used_ptr : (old mid new : List ℕ) (used at room size owner : ℕ) → IsManaged old used → (IsNoCaller owner → ⊥) → SlidesOneStretch old mid → IsRoom mid at room → need size ≤ room → Exchanges mid new at (in_front (fixed (replicate size 0) owner)) → IsManaged new used
+used_ptr old mid new used at room size owner m caller s r fits x =
+    used_altered mid new used (fixed_name at) _ _ (used_slid old mid used m s.becomes.frame (slides_alike old mid m.accepted s)) (ptr_changes mid new at room size owner s.becomes.frame.accepted caller r fits x)

@@ -12,6 +12,7 @@ use Rattle.heap_model.specs.Layout.{layout_of}
 use Rattle.heap_model.specs.Packing.{Slid, SlidesOneStretch}
 use Rattle.laws_heap.proofs.Deciding.{same_some, none_some}
 use Rattle.laws_heap.proofs.Lives.{live_under-append, live_placed, move_live}
+use Rattle.laws_heap.proofs.FixedNames.{fixed_name, is_fixed_name, fixed_name_is, fixed_tested}
 use Rattle.laws_heap.proofs.Freeing.{or_front, or_back}
 use Rattle.laws_heap.proofs.Sliding.{slid_middle, slid_merged}
 use Rattle.laws_heap.proofs.Packings.{no_true}
@@ -25,21 +26,20 @@ abbrev pub names : ℕ → List Chunk → List ℕ
 names at [] = []
 names at (free size ∷ cs) = names (at + size) cs
 names at (movable bytes lock owner slot ∷ cs) = slot ∷ names (at + need (length bytes)) cs
-names at (fixed bytes owner ∷ cs) = (at + 8) ∷ names (at + need (length bytes)) cs
+names at (fixed bytes owner ∷ cs) = fixed_name at ∷ names (at + need (length bytes)) cs
 
 -- it holds of one name, or the chunk is among the rest
-one_or_other : (P : ℕ → Type 0) (one name : ℕ) (live : LiveChunk) (rest : Option LiveChunk) → P one → (IsSome rest → P name) → IsSome (cond (one == name) (Some live) rest) → P name
-one_or_other P one name live rest here there is = branch (one == name) refl is where
-  branch : (b : Bool) → (one == name) ≡ b → IsSome (cond b (Some live) rest) → P name
-  branch true e h = subst P (eqb-true one name e) here
-  branch false e h = there h
+one_or_other : (P : ℕ → Type 0) (one name : ℕ) (test : Bool) (live : LiveChunk) (rest : Option LiveChunk) → (test ≡ true → one ≡ name) → P one → (IsSome rest → P name) → IsSome (cond test (Some live) rest) → P name
+one_or_other P one name true live rest same here there h = subst P (same refl) here
+one_or_other P one name false live rest same here there h = there h
 
 -- what holds of each of them holds of each that stands for something
 pub of_each : (P : ℕ → Type 0) (at : ℕ) (cs : List Chunk) → EveryOne P (names at cs) → (name : ℕ) → IsSome (live_under at cs name) → P name
 of_each P at [] each name is = absurd (cc is)
 of_each P at (free size ∷ cs) each name is = of_each P (at + size) cs each name is
-of_each P at (movable bytes lock owner slot ∷ cs) each name is = one_or_other P slot name _ _ each.0 (of_each P (at + need (length bytes)) cs each.1 name) is
-of_each P at (fixed bytes owner ∷ cs) each name is = one_or_other P (at + 8) name _ _ each.0 (of_each P (at + need (length bytes)) cs each.1 name) is
+of_each P at (movable bytes lock owner slot ∷ cs) each name is = one_or_other P slot name (slot == name) _ _ (eqb-true slot name) each.0 (of_each P (at + need (length bytes)) cs each.1 name) is
+of_each P at (fixed bytes owner ∷ cs) each name is =
+    one_or_other P (fixed_name at) name (is_fixed_name at owner name) _ _ (λ (test : is_fixed_name at owner name ≡ true). fixed_name_is at bytes owner (fixed_tested name at bytes owner test)) each.0 (of_each P (at + need (length bytes)) cs each.1 name) is
 
 -- ---- what has not moved
 

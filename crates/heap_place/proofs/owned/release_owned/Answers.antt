@@ -14,12 +14,12 @@ at_with_size-header-requires-clause-chunk c =
     record { chunk = there.0; spelled = there.1 }
 
 pub release-at-requires-clause-found : goal.release-at-requires-clause-found
-release-at-requires-clause-found c = owned_one c.loop-at.region.bytes (NoneOwned c.args.owner) c.loop-at.at c.args.owner c.at_with_size-header.result.0 c.in-Some.found c.loop-at.invariant.0.frame.accepted c.loop-at.invariant.0.passed c.at_with_size-header.ensures.header (sym c.if_owned.ensures ∙ c.in-Some.is)
+release-at-requires-clause-found c = owned_one c.loop-at.region.bytes (NoneOwned c.args.owner) c.loop-at.at c.args.owner c.at_with_size-header.result.0 c.in-Some.found c.loop-at.invariant.0.frame.accepted c.requires.some_owner c.loop-at.invariant.0.passed c.at_with_size-header.ensures.header (sym c.if_owned.ensures ∙ c.in-Some.is)
 
 pub release-at-requires-clause-no_directory : goal.release-at-requires-clause-no_directory
 release-at-requires-clause-no_directory c =
     owned_apart c.loop-at.region.bytes c.loop-at.at c.args.owner c.at_with_size-header.result.0 c.in-Some.found c.loop-at.invariant.0.frame.accepted
-    (owned_one c.loop-at.region.bytes (NoneOwned c.args.owner) c.loop-at.at c.args.owner c.at_with_size-header.result.0 c.in-Some.found c.loop-at.invariant.0.frame.accepted c.loop-at.invariant.0.passed c.at_with_size-header.ensures.header (sym c.if_owned.ensures ∙ c.in-Some.is)) c.at_with_size-header.ensures.header (sym c.if_owned.ensures ∙ c.in-Some.is) c.requires.some_owner
+    (owned_one c.loop-at.region.bytes (NoneOwned c.args.owner) c.loop-at.at c.args.owner c.at_with_size-header.result.0 c.in-Some.found c.loop-at.invariant.0.frame.accepted c.requires.some_owner c.loop-at.invariant.0.passed c.at_with_size-header.ensures.header (sym c.if_owned.ensures ∙ c.in-Some.is)) c.at_with_size-header.ensures.header (sym c.if_owned.ensures ∙ c.in-Some.is) c.requires.some_owner
 
 pub overflow_add-at-in-Some : goal.overflow_add-at-in-Some
 overflow_add-at-in-Some c =
