@@ -26,7 +26,7 @@ is() {
 says() {
     name=$1 status=$2 output=$3 errors=$4
     shift 4
-    "$program" "$@" >printed 2>complained
+    timeout 60 "$program" "$@" >printed 2>complained
     is "$name, status" "$status" "$?"
     is "$name, standard output" "$output" "$(cat printed)"
     is "$name, standard error" "$errors" "$(cat complained)"
@@ -44,9 +44,9 @@ says 'run of a refused image' 1 'bad BadMagic' '' run bad.img calls.txt b.img
 says 'run of a refused script' 1 'line 1 UnknownCommand' '' run a.img faulty.txt b.img
 says 'a size that no image has' 2 'bad BadSize' '' new 127 4 b.img
 says 'an image that is not there' 3 '' 'fault read
-none.img: entity not found' run none.img calls.txt b.img
+none.img: No such file or directory (os error 2)' run none.img calls.txt b.img
 says 'a script that is not there' 3 '' 'fault read
-none.txt: entity not found' run a.img none.txt b.img
+none.txt: No such file or directory (os error 2)' run a.img none.txt b.img
 is 'nothing is written' 'a.img bad.img calls.txt faulty.txt' "$(echo *)"
 
 # OUT is no input, and a file is replaced as a whole: what else names the old one has the old bytes
@@ -66,7 +66,7 @@ says 'a run over a link' 0 'ok 96' '' run a.img calls.txt link.img
 is 'a link stays' target.img "$(readlink link.img)"
 is 'its target is replaced' '' "$(cmp a.img target.img 2>&1)"
 mkfifo pipe.img
-cat pipe.img >piped.img &
+timeout 60 cat pipe.img >piped.img &
 says 'a run to a pipe' 0 'ok 96' '' run a.img calls.txt pipe.img
 if [ ! -p pipe.img ]; then
     is 'a pipe' stays 'a file'
@@ -80,15 +80,43 @@ is 'no other file is left' 'a.img b.img bad.img calls.txt faulty.txt link.img pi
 # the first output that fails is named
 mkdir folder.img
 says 'a folder' 3 '' 'fault write
-folder.img: is a directory' new 128 4 folder.img
+folder.img: Is a directory (os error 21)' new 128 4 folder.img
+says 'a run to a folder' 3 'ok 96' 'fault write
+folder.img: Is a directory (os error 21)' run a.img calls.txt folder.img
 "$program" new 128 4 none/b.img >/dev/full 2>complained
 is 'two outputs that fail, status' 3 "$?"
 is 'two outputs that fail' 'fault write
-none/b.img: entity not found' "$(cat complained)"
+none/b.img: No such file or directory (os error 2)' "$(cat complained)"
 "$program" run a.img calls.txt c.img >/dev/full 2>complained
 is 'standard output that is full, status' 3 "$?"
 is 'standard output that is full' 'fault write
-standard output: no storage space' "$(cat complained)"
+standard output: No space left on device (os error 28)' "$(cat complained)"
 [ -e c.img ] && is 'an image behind replies that are not taken' none c.img
+
+# a file of which no more is taken leaves the old one, and none beside it
+cp faulty.txt b.img
+(trap '' XFSZ && ulimit -f 8 && exec "$program" new 65536 4 b.img) >printed 2>complained
+is 'a file that is not taken, status' 3 "$?"
+is 'a file that is not taken, standard output' '' "$(cat printed)"
+is 'a file that is not taken' 'fault write
+b.img: File too large (os error 27)' "$(cat complained)"
+is 'the old file is there' frob "$(cat b.img)"
+[ -e b.img.palmheap-new ] && is 'a file beside' none b.img.palmheap-new
+
+# memory that is refused is told, and nothing else: the more there is, the further a run gets
+"$program" new 16777208 4 large.img >printed
+told=0
+for megabytes in 8 12 16 20 24 28 32 40 48 64 128; do
+    (ulimit -v $((megabytes * 1024)) && exec "$program" run large.img calls.txt c.img) >printed 2>complained
+    case $? in
+        0) is "$megabytes MB of memory" 'ok 16777176' "$(cat printed complained)" ;;
+        3) is "$megabytes MB of memory, status" '0 or 4' 3 ;;
+        4)
+            is "$megabytes MB of memory" 'fault memory' "$(cat printed complained)"
+            told=1
+            ;;
+    esac
+done
+is 'memory that is refused is told' 1 "$told"
 
 exit "$failed"
