@@ -12,6 +12,7 @@ use Rattle.heap_model.specs.Database.{Database, spelled}
 use Rattle.heap_model.specs.Leaving.{Leaves, Respells, rewritten}
 use Rattle.laws_heap.proofs.Deciding.{cond-true, cond-false, same_some}
 use Rattle.laws_heap.proofs.Frames.{length-overwritten}
+use Rattle.laws_heap.proofs.Becoming.{same_frame, frame_then}
 use Rattle.laws_store.proofs.Creating.{managers_loose}
 use Rattle.mem_manager.specs.Lookup.{IsMovable}
 use Rattle.database_edits.specs.Managers.{IsManagers, Rebodies}
@@ -151,12 +152,7 @@ through old mid new db first second m a b = record {
           ∙ sym (ap (rewritten (held old) db second) e ∙ set_here (held old) db second)
       | inr ne ↦ rewritten_apart mid new db second b.leaves name ne ∙ rewritten_apart old mid db first a.leaves name ne ∙ sym (set_apart (held old) db second name ne)
     ];
-    frame = record {
-      accepted = b.leaves.frame.accepted;
-      len = b.leaves.frame.len ∙ a.leaves.frame.len;
-      count = b.leaves.frame.count ∙ a.leaves.frame.count;
-      directory = b.leaves.frame.directory ∙ a.leaves.frame.directory;
-    };
+    frame = frame_then old mid new a.leaves.frame b.leaves.frame;
     still = λ name live e locked there.
         (let kept = rewritten_apart old mid db first a.leaves name (locked_apart old db name live m e locked) ∙ e in
         b.leaves.still name live kept locked there ∙ a.leaves.still name live e locked (ap is_some kept));
@@ -183,7 +179,7 @@ unchanged image db bytes m is =
             ∙ sym (ap (rewritten (held image) db bytes) e ∙ set_here (held image) db bytes ∙ ap (changed (with_bytes (whole bytes))) u.there)
         | inr ne ↦ sym (set_apart (held image) db bytes name ne)
       ];
-      frame = record { accepted = m.heap; len = refl; count = refl; directory = refl };
+      frame = same_frame image m.heap;
       still = λ name live e locked there. refl;
     }
 

@@ -1,7 +1,7 @@
 //! Whether each slot in use has its chunk.
 
 ghost use Rattle.std.specs.Prelude.{◌≡◌, ◌≤◌, ◌<◌, ◌↔◌, length, IsTrue, IfSome, IfNone};
-ghost use Rattle.heap_model.specs.Slots.{HasTable, StandsBehind, slot_count};
+ghost use Rattle.heap_model.specs.Slots.{HasTable, StandsBehind, slots_total};
 ghost use Rattle.master_table.specs.Table.{IsTable};
 ghost use Rattle.heap_check.specs.Survey.{IsMarked, AllMarked, IsFirstUnmarked};
 
@@ -23,7 +23,7 @@ fn is_marked(region: &Region, slot: u32, number: u32, marks: &[bool]) -> bool
 pub(crate) fn find_unmarked(region: &Region, table: Table, marks: &[bool]) -> Option<u32>
     requires has_table { HasTable region.now }
     requires table { IsTable region.now.bytes table }
-    requires room { slot_count region.now.bytes ≤ length marks.now }
+    requires room { slots_total region.now.bytes ≤ length marks.now }
     ensures none { IfNone result (AllMarked region.now.bytes marks.now) }
     ensures some { IfSome result (IsFirstUnmarked region.now.bytes marks.now) }
 {

@@ -2,7 +2,7 @@
 
 ghost use Rattle.std.specs.Prelude.{◌≡◌, ◌≢◌, ◌≤◌, ◌<◌, ◌+◌, ◌^◌, ℕ, false, length, slice_index_or, IfSome, IfNone, OnSome, IfOk, IfErr};
 ghost use Rattle.heap_model.specs.Bytes.{u32_at};
-ghost use Rattle.heap_model.specs.Slots.{HasTable, IsSlot, StandsBehind, slot_count, area_start as model_start};
+ghost use Rattle.heap_model.specs.Slots.{HasTable, IsSlot, StandsBehind, slots_total, area_start as model_start};
 ghost use Rattle.heap_check.specs.Faults.{IsBadChunk};
 ghost use Rattle.master_table.specs.Table.{IsTable};
 ghost use Rattle.heap_check.specs.Survey.{noted, holds_place, AddsMarks, IsHolder, IsSurvey};
@@ -50,7 +50,7 @@ fn holder_of(region: &Region, table: Table, slot: u32, at: u32) -> Option<u32>
     requires has_table { HasTable region.now }
     requires table { IsTable region.now.bytes table }
     requires small { at < 2 ^ 24 }
-    ensures below { IfSome result (λ number. number < slot_count region.now.bytes) }
+    ensures below { IfSome result (λ number. number < slots_total region.now.bytes) }
     ensures number { IfSome result (StandsBehind region.now.bytes slot) }
     ensures holds { OnSome result (u32_at region.now.bytes slot ≡ at + 8) }
     ensures none { IfNone result (IsSlot region.now.bytes slot
@@ -70,7 +70,7 @@ fn mark_holder(region: &Region, table: Table, slot: u32, at: u32, marks: &mut [b
     requires has_table { HasTable region.now }
     requires table { IsTable region.now.bytes table }
     requires small { at < 2 ^ 24 }
-    requires room { slot_count region.now.bytes ≤ length marks.old }
+    requires room { slots_total region.now.bytes ≤ length marks.old }
     ensures holds { result ≡ holds_place region.now.bytes slot at }
     ensures marked { AddsMarks region.now.bytes
         (IsHolder region.now.bytes slot at) marks.old marks.new }
@@ -113,7 +113,7 @@ impl Survey {
         requires small { at < 2 ^ 24 }
         requires counts { self.old.movable + self.old.fixed + self.old.free + free_by header
             < 2 ^ 25 }
-        requires room { slot_count region.now.bytes ≤ length marks.old }
+        requires room { slots_total region.now.bytes ≤ length marks.old }
         ensures movable { self.new.movable ≡ self.old.movable + movable_by header }
         ensures fixed { self.new.fixed ≡ self.old.fixed + fixed_by header }
         ensures free { self.new.free ≡ self.old.free + free_by header }
@@ -152,7 +152,7 @@ pub(crate) fn survey_chunks(
     requires small { length region.now.bytes < 2 ^ 24 }
     requires table { IsTable region.now.bytes table }
     requires inside { model_start region.now.bytes ≤ length region.now.bytes }
-    requires room { slot_count region.now.bytes ≤ length marks.old }
+    requires room { slots_total region.now.bytes ≤ length marks.old }
     requires clear { (k : ℕ) → slice_index_or marks.old k false ≡ false }
     ensures surveyed { IfOk result (λ survey. IsSurvey region.now.bytes survey marks.new) }
     ensures stuck { IfErr result (IsBadChunk region.now.bytes) }

@@ -2,7 +2,7 @@
 -- what a call leaves that does such a change.
 use Rattle.std.specs.Prelude.{◌≡◌, ◌≤◌, ◌<◌, ◌+◌, nat_lt, if◌then◌else◌, bit_or, ℕ, Bool, false, List, [], ◌∷◌, length, slice_get, slice_set, Option, Some, None, IsSome}
 use Rattle.std.specs.List.{insert, remove}
-use Rattle.heap_model.specs.Slots.{slot_count}
+use Rattle.heap_model.specs.Slots.{slots_total}
 use Rattle.heap_model.specs.Heap.{directory_of}
 use Rattle.heap_model.specs.Meaning.{LiveChunk, ChunkMap}
 use Rattle.heap_model.specs.Reading.{held}
@@ -199,7 +199,7 @@ pub record LeavesStore (old new : List ℕ) (store : Store) : Type 0 where
   pub accepted : Accepted new
   pub same : SameStore (store_of new) store
   pub len : length new ≡ length old
-  pub count : slot_count new ≡ slot_count old
+  pub count : slots_total new ≡ slots_total old
   pub directory : directory_of new ≡ directory_of old
   pub locks : KeepsLocks old new
   pub still : Still old new

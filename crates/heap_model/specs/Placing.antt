@@ -1,17 +1,17 @@
 -- The frame of a heap, which calls leave as it is, and a live chunk that is found by its name.
 use Rattle.std.specs.Prelude.{◌≡◌, ◌≢◌, ◌+◌, ◌++◌, ℕ, List, ◌∷◌, length}
 use Rattle.heap_model.specs.Chunk.{Chunk, free, movable, fixed, total}
-use Rattle.heap_model.specs.Slots.{slot_count, area_start}
+use Rattle.heap_model.specs.Slots.{slots_of, area_start}
 use Rattle.heap_model.specs.Heap.{HeapAccepted, directory_of}
 use Rattle.heap_model.specs.Meaning.{LiveChunk, NamedHere}
 use Rattle.heap_model.specs.Reading.{chunks_of}
 
--- The new image is an accepted heap. It is as long as the old one, and has as many slots and the same
+-- The new image is an accepted heap. It is as long as the old one, and has the same slots and the same
 -- directory word.
 pub record SameFrame (old new : List ℕ) : Type 0 where
   pub accepted : HeapAccepted new
   pub len : length new ≡ length old
-  pub count : slot_count new ≡ slot_count old
+  pub slots : slots_of new ≡ slots_of old
   pub directory : directory_of new ≡ directory_of old
 
 -- a name stands for a chunk, which stands among others

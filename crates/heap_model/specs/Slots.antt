@@ -11,7 +11,7 @@ use Rattle.heap_model.specs.Frame.{slot_count_at, frame_size}
 abbrev pub slot_size : ℕ
 slot_size = 4
 
--- how many slots the table has
+-- how many slots the table has, as the head says
 abbrev pub slot_count : List ℕ → ℕ
 slot_count image = u16_at image slot_count_at
 
@@ -51,6 +51,10 @@ slots_in_row first (suc count) = first ∷ slots_in_row (first + slot_size) coun
 -- the offsets of the slots of an image, in their order
 unfoldable pub slots_of : List ℕ → List ℕ
 slots_of image = slots_in_row frame_size (slot_count image)
+
+-- how many there are
+abbrev pub slots_total : List ℕ → ℕ
+slots_total image = length (slots_of image)
 
 -- the first so many of them, or all where there are fewer
 abbrev pub first_slots : List ℕ → ℕ → List ℕ

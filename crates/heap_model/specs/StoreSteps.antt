@@ -3,7 +3,7 @@
 use Rattle.std.specs.Prelude.{◌≡◌, ◌⊎◌, if◌then◌else◌, Bool, true, false, length}
 use Rattle.std.specs.Bool.{OnTrue}
 use Rattle.heap_model.specs.Memory.{Memory}
-use Rattle.heap_model.specs.Slots.{slot_count}
+use Rattle.heap_model.specs.Slots.{slots_total}
 use Rattle.heap_model.specs.Heap.{directory_of}
 use Rattle.heap_model.specs.Meaning.{ChunkMap}
 use Rattle.heap_model.specs.Space.{free_total, free_slots, Still}
@@ -92,7 +92,7 @@ pub record DoesInStore (old : Memory) (call : Call) (reply : Reply) (new : Memor
   pub step : StoreStep old call reply new
   pub accepted : Accepted new.bytes
   pub len : length new.bytes ≡ length old.bytes
-  pub count : slot_count new.bytes ≡ slot_count old.bytes
+  pub count : slots_total new.bytes ≡ slots_total old.bytes
   pub directory : (directory_of new.bytes ≡ directory_of old.bytes) ⊎ ((directory_of old.bytes ≡ 0) × HasMade call reply)
   pub still : Still old.bytes new.bytes
   pub asks : OnTrue (row_of old call).only_asks (new ≡ old)

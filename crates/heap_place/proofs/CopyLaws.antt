@@ -8,7 +8,7 @@ use Rattle.heap_model.specs.Heap.{IsHeap, HeapAccepted}
 use Rattle.laws_heap.proofs.Frames.{SameBetween, SameBetween-within, u32_at-written}
 use Rattle.laws_heap.proofs.Chunks.{total-append, SpelledAll-split, SameWords}
 use Rattle.laws_heap.proofs.Slots.{heap_hold_none}
-use Rattle.laws_heap.proofs.Replacing.{same_count, same_directory, replaced_tiles}
+use Rattle.laws_heap.proofs.Replacing.{head_slots, same_directory, replaced_tiles}
 use Rattle.laws_heap.proofs.Writing.{WroteWithin, wrote_part, wrote_word, wrote_wider, wrote_then, WroteArea, area_replaces, wrote_slot}
 use Rattle.chunk_format.specs.Header.{HasHeader}
 use Rattle.chunk_format.specs.declared.header.Header.TheVariants as headers
@@ -83,7 +83,7 @@ carried_up old mid new before moved after start end gap h b mid_is new_is header
       there = omega (arith, there);
       tiles = replaced_tiles old new before (moved ++ free gap ∷ []) (free gap ∷ all_carried gap moved) after start f.heap_in_two.tiles r;
       len = r.head.len;
-      count = same_count old new r.head;
+      slots = head_slots old new r.head;
       directory = same_directory old new r.head;
       lifted = λ slot s low high. absurd (omega (arith, low, high, there));
       kept = λ slot s out. wrote_slot old new before (moved ++ free gap ∷ []) after start slot f.heap_in_two.tiles none there whole s;

@@ -8,16 +8,16 @@ use Rattle.heap_model.specs.Slots.{IsSlot, area_start, table_end, head_end}
 use Rattle.heap_model.specs.Heap.{HeapAccepted}
 use Rattle.heap_model.specs.Reading.{chunks_of}
 use Rattle.heap_model.specs.Placed.{AnyPlaced}
-use Rattle.heap_model.specs.Layout.{merged, Becomes, Exchanges, gap, in_front, IsRoom, IsPlain, IsFreeAt, WritesPlain}
+use Rattle.heap_model.specs.Layout.{merged, layout_of, Becomes, exchanged, Exchanges, gap, in_front, IsRoom, IsPlain, IsFreeAt, WritesPlain}
 use Rattle.laws_heap.proofs.Frames.{u32_at-written, slice-same, slice-overwritten, length-u32_bytes}
 use Rattle.laws_heap.proofs.Chunks.{Spelled-same}
 use Rattle.laws_heap.proofs.Runs.{chunks_of-tiled}
-use Rattle.laws_heap.proofs.Slots.{slot_facts, free_hold_none, slot_beside}
-use Rattle.laws_heap.proofs.Replacing.{SameHead, same_count, slot_there, Replaces, replaced_total, same_start}
+use Rattle.laws_heap.proofs.Slots.{head_table, slot_facts, free_hold_none, slot_beside}
+use Rattle.laws_heap.proofs.Replacing.{SameHead, head_same, slot_there, Replaces, replaced_total, same_start}
 use Rattle.laws_heap.proofs.Writing.{WroteWithin, wrote_none, wrote_part, wrote_word, wrote_wider, wrote_then, wrote_apart, wrote_word_apart, WroteArea, area_replaces, wrote_slots, area_slots, beside_same, beside_word}
 use Rattle.laws_heap.proofs.Freeing.{free_replaced, OtherSlots, claimed}
 use Rattle.laws_heap.proofs.Layouts.{merged-left, merged-right, runs-merged}
-use Rattle.laws_heap.proofs.Becoming.{becomes_heap, becomes_alike}
+use Rattle.laws_heap.proofs.Becoming.{frame_then, becomes_heap, becomes_alike, becomes_start}
 use Rattle.laws_heap.proofs.Exchanging.{gap_free, claims_parts}
 use Rattle.laws_heap.proofs.Plain.{free_plain, lives_plain, replaced_plain}
 use Rattle.laws_heap.proofs.Altering.{overwritten_body, claimed_fixed}
@@ -198,10 +198,7 @@ wrote_head old new low high w there inside = record {
 pub table_kept : (old new : List ℕ) (low high slot : ℕ) → HeapAccepted old → WroteWithin old new low high → area_start old ≤ low → low ≤ length old → IsSlot old slot → (table_end new ≤ length new) × IsSlot new slot
 table_kept old new low high slot accepted w there inside s =
     let same = wrote_head old new low high w there inside in
-    let ends = same_count old new same in
-    let len = w.len in
-    let fits = accepted.1.tiles.head.a_chunk_fits in
-    (omega arith, slot_there old new slot same s)
+    (head_table new (head_same old new same accepted.1.tiles.head), slot_there old new slot same s)
 
 -- a chunk that takes all of what was cut off
 claimed_front : (old new : List ℕ) (at size : ℕ) (d : Chunk) → HeapAccepted old → (r : IsCut old at size) → size_of d ≡ size → Becomes old new (r.before ++ d ∷ r.after) → Exchanges old new at (in_front d)
@@ -303,3 +300,13 @@ fixed_claimed old mid new at count owner h r some most mid_is header new_is =
       claimed_front old new at (need count) (fixed (replicate count 0) owner) h r takes (becomes_heap old new (r.before ++ fixed (replicate count 0) owner ∷ r.after) replaces.head c),
       replaced_plain old new r.before (free (need count) ∷ []) (fixed (replicate count 0) owner ∷ []) r.after at r.chunks c replaces (lives_plain new at (fixed (replicate count 0) owner ∷ []) refl),
     )
+
+-- ---- where the chunks of the layout were the same before
+
+pub exchanges_then : (old mid new : List ℕ) (there : ℕ) (change : Chunk → List Chunk) → Becomes old mid (chunks_of old) → Exchanges mid new there change → Exchanges old new there change
+exchanges_then old mid new there change same x = record {
+  frame = frame_then old mid new same.frame x.frame;
+  layout = x.layout
+      ∙ ap (λ (n : ℕ). merged (exchanged there change n (layout_of mid))) (becomes_start old mid (chunks_of old) same)
+      ∙ ap (λ (cs : List Chunk). merged (exchanged there change (area_start old) cs)) same.layout;
+}

@@ -4,7 +4,8 @@ use Rattle.heap_model.specs.Bytes.{u32_bytes, overwritten}
 use Rattle.heap_model.specs.Chunk.{Chunk, free, movable, need}
 use Rattle.heap_model.specs.Slots.{IsSlot, table_end}
 use Rattle.heap_model.specs.Heap.{HeapAccepted}
-use Rattle.laws_heap.proofs.Replacing.{same_count, slot_there}
+use Rattle.laws_heap.proofs.Slots.{head_table}
+use Rattle.laws_heap.proofs.Replacing.{head_same, slot_there}
 use Rattle.laws_heap.proofs.Writing.{WroteWithin, wrote_part, wrote_word, wrote_wider, wrote_then}
 use Rattle.chunk_format.specs.Header.{size_by, HasHeader, IsWritable, live_words, h_offset_to, header_bytes}
 use Rattle.chunk_format.specs.declared.header.Header.{Header}
@@ -54,10 +55,7 @@ drop_table old slid head hole before bytes lock owner slot after at room to size
     let to_is = f.to_is in
     let inside = f.inside in
     let same = wrote_head old hole to (to + room + size) w (omega (arith, to_is)) (omega (arith, inside)) in
-    let ends = same_count old hole same in
-    let len = w.len in
-    let fits = f.heap.tiles.head.a_chunk_fits in
-    (omega (arith, ends, len, fits), slot_there old hole slot same f.own)
+    (head_table hole (head_same old hole same f.heap.tiles.head), slot_there old hole slot same f.own)
 
 pub dropped_read : (old slid head hole new : List ℕ) (before : List Chunk) (bytes : List ℕ) (lock owner slot : ℕ) (after : List Chunk) (at room to size count k v named : ℕ) (header : Header) → DropFacts old before bytes lock owner slot after at room to → HasHeader old at header → size ≡ size_by header → header ≡ headers.Movable count k v named
     → slid ≡ overwritten old to (take (at + size - at) (drop at old)) → head ≡ overwritten slid to (header_bytes to header) → HasHeader head to header → hole ≡ overwritten head (to + size) (u32_bytes (2 ^ 31 + room)) → HasHeader hole (to + size) (headers.Free room)

@@ -13,7 +13,7 @@ use Rattle.heap_model.specs.Packing.{lives}
 use Rattle.laws_heap.proofs.Bodies.{IsBody-low, IsBody-high}
 use Rattle.laws_heap.proofs.Placed.{EveryPlaced-append, EveryPlaced-split, AnyPlaced-left, AnyPlaced-right, AnyPlaced-split}
 use Rattle.laws_heap.proofs.Chunks.{total-append, SameWords}
-use Rattle.laws_heap.proofs.Slots.{same_slots, slot_alike, start_alike}
+use Rattle.laws_heap.proofs.Slots.{slot_alike, start_listed}
 use Rattle.laws_heap.proofs.Plain.{free_plain, lives_plain, middle_plain}
 use Rattle.laws_heap.proofs.Runs.{chunks_of-tiled}
 use Rattle.heap_place.specs.Lifting.{Lifting}
@@ -146,13 +146,13 @@ module _ (old image : List ℕ) (before moved after : List Chunk) (gap at : ℕ)
   ]
 
   new_start : area_start image ≡ area_start old
-  new_start = start_alike old image l.count
+  new_start = start_listed old image l.slots
 
   slot_new : (slot : ℕ) → IsSlot old slot → IsSlot image slot
-  slot_new slot s = slot_alike old image slot (same_slots old image l.count) s
+  slot_new slot s = slot_alike old image slot l.slots s
 
   slot_old : (slot : ℕ) → IsSlot image slot → IsSlot old slot
-  slot_old slot s = slot_alike image old slot (sym (same_slots old image l.count)) s
+  slot_old slot s = slot_alike image old slot (sym l.slots) s
 
   place_new : (slot place : ℕ) → 0 < place → u32_at image slot ≡ place → IsSlot old slot → IsBody (area_start old) (before ++ free gap ∷ (moved ++ after)) slot place
   place_new slot place some e s = elim (cases_eq (u32_at old slot) 0) [
@@ -210,7 +210,7 @@ module _ (old image : List ℕ) (before moved after : List Chunk) (gap at : ℕ)
 
   pub lift_done : gap < 2 ^ 24 → lives moved ≡ moved → BecomesExactly old image (before ++ free gap ∷ (moved ++ after))
   lift_done small live = record {
-    frame = record { accepted = (before ++ free gap ∷ (moved ++ after), heap_again); len = l.len; count = l.count; directory = l.directory };
+    frame = record { accepted = (before ++ free gap ∷ (moved ++ after), heap_again); len = l.len; slots = l.slots; directory = l.directory };
     exact = chunks_of-tiled image (before ++ free gap ∷ (moved ++ after)) l.tiles;
     plain = lift_plain small live;
   }

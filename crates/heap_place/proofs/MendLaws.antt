@@ -7,10 +7,10 @@ use Rattle.heap_model.specs.Slots.{IsSlot, table_end, area_start}
 use Rattle.heap_model.specs.Heap.{Tiles, BodyHere, IsBody, IsHeap}
 use Rattle.laws_heap.proofs.Frames.{u32_at-written}
 use Rattle.laws_heap.proofs.Chunks.{total-append, Spelled-size, Spelled-same, SameWords, words_then, Spelled-unique, SpelledAll-split}
-use Rattle.laws_heap.proofs.Slots.{same_slots, SlotFacts, slot_facts, IsBeside, slot_beside, slot_alike, start_alike}
+use Rattle.laws_heap.proofs.Slots.{SlotFacts, slot_facts, IsBeside, slot_beside, slot_alike, start_listed}
 use Rattle.laws_heap.proofs.Bodies.{IsBody-low, IsBody-high}
 use Rattle.laws_heap.proofs.Placed.{EveryPlaced-split, AnyPlaced-mid, AnyPlaced-split}
-use Rattle.laws_heap.proofs.Replacing.{same_count, same_directory, slot_there, Replaces, replaced_tiles}
+use Rattle.laws_heap.proofs.Replacing.{same_count, head_slots, same_directory, slot_there, Replaces, replaced_tiles}
 use Rattle.laws_heap.proofs.Writing.{WroteWithin, wrote_word, wrote_wider, WroteArea, area_replaces, area_slots, beside_same}
 use Rattle.chunk_format.specs.Header.{header_of, size_by, HasHeader, IsWritable, live_words, h_offset_to}
 use Rattle.chunk_format.specs.declared.header.Header.{Header}
@@ -62,8 +62,7 @@ next_of old image before done c rest after gap at l =
     let both = total-append before done in
     let more = total-append before (free gap ∷ done) in
     let there = l.there in
-    let count = l.count in
-    let starts = start_alike old image l.count in
+    let starts = start_listed old image l.slots in
     let at_is : at ≡ area_start image + total front = omega (arith, there, more, starts) in
     let tiles : Tiles image (front ++ carried gap c ∷ others) = subst (λ (cs : List Chunk). Tiles image cs) (sym (append_assoc before (free gap ∷ done) (carried gap c ∷ others))) l.tiles in
     let parts = SpelledAll-split image (area_start image) front (carried gap c ∷ others) (length image) tiles.area in
@@ -109,7 +108,7 @@ step_kept old image before done c rest after gap at same no_body l =
       there = grown_there old before done c gap at l.there;
       tiles = grown_tiles image before done c (all_carried gap rest ++ after) gap (subst (λ (d : Chunk). Tiles image ((before ++ free gap ∷ done) ++ d ∷ (all_carried gap rest ++ after))) same n.tiles);
       len = l.len;
-      count = l.count;
+      slots = l.slots;
       directory = l.directory;
       lifted = λ slot s low high. elim (cases_lt at (u32_at old slot + gap)) [
         | inl beyond ↦ absurd (no_body slot (u32_at old slot) n.was (whose old (before ++ done) c (rest ++ free gap ∷ after) n.was slot n.heap n.was_is s (omega (arith, beyond, at_is)) (omega (arith, high, at_is))))
@@ -148,7 +147,7 @@ mendable old image before done bytes lock owner slot rest after gap at l =
     let front : List Chunk = before ++ free gap ∷ done in
     let c : Chunk = carried gap (movable bytes lock owner slot) in
     let others : List Chunk = all_carried gap rest ++ after in
-    let is_slot = slot_alike old image slot (same_slots old image l.count) o.0 in
+    let is_slot = slot_alike old image slot l.slots o.0 in
     let facts = slot_facts image (front ++ c ∷ others) slot n.tiles is_slot in
     let slot_inside = facts.inside in
     let size : at + total (c ∷ []) ≡ at + need (length bytes) = omega arith in
@@ -209,7 +208,7 @@ step_mended old image mid new before done bytes lock owner slot rest after gap a
     let r : Replaces image new front (carried gap c ∷ []) (c ∷ []) others at = area_replaces image new front (carried gap c ∷ []) (c ∷ []) others at n.tiles there (omega (arith, inside)) w (spelled_new, omega arith) in
     let tiles = replaced_tiles image new front (carried gap c ∷ []) (c ∷ []) others at n.tiles r in
     let slots : (other : ℕ) → IsSlot old other → other ≢ slot → u32_at new other ≡ u32_at image other =
-    λ other o ne. area_slots image new front (carried gap c ∷ []) others at other n.tiles tt there w (slot_alike old image other (same_slots old image l.count) o) (λ e. ne (sym e)) in
+    λ other o ne. area_slots image new front (carried gap c ∷ []) others at other n.tiles tt there w (slot_alike old image other l.slots o) (λ e. ne (sym e)) in
     let own : u32_at new slot ≡ at + 8 = ap (λ (bs : List ℕ). u32_at bs slot) new_is ∙ u32_at-written (at + 8) slot mid (omega (arith, slot_inside, len)) (omega (arith, inside, most)) in
     let in_front = EveryPlaced-split (λ there d. u32_at new there ≡ u32_at image there) (area_start image) before (free gap ∷ done) r.front.words in
     let behind = EveryPlaced-split (λ there d. u32_at new there ≡ u32_at image there) (at + total (carried gap c ∷ [])) (all_carried gap rest) after r.back.words in
@@ -221,7 +220,7 @@ step_mended old image mid new before done bytes lock owner slot rest after gap a
       there = grown_there old before done c gap at l.there;
       tiles = grown_tiles new before done c others gap tiles;
       len = r.head.len ∙ l.len;
-      count = same_count image new r.head ∙ l.count;
+      slots = head_slots image new r.head ∙ l.slots;
       directory = same_directory image new r.head ∙ l.directory;
       lifted = λ other o low high. elim (cases_eq other slot) [
         | inl is ↦ let e = ap (u32_at old) is in ap (u32_at new) is ∙ own ∙ omega (arith, held, at_is, e)

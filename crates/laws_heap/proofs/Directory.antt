@@ -17,7 +17,7 @@ use Rattle.heap_model.specs.Store.{managers_owner, owner_of, owner_under}
 use Rattle.heap_model.specs.Leaving.{NamesDirectory}
 use Rattle.laws_heap.proofs.Frames.{SameBetween, SameBetween-within, u16_at-same, u32_at-same, u32_at-written}
 use Rattle.laws_heap.proofs.Chunks.{SpelledAll-same, SpelledAll-end}
-use Rattle.laws_heap.proofs.Slots.{slot_facts, same_slots, slot_alike, start_alike}
+use Rattle.laws_heap.proofs.Slots.{slot_facts, same_slots, slot_alike, start_alike, start_listed}
 use Rattle.laws_heap.proofs.Runs.{chunks_of-tiled}
 use Rattle.laws_heap.proofs.Placed.{EveryPlaced-split, AnyPlaced-mid, SpelledAll-takes}
 use Rattle.laws_heap.proofs.FixedNames.{fixed_live_is}
@@ -55,7 +55,7 @@ MayBeDirectory image word = (word ≡ 0) ⊎ (owner_under image word ≡ manager
 
 pub directory_written : (old new : List ℕ) (word : ℕ) → HeapAccepted old → new ≡ overwritten old directory_at (u32_bytes word) → word < 2 ^ 32 → MayBeDirectory old word → NamesDirectory old new word × WritesPlain old new
 unfolding held
-directory_written old new word h is fits may = (record { accepted = (cs, heap_new); len = len; count = count; directory = named; map = map_same; chunks = chunks_same }, plain) where
+directory_written old new word h is fits may = (record { accepted = (cs, heap_new); len = len; slots = slots; directory = named; map = map_same; chunks = chunks_same }, plain) where
   cs : List Chunk
   cs = chunks_of old
 
@@ -73,6 +73,9 @@ directory_written old new word h is fits may = (record { accepted = (cs, heap_ne
 
   count : slot_count new ≡ slot_count old
   count = sym (u16_at-same 8 old new 0 12 w.below (omega arith) (omega arith))
+
+  slots : slots_of new ≡ slots_of old
+  slots = same_slots old new count
 
   start : area_start new ≡ area_start old
   start = start_alike old new count
@@ -114,10 +117,10 @@ directory_written old new word h is fits may = (record { accepted = (cs, heap_ne
   map_same name = ap (λ (n : ℕ). live_under n (chunks_of new) name) start ∙ ap (λ (ds : List Chunk). live_under (area_start old) ds name) chunks_same
 
   slot_was : (slot : ℕ) → IsSlot new slot → IsSlot old slot
-  slot_was slot s = slot_alike new old slot (sym (same_slots old new count)) s
+  slot_was slot s = slot_alike new old slot (sym slots) s
 
   slot_is : (slot : ℕ) → IsSlot old slot → IsSlot new slot
-  slot_is slot s = slot_alike old new slot (same_slots old new count) s
+  slot_is slot s = slot_alike old new slot slots s
 
   slot_same : (slot : ℕ) → IsSlot old slot → u32_at new slot ≡ u32_at old slot
   slot_same slot s =
@@ -151,10 +154,10 @@ directory_written old new word h is fits may = (record { accepted = (cs, heap_ne
 -- ---- where another directory is named
 
 pub named_slots : (old new : List ℕ) (word : ℕ) → NamesDirectory old new word → slots_of new ≡ slots_of old
-named_slots old new word n = same_slots old new n.count
+named_slots old new word n = n.slots
 
 pub named_start : (old new : List ℕ) (word : ℕ) → NamesDirectory old new word → area_start new ≡ area_start old
-named_start old new word n = start_alike old new n.count
+named_start old new word n = start_listed old new n.slots
 
 pub named_finds : (old new : List ℕ) (word name : ℕ) (live : LiveChunk) (chunk : Chunk) (at : ℕ) → NamesDirectory old new word → Finds old name live chunk at → Finds new name live chunk at
 named_finds old new word name live chunk at n f = record { before = f.before; after = f.after; chunks = n.chunks ∙ f.chunks; there = f.there ∙ ap (λ (k : ℕ). k + total f.before) (sym (named_start old new word n)); named = f.named }
@@ -178,7 +181,7 @@ directory_owned image live h e = elim (cases_eq live.owner 0) [ inl none ↦ non
 -- what is done to the chunks while there is no directory, and the directory is named again
 pub named_again : (old mid later new : List ℕ) (name : ℕ) (cs : List Chunk) → NamesDirectory old mid 0 → Becomes mid later cs → NamesDirectory later new name → name ≡ directory_of old → Becomes old new cs
 named_again old mid later new name cs first b last is = record {
-  frame = record { accepted = last.accepted; len = last.len ∙ b.frame.len ∙ first.len; count = last.count ∙ b.frame.count ∙ first.count; directory = last.directory ∙ is };
+  frame = record { accepted = last.accepted; len = last.len ∙ b.frame.len ∙ first.len; slots = last.slots ∙ b.frame.slots ∙ first.slots; directory = last.directory ∙ is };
   layout = ap merged last.chunks ∙ b.layout;
 }
 

@@ -5,7 +5,7 @@ use Rattle.std.specs.Prelude.{◌==◌}
 use Rattle.std.proofs.lemmas.Bool.{cases_eq, eq-eqb}
 use Rattle.std.proofs.lemmas.Bool.Decides.{nat_tests}
 use Rattle.heap_model.specs.Chunk.{Chunk, free, movable, fixed, need, size_of, total, SpelledAll}
-use Rattle.heap_model.specs.Slots.{slot_count, IsSlot, area_start}
+use Rattle.heap_model.specs.Slots.{IsSlot, slots_of, area_start}
 use Rattle.heap_model.specs.Heap.{BodyHere, IsHeap, HeapAccepted}
 use Rattle.heap_model.specs.Placed.{AnyPlaced}
 use Rattle.heap_model.specs.Meaning.{LiveChunk}
@@ -16,7 +16,7 @@ use Rattle.heap_model.specs.Packing.{lives}
 use Rattle.laws_heap.proofs.Deciding.{cond-true, cond-false}
 use Rattle.laws_heap.proofs.Chunks.{total-append}
 use Rattle.laws_heap.proofs.Placed.{AnyPlaced-mid}
-use Rattle.laws_heap.proofs.Slots.{slot_facts, same_slots, start_alike, heap_hold_none}
+use Rattle.laws_heap.proofs.Slots.{slot_facts, start_listed, heap_hold_none}
 use Rattle.laws_heap.proofs.Becoming.{frame_slots, frame_start}
 use Rattle.laws_heap.proofs.Meanings.{slot_place, held-is}
 use Rattle.laws_heap.proofs.Finding.{read_heap}
@@ -149,8 +149,8 @@ free_follows old new before after long start same =
     omega (arith, was, is, long, start, bound, names)
 
 -- as much is free, and as many slots
-pub free_alike : (old new : List ℕ) → HeapAccepted old → HeapAccepted new → length new ≡ length old → slot_count new ≡ slot_count old → ((name : ℕ) → held new name ≡ held old name) → (free_total new ≡ free_total old) × (free_slots new ≡ free_slots old)
-free_alike old new before after long count same = (free_follows old new before after long (start_alike old new count) same, slots_follow old new before after (same_slots old new count) same)
+pub free_alike : (old new : List ℕ) → HeapAccepted old → HeapAccepted new → length new ≡ length old → slots_of new ≡ slots_of old → ((name : ℕ) → held new name ≡ held old name) → (free_total new ≡ free_total old) × (free_slots new ≡ free_slots old)
+free_alike old new before after long slots same = (free_follows old new before after long (start_listed old new slots) same, slots_follow old new before after slots same)
 
 -- the same, where a call has left the frame as it was
 pub as_before : (old new : List ℕ) → HeapAccepted old → SameFrame old new → ((name : ℕ) → held new name ≡ held old name) → (free_total new ≡ free_total old) × (free_slots new ≡ free_slots old)

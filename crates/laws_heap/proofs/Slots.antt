@@ -8,8 +8,8 @@ use Rattle.std.specs.Bool.{Decides}
 use Rattle.std.specs.Prelude.{◌⊎◌}
 use Rattle.heap_model.specs.Memory.{Memory, IsWithin}
 use Rattle.heap_model.specs.Chunk.{Chunk, free, movable, fixed, need, total, SpelledAll}
-use Rattle.heap_model.specs.Slots.{HasTable, slot_count, table_end, head_end, area_start, start_behind, slots_in_row, slots_of, first_slots, StandsBehind, IsSlot, is_slot}
-use Rattle.heap_model.specs.Heap.{Tiles, IsCallersIfFixed, IsHeap}
+use Rattle.heap_model.specs.Slots.{HasTable, slot_count, table_end, head_end, area_start, start_behind, slots_in_row, slots_of, slots_total, first_slots, StandsBehind, IsSlot, is_slot}
+use Rattle.heap_model.specs.Heap.{IsHead, Tiles, IsCallersIfFixed, IsHeap}
 use Rattle.heap_model.specs.Meaning.{LiveChunk, NamedHere}
 use Rattle.heap_model.specs.Placed.{EveryPlaced, EveryOne}
 use Rattle.heap_model.specs.Space.{AllFree}
@@ -106,16 +106,16 @@ stands_there image slot k s =
     let count = s.before in
     omega arith
 
-pub stands_below : (image : List ℕ) (slot k : ℕ) → StandsBehind image slot k → k < slot_count image
+pub stands_below : (image : List ℕ) (slot k : ℕ) → StandsBehind image slot k → k < slots_total image
 stands_below image slot k s =
-    let all : length (s.front ++ slot ∷ s.rest) ≡ slot_count image = sym (ap length s.parts) ∙ length-slots_of image in
+    let all : length (s.front ++ slot ∷ s.rest) ≡ slots_total image = sym (ap length s.parts) in
     let parts = length-append s.front (slot ∷ s.rest) in
     let count = s.before in
     omega arith
 
 -- what stands in the list is a slot
 pub stands_slot : (image : List ℕ) (slot k : ℕ) → StandsBehind image slot k → IsSlot image slot
-stands_slot image slot k s = subst (λ (t : ℕ). IsSlot image t) (sym (stands_there image slot k s)) (slot_of_number image k (stands_below image slot k s))
+stands_slot image slot k s = subst (λ (t : ℕ). IsSlot image t) (sym (stands_there image slot k s)) (slot_of_number image k (let below = stands_below image slot k s in let total = length-slots_of image in omega arith))
 
 -- a slot lies within a memory that has the table
 pub slot_within : (memory : Memory) (slot : ℕ) → HasTable memory → IsSlot memory.bytes slot → IsWithin memory slot 4
@@ -139,11 +139,11 @@ same_number image slot j k a b = let left = stands_there image slot j a in let r
 pub same_slot : (image : List ℕ) (slot other k : ℕ) → StandsBehind image slot k → StandsBehind image other k → slot ≡ other
 same_slot image slot other k a b = stands_there image slot k a ∙ sym (stands_there image other k b)
 
--- each number below the count has a slot
-pub number_stands : (image : List ℕ) (k : ℕ) → k < slot_count image → (slot : ℕ) × StandsBehind image slot k
-number_stands image k below = (16 + 4 * k, stands_number image k below)
+-- each number below how many there are has a slot
+pub number_stands : (image : List ℕ) (k : ℕ) → k < slots_total image → (slot : ℕ) × StandsBehind image slot k
+number_stands image k below = (16 + 4 * k, stands_number image k (let total = length-slots_of image in omega arith))
 
--- two images with as many slots have the same
+-- two images whose heads say as many have the same
 pub same_slots : (old new : List ℕ) → slot_count new ≡ slot_count old → slots_of new ≡ slots_of old
 unfolding slots_of
 same_slots old new count = ap (slots_in_row 16) count
@@ -168,8 +168,8 @@ first_slots-more image slot k s =
     ∙ take_front s.front s.rest slot
     ∙ ap (λ (xs : List ℕ). xs ++ slot ∷ []) (sym (first_slots-front image slot k s))
 
-pub first_slots-all : (image : List ℕ) (k : ℕ) → slot_count image ≤ k → first_slots image k ≡ slots_of image
-first_slots-all image k most = let count = length-slots_of image in take_all k (slots_of image) (omega arith)
+pub first_slots-all : (image : List ℕ) (k : ℕ) → slots_total image ≤ k → first_slots image k ≡ slots_of image
+first_slots-all image k most = take_all k (slots_of image) most
 
 each_first : (P : ℕ → Type 0) (k : ℕ) (xs front rest : List ℕ) (x : ℕ) → xs ≡ front ++ x ∷ rest → length front < k → EveryOne P (take k xs) → P x
 each_first P zero xs front rest x parts below every = absurd (omega arith)
@@ -291,16 +291,23 @@ slot_no_fixed slot at size (inr back) is = let place = fixed_place at in absurd 
 
 -- ---- where the chunks begin
 
+-- the table lies in front of them
+pub head_table : (image : List ℕ) → IsHead image → table_end image ≤ length image
+head_table image h = let fits = h.a_chunk_fits in omega arith
+
 pub start_counted : (image : List ℕ) (count : ℕ) → slot_count image ≡ count → area_start image ≡ start_behind count
 start_counted image count is = ap start_behind is
 
 -- ---- in two images
 
--- where they have as many, their chunks begin at one offset
+-- where their heads say as many, their chunks begin at one offset
 pub start_alike : (old new : List ℕ) → slot_count new ≡ slot_count old → area_start new ≡ area_start old
 start_alike old new count = start_counted new (slot_count old) count
 
 -- where they have the same slots
+pub start_listed : (old new : List ℕ) → slots_of new ≡ slots_of old → area_start new ≡ area_start old
+start_listed old new same = start_alike old new (sym (length-slots_of new) ∙ ap length same ∙ length-slots_of old)
+
 pub slot_alike : (old new : List ℕ) (slot : ℕ) → slots_of new ≡ slots_of old → IsSlot old slot → IsSlot new slot
 slot_alike old new slot same s =
     let k = slot_stands old slot s in

@@ -2,7 +2,7 @@
 use Rattle.std.specs.Prelude.{◌≡◌, ◌≤◌, ◌<◌, ◌+◌, ◌%◌, ◌++◌, ◌↔◌, ℕ, Bool, List, ◌∷◌, length, count_by, true, Some, None}
 use Rattle.std.specs.Option.{is_none}
 use Rattle.heap_model.specs.Chunk.{Chunk, movable, need, Spelled}
-use Rattle.heap_model.specs.Slots.{IsSlot, slot_count, slots_of, area_start}
+use Rattle.heap_model.specs.Slots.{IsSlot, slots_of, area_start}
 use Rattle.heap_model.specs.Placed.{EveryOne}
 use Rattle.heap_model.specs.Heap.{Tiles, IsBody, Tied, HeapAccepted}
 use Rattle.heap_model.specs.Meaning.{ChunkMap, Holds}
@@ -109,10 +109,10 @@ OwnRoomCounts =
     (image : List ℕ) (before front : List Chunk) (bytes : List ℕ) (owner slot : ℕ) (back after : List Chunk) (size : ℕ) → HeapAccepted image → WholeStretch image before (front ++ movable bytes 0 owner slot ∷ back) after
     → ShortFor image slot size ↔ (Short image size × (room_of (front ++ back) + need (length bytes) < size))
 
--- where accepted heaps of one size, with as many slots, hold the same, as much is free in them
+-- where accepted heaps of one size, with the same slots, hold the same, as much is free in them
 abbrev pub HeldTellsFree : Type 0
 HeldTellsFree =
-    (image other : List ℕ) → HeapAccepted image → HeapAccepted other → length other ≡ length image → slot_count other ≡ slot_count image → ((name : ℕ) → held other name ≡ held image name)
+    (image other : List ℕ) → HeapAccepted image → HeapAccepted other → length other ≡ length image → slots_of other ≡ slots_of image → ((name : ℕ) → held other name ≡ held image name)
     → (free_total other ≡ free_total image) × (free_slots other ≡ free_slots image)
 
 -- a slot is empty where it names nothing

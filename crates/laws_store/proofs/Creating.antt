@@ -10,7 +10,7 @@ use Rattle.std.specs.Prelude.{count_by}
 use Rattle.std.specs.Option.{is_none}
 use Rattle.heap_model.specs.Bytes.{u32_at, u32_bytes}
 use Rattle.heap_model.specs.Chunk.{Chunk, free, movable, fixed, Spelled}
-use Rattle.heap_model.specs.Slots.{slot_count, slots_in_row, slots_of, area_start}
+use Rattle.heap_model.specs.Slots.{slots_of, area_start}
 use Rattle.heap_model.specs.Heap.{IsCallersIfFixed, HeapAccepted}
 use Rattle.heap_model.specs.Placed.{EveryPlaced}
 use Rattle.heap_model.specs.Meaning.{LiveChunk, NamedHere}
@@ -19,9 +19,9 @@ use Rattle.heap_model.specs.Space.{rooms, free_slots, Short}
 use Rattle.heap_model.specs.Lists.{same, times, numbered, u32s_in}
 use Rattle.heap_model.specs.Rooms.{Lowers, makes, Stuck}
 use Rattle.byteorder.specs.Numbers.{big_from-take}
-use Rattle.laws_heap.proofs.Slots.{same_slots}
 use Rattle.laws_heap.proofs.Placed.{EveryPlaced-split}
 use Rattle.laws_heap.proofs.Finding.{read_heap, held_finds, finds_spelled}
+use Rattle.laws_heap.proofs.Slots.{same_number}
 use Rattle.laws_heap.proofs.FixedNames.{fixed_live_is}
 use Rattle.laws_heap.proofs.Compacting.{free_slots_held}
 use Rattle.laws_store.proofs.Numbers.{numbered_more, big_from-behind}
@@ -122,32 +122,47 @@ count_apart f g s (x ∷ xs) alike =
       at_most_one true = omega arith
       at_most_one false = omega arith
 
-none_earlier : (first count slot : ℕ) → slot < first → times slot (slots_in_row first count) ≡ 0
-none_earlier first zero slot less = refl
-none_earlier first (suc count) slot less =
-    let ih = none_earlier (first + 4) count slot (omega arith) in
-    let cons = times-cons slot first (slots_in_row (first + 4) count) in
-    let no = same-no first slot (λ e. omega arith) in
-    omega arith
+-- what stands in front alone stands no more
+none_behind : (x : ℕ) (done xs : List ℕ) → ((front rest : List ℕ) → done ++ xs ≡ front ++ x ∷ rest → length front < length done) → times x xs ≡ 0
+none_behind x done [] front_alone = refl
+none_behind x done (y ∷ xs) front_alone =
+    let cons = times-cons x y xs in
+    let long = length-append done (y ∷ []) in
+    elim (cases_eq y x) [
+      | inl e ↦ absurd (let low = front_alone done xs (ap (λ (n : ℕ). done ++ n ∷ xs) e) in omega arith)
+      | inr other ↦
+          let no = same-no y x other in
+          let ih = none_behind x (done ++ y ∷ []) xs (λ front rest parts. let low = front_alone front rest (sym (append_assoc done (y ∷ []) xs) ∙ parts) in omega arith) in
+          omega arith
+    ]
 
-one_in_row : (first count slot : ℕ) → times slot (slots_in_row first count) ≤ 1
-one_in_row first zero slot = omega arith
-one_in_row first (suc count) slot =
-    let cons = times-cons slot first (slots_in_row (first + 4) count) in
-    elim (cases_eq first slot) [
-      | inl e ↦ let one = same-yes first slot e in let none = none_earlier (first + 4) count slot (omega arith) in omega arith
-      | inr other ↦ let no = same-no first slot other in let ih = one_in_row (first + 4) count slot in omega arith
+-- what stands in one place alone is there once
+once_there : (x : ℕ) (done xs : List ℕ) → ((front rest fore rear : List ℕ) → done ++ xs ≡ front ++ x ∷ rest → done ++ xs ≡ fore ++ x ∷ rear → length front ≡ length fore) → times x xs ≤ 1
+once_there x done [] one = omega arith
+once_there x done (y ∷ xs) one =
+    let cons = times-cons x y xs in
+    let long = length-append done (y ∷ []) in
+    let regroup : (done ++ y ∷ []) ++ xs ≡ done ++ y ∷ xs = append_assoc done (y ∷ []) xs in
+    elim (cases_eq y x) [
+      | inl e ↦
+          let yes = same-yes y x e in
+          let none = none_behind x (done ++ y ∷ []) xs (λ front rest parts. let level = one done xs front rest (ap (λ (n : ℕ). done ++ n ∷ xs) e) (sym regroup ∙ parts) in omega arith) in
+          omega arith
+      | inr other ↦
+          let no = same-no y x other in
+          let ih = once_there x (done ++ y ∷ []) xs (λ front rest fore rear a b. one front rest fore rear (sym regroup ∙ a) (sym regroup ∙ b)) in
+          omega arith
     ]
 
 one_slot : (image : List ℕ) (slot : ℕ) → times slot (slots_of image) ≤ 1
-unfolding slots_of
-one_slot image slot = one_in_row 16 (slot_count image) slot
+one_slot image slot = once_there slot [] (slots_of image) (λ front rest fore rear a b.
+    same_number image slot (length front) (length fore) (record { front = front; rest = rest; parts = a; before = refl }) (record { front = fore; rest = rear; parts = b; before = refl }))
 
 -- where one name alone stands for something else, at most one slot more was free
-pub slots_made : (old new : List ℕ) (name : ℕ) → HeapAccepted old → HeapAccepted new → slot_count new ≡ slot_count old → ((other : ℕ) → other ≢ name → held new other ≡ held old other) → free_slots old ≤ free_slots new + 1
-slots_made old new name was is count others =
+pub slots_made : (old new : List ℕ) (name : ℕ) → HeapAccepted old → HeapAccepted new → slots_of new ≡ slots_of old → ((other : ℕ) → other ≢ name → held new other ≡ held old other) → free_slots old ≤ free_slots new + 1
+slots_made old new name was is slots others =
     let before = free_slots_held old was in
-    let after = free_slots_held new is ∙ ap (count_by (λ slot. is_none (held new slot))) (same_slots old new count) in
+    let after = free_slots_held new is ∙ ap (count_by (λ slot. is_none (held new slot))) slots in
     let apart = count_apart (λ slot. is_none (held old slot)) (λ slot. is_none (held new slot)) name (slots_of old) (λ x other. ap is_none (sym (others x other))) in
     let once = one_slot old name in
     omega arith

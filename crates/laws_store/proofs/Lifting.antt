@@ -1,6 +1,6 @@
 -- The memory manager's calls are steps of a store: what they do to all that is held, they do to what
 -- callers may name.
-use Rattle.std.proofs.Common.{◌≡◌, ◌≢◌, ℕ, Bool, true, false, Option, Some, None, replicate, refl, sym, ap, ◌∙◌, inl}
+use Rattle.std.proofs.Common.{◌≡◌, ◌≢◌, ℕ, Bool, true, false, Option, Some, None, length, replicate, refl, sym, ap, ◌∙◌, inl}
 use Rattle.std.proofs.lemmas.Bool.{ne_eqb}
 use Rattle.std.specs.Prelude.{◌==◌, ◌+◌, ◌-◌, if◌then◌else◌}
 use Rattle.heap_model.specs.Memory.{Memory}
@@ -141,7 +141,7 @@ memory_call_steps old new call reply a d =
           (λ n p. (effect_lifts old new call reply n p, stored)) d.step;
       accepted = accepted_with new.bytes (databases old.bytes) has;
       len = d.frame.len;
-      count = d.frame.count;
+      count = ap length d.frame.slots;
       directory = inl d.frame.directory;
       still = d.still;
       asks = d.asks;

@@ -5,7 +5,7 @@ use Rattle.std.proofs.lemmas.Bool.{eq-eqb}
 use Rattle.std.proofs.lemmas.Bool.Decides.{nat_tests}
 use Rattle.std.proofs.lemmas.List.Sums.{sum_by_push, sum_by-append, sum_by-cons}
 use Rattle.heap_model.specs.Bytes.{u32_at}
-use Rattle.heap_model.specs.Slots.{slot_count, first_slots, StandsBehind}
+use Rattle.heap_model.specs.Slots.{slots_total, first_slots, StandsBehind}
 use Rattle.heap_model.specs.Placed.{EveryOne}
 use Rattle.heap_model.specs.Space.{free_slots}
 use Rattle.laws_heap.proofs.Slots.{first_slots-more, first_slots-all, number_stands}
@@ -35,7 +35,7 @@ empty_more image slot k count s e z = let more = one_more image slot k s in let 
 pub empty_same : (image : List ℕ) (slot k count : ℕ) → StandsBehind image slot k → count ≡ empty_before image k → u32_at image slot ≢ 0 → count ≡ empty_before image (k + 1)
 empty_same image slot k count s e used = let more = one_more image slot k s in let none = used_none image slot used in omega arith
 
-pub empty_all : (image : List ℕ) (k : ℕ) → slot_count image ≤ k → empty_before image k ≡ free_slots image
+pub empty_all : (image : List ℕ) (k : ℕ) → slots_total image ≤ k → empty_before image k ≡ free_slots image
 empty_all image k most = ap (count_by (λ slot. u32_at image slot == 0)) (first_slots-all image k most)
 
 -- none is empty where all are used
@@ -47,7 +47,7 @@ none_empty image (slot ∷ slots) used =
     let rest = none_empty image slots used.1 in
     omega arith
 
-pub none_free : (image : List ℕ) (k : ℕ) → slot_count image ≤ k → UsedBefore image k → free_slots image ≡ 0
+pub none_free : (image : List ℕ) (k : ℕ) → slots_total image ≤ k → UsedBefore image k → free_slots image ≡ 0
 none_free image k most used = sym (empty_all image k most) ∙ none_empty image (first_slots image k) used
 
 -- an empty slot is free
@@ -64,6 +64,6 @@ pub counted_some : (image : List ℕ) (k count : ℕ) (found : Option EmptySlot)
 counted_some image k count None e is counted = absurd cc
 counted_some image k count (Some free) e is counted = empty_more image free.name.0 k count e.stands counted e.empty
 
-pub counted_none : (image : List ℕ) (k count : ℕ) (found : Option EmptySlot) → k < slot_count image → IfNone found (IsUsedAt image k) → is_some found ≡ false → count ≡ empty_before image k → count ≡ empty_before image (k + 1)
+pub counted_none : (image : List ℕ) (k count : ℕ) (found : Option EmptySlot) → k < slots_total image → IfNone found (IsUsedAt image k) → is_some found ≡ false → count ≡ empty_before image k → count ≡ empty_before image (k + 1)
 counted_none image k count None below used is counted = let s = number_stands image k below in empty_same image s.0 k count s.1 counted (used s.0 s.1)
 counted_none image k count (Some free) below used is counted = absurd cc

@@ -1,15 +1,24 @@
 -- Slots by their numbers, and which of them are in use before and after a change.
-use Rattle.std.proofs.Common.{◌≡◌, ◌≢◌, ℕ, ◌+◌, ◌*◌, ◌<◌, ◌≤◌, List, take, sym, ap, subst, ◌∙◌, arith}
+use Rattle.std.proofs.Common.{◌≡◌, ◌≢◌, ℕ, ◌+◌, ◌*◌, ◌<◌, ◌≤◌, List, take, sym, ap, subst, ◌∙◌, arith, inl, inr}
+use Rattle.std.specs.Prelude.{◌⊎◌}
 use Rattle.heap_model.specs.Bytes.{u32_at}
-use Rattle.heap_model.specs.Slots.{IsSlot, slot_count, slots_of, first_slots, StandsBehind}
+use Rattle.heap_model.specs.Slots.{IsSlot, slots_of, slots_total, first_slots, StandsBehind}
 use Rattle.heap_model.specs.Placed.{EveryOne}
-use Rattle.laws_heap.proofs.Slots.{stands_number, stands_slot, number_stands, same_number, each_first_slot, every_first_slot, every_first-more}
+use Rattle.laws_heap.proofs.Slots.{length-slots_of, stands_number, stands_there, stands_below, slot_stands, stands_slot, number_stands, same_number, each_first_slot, every_first_slot, every_first-more}
 use Rattle.master_table.specs.declared.table.EmptySlot.{EmptySlot}
 use Rattle.master_table.specs.Table.{IsEmptyAt, IsUsedAt, UsedBefore, NotAmong, IsFirstEmpty}
 
 -- the slot of a number, by its offset
-pub stands_at : (image : List ℕ) (slot k count : ℕ) → count ≡ slot_count image → k < count → slot ≡ 16 + 4 * k → StandsBehind image slot k
-stands_at image slot k count is below there = subst (λ (s : ℕ). StandsBehind image s k) (sym there) (stands_number image k (omega arith))
+pub stands_at : (image : List ℕ) (slot k count : ℕ) → count ≡ slots_total image → k < count → slot ≡ 16 + 4 * k → StandsBehind image slot k
+stands_at image slot k count is below there = subst (λ (s : ℕ). StandsBehind image s k) (sym there) (stands_number image k (let total = length-slots_of image in omega arith))
+
+-- no slot stands in front of the table, nor behind it
+pub none_outside : (image : List ℕ) (slot count : ℕ) → count ≡ slots_total image → (slot < 16) ⊎ (16 + 4 * count ≤ slot) → IsSlot image slot → ⊥
+none_outside image slot count is outside s =
+    let k = slot_stands image slot s in
+    let there = stands_there image slot k.0 k.1 in
+    let below = stands_below image slot k.0 k.1 in
+    elim outside [ inl low ↦ absurd (omega arith) | inr high ↦ absurd (omega arith) ]
 
 -- the first empty one, where those before it are in use
 pub first_empty : (image : List ℕ) (number : ℕ) (free : EmptySlot) → IsEmptyAt image number free → UsedBefore image number → IsFirstEmpty image free.name.0 free.before
@@ -22,7 +31,7 @@ pub used_none : (image : List ℕ) → UsedBefore image 0
 used_none image = tt
 
 -- one more is in use
-pub used_more : (image : List ℕ) (k : ℕ) → k < slot_count image → UsedBefore image k → IsUsedAt image k → UsedBefore image (k + 1)
+pub used_more : (image : List ℕ) (k : ℕ) → k < slots_total image → UsedBefore image k → IsUsedAt image k → UsedBefore image (k + 1)
 used_more image k below used here =
     let s = number_stands image k below in
     every_first-more (λ slot. u32_at image slot ≢ 0) image s.0 k s.1 used (here s.0 s.1)

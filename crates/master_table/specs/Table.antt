@@ -2,7 +2,7 @@
 use Rattle.std.specs.Prelude.{◌≡◌, ◌≢◌, ◌<◌, ℕ, List}
 use Rattle.heap_model.specs.Bytes.{u32_at}
 use Rattle.heap_model.specs.Placed.{EveryOne}
-use Rattle.heap_model.specs.Slots.{IsSlot, StandsBehind, slot_count, first_slots}
+use Rattle.heap_model.specs.Slots.{IsSlot, StandsBehind, slots_total, first_slots}
 use Rattle.master_table.specs.declared.slots.Table.{Table}
 use Rattle.master_table.specs.declared.table.EmptySlot.{EmptySlot}
 
@@ -12,7 +12,7 @@ slots_of table = table.count
 
 -- this is what was read of the table of an image
 abbrev pub IsTable : List ℕ → Table → Type 0
-IsTable image table = slots_of table ≡ slot_count image
+IsTable image table = slots_of table ≡ slots_total image
 
 -- a slot stands there, and holds this place
 pub record HoldsPlace (image : List ℕ) (slot place : ℕ) : Type 0 where

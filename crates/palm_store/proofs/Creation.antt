@@ -55,7 +55,7 @@ header_put old mid new slot bytes h l w long =
     record {
       accepted = w.frame.accepted;
       len = w.frame.len ∙ l.len;
-      count = w.frame.count ∙ l.count;
+      count = ap length w.frame.slots ∙ l.count;
       still = still_through old mid new l.still w.still (λ name live e locked. l.others name (λ same_slot. fresh_there (held old name) live e (ap (held old) same_slot ∙ l.fresh))
           (λ directory. elim l.directory [
             | inl stays ↦ (let was : name ≡ directory_of old = directory ∙ stays in let some = l.some in absurd (loose_directory name live e locked was (omega arith)))
@@ -274,7 +274,7 @@ not_created old new name kind creator resources date refusal a named few free la
       step = (inr (λ not_name. not_name named, inr (free, inr ((λ many. below_most old.bytes room many), inl (lacks, is)))), record { store = has.same; free = as_much.0; slots = as_much.1 });
       accepted = has.accepted;
       len = l.frame.len;
-      count = l.frame.count;
+      count = ap length l.frame.slots;
       directory = inl l.frame.directory;
       still = l.still;
       asks = tt;

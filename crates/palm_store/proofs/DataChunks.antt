@@ -9,6 +9,7 @@ use Rattle.heap_model.specs.Reading.{held}
 use Rattle.heap_model.specs.Maps.{callers_map}
 use Rattle.heap_model.specs.Store.{owner_of, owner_under, data_owner}
 use Rattle.laws_heap.proofs.Placed.{EveryPlaced-split}
+use Rattle.laws_heap.proofs.FixedNames.{fixed_live_is}
 use Rattle.laws_heap.proofs.Finding.{read_heap, held_finds, finds_spelled, callers_some}
 use Rattle.mem_manager.specs.Lookup.{IsMovable}
 use Rattle.laws_store.proofs.Owners.{directory_owner}
@@ -36,7 +37,7 @@ not_fixed image at name live (movable bytes lock owner slot) own n callers s e =
     let low = s.2 in
     omega arith
 not_fixed image at name live (fixed bytes owner) own n callers s e =
-    let a : owner ≡ live.owner = ap (λ (l : LiveChunk). l.owner) n.1 in
+    let a : owner ≡ live.owner = ap (λ (l : LiveChunk). l.owner) (fixed_live_is at bytes owner n) in
     let high = callers.1 in
     absurd (omega arith)
 

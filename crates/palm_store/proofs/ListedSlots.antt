@@ -15,6 +15,7 @@ use Rattle.heap_model.specs.Space.{Still, place_under, free_slots, free_behind, 
 use Rattle.heap_model.specs.Maps.{changed, gone, put, sized}
 use Rattle.heap_model.specs.Store.{bytes_under, directory_bytes, owner_under, Accepted, listed}
 use Rattle.heap_model.specs.Leaving.{Leaves, NamesDirectory}
+use Rattle.laws_heap.proofs.Becoming.{same_frame, frame_then}
 use Rattle.laws_heap.proofs.Directory.{named_start}
 use Rattle.laws_heap.proofs.Frames.{length-u32_bytes}
 use Rattle.mem_manager.specs.Lookup.{MakesNew}
@@ -115,7 +116,7 @@ begun old first second new name slot word h none m l n is =
     record {
       accepted = n.accepted;
       len = n.len ∙ l.frame.len ∙ m.leaves.frame.len;
-      count = n.count ∙ l.frame.count ∙ m.leaves.frame.count;
+      count = ap length (n.slots ∙ l.frame.slots ∙ m.leaves.frame.slots);
       still = still_through old first new m.leaves.still
           (still_through first second new l.still (named_still second new name n) (kept_apart first second name (put_apart first second name 0 word l) (λ live e. lock_of first name (chunk_of (replicate 4 0)) live made refl e)))
           (made_kept old first name 4 m);
@@ -143,7 +144,7 @@ extended old first new directory slot size at word h some is at_is size_is s l w
     record {
       accepted = l.frame.accepted;
       len = l.frame.len ∙ s.frame.len;
-      count = l.frame.count ∙ s.frame.count;
+      count = ap length (l.frame.slots ∙ s.frame.slots);
       still = still_through old first new s.still l.still (kept_apart old first directory (sized_apart old first directory size s) (λ live e. lock_of old directory o.live live o.there loose e));
       some = omega arith;
       directory = inl word_stays;
@@ -167,7 +168,7 @@ listed_new old mid new slot size h m l =
     record {
       accepted = l.accepted;
       len = l.len ∙ m.leaves.frame.len;
-      count = l.count ∙ m.leaves.frame.count;
+      count = l.count ∙ ap length m.leaves.frame.slots;
       still = still_through old mid new m.leaves.still l.still (made_kept old mid slot size m);
       some = l.some;
       directory = elim l.directory [
@@ -208,7 +209,7 @@ few_bytes image a =
 -- ---- what a refusal leaves
 
 pub left_alone : (old new : List ℕ) → HeapAccepted old → new ≡ old → Leaves old new (held old)
-left_alone old new h e = subst (λ (image : List ℕ). Leaves old image (held old)) (sym e) (record { map = λ name. refl; frame = record { accepted = h; len = refl; count = refl; directory = refl }; still = λ name live is locked there. refl })
+left_alone old new h e = subst (λ (image : List ℕ). Leaves old image (held old)) (sym e) (record { map = λ name. refl; frame = same_frame old h; still = λ name live is locked there. refl })
 
 -- a chunk that was made is freed again
 pub given_back : (old mid new : List ℕ) (slot size : ℕ) → MakesNew old mid slot size 0 → Leaves mid new (gone (held mid) slot) → Leaves old new (held old)
@@ -217,7 +218,7 @@ given_back old mid new slot size m g = record {
     | inl e ↦ ap (held new) e ∙ g.map slot ∙ updated_here (held mid) slot None slot refl ∙ sym (ap (held old) e ∙ m.fresh)
     | inr ne ↦ g.map name ∙ updated_apart (held mid) slot None name ne ∙ made_apart old mid slot size m name ne
   ];
-  frame = record { accepted = g.frame.accepted; len = g.frame.len ∙ m.leaves.frame.len; count = g.frame.count ∙ m.leaves.frame.count; directory = g.frame.directory ∙ m.leaves.frame.directory };
+  frame = frame_then old mid new m.leaves.frame g.frame;
   still = still_through old mid new m.leaves.still g.still (made_kept old mid slot size m);
 }
 
@@ -262,7 +263,7 @@ no_listing old mid slot h m lowers lacks = by (directory_of old == 0) refl where
       let none : directory_of old ≡ 0 = is_zero (directory_of old) e in
       elim lacks [
         | inl begins ↦ elim begins.1 [
-          | inl slots ↦ (let made = slots_made old mid slot h m.leaves.frame.accepted m.leaves.frame.count (made_apart old mid slot header_size m) in inl (omega arith))
+          | inl slots ↦ (let made = slots_made old mid slot h m.leaves.frame.accepted m.leaves.frame.slots (made_apart old mid slot header_size m) in inl (omega arith))
           | inr short ↦ inr (made_then_none old mid (need header_size) (need 4) lowers short)
         ]
         | inr grows ↦ (let some = grows.0 in absurd (omega arith))

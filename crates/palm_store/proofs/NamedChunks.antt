@@ -17,6 +17,7 @@ use Rattle.heap_model.specs.Leaving.{Leaves}
 use Rattle.heap_model.specs.Database.{entry_data, data_in, database_in, entry_in, entry_count_in, resources_in, entry_offset, IsSpelled}
 use Rattle.heap_model.specs.Store.{bytes_under, owner_under, database_under, Accepted}
 use Rattle.heap_model.specs.StoreWords.{all_gone}
+use Rattle.laws_heap.proofs.Becoming.{same_frame, frame_then}
 use Rattle.laws_heap.proofs.Finding.{callers_some}
 use Rattle.laws_heap.proofs.Meanings.{held-zero}
 use Rattle.laws_store.proofs.Listing.{same-yes, same-no, times-cons, times-append, times-some}
@@ -106,7 +107,7 @@ none_gone chunks names name none = elim (cases_eq (times name names) 0) [
 -- ---- chunks that are freed
 
 pub freed_none : (image : List ℕ) → HeapAccepted image → Leaves image image (all_gone (held image) [])
-freed_none image h = record { map = λ name. refl; frame = record { accepted = h; len = refl; count = refl; directory = refl }; still = λ name live e locked there. refl }
+freed_none image h = record { map = λ name. refl; frame = same_frame image h; still = λ name live e locked there. refl }
 
 pub freed_one : (old new : List ℕ) (slot : ℕ) → Leaves old new (gone (held old) slot) → Leaves old new (all_gone (held old) (slot ∷ []))
 freed_one old new slot l = record {
@@ -142,7 +143,7 @@ freed_more old mid new first second l m = record {
             let none : held mid name ≡ None = is_gone old mid first name l (omega arith) in
             m.map name ∙ none_gone (held mid) second name none ∙ sym (gone_in (held old) (first ++ second) name (omega arith))
       ]);
-  frame = record { accepted = m.frame.accepted; len = m.frame.len ∙ l.frame.len; count = m.frame.count ∙ l.frame.count; directory = m.frame.directory ∙ l.frame.directory };
+  frame = frame_then old mid new l.frame m.frame;
   still = λ name live e locked there. elim (cases_eq (times name first) 0) [
     | inl out ↦
         let stays : held mid name ≡ Some live = kept old mid first name l out ∙ e in

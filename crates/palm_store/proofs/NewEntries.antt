@@ -19,6 +19,7 @@ use Rattle.heap_model.specs.Leaving.{Leaves, Respells, rewritten, SpellsHere, da
 use Rattle.heap_model.specs.EntrySteps.{entries_in, resources_under, with_entry_at, entry_made, raised, LeavesStore}
 use Rattle.heap_model.specs.StoreSteps.{StoreAsBefore}
 use Rattle.heap_model.specs.declared.names.Db.{Db}
+use Rattle.laws_heap.proofs.Becoming.{frame_then}
 use Rattle.laws_heap.proofs.Holding.{as_before}
 use Rattle.mem_manager.specs.Lookup.{MakesNew}
 use Rattle.laws_store.specs.Entries.{HasNewId}
@@ -128,7 +129,7 @@ given_back old mid new name size m g = record {
     | inl e ↦ g.map other ∙ updated_here (held mid) name None other e ∙ sym (ap (held old) e ∙ m.fresh)
     | inr ne ↦ g.map other ∙ updated_apart (held mid) name None other ne ∙ m.leaves.map other ∙ updated_apart (held old) name (chunk_made size) other ne
   ];
-  frame = record { accepted = g.frame.accepted; len = g.frame.len ∙ m.leaves.frame.len; count = g.frame.count ∙ m.leaves.frame.count; directory = g.frame.directory ∙ m.leaves.frame.directory };
+  frame = frame_then old mid new m.leaves.frame g.frame;
   still = still_between old mid new m.leaves.still g.still (λ other live e locked there. elim (cases_eq other name) [
     | inl is ↦ absurd (no_both (held old name) live m.fresh (ap (held old) (sym is) ∙ e))
     | inr ne ↦ (live, m.leaves.map other ∙ updated_apart (held old) name (chunk_made size) other ne ∙ e, locked)

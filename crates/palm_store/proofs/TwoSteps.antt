@@ -14,6 +14,7 @@ use Rattle.heap_model.specs.Database.{Database, spelled, database_in}
 use Rattle.heap_model.specs.Leaving.{Leaves, Respells, rewritten, database_here}
 use Rattle.heap_model.specs.EntrySteps.{MakesNone}
 use Rattle.laws_heap.proofs.Deciding.{none_some}
+use Rattle.laws_heap.proofs.Becoming.{same_frame, frame_then}
 use Rattle.laws_heap.proofs.Meanings.{held-zero}
 use Rattle.laws_store.proofs.Keeping.{bytes_like}
 use Rattle.laws_store.proofs.Edited.{edited, here as updated_here, apart as updated_apart}
@@ -38,7 +39,7 @@ edited_apart map db name other bytes now ne away = updated_apart (rewritten map 
 -- ---- the frame, and what stays
 
 frames : (old mid new : List ℕ) → SameFrame old mid → SameFrame mid new → SameFrame old new
-frames old mid new one two = record { accepted = two.accepted; len = two.len ∙ one.len; count = two.count ∙ one.count; directory = two.directory ∙ one.directory }
+frames = frame_then
 
 -- what is locked is so in between, if it is there in the end
 abbrev pub KeptBetween : List ℕ → List ℕ → List ℕ → Type 0
@@ -114,6 +115,6 @@ none_freed image name h zero_is = record {
     | inl e ↦ ap (held image) (e ∙ zero_is) ∙ held-zero image h ∙ sym (updated_here (held image) name None other e)
     | inr ne ↦ sym (updated_apart (held image) name None other ne)
   ];
-  frame = record { accepted = h; len = refl; count = refl; directory = refl };
+  frame = same_frame image h;
   still = λ other live e locked there. refl;
 }

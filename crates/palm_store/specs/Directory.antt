@@ -3,7 +3,7 @@
 use Rattle.std.specs.Prelude.{◌≡◌, ◌≢◌, ◌<◌, ◌+◌, ◌*◌, ◌++◌, ◌⊎◌, ℕ, List, length, take, drop, None, Some}
 use Rattle.heap_model.specs.Bytes.{u32_bytes}
 use Rattle.heap_model.specs.Chunk.{need}
-use Rattle.heap_model.specs.Slots.{slot_count}
+use Rattle.heap_model.specs.Slots.{slots_total}
 use Rattle.heap_model.specs.Heap.{HeapAccepted, directory_of}
 use Rattle.heap_model.specs.Reading.{held}
 use Rattle.heap_model.specs.Space.{Still, ShortFor}
@@ -16,7 +16,7 @@ use Rattle.mem_manager.specs.Lookup.{HasNoRoomFor}
 pub record ListsLast (old new : List ℕ) (slot : ℕ) : Type 0 where
   pub accepted : HeapAccepted new
   pub len : length new ≡ length old
-  pub count : slot_count new ≡ slot_count old
+  pub count : slots_total new ≡ slots_total old
   pub still : Still old new
   pub some : 0 < directory_of new
   pub directory : (directory_of new ≡ directory_of old) ⊎ ((directory_of old ≡ 0) × (held old (directory_of new) ≡ None))
@@ -28,7 +28,7 @@ pub record ListsLast (old new : List ℕ) (slot : ℕ) : Type 0 where
 pub record ListsNew (old new : List ℕ) (slot : ℕ) (bytes : List ℕ) : Type 0 where
   pub accepted : HeapAccepted new
   pub len : length new ≡ length old
-  pub count : slot_count new ≡ slot_count old
+  pub count : slots_total new ≡ slots_total old
   pub still : Still old new
   pub some : 0 < directory_of new
   pub directory : (directory_of new ≡ directory_of old) ⊎ ((directory_of old ≡ 0) × (held old (directory_of new) ≡ None))
@@ -50,7 +50,7 @@ HasNoRoomToList image =
 pub record Unlists (old new : List ℕ) (index : ℕ) : Type 0 where
   pub accepted : HeapAccepted new
   pub len : length new ≡ length old
-  pub count : slot_count new ≡ slot_count old
+  pub count : slots_total new ≡ slots_total old
   pub directory : directory_of new ≡ directory_of old
   pub still : Still old new
   pub others : (name : ℕ) → name ≢ directory_of old → held new name ≡ held old name

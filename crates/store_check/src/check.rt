@@ -1,7 +1,7 @@
 //! The check of a whole image.
 
 ghost use Rattle.std.specs.Prelude.{◌≡◌, ◌≤◌, ◌*◌, ◌⊎◌, [], ◌∷◌, List, length, IfOk, IfErr, OnOk};
-ghost use Rattle.heap_model.specs.Slots.{slot_count as model_count};
+ghost use Rattle.heap_model.specs.Slots.{slots_total};
 ghost use Rattle.heap_model.specs.Bytes.{AreBytes};
 ghost use Rattle.heap_model.specs.Heap.{HeapAccepted, directory_of};
 ghost use Rattle.heap_model.specs.Store.{directory_bytes, listed, Accepted};
@@ -115,7 +115,7 @@ fn marks_for<A: Allowance>(memory: &A, slots: u16) -> Result<Vec<u8>, AllocError
 /// Looks for the faults that are found by these marks for slots, none of which is set yet.
 fn check_with_marks(region: &Region, directory: &[u8], marks: &mut [u8]) -> Result<(), StoreFault>
     requires accepted { HeapAccepted region.now.bytes }
-    requires room { model_count region.now.bytes ≤ length marks.old }
+    requires room { slots_total region.now.bytes ≤ length marks.old }
     requires directory { directory.now ≡ directory_bytes region.now.bytes }
     requires clear { AreMarks region.now.bytes [] marks.old }
     ensures fault { IfErr result (FirstBrought (marked_faults region.now.bytes)) }
@@ -133,7 +133,7 @@ fn check_with_marks(region: &Region, directory: &[u8], marks: &mut [u8]) -> Resu
 /// marked too.
 fn check_listed(region: &Region, directory: &[u8], marks: &mut [u8]) -> Result<(), StoreFault>
     requires accepted { HeapAccepted region.now.bytes }
-    requires room { model_count region.now.bytes ≤ length marks.old }
+    requires room { slots_total region.now.bytes ≤ length marks.old }
     requires directory { directory.now ≡ directory_bytes region.now.bytes }
     requires marks { AreMarks region.now.bytes (directory_of region.now.bytes ∷ []) marks.old }
     ensures fault { IfErr result (FirstBrought (listed_faults region.now.bytes)) }
@@ -159,7 +159,7 @@ fn check_listed(region: &Region, directory: &[u8], marks: &mut [u8]) -> Result<(
 /// Looks for chunks that are named twice and for those that nothing names, where all that must be named
 /// is marked.
 fn check_chunks(region: &Region, marks: &[u8]) -> Result<(), StoreFault>
-    requires room { model_count region.now.bytes ≤ length marks.now }
+    requires room { slots_total region.now.bytes ≤ length marks.now }
     requires named { AreNamed region.now.bytes }
     requires marks { AreMarks region.now.bytes (accounted region.now.bytes) marks.now }
     ensures fault { IfErr result (FirstBrought (chunk_faults region.now.bytes)) }

@@ -1,7 +1,7 @@
 //! Chunks that are named twice, and those that nothing names.
 
 ghost use Rattle.std.specs.Prelude.{◌≤◌, length, IfSome, IfNone};
-ghost use Rattle.heap_model.specs.Slots.{slot_count};
+ghost use Rattle.heap_model.specs.Slots.{slots_total};
 ghost use Rattle.heap_check.specs.Faults.{FirstBrought};
 ghost use Rattle.store_check.specs.Faults.{shared_faults, stray_faults, NoneBrought};
 ghost use Rattle.store_check.specs.Naming.{AreNamed, accounted, AreMarks};
@@ -13,7 +13,7 @@ use raw_region::Region;
 
 /// The least slot that is named twice, where all that must be named is marked.
 pub(crate) fn find_shared(region: &Region, marks: &[u8]) -> Option<StoreFault>
-    requires room { slot_count region.now.bytes ≤ length marks.now }
+    requires room { slots_total region.now.bytes ≤ length marks.now }
     requires named { AreNamed region.now.bytes }
     requires marks { AreMarks region.now.bytes (accounted region.now.bytes) marks.now }
     ensures some { IfSome result (FirstBrought (shared_faults region.now.bytes)) }
@@ -30,7 +30,7 @@ pub(crate) fn find_shared(region: &Region, marks: &[u8]) -> Option<StoreFault>
 
 /// The least slot with a chunk that nothing names, where all that must be named is marked.
 pub(crate) fn find_stray(region: &Region, marks: &[u8]) -> Option<StoreFault>
-    requires room { slot_count region.now.bytes ≤ length marks.now }
+    requires room { slots_total region.now.bytes ≤ length marks.now }
     requires named { AreNamed region.now.bytes }
     requires marks { AreMarks region.now.bytes (accounted region.now.bytes) marks.now }
     ensures some { IfSome result (FirstBrought (stray_faults region.now.bytes)) }

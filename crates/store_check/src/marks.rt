@@ -2,7 +2,7 @@
 
 ghost use Rattle.std.specs.Prelude.{◌≡◌, ◌≤◌, ◌<◌, ◌↔◌, ℕ, [], ◌∷◌, List, length, IsTrue, IfOk};
 ghost use Rattle.heap_model.specs.Frame.{HasFrame};
-ghost use Rattle.heap_model.specs.Slots.{IsSlot, slot_count};
+ghost use Rattle.heap_model.specs.Slots.{IsSlot, slots_total};
 ghost use Rattle.heap_model.specs.Lists.{times};
 ghost use Rattle.store_check.specs.Naming.{AreMarks, AddsMarks, HasNoMarks};
 
@@ -24,7 +24,7 @@ pub(crate) fn no_marks(alloc: Global, slots: u16) -> Result<Vec<u8>, AllocError>
 #[inline]
 pub(crate) fn mark(region: &Region, slot: u32, marks: &mut [u8])
     requires frame { HasFrame region.now }
-    requires room { slot_count region.now.bytes ≤ length marks.old }
+    requires room { slots_total region.now.bytes ≤ length marks.old }
     ensures { AddsMarks region.now.bytes (slot ∷ []) marks.old marks.new }
 {
     if let Some(number) = slots_before(region, Name(slot)) {
@@ -39,7 +39,7 @@ pub(crate) fn mark(region: &Region, slot: u32, marks: &mut [u8])
 pub(crate) fn is_marked(region: &Region, slot: u32, marks: &[u8]) -> bool
     requires frame { HasFrame region.now }
     requires slot { IsSlot region.now.bytes slot }
-    requires room { slot_count region.now.bytes ≤ length marks.now }
+    requires room { slots_total region.now.bytes ≤ length marks.now }
     ensures { (xs : List ℕ) → AreMarks region.now.bytes xs marks.now
         → (IsTrue result ↔ (0 < times slot xs)) }
 {

@@ -1,7 +1,7 @@
 //! The words of the directory: the slots of the headers.
 
 ghost use Rattle.std.specs.Prelude.{◌≡◌, ◌≤◌, ◌<◌, ◌*◌, ◌↔◌, [], ◌∷◌, length, IsTrue, IfSome, IfNone};
-ghost use Rattle.heap_model.specs.Slots.{slot_size, slot_count};
+ghost use Rattle.heap_model.specs.Slots.{slot_size, slots_total};
 ghost use Rattle.heap_model.specs.Heap.{HeapAccepted, directory_of};
 ghost use Rattle.heap_model.specs.Store.{directory_bytes, most_databases};
 ghost use Rattle.heap_check.specs.Faults.{FirstBrought};
@@ -21,7 +21,7 @@ use raw_region::Region;
 /// marked.
 fn is_bad_slot(region: &Region, directory: &[u8], index: usize, marks: &[u8]) -> bool
     requires accepted { HeapAccepted region.now.bytes }
-    requires room { slot_count region.now.bytes ≤ length marks.now }
+    requires room { slots_total region.now.bytes ≤ length marks.now }
     requires directory { directory.now ≡ directory_bytes region.now.bytes }
     requires inside { slot_size * index < length directory.now }
     requires few { index ≤ most_databases }
@@ -43,7 +43,7 @@ pub(crate) fn find_bad_slot(
     marks: &mut [u8],
 ) -> Option<StoreFault>
     requires accepted { HeapAccepted region.now.bytes }
-    requires room { slot_count region.now.bytes ≤ length marks.old }
+    requires room { slots_total region.now.bytes ≤ length marks.old }
     requires directory { directory.now ≡ directory_bytes region.now.bytes }
     requires marks { AreMarks region.now.bytes (directory_of region.now.bytes ∷ []) marks.old }
     ensures some { IfSome result (FirstBrought (slot_faults region.now.bytes)) }

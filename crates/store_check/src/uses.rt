@@ -2,7 +2,7 @@
 
 ghost use Rattle.std.specs.Prelude.{◌≤◌, length};
 ghost use Rattle.heap_model.specs.Frame.{HasFrame};
-ghost use Rattle.heap_model.specs.Slots.{slot_count};
+ghost use Rattle.heap_model.specs.Slots.{slots_total};
 ghost use Rattle.heap_model.specs.Database.{data_in, database_in};
 ghost use Rattle.heap_model.specs.Store.{named};
 ghost use Rattle.db_format.specs.Headers.{IsWhole};
@@ -18,7 +18,7 @@ use raw_region::Region;
 /// Marks what the entries behind a header name.
 fn mark_entries(region: &Region, header: &[u8], marks: &mut [u8])
     requires frame { HasFrame region.now }
-    requires room { slot_count region.now.bytes ≤ length marks.old }
+    requires room { slots_total region.now.bytes ≤ length marks.old }
     requires whole { IsWhole header.now }
     ensures { AddsMarks region.now.bytes (entry_slots header.now) marks.old marks.new }
 {
@@ -31,7 +31,7 @@ fn mark_entries(region: &Region, header: &[u8], marks: &mut [u8])
 /// Marks what a database names.
 fn mark_database(region: &Region, header: &[u8], marks: &mut [u8])
     requires frame { HasFrame region.now }
-    requires room { slot_count region.now.bytes ≤ length marks.old }
+    requires room { slots_total region.now.bytes ≤ length marks.old }
     requires whole { IsWhole header.now }
     ensures { AddsMarks region.now.bytes (data_in (database_in header.now)) marks.old marks.new }
 {
@@ -42,7 +42,7 @@ fn mark_database(region: &Region, header: &[u8], marks: &mut [u8])
 
 /// Marks what all databases name.
 pub(crate) fn mark_databases(region: &Region, directory: &[u8], marks: &mut [u8])
-    requires room { slot_count region.now.bytes ≤ length marks.old }
+    requires room { slots_total region.now.bytes ≤ length marks.old }
     requires listing { IsListing region.now.bytes directory.now }
     requires headers { HaveHeaders region.now.bytes }
     ensures { AddsMarks region.now.bytes (named region.now.bytes) marks.old marks.new }

@@ -1,6 +1,5 @@
-use Rattle.std.proofs.Common.{sym, ◌∙◌, refl}
+use Rattle.std.proofs.Common.{◌∙◌, refl}
 use Rattle.std.proofs.lemmas.Bool.{false≢true}
-use Rattle.laws_heap.proofs.Slots.{length-slots_of}
 use Rattle.heap_check.proofs.CheckLaws.{surveyed_mismatch, surveyed_without, surveyed_owner, passed_paired, passed_directory, passed_heap}
 use Rattle.heap_check.proofs.check.check_area.Goals as goal
 
@@ -31,4 +30,4 @@ returns-clause-accepted c =
 pub returns-clause-summary : goal.returns-clause-summary
 returns-clause-summary c =
     let s = c.in-Ok.ensures.surveyed.surveys in
-    record { size = c.len.ensures; slots = c.count.ensures ∙ c.of-table.ensures ∙ sym (length-slots_of c.args.region.now.bytes); movable = s.movable; fixed = s.fixed; free = s.free }
+    record { size = c.len.ensures; slots = c.count.ensures ∙ c.of-table.ensures; movable = s.movable; fixed = s.fixed; free = s.free }

@@ -1,6 +1,6 @@
 use Rattle.std.proofs.Common.{ℕ, ◌<◌, arith, sym, ap, subst, ◌∙◌}
 use Rattle.heap_model.specs.Bytes.{u32_at}
-use Rattle.heap_model.specs.Slots.{IsSlot, slot_count}
+use Rattle.heap_model.specs.Slots.{IsSlot, slots_total}
 use Rattle.laws_heap.proofs.Slots.{stands_slot}
 use Rattle.heap_check.specs.Survey.{IsHolder}
 use Rattle.heap_check.proofs.SlotLaws.{holds_true, holds_false, mark_set, mark_none}
@@ -12,7 +12,7 @@ returns-in-Some-clause-holds c =
 
 pub returns-in-Some-clause-marked : goal.returns-in-Some-clause-marked
 returns-in-Some-clause-marked c =
-    let below : c.in-Some.number < slot_count c.args.region.now.bytes = c.in-Some.ensures.below in
+    let below : c.in-Some.number < slots_total c.args.region.now.bytes = c.in-Some.ensures.below in
     mark_set c.args.region.now.bytes c.args.marks.now c.args.slot c.args.at c.in-Some.number c.in-Some.ensures.number c.in-Some.ensures.holds (omega arith)
 
 pub returns-in-None-clause-holds : goal.returns-in-None-clause-holds

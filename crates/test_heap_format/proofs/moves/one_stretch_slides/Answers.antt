@@ -20,7 +20,7 @@ returns-clause-packed c = record {
   chunks = refl;
   none_stays = tt;
   slid = record { same = refl; stay = refl; sizes = refl };
-  becomes = record { frame = record { accepted = (Decides-accepted front_packed).0 refl; len = refl; count = refl; directory = refl }; layout = refl };
+  becomes = record { frame = record { accepted = (Decides-accepted front_packed).0 refl; len = refl; slots = refl; directory = refl }; layout = refl };
 }
 
 pub returns-clause-not_two : goal.returns-clause-not_two

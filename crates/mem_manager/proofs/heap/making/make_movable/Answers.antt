@@ -12,6 +12,11 @@ returns-in_err-slot-clause-one_stretch c = itself_one c.args.space.now.bytes
 pub returns-in_err-slot-clause-once : goal.returns-in_err-slot-clause-once
 returns-in_err-slot-clause-once c = nothing_slides c.args.space.now c.requires.managed.accepted
 
+pub claim-requires-clause-slot : goal.claim-requires-clause-slot
+claim-requires-clause-slot c =
+    (first_slid c.args.space.now.bytes c.room_for.new.space.bytes c.in_ok-slot.slot.name.0 c.in_ok-slot.slot.before c.requires.managed.accepted c.room_for.ensures.slides
+    (as_first c.args.space.now c.region.result.now c.first_empty_slot.result c.in_ok-slot.slot c.region.ensures c.in_ok-slot.ensures.ok_part c.first_empty_slot.ensures.some)).is_slot
+
 pub claim-requires-clause-empty : goal.claim-requires-clause-empty
 claim-requires-clause-empty c =
     (first_slid c.args.space.now.bytes c.room_for.new.space.bytes c.in_ok-slot.slot.name.0 c.in_ok-slot.slot.before c.requires.managed.accepted c.room_for.ensures.slides
