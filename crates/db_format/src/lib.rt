@@ -32,8 +32,8 @@ mod record_attributes;
 mod words;
 
 pub use body::{
-    MOST_DATABASES, app_info, attributes, entry_count, has_resources,
-    is_whole, modification_number, seed, sort_info,
+    MOST_DATABASES, app_info, attributes, entry_count, has_resources, is_whole,
+    modification_number, seed, sort_info,
 };
 pub use database_attributes::DbAttrs;
 pub use db_entry::DbEntry;
