@@ -41,6 +41,8 @@ enum refusal {
     READ_ONLY = 13,
     INDEX_OUT_OF_RANGE,
     TOO_MANY_ENTRIES = 17,
+    INVALID_CATEGORY,
+    UNIQUE_ID_NOT_FOUND = 20,
 };
 
 /* An image that is an accepted heap. The slots of all numbers below `lowest` are in use. */

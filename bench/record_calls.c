@@ -30,8 +30,11 @@ enum {
 
 enum { MANAGER = 0, RESOURCES = 0x0001, ONLY_READ = 0x0002, MOST_ENTRIES = 65535 };
 
-/* The attributes of a new record: dirty and busy. */
-enum { NEW_ATTRIBUTES = 0x60 };
+/* The attributes of a new record, dirty and busy; the bits of a deleted one, and of the category. */
+enum { NEW_ATTRIBUTES = 0x60, DELETED = 0x80, CATEGORY = 0x0F };
+
+/* How many categories there are, and what stands for all of them where records are counted. */
+enum { CATEGORIES = 16, ALL_CATEGORIES = 0xFF };
 
 enum { GREATEST_ID = 0xFFFFFF };
 
@@ -217,6 +220,64 @@ static enum refusal record_info(const struct heap *heap, uint32_t db, uint32_t i
     return DONE;
 }
 
+static enum refusal find_by_id(const struct heap *heap, uint32_t db, uint32_t id, uint32_t *index)
+{
+    struct found found;
+    enum refusal refusal = find_readable(heap, db, &found);
+    if (refusal != DONE)
+        return refusal;
+    uint8_t *body = body_of(heap, &found);
+    uint32_t count = entries_in(body);
+    for (*index = 0; *index < count; ++*index)
+        if ((u32_at(entry_at(body, *index), LABEL_AT) & GREATEST_ID) == id)
+            return DONE;
+    return UNIQUE_ID_NOT_FOUND;
+}
+
+/* Whether a record is not deleted and of a category, or of any. */
+static bool has_category(const uint8_t *entry, uint32_t category)
+{
+    uint8_t attributes = entry[LABEL_AT];
+    return !(attributes & DELETED) &&
+           (category == ALL_CATEGORIES || (attributes & CATEGORY) == category);
+}
+
+static enum refusal num_in_category(const struct heap *heap, uint32_t db, uint32_t category,
+                                    uint32_t *number)
+{
+    struct found found;
+    enum refusal refusal = find_readable(heap, db, &found);
+    if (refusal != DONE)
+        return refusal;
+    if (category >= CATEGORIES && category != ALL_CATEGORIES)
+        return INVALID_CATEGORY;
+    uint8_t *body = body_of(heap, &found);
+    uint32_t count = entries_in(body);
+    *number = 0;
+    for (uint32_t index = 0; index < count; index++)
+        *number += has_category(entry_at(body, index), category);
+    return DONE;
+}
+
+static enum refusal move_category(struct heap *heap, uint32_t db, uint32_t to, uint32_t from)
+{
+    struct found found;
+    enum refusal refusal = find_writable(heap, db, &found);
+    if (refusal != DONE)
+        return refusal;
+    if (to >= CATEGORIES || from >= CATEGORIES)
+        return INVALID_CATEGORY;
+    uint8_t *body = body_of(heap, &found);
+    uint32_t count = entries_in(body);
+    for (uint32_t index = 0; index < count; index++) {
+        uint8_t *entry = entry_at(body, index);
+        if (has_category(entry, from))
+            entry[LABEL_AT] = (uint8_t)((entry[LABEL_AT] & ~CATEGORY) | to);
+    }
+    raise_modification(body);
+    return DONE;
+}
+
 static enum refusal remove_record(struct heap *heap, uint32_t db, uint32_t index)
 {
     struct found found;
@@ -390,6 +451,34 @@ static void search(struct load *load, uint32_t passes)
         add(load, index_of(load, last.id, records));
 }
 
+static void find_last(struct load *load, uint32_t passes)
+{
+    struct record last;
+    uint32_t records = count_of(load), index;
+    if (record_info(&load->heap, load->db, records > 0 ? records - 1 : 0, &last) != DONE)
+        return;
+    for (uint32_t pass = 0; pass < passes; pass++) {
+        enum refusal refusal = find_by_id(&load->heap, load->db, last.id, &index);
+        add(load, refusal == DONE ? index : (uint32_t)refusal);
+    }
+}
+
+static void count_category(struct load *load, uint32_t passes)
+{
+    for (uint32_t pass = 0; pass < passes; pass++) {
+        uint32_t number;
+        enum refusal refusal = num_in_category(&load->heap, load->db, 0, &number);
+        add(load, refusal == DONE ? number : (uint32_t)refusal);
+    }
+}
+
+/* Moves all records to another category and back. */
+static void move_all(struct load *load, uint32_t passes)
+{
+    for (uint32_t pass = 0; pass < passes; pass++)
+        add(load, move_category(&load->heap, load->db, (pass + 1) % 2, pass % 2));
+}
+
 enum call {
     NEW_AT_THE_END,
     REMOVE_THE_LAST,
@@ -398,12 +487,16 @@ enum call {
     MOVE_TO_THE_FRONT,
     INFO,
     SEARCH_BY_ID,
+    FIND_THE_LAST,
+    COUNT_CATEGORY,
+    MOVE_CATEGORY,
     CALLS
 };
 
 static const char *const CALL_NAMES[CALLS] = {
     "new_record_at_the_end", "remove_the_last", "remove_the_first", "move_to_the_end",
-    "move_to_the_front",     "record_info",     "search_by_id",
+    "move_to_the_front",     "record_info",     "search_by_id",     "find_by_id_of_the_last",
+    "num_in_category",       "move_category",
 };
 
 /* How many calls of a kind `repeat` does. */
@@ -411,7 +504,7 @@ static uint64_t calls_of(const struct load *load, enum call call, const struct w
 {
     if (call == INFO)
         return (uint64_t)count_of(load) * work->passes;
-    return call == SEARCH_BY_ID ? work->passes : work->calls;
+    return call >= SEARCH_BY_ID ? work->passes : work->calls;
 }
 
 /* Does calls of a kind. */
@@ -427,6 +520,9 @@ static void repeat(struct load *load, enum call call, const struct work *work)
         for (uint32_t pass = 0; pass < work->passes; pass++)
             ask_each(load);
         break;
+    case FIND_THE_LAST: find_last(load, work->passes); break;
+    case COUNT_CATEGORY: count_category(load, work->passes); break;
+    case MOVE_CATEGORY: move_all(load, work->passes); break;
     default: search(load, work->passes); break;
     }
 }

@@ -4,7 +4,10 @@ use crate::work::Work;
 use bench_times::{Sum, Sums};
 use heap_model::{Db, Refusal};
 use palm_store::Store;
-use record_db::{move_record, new_record, num_records, record_info, remove};
+use record_db::{
+    find_by_id, move_category, move_record, new_record, num_in_category, num_records, record_info,
+    remove,
+};
 
 /// An index behind all records.
 const END: u32 = 0xFFFF;
@@ -27,6 +30,11 @@ pub(crate) enum Call {
     Info,
     /// Records are asked for from the first on, until one has the ID of the last.
     SearchById,
+    /// The record with the ID of the last is found.
+    FindTheLast,
+    CountCategory,
+    /// All records are moved to another category and back.
+    MoveCategory,
 }
 
 /// A store with a database, and the sum of all replies to the calls so far.
@@ -74,7 +82,9 @@ impl Load {
     pub(crate) fn calls(&self, call: Call, work: Work) -> u128 {
         match call {
             Call::Info => (self.count() as u128).saturating_mul(work.passes as u128),
-            Call::SearchById => work.passes as u128,
+            Call::SearchById | Call::FindTheLast | Call::CountCategory | Call::MoveCategory => {
+                work.passes as u128
+            }
             _ => work.calls as u128,
         }
     }
@@ -89,6 +99,9 @@ impl Load {
             Call::MoveToTheFront => self.move_to_the_front(work.calls),
             Call::Info => self.ask(work.passes),
             Call::SearchById => self.search(work.passes),
+            Call::FindTheLast => self.find_last(work.passes),
+            Call::CountCategory => self.count_category(work.passes),
+            Call::MoveCategory => self.move_all(work.passes),
         }
     }
 
@@ -174,6 +187,31 @@ impl Load {
         records
     }
 
+    fn find_last(&mut self, passes: u32) {
+        let last = record_info(&self.store, self.db, self.count().saturating_sub(1));
+        if let Ok(info) = last {
+            for _ in 0..passes {
+                let found = find_by_id(&self.store, self.db, info.id);
+                add_number(&mut self.replies, found);
+            }
+        }
+    }
+
+    fn count_category(&mut self, passes: u32) {
+        for _ in 0..passes {
+            let number = num_in_category(&self.store, self.db, 0);
+            add_number(&mut self.replies, number);
+        }
+    }
+
+    fn move_all(&mut self, passes: u32) {
+        for pass in 0..passes {
+            let from = if pass % 2 == 0 { 0 } else { 1 };
+            let done = move_category(&mut self.store, self.db, 1 - from, from, false);
+            add_done(&mut self.replies, done);
+        }
+    }
+
     /// The sum of all replies, and that of the words of the image.
     pub(crate) fn into_sums(self) -> Sums {
         Sums {
@@ -187,6 +225,14 @@ impl Load {
 fn add_done(replies: &mut Sum, done: Result<(), Refusal>) {
     match done {
         Ok(()) => replies.add(0),
+        Err(refusal) => replies.add(refusal.number() as u32),
+    }
+}
+
+/// Adds the number that is answered, or that of a refusal.
+fn add_number(replies: &mut Sum, number: Result<u32, Refusal>) {
+    match number {
+        Ok(number) => replies.add(number),
         Err(refusal) => replies.add(refusal.number() as u32),
     }
 }

@@ -22,7 +22,7 @@ use std::rt::CpuClock;
 use work::Work;
 
 /// The kinds of call, by what is printed of them.
-const CALLS: [(&str, Call); 7] = [
+const CALLS: [(&str, Call); 10] = [
     ("new_record_at_the_end", Call::NewAtTheEnd),
     ("remove_the_last", Call::RemoveTheLast),
     ("remove_the_first", Call::RemoveTheFirst),
@@ -30,6 +30,9 @@ const CALLS: [(&str, Call); 7] = [
     ("move_to_the_front", Call::MoveToTheFront),
     ("record_info", Call::Info),
     ("search_by_id", Call::SearchById),
+    ("find_by_id_of_the_last", Call::FindTheLast),
+    ("num_in_category", Call::CountCategory),
+    ("move_category", Call::MoveCategory),
 ];
 
 /// The type of the database, `DATA`.

@@ -125,8 +125,8 @@ const SCRIPTS: &str = "\
 A script is a text of lines. Each is a call of the memory manager, on databases or on their records,
 and prints 'ok' with what the call answers, or 'refused' with the number and the name of the refusal.
 A chunk goes by a label, which 'new', 'ptrnew' and 'bind' give it: a letter, then letters, digits or
-'_'; so does the data of a record, by 'recnew', 'recget' and 'recquery'. A database goes by a label of
-its own, which 'create', 'find' and 'nth' give it.
+'_'; so does the data of a record, by 'recnew', 'recget', 'recquery' and 'recdetach'. A database goes by a
+label of its own, which 'create', 'find' and 'nth' give it.
 
   bind A NAME         new A SIZE OWNER    ptrnew A SIZE OWNER
   free A              resize A SIZE       setowner A OWNER
@@ -144,13 +144,18 @@ its own, which 'create', 'find' and 'nth' give it.
   recdelete D INDEX   recarchive D INDEX  recremove D INDEX
   recmove D FROM TO   recrelease D INDEX DIRTY
   recinfo D INDEX     recresize D INDEX SIZE
-  reccount D
+  reccount D          recfind D ID        recdetach D INDEX OWNER A
+  recset D INDEX ATTRIBUTES ID
+  catcount D CATEGORY                     catdelete D CATEGORY
+  catnext D FROM CATEGORY                 catpos D INDEX CATEGORY
+  catmove D TO FROM DIRTY
 
 'write', 'set' and 'strcopy' need a locked or a fixed chunk. OWNER is 1 to 14. RESOURCES is 1 where
 the entries are resources, and 0 where they are records. DIRTY is 1 where the record is to be dirty,
-and else 0. TYPE and CREATOR have four bytes. Records are counted from 0. Numbers are decimal, or hex
-behind '0x'. HEX is hex digits, or '-' for no byte. A line that is empty or starts with '#' is passed
-over.";
+and else 0. CATEGORY is 0 to 15, and 255 for all of them in 'catcount', 'catnext' and 'catpos'.
+'catmove' gives the records of category FROM the category TO. TYPE and CREATOR have four bytes.
+Records are counted from 0. Numbers are decimal, or hex behind '0x'. HEX is hex digits, or '-' for no
+byte. A line that is empty or starts with '#' is passed over.";
 
 /// What the words of a command line ask for. The first word is the program's own name.
 ///

@@ -4,3 +4,4 @@ pub mod EntryLaws
 pub mod NameLaws
 pub mod HeaderLaws
 pub mod FieldLaws
+pub mod ViewLaws

@@ -5,10 +5,6 @@ use Rattle.heap_model.specs.Database.{Database, Entry, a_record, a_resource, has
 use Rattle.db_format.specs.declared.entries.RecordEntry.{RecordEntry}
 use Rattle.db_format.specs.declared.entries.ResourceEntry.{ResourceEntry}
 
--- how many categories there are
-abbrev pub categories : ℕ
-categories = 16
-
 -- the entry of a record, or of a resource, with these values
 abbrev pub record_of : RecordEntry → Entry ℕ
 record_of entry = a_record entry.attributes.0 entry.id entry.slot

@@ -15,6 +15,9 @@ use crate::record_attributes::RecordAttrs;
 use crate::words::{put_u8, put_u16, put_u24, put_u32, u16_in, u24_in, u32_in};
 use bitflags::Flags;
 
+/// The greatest unique ID; the least is 1.
+pub const GREATEST_ID: u32 = 0xFF_FFFF;
+
 /// The entry of a record (Palm OS File Format Specification, "PDB Format"), with the slot of its data
 /// where a file has an offset.
 #[derive(Clone, Copy, PartialEq, Eq, Debug)]

@@ -29,6 +29,7 @@ mod header;
 mod header_fields;
 mod name;
 mod record_attributes;
+mod view;
 mod words;
 
 pub use body::{
@@ -37,7 +38,7 @@ pub use body::{
 };
 pub use database_attributes::DbAttrs;
 pub use db_entry::DbEntry;
-pub use entries::{RecordEntry, ResourceEntry, entry_slot, record_id};
+pub use entries::{GREATEST_ID, RecordEntry, ResourceEntry, entry_slot, record_id};
 pub use entry_bytes::EntryBytes;
 pub use fields::{
     ENTRY_COUNT_AT, HEADER_SIZE, MODIFICATION_NUMBER_AT, NAME_SIZE, RECORD_SIZE, RESOURCE_SIZE,
@@ -47,3 +48,4 @@ pub use header::DbHeader;
 pub use header_fields::{entry_count_bytes, modification_number_bytes, seed_bytes};
 pub use name::{NameField, has_name, is_name, name_in};
 pub use record_attributes::{CATEGORIES, RecordAttrs};
+pub use view::DatabaseView;

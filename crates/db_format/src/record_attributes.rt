@@ -1,9 +1,10 @@
 //! The attributes of a record.
 
-ghost use Rattle.std.specs.Prelude.{⊤, ◌≡◌, ◌<◌, ◌/◌, ◌%◌};
+ghost use Rattle.std.specs.Prelude.{⊤, ◌≡◌, ◌<◌};
 ghost use Rattle.heap_model.specs.Database as databases;
+ghost use Rattle.heap_model.specs.Categories.{categories};
+ghost use Rattle.heap_model.specs.Categories as words;
 ghost use Rattle.db_format.specs.Attributes.{record_bits};
-ghost use Rattle.db_format.specs.Entries.{categories};
 
 use bitflags::{Flag, Flags, bitflag_items};
 
@@ -65,7 +66,7 @@ impl RecordAttrs {
     /// The record's category, 0 to 15.
     #[inline]
     pub fn category(self) -> u8
-        ensures { result ≡ self.0 % categories }
+        ensures { result ≡ words.category_of self.0 }
     {
         self.intersection(RecordAttrs::CATEGORY).bits()
     }
@@ -74,8 +75,7 @@ impl RecordAttrs {
     #[inline]
     pub fn with_category(self, category: u8) -> RecordAttrs
         requires { category < categories }
-        ensures category { result.0 % categories ≡ category }
-        ensures flags { result.0 / categories ≡ self.0 / categories }
+        ensures { result.0 ≡ words.with_category category self.0 }
     {
         let flags = self.0 / CATEGORIES;
         RecordAttrs(flags * CATEGORIES + category)

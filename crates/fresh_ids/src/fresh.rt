@@ -9,10 +9,7 @@ ghost use Rattle.bit_sets.specs.Sets.{HasNone};
 ghost use Rattle.db_format.specs.Headers.{IsWhole};
 ghost use Rattle.fresh_ids.specs.Steps.{HasTaken, IsFirstFree};
 
-use db_format::{entry_count, record_id};
-
-/// The greatest unique ID, which 1 follows.
-const GREATEST_ID: u32 = 0xFF_FFFF;
+use db_format::{GREATEST_ID, entry_count, record_id};
 
 /// How many bytes have the bits of the IDs that are looked at first, those near the seed.
 const FEW: usize = 128;

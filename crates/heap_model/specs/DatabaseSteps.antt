@@ -6,13 +6,16 @@ use Rattle.heap_model.specs.Heap.{directory_of}
 use Rattle.heap_model.specs.Reading.{held}
 use Rattle.heap_model.specs.DatabaseFields.{header_size}
 use Rattle.heap_model.specs.Database.{DatabaseHeader, Database, data_in, IsDatabaseName}
-use Rattle.heap_model.specs.Store.{StoredDatabase, Store, directory_bytes, numbers_of, names_of, most_databases}
+use Rattle.heap_model.specs.Maps.{reowned}
+use Rattle.heap_model.specs.Store.{StoredDatabase, Store, data_owner, directory_bytes, numbers_of, names_of, most_databases}
 use Rattle.heap_model.specs.Rooms.{Part, making, growth}
 use Rattle.heap_model.specs.Refusals.{Check, ◌brings◌}
 use Rattle.heap_model.specs.Steps.{Row, done, number}
 use Rattle.heap_model.specs.MemorySteps.{Of, IsLocked}
 use Rattle.heap_model.specs.StoreWords.{with_changed, without_database, all_gone, with_number, In, no_database, may_run_out, becomes, becomes_with, stays, next_modification}
 use Rattle.heap_model.specs.declared.names.Db.{Db}
+use Rattle.heap_model.specs.declared.names.Which.{Which}
+use Rattle.heap_model.specs.declared.names.Which.TheVariants.{App, Sort}
 use Rattle.heap_model.specs.declared.database.DbInfo.{DbInfo}
 use Rattle.heap_model.specs.declared.call.DatabaseCall as given
 use Rattle.heap_model.specs.declared.call.DatabaseCall.TheVariants.{Create, Delete, Find, Nth, Count, Info, SetInfo}
@@ -136,6 +139,40 @@ abbrev pub dropped : Store → Db → Store
 dropped store db = record {
   map = all_gone store.map (named_in (with_number store db.0));
   databases = without_database store.databases db.0;
+}
+
+-- ---- info blocks
+
+-- the name of an info block, and 0, which names nothing, where there is none
+abbrev pub info_block : Which → Database ℕ → ℕ
+info_block App database = database.app_info
+info_block Sort database = database.sort_info
+
+-- a database with another info block
+abbrev pub with_info_block : Which → ℕ → Database ℕ → Database ℕ
+with_info_block App name database = record database { app_info = name }
+with_info_block Sort name database = record database { sort_info = name }
+
+abbrev pub info_block_of : Which → Option StoredDatabase → ℕ
+info_block_of which None = 0
+info_block_of which (Some one) = info_block which one.database
+
+-- the same, of the database of a number
+abbrev pub info_block_under : Store → Db → Which → ℕ
+info_block_under store db which = info_block_of which (with_number store db.0)
+
+-- a store where a caller's chunk became an info block
+abbrev pub info_block_set : Store → Db → Which → ℕ → Store
+info_block_set store db which name = record {
+  map = reowned store.map name data_owner;
+  databases = with_changed store.databases db.0 (with_info_block which name);
+}
+
+-- a store where a database has an info block no longer, and its chunk got an owner
+abbrev pub info_block_taken : Store → Db → Which → ℕ → Store
+info_block_taken store db which owner = record {
+  map = reowned store.map (info_block_under store db which) owner;
+  databases = with_changed store.databases db.0 (with_info_block which 0);
 }
 
 -- ---- the rows

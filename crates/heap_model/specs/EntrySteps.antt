@@ -1,6 +1,6 @@
 -- Entries of the databases of a store, with the chunks of their data: made, changed, moved and dropped. And
 -- what a call leaves that does such a change.
-use Rattle.std.specs.Prelude.{◌≡◌, ◌≤◌, ◌<◌, ◌+◌, nat_lt, if◌then◌else◌, bit_or, ℕ, Bool, false, List, [], ◌∷◌, length, slice_get, slice_set, Option, Some, None, IsSome}
+use Rattle.std.specs.Prelude.{◌≡◌, ◌≢◌, ◌≤◌, ◌<◌, ◌+◌, nat_lt, if◌then◌else◌, bit_or, ℕ, Bool, false, List, [], ◌∷◌, length, slice_get, slice_set, Option, Some, None, IsSome}
 use Rattle.std.specs.List.{insert, remove}
 use Rattle.heap_model.specs.Slots.{slots_total}
 use Rattle.heap_model.specs.Heap.{directory_of}
@@ -9,10 +9,10 @@ use Rattle.heap_model.specs.Reading.{held}
 use Rattle.heap_model.specs.Maps.{made, gone, reowned}
 use Rattle.heap_model.specs.Space.{Still}
 use Rattle.heap_model.specs.DatabaseFields.{entry_size}
-use Rattle.heap_model.specs.Database.{DatabaseHeader, Entry, a_record, a_resource, Database, entry_data, has_resources}
+use Rattle.heap_model.specs.Database.{DatabaseHeader, Entry, a_record, a_resource, Database, entry_data, entry_with, has_resources}
 use Rattle.heap_model.specs.UniqueIds.{IsFresh, seed_in, with_seed}
-use Rattle.heap_model.specs.Store.{StoredDatabase, Store, data_owner, bytes_under, unique_ids, Accepted, store_of}
-use Rattle.heap_model.specs.Rooms.{making, growth}
+use Rattle.heap_model.specs.Store.{StoredDatabase, Store, data_owner, bytes_under, unique_id, unique_ids, Accepted, store_of}
+use Rattle.heap_model.specs.Rooms.{Part, making, growth}
 use Rattle.heap_model.specs.Refusals.{Check, ◌brings◌}
 use Rattle.heap_model.specs.StoreWords.{SameStore, with_changed, with_number, In, may_run_out, next_modification}
 use Rattle.heap_model.specs.declared.names.Db.{Db}
@@ -61,6 +61,16 @@ resources_under store db = kind_of (with_number store db.0)
 -- the ID is the one for a new record of the database
 abbrev pub IsFreshIn : Store → Db → ℕ → Type 0
 IsFreshIn store db id = In store db (λ database. IsFresh (unique_ids database) (seed_in database.header.seed) id)
+
+-- ---- unique IDs
+
+-- an entry that is a record with this unique ID
+abbrev pub HasId : ℕ → Entry ℕ → Type 0
+HasId id entry = unique_id entry ≡ Some id
+
+-- another entry of the database has the ID
+abbrev pub HasOther : Store → Db → ℕ → ℕ → Type 0
+HasOther store db index id = (other : ℕ) × (other ≢ index) × OfEntry (entry_under store db other) (HasId id)
 
 -- ---- what callers hear of an entry
 
@@ -147,6 +157,13 @@ entry_made store db index entry size = record {
   databases = with_changed store.databases db.0 (with_entry_at index entry);
 }
 
+-- a store where an entry came, whose data is a chunk that was a caller's
+abbrev pub entry_attached : Store → Db → ℕ → Entry ℕ → Store
+entry_attached store db index entry = record {
+  map = reowned store.map (entry_data entry) data_owner;
+  databases = with_changed store.databases db.0 (with_entry_at index entry);
+}
+
 -- a store where an entry is changed, and its data stays
 abbrev pub entry_changed : Store → Db → ℕ → (Entry ℕ → Entry ℕ) → Store
 entry_changed store db index change = with_entries store db (λ entries. replaced entries index change)
@@ -163,6 +180,15 @@ entry_dropped store db index = with_chunks (with_entries store db (λ entries. r
 abbrev pub entry_handed_over : Store → Db → ℕ → ℕ → Store
 entry_handed_over store db index owner = with_chunks (with_entries store db (λ entries. remove entries index)) (reowned store.map (data_under store db index) owner)
 
+-- a map where a chunk for data gets an owner, and a caller's is one for data
+abbrev pub data_exchanged : ChunkMap → ℕ → ℕ → ℕ → ChunkMap
+data_exchanged map slot owner name = reowned (reowned map slot owner) name data_owner
+
+-- a store where an entry is changed, and has a caller's chunk for its data; the chunk that it had gets an owner
+abbrev pub entry_swapped : Store → Db → ℕ → (Entry ℕ → Entry ℕ) → ℕ → ℕ → Store
+entry_swapped store db index change name owner =
+    with_chunks (entry_changed store db index (λ entry. entry_with (λ (slot : ℕ). name) (change entry))) (data_exchanged store.map (data_under store db index) owner name)
+
 -- a store where the modification number of a database counts a call more
 abbrev pub raised : Store → Db → Store
 raised store db = record store {
@@ -175,12 +201,17 @@ raised store db = record store {
 abbrev pub full : Store → Db → Check
 full store db = (most_entries ≤ length (entries_in store db)) brings TooManyEntries
 
+-- the header of a database grows by an entry
+abbrev pub entry_growth : List ℕ → Store → Db → Part
+entry_growth image store db = growth image db.0 (length (bytes_under image db.0) + entry_size (resources_under store db))
+
 -- Whether an entry can come whose data has so many bytes: it takes a chunk, and the header has to grow.
 abbrev pub making_checks : List ℕ → Store → Db → ℕ → List Check
-making_checks image store db size =
-    full store db
-    ∷ may_run_out image 1 (making size ∷ growth image db.0 (length (bytes_under image db.0) + entry_size (resources_under store db)) ∷ [])
-    ∷ []
+making_checks image store db size = full store db ∷ may_run_out image 1 (making size ∷ entry_growth image store db ∷ []) ∷ []
+
+-- Whether an entry can come whose data is there: the header alone has to grow.
+abbrev pub attaching_checks : List ℕ → Store → Db → List Check
+attaching_checks image store db = full store db ∷ may_run_out image 0 (entry_growth image store db ∷ []) ∷ []
 
 -- ---- what a call leaves
 

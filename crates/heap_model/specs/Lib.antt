@@ -29,6 +29,7 @@ pub mod MemorySteps
 pub mod StoreWords
 pub mod DatabaseSteps
 pub mod EntrySteps
+pub mod Categories
 pub mod RecordSteps
 pub mod StoreSteps
 pub mod Counted

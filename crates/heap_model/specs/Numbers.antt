@@ -1,7 +1,7 @@
 -- The numbers and the names of refusals.
 use Rattle.std.specs.Prelude.{ℕ, List, codes}
 use Rattle.heap_model.specs.declared.refusal.Refusal.{Refusal}
-use Rattle.heap_model.specs.declared.refusal.Refusal.TheVariants.{InvalidHandle, OwnedByDatabase, ChunkLocked, ChunkNotLocked, LockOverflow, ChunkFixed, InvalidOwner, NotEnoughSpace, OutOfBounds, NoSuchDatabase, NotRecordDatabase, ReadOnly, IndexOutOfRange, RecordDeleted, RecordBusy, TooManyEntries, AlreadyExists, InvalidName, OutOfMemory}
+use Rattle.heap_model.specs.declared.refusal.Refusal.TheVariants.{InvalidHandle, OwnedByDatabase, ChunkLocked, ChunkNotLocked, LockOverflow, ChunkFixed, InvalidOwner, NotEnoughSpace, OutOfBounds, NoSuchDatabase, NotRecordDatabase, ReadOnly, IndexOutOfRange, RecordDeleted, RecordBusy, TooManyEntries, InvalidCategory, DuplicateId, UniqueIdNotFound, AlreadyExists, InvalidName, OutOfMemory}
 
 abbrev pub number_of : Refusal → ℕ
 number_of InvalidHandle = 1
@@ -20,6 +20,9 @@ number_of IndexOutOfRange = 14
 number_of RecordDeleted = 15
 number_of RecordBusy = 16
 number_of TooManyEntries = 17
+number_of InvalidCategory = 18
+number_of DuplicateId = 19
+number_of UniqueIdNotFound = 20
 number_of AlreadyExists = 21
 number_of InvalidName = 22
 number_of OutOfMemory = 26
@@ -41,6 +44,9 @@ name_of IndexOutOfRange = codes "IndexOutOfRange"
 name_of RecordDeleted = codes "RecordDeleted"
 name_of RecordBusy = codes "RecordBusy"
 name_of TooManyEntries = codes "TooManyEntries"
+name_of InvalidCategory = codes "InvalidCategory"
+name_of DuplicateId = codes "DuplicateId"
+name_of UniqueIdNotFound = codes "UniqueIdNotFound"
 name_of AlreadyExists = codes "AlreadyExists"
 name_of InvalidName = codes "InvalidName"
 name_of OutOfMemory = codes "OutOfMemory"

@@ -1,25 +1,26 @@
 -- What each call on records refuses, answers and does: one row a call.
-use Rattle.std.specs.Prelude.{◌≡◌, ◌≤◌, ◌<◌, ◌⊎◌, ◌==◌, if◌then◌else◌, bit_and, bit_or, ℕ, Bool, true, false, [], ◌∷◌, length, None}
+use Rattle.std.specs.Prelude.{◌≡◌, ◌≢◌, ◌≤◌, ◌<◌, ◌%◌, ◌^◌, ◌⊎◌, ◌==◌, if◌then◌else◌, bit_and, bit_or, ℕ, Bool, true, false, [], ◌∷◌, length, take, map, count_by, None}
 use Rattle.std.specs.Int.{bit_at}
 use Rattle.heap_model.specs.Memory.{Memory}
 use Rattle.heap_model.specs.Reading.{held}
 use Rattle.heap_model.specs.Maps.{sized}
-use Rattle.heap_model.specs.Lists.{moved}
+use Rattle.heap_model.specs.Lists.{moved, Least}
 use Rattle.heap_model.specs.Database.{Entry, a_record, a_resource, has_resources, is_deleted}
 use Rattle.heap_model.specs.Store.{Store}
 use Rattle.heap_model.specs.Refusals.{Check, ◌brings◌}
 use Rattle.heap_model.specs.Steps.{Row, done, number, named}
-use Rattle.heap_model.specs.MemorySteps.{Of, IsLocked, growth_checks}
-use Rattle.heap_model.specs.StoreWords.{SameStore, In, no_database, becomes, stays}
-use Rattle.heap_model.specs.EntrySteps.{entries_in, entry_under, OfEntry, data_under, IsFreshIn, IsInfoOf, index_for, with_attributes, deleted_bit, with_entries, with_chunks, entry_made, entry_changed, data_freed, entry_dropped, raised, making_checks}
+use Rattle.heap_model.specs.MemorySteps.{Of, IsNoCaller, IsLocked, growth_checks}
+use Rattle.heap_model.specs.StoreWords.{SameStore, all_gone, In, no_database, becomes, stays}
+use Rattle.heap_model.specs.EntrySteps.{entries_in, entry_under, OfEntry, data_under, IsFreshIn, HasId, HasOther, IsInfoOf, index_for, with_attributes, deleted_bit, with_entries, with_chunks, entry_made, entry_changed, data_freed, entry_dropped, entry_handed_over, raised, making_checks}
+use Rattle.heap_model.specs.Categories.{categories, all_categories, is_of, IsOf, data_of_category, dirty_bit, moved_category, deleted_category}
 use Rattle.heap_model.specs.declared.names.Db.{Db}
 use Rattle.heap_model.specs.declared.names.Name.{Name}
 use Rattle.heap_model.specs.declared.entry.RecordInfo.{RecordInfo}
 use Rattle.heap_model.specs.declared.call.RecordCall as given
-use Rattle.heap_model.specs.declared.call.RecordCall.TheVariants.{New, Delete, Archive, Remove, Move, Get, Query, Release, Info, Resize, Count}
+use Rattle.heap_model.specs.declared.call.RecordCall.TheVariants.{New, Delete, Archive, Remove, Move, Get, Query, Release, Info, Resize, Count, Detach, SetInfo, FindById, CountInCategory, NextInCategory, PositionInCategory, MoveCategory, DeleteCategory}
 use Rattle.heap_model.specs.declared.call.Reply.{Reply}
 use Rattle.heap_model.specs.declared.call.Reply.TheVariants as replies
-use Rattle.heap_model.specs.declared.refusal.Refusal.TheVariants.{ChunkLocked, NotRecordDatabase, ReadOnly, IndexOutOfRange, RecordDeleted, RecordBusy}
+use Rattle.heap_model.specs.declared.refusal.Refusal.TheVariants.{ChunkLocked, NotRecordDatabase, ReadOnly, IndexOutOfRange, RecordDeleted, RecordBusy, InvalidOwner, InvalidCategory, DuplicateId, UniqueIdNotFound}
 
 -- ---- calls
 
@@ -40,13 +41,18 @@ record_call number (Release db index dirty) = Release (number db) index dirty
 record_call number (Info db index) = Info (number db) index
 record_call number (Resize db index size) = Resize (number db) index size
 record_call number (Count db) = Count (number db)
+record_call number (Detach db index owner) = Detach (number db) index owner
+record_call number (SetInfo db index attributes id) = SetInfo (number db) index attributes id
+record_call number (FindById db id) = FindById (number db) id
+record_call number (CountInCategory db category) = CountInCategory (number db) category
+record_call number (NextInCategory db from category) = NextInCategory (number db) from category
+record_call number (PositionInCategory db index category) = PositionInCategory (number db) index category
+record_call number (MoveCategory db to from dirty) = MoveCategory (number db) to from dirty
+record_call number (DeleteCategory db category) = DeleteCategory (number db) category
 
 -- ---- attributes
 
--- the bits of a dirty record, and of a busy one
-abbrev pub dirty_bit : ℕ
-dirty_bit = 0x40
-
+-- the bit of a busy record
 abbrev pub busy_bit : ℕ
 busy_bit = 0x20
 
@@ -65,6 +71,26 @@ new_attributes = 0x60
 -- a record's attributes, no longer busy, and dirty where that is asked
 abbrev pub released : Bool → ℕ → ℕ
 released dirty attributes = if dirty then bit_or (bit_and attributes 0xDF) dirty_bit else bit_and attributes 0xDF
+
+-- The attributes of a record for which others are given: it stays deleted and busy as it was, and all other
+-- bits are those given.
+abbrev pub attributes_set : ℕ → ℕ → ℕ
+attributes_set given attributes = bit_or (bit_and attributes 0xA0) (bit_and given 0x5F)
+
+-- ---- unique IDs
+
+-- the unique ID in a number: its low 24 bits
+abbrev pub id_in : ℕ → ℕ
+id_in number = number % 2 ^ 24
+
+-- the unique ID of a record for which a number is given: 0 leaves it its own
+abbrev pub id_set : ℕ → ℕ → ℕ
+id_set number id = if id_in number == 0 then id else id_in number
+
+-- a record for which attributes and a number are given
+abbrev pub with_record_info : ℕ → ℕ → Entry ℕ → Entry ℕ
+with_record_info given number (a_record attributes id slot) = a_record (attributes_set given attributes) (id_set number id) slot
+with_record_info given number (a_resource kind id slot) = a_resource kind id slot
 
 -- ---- words of the checks
 
@@ -93,7 +119,31 @@ busy store db index = OfEntry (entry_under store db index) (HasAttributes is_bus
 abbrev pub locked_entry : Store → Db → ℕ → Check
 locked_entry store db index = Of (store.map (data_under store db index)) IsLocked brings ChunkLocked
 
+-- an owner that no caller may give
+abbrev pub no_owner : ℕ → Check
+no_owner owner = IsNoCaller owner brings InvalidOwner
+
+-- no category has this number; and, where calls count, it doesn't stand for all of them either
+abbrev pub no_category : ℕ → Check
+no_category category = (categories ≤ category) brings InvalidCategory
+
+abbrev pub no_categories : ℕ → Check
+no_categories category = ((categories ≤ category) × (category ≢ all_categories)) brings InvalidCategory
+
+-- from an index on no entry is such
+abbrev pub NoneFrom : Store → Db → ℕ → (Entry ℕ → Type 0) → Type 0
+NoneFrom store db from P = (index : ℕ) → from ≤ index → OfEntry (entry_under store db index) P → ⊥
+
+-- a record of the category has data that is locked
+abbrev pub HasLockedOf : Store → Db → ℕ → Type 0
+HasLockedOf store db category =
+    (index : ℕ) × OfEntry (entry_under store db index) (IsOf category) × Of (store.map (data_under store db index)) IsLocked
+
 -- ---- words of the answers
+
+-- this is the first index, from one on, whose entry is such
+abbrev pub IsFirstFrom : Store → Db → ℕ → (Entry ℕ → Type 0) → ℕ → Type 0
+IsFirstFrom store db from P index = Least (λ at. (from ≤ at) × OfEntry (entry_under store db at) P) index
 
 abbrev pub made_at : (ℕ → Name → Type 0) → Reply → Memory → Type 0
 made_at P (replies.Made index name) new = P index name
@@ -109,6 +159,11 @@ a_record_info P reply new = ⊥
 abbrev pub becomes_made : (ℕ → Name → Store → Store → Type 0) → Reply → Store → Store → Type 0
 becomes_made P (replies.Made index name) old new = P index name old new
 becomes_made P reply old new = ⊥
+
+-- a store where the records of a category are deleted, and their data freed
+abbrev pub category_deleted : Store → Db → ℕ → Store
+category_deleted store db category =
+    with_chunks (with_entries store db (map (deleted_category category))) (all_gone store.map (data_of_category category (entries_in store db)))
 
 -- ---- the rows
 
@@ -221,4 +276,80 @@ record_row old store (Count db) = record {
   refusals = no_database store db ∷ no_records store db ∷ [];
   answers = number (λ count. count ≡ length (entries_in store db));
   effect = stays;
+}
+record_row old store (Detach db index owner) = record {
+  only_asks = false;
+  refusals =
+      no_database store db
+      ∷ no_records store db
+      ∷ read_only store db
+      ∷ no_entry store db index
+      ∷ deleted store db index
+      ∷ no_owner owner
+      ∷ [];
+  answers = named (λ name. name.0 ≡ data_under store db index);
+  effect = becomes (λ before. raised (entry_handed_over before db index owner) db);
+}
+record_row old store (SetInfo db index attributes id) = record {
+  only_asks = false;
+  refusals =
+      no_database store db
+      ∷ no_records store db
+      ∷ read_only store db
+      ∷ no_entry store db index
+      ∷ (((id_in id ≢ 0) × HasOther store db index (id_in id)) brings DuplicateId)
+      ∷ [];
+  answers = done;
+  effect = becomes (λ before. raised (entry_changed before db index (with_record_info attributes id)) db);
+}
+record_row old store (FindById db id) = record {
+  only_asks = true;
+  refusals =
+      no_database store db
+      ∷ no_records store db
+      ∷ (NoneFrom store db 0 (HasId id) brings UniqueIdNotFound)
+      ∷ [];
+  answers = number (λ index. OfEntry (entry_under store db index) (HasId id));
+  effect = stays;
+}
+record_row old store (CountInCategory db category) = record {
+  only_asks = true;
+  refusals = no_database store db ∷ no_records store db ∷ no_categories category ∷ [];
+  answers = number (λ count. count ≡ count_by (is_of category) (entries_in store db));
+  effect = stays;
+}
+record_row old store (NextInCategory db from category) = record {
+  only_asks = true;
+  refusals =
+      no_database store db
+      ∷ no_records store db
+      ∷ no_categories category
+      ∷ (NoneFrom store db from (IsOf category) brings IndexOutOfRange)
+      ∷ [];
+  answers = number (IsFirstFrom store db from (IsOf category));
+  effect = stays;
+}
+record_row old store (PositionInCategory db index category) = record {
+  only_asks = true;
+  refusals = no_database store db ∷ no_records store db ∷ no_categories category ∷ no_entry store db index ∷ [];
+  answers = number (λ count. count ≡ count_by (is_of category) (take index (entries_in store db)));
+  effect = stays;
+}
+record_row old store (MoveCategory db to from dirty) = record {
+  only_asks = false;
+  refusals = no_database store db ∷ no_records store db ∷ read_only store db ∷ no_category to ∷ no_category from ∷ [];
+  answers = done;
+  effect = becomes (λ before. raised (with_entries before db (map (moved_category to from dirty))) db);
+}
+record_row old store (DeleteCategory db category) = record {
+  only_asks = false;
+  refusals =
+      no_database store db
+      ∷ no_records store db
+      ∷ read_only store db
+      ∷ no_category category
+      ∷ (HasLockedOf store db category brings ChunkLocked)
+      ∷ [];
+  answers = done;
+  effect = becomes (λ before. raised (category_deleted before db category) db);
 }

@@ -81,6 +81,7 @@ may_slide (calls.Record (records.New db at size)) = true
 may_slide (calls.Record (records.Remove db index)) = true
 may_slide (calls.Record (records.Move db from to)) = true
 may_slide (calls.Record (records.Resize db index size)) = true
+may_slide (calls.Record (records.Detach db index owner)) = true
 may_slide (calls.Record call) = false
 
 -- From an accepted image the call does its step to an accepted image of the same size with as many slots,

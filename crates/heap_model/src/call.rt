@@ -89,18 +89,70 @@ pub enum DatabaseCall<D = Db> {
 #[derive(Drop, Debug, PartialEq, Eq)]
 pub enum RecordCall<D = Db> {
     /// A record of so many bytes at an index. Where that is beyond the end it is the end.
-    New { db: D, at: u32, size: u32 },
+    New {
+        db: D,
+        at: u32,
+        size: u32,
+    },
     Delete(D, u32),
     Archive(D, u32),
     Remove(D, u32),
     /// `to` is the index in front of which the record goes, as the records stand before the call.
-    Move { db: D, from: u32, to: u32 },
+    Move {
+        db: D,
+        from: u32,
+        to: u32,
+    },
     Get(D, u32),
     Query(D, u32),
-    Release { db: D, index: u32, dirty: bool },
+    Release {
+        db: D,
+        index: u32,
+        dirty: bool,
+    },
     Info(D, u32),
-    Resize { db: D, index: u32, size: u32 },
+    Resize {
+        db: D,
+        index: u32,
+        size: u32,
+    },
     Count(D),
+    /// The data is handed over to an owner of 1 to 14.
+    Detach {
+        db: D,
+        index: u32,
+        owner: u8,
+    },
+    /// Of the attributes all bits but those of a deleted and of a busy record are taken, and of the unique ID
+    /// the low 24 bits, where they are not 0.
+    SetInfo {
+        db: D,
+        index: u32,
+        attributes: u8,
+        id: u32,
+    },
+    FindById(D, u32),
+    /// How many records are of a category, 0 to 15, or of any, for 0xFF.
+    CountInCategory(D, u8),
+    /// The first record of a category, as for `CountInCategory`, from an index on.
+    NextInCategory {
+        db: D,
+        from: u32,
+        category: u8,
+    },
+    /// How many records of a category, as for `CountInCategory`, stand in front of an index.
+    PositionInCategory {
+        db: D,
+        index: u32,
+        category: u8,
+    },
+    MoveCategory {
+        db: D,
+        to: u8,
+        from: u8,
+        dirty: bool,
+    },
+    DeleteCategory(D, u8),
 }
 
 /// A call of any manager.

@@ -62,6 +62,6 @@ pub use call::{Call, DatabaseCall, MemoryCall, RecordCall, Reply};
 pub use counted::Counted;
 pub use database::{DbInfo, DbName};
 pub use entry::{Entry, RecordInfo, ResourceInfo};
-pub use names::{Db, Name, Place};
+pub use names::{Db, Name, Place, Which};
 pub use refusal::Refusal;
 pub use tally::Tally;

@@ -13,3 +13,10 @@ pub struct Place(pub u32);
 /// is the database's as long as that lives. `Db(0)` is no database's.
 #[derive(Clone, Copy, Debug, PartialEq, Eq)]
 pub struct Db(pub u32);
+
+/// One of the info blocks of a database: the AppInfo block, or the SortInfo block.
+#[derive(Clone, Copy, Debug, PartialEq, Eq)]
+pub enum Which {
+    App,
+    Sort,
+}

@@ -57,6 +57,15 @@ pub enum Refusal {
     /// There are as many databases, or entries of one, as there may be.
     #[error("TooManyEntries")]
     TooManyEntries,
+    /// The category isn't 0 to 15.
+    #[error("InvalidCategory")]
+    InvalidCategory,
+    /// Another record has the unique ID.
+    #[error("DuplicateId")]
+    DuplicateId,
+    /// No record has the unique ID.
+    #[error("UniqueIdNotFound")]
+    UniqueIdNotFound,
     /// Another database has the name.
     #[error("AlreadyExists")]
     AlreadyExists,
@@ -105,6 +114,9 @@ impl Refusal {
             Refusal::RecordDeleted => (15, "RecordDeleted"),
             Refusal::RecordBusy => (16, "RecordBusy"),
             Refusal::TooManyEntries => (17, "TooManyEntries"),
+            Refusal::InvalidCategory => (18, "InvalidCategory"),
+            Refusal::DuplicateId => (19, "DuplicateId"),
+            Refusal::UniqueIdNotFound => (20, "UniqueIdNotFound"),
             Refusal::AlreadyExists => (21, "AlreadyExists"),
             Refusal::InvalidName => (22, "InvalidName"),
             Refusal::OutOfMemory => (26, "OutOfMemory"),

@@ -1,9 +1,9 @@
--- Images in which one database and one other chunk were edited: what names stand for, whose they are, and how
--- often they are those of chunks for data.
-use Rattle.std.proofs.Common.{◌≡◌, ◌≢◌, ℕ, ◌+◌, ◌<◌, List, Option, Some, None, refl, sym, ap, subst, ◌∙◌, arith, inl, inr}
+-- Images in which one database and some other chunks were edited: what names stand for, whose they are, and
+-- how often they are those of chunks for data.
+use Rattle.std.proofs.Common.{◌≡◌, ◌≢◌, ℕ, ◌+◌, ◌<◌, List, [], ◌∷◌, Option, Some, None, refl, sym, ap, subst, ◌∙◌, arith, inl, inr}
 use Rattle.std.proofs.lemmas.Bool.{cases_eq, eq-eqb, ne_eqb}
-use Rattle.std.specs.Prelude.{◌==◌, ◌↔◌, IsSome}
-use Rattle.heap_model.specs.Heap.{HeapAccepted}
+use Rattle.std.proofs.lemmas.List.Elements.{All-head, All-tail}
+use Rattle.std.specs.Prelude.{◌==◌, ◌↔◌, ◌⊎◌, IsSome, All}
 use Rattle.heap_model.specs.Bytes.{overwritten}
 use Rattle.heap_model.specs.Meaning.{LiveChunk, ChunkMap}
 use Rattle.heap_model.specs.Reading.{held}
@@ -13,8 +13,8 @@ use Rattle.heap_model.specs.Leaving.{Leaves, rewritten, Respells}
 use Rattle.heap_model.specs.Database.{Database, data_in, spelled}
 use Rattle.heap_model.specs.Store.{managers_owner, data_owner, bytes_of, owner_of, bytes_under, owner_under}
 use Rattle.heap_model.specs.EntrySteps.{KeepsLocks}
-use Rattle.laws_heap.proofs.Meanings.{held-zero}
 use Rattle.laws_heap.proofs.Deciding.{cond-true, cond-false, same_some}
+use Rattle.laws_store.specs.Changes.{Change, all_updated, IsCallersChange}
 use Rattle.laws_store.proofs.Listing.{same-yes, same-no}
 
 -- ---- what names stand for
@@ -56,86 +56,145 @@ lock_with bytes (Some live) before after was is = ap (λ (l : LiveChunk). l.lock
 pub lock_same : (o p : Option LiveChunk) (before after : LiveChunk) → p ≡ o → o ≡ Some before → p ≡ Some after → after.lock ≡ before.lock
 lock_same o p before after e was is = ap (λ (l : LiveChunk). l.lock) (same_some after before (sym is ∙ e ∙ was))
 
--- ---- the three kinds of names: the chunk's, the database's, and all others
+-- ---- the names that were changed, and all others
 
--- a map with other bytes in one chunk, and another replaced
-abbrev pub edited : ChunkMap → ℕ → List ℕ → ℕ → Option LiveChunk → ChunkMap
-edited map db bytes name now = updated (rewritten map db bytes) name now
+-- One of some changes is of the name. It has what all of them have, and two maps with them say what it says.
+pub record IsChanged (P : Change → Type 0) (map other_map : ChunkMap) (changes : List Change) (name : ℕ) : Type 0 where
+  pub one : Change
+  pub holds : P one
+  pub is : name ≡ one.name
+  pub now : all_updated map changes name ≡ one.now
+  pub other_now : all_updated other_map changes name ≡ one.now
 
-chunk_held : (old new : List ℕ) (db : ℕ) (bytes : List ℕ) (name : ℕ) (now : Option LiveChunk) → Leaves old new (edited (held old) db bytes name now) → held new name ≡ now
-chunk_held old new db bytes name now l = l.map name ∙ here (rewritten (held old) db bytes) name now name refl
+-- or none is, and both say what they said
+pub record IsKept (map other_map : ChunkMap) (changes : List Change) (name : ℕ) : Type 0 where
+  pub same_chunk : all_updated map changes name ≡ map name
+  pub other_same : all_updated other_map changes name ≡ other_map name
 
-header_held : (old new : List ℕ) (db : ℕ) (bytes : List ℕ) (name : ℕ) (now : Option LiveChunk) → Leaves old new (edited (held old) db bytes name now) → db ≢ name → held new db ≡ changed (with_bytes bytes) (held old db)
+pub changed_or_kept : (P : Change → Type 0) (map other_map : ChunkMap) (changes : List Change) (name : ℕ) → All P changes → IsChanged P map other_map changes name ⊎ IsKept map other_map changes name
+changed_or_kept P map others [] name all = inr (record { same_chunk = refl; other_same = refl })
+changed_or_kept P map others (one ∷ more) name all = elim (cases_eq name one.name) [
+  | inl e ↦ inl (record {
+    one = one;
+    holds = All-head P one more all;
+    is = e;
+    now = here (all_updated map more) one.name one.now name e;
+    other_now = here (all_updated others more) one.name one.now name e;
+  })
+  | inr ne ↦
+      let past = apart (all_updated map more) one.name one.now name ne in
+      let other_past = apart (all_updated others more) one.name one.now name ne in
+      elim (changed_or_kept P map others more name (All-tail P one more all)) [
+        | inl c ↦ inl (record { one = c.one; holds = c.holds; is = c.is; now = past ∙ c.now; other_now = other_past ∙ c.other_now })
+        | inr k ↦ inr (record { same_chunk = past ∙ k.same_chunk; other_same = other_past ∙ k.other_same })
+      ]
+]
+
+-- one change alone
+abbrev pub one_change : ℕ → Option LiveChunk → List Change
+one_change name now = record { name = name; now = now } ∷ []
+
+-- a map with other bytes in one chunk, and others replaced
+abbrev pub edited : ChunkMap → ℕ → List ℕ → List Change → ChunkMap
+edited map db bytes changes = all_updated (rewritten map db bytes) changes
+
+-- none of them is the database's
+kept_header : (old : List ℕ) (map : ChunkMap) (db : ℕ) (changes : List Change) → owner_under old db ≡ managers_owner → All (IsCallersChange old) changes → all_updated map changes db ≡ map db
+kept_header old map db changes own each = elim (changed_or_kept (IsCallersChange old) map map changes db each) [
+  | inl c ↦ absurd (c.holds.callers (ap (owner_under old) (sym c.is) ∙ own))
+  | inr k ↦ k.same_chunk
+]
+
+header_held : (old new : List ℕ) (db : ℕ) (bytes : List ℕ) (changes : List Change) → Leaves old new (edited (held old) db bytes changes) → owner_under old db ≡ managers_owner → All (IsCallersChange old) changes → held new db ≡ changed (with_bytes bytes) (held old db)
 unfolding with_bytes
-header_held old new db bytes name now l ne =
+header_held old new db bytes changes l own each =
     l.map db
-    ∙ apart (rewritten (held old) db bytes) name now db ne
+    ∙ kept_header old (rewritten (held old) db bytes) db changes own each
     ∙ here (held old) db (changed (λ live. record live { bytes = bytes }) (held old db)) db refl
 
-pub other_held : (old new : List ℕ) (db : ℕ) (bytes : List ℕ) (name : ℕ) (now : Option LiveChunk) → Leaves old new (edited (held old) db bytes name now) → (other : ℕ) → other ≢ name → other ≢ db → held new other ≡ held old other
-other_held old new db bytes name now l other ne away =
+-- what is neither the database nor changed
+rewritten_apart : (map : ChunkMap) (db : ℕ) (bytes : List ℕ) (other : ℕ) → other ≢ db → rewritten map db bytes other ≡ map other
+rewritten_apart map db bytes other away = apart map db (changed (λ live. record live { bytes = bytes }) (map db)) other away
+
+-- all that a change may be of is the callers'
+pub managers_held : (old new : List ℕ) (db : ℕ) (bytes : List ℕ) (changes : List Change) → Leaves old new (edited (held old) db bytes changes) → All (IsCallersChange old) changes
+    → (other : ℕ) → other ≢ db → owner_under old other ≡ managers_owner → held new other ≡ held old other
+managers_held old new db bytes changes l each other away own =
     l.map other
-    ∙ apart (rewritten (held old) db bytes) name now other ne
-    ∙ apart (held old) db (changed (λ live. record live { bytes = bytes }) (held old db)) other away
+    ∙ kept_header old (rewritten (held old) db bytes) other changes own each
+    ∙ rewritten_apart (held old) db bytes other away
 
 -- the bytes of the database
-pub body_edited : (old new : List ℕ) (db : ℕ) (bytes : List ℕ) (name : ℕ) (now : Option LiveChunk) → Leaves old new (edited (held old) db bytes name now) → db ≢ name → IsSome (held old db) → bytes_under new db ≡ bytes
+pub body_edited : (old new : List ℕ) (db : ℕ) (bytes : List ℕ) (changes : List Change) → Leaves old new (edited (held old) db bytes changes) → owner_under old db ≡ managers_owner → All (IsCallersChange old) changes → IsSome (held old db) → bytes_under new db ≡ bytes
 unfolding bytes_under
-body_edited old new db bytes name now l ne there = ap bytes_of (header_held old new db bytes name now l ne) ∙ bytes_with bytes (held old db) there
+body_edited old new db bytes changes l own each there = ap bytes_of (header_held old new db bytes changes l own each) ∙ bytes_with bytes (held old db) there
 
-pub locks_edited : (old new : List ℕ) (db : ℕ) (bytes : List ℕ) (name : ℕ) (now : Option LiveChunk) → Leaves old new (edited (held old) db bytes name now) → db ≢ name
-    → ((before after : LiveChunk) → held old name ≡ Some before → now ≡ Some after → after.lock ≡ before.lock) → KeepsLocks old new
-locks_edited old new db bytes name now l ne locks other before after was is = elim (cases_eq other name) [
-  | inl e ↦ locks before after (ap (held old) (sym e) ∙ was) (sym (chunk_held old new db bytes name now l) ∙ ap (held new) (sym e) ∙ is)
-  | inr away ↦ elim (cases_eq other db) [
-    | inl e ↦ lock_with bytes (held old db) before after (ap (held old) (sym e) ∙ was) (sym (header_held old new db bytes name now l ne) ∙ ap (held new) (sym e) ∙ is)
-    | inr far ↦ lock_same (held old other) (held new other) before after (other_held old new db bytes name now l other away far) was is
+pub locks_edited : (old new : List ℕ) (db : ℕ) (bytes : List ℕ) (changes : List Change) → Leaves old new (edited (held old) db bytes changes) → owner_under old db ≡ managers_owner → All (IsCallersChange old) changes → KeepsLocks old new
+locks_edited old new db bytes changes l own each other before after was is = elim (cases_eq other db) [
+  | inl e ↦ lock_with bytes (held old db) before after (ap (held old) (sym e) ∙ was) (sym (header_held old new db bytes changes l own each) ∙ ap (held new) (sym e) ∙ is)
+  | inr away ↦ elim (changed_or_kept (IsCallersChange old) (rewritten (held old) db bytes) (held old) changes other each) [
+    | inl c ↦ c.holds.locks before after (ap (held old) (sym c.is) ∙ was) (sym (l.map other ∙ c.now) ∙ is)
+    | inr k ↦ lock_same (held old other) (held new other) before after (l.map other ∙ k.same_chunk ∙ rewritten_apart (held old) db bytes other away) was is
   ]
 ]
 
 -- ---- the owners afterwards
 
-pub owner_now : (old new : List ℕ) (db : ℕ) (bytes : List ℕ) (name : ℕ) (now : Option LiveChunk) → Leaves old new (edited (held old) db bytes name now) → owner_under new name ≡ owner_of now
-unfolding owner_under
-owner_now old new db bytes name now l = ap owner_of (l.map name ∙ here (rewritten (held old) db bytes) name now name refl)
-
-pub owner_left : (old new : List ℕ) (db : ℕ) (bytes : List ℕ) (name : ℕ) (now : Option LiveChunk) → Leaves old new (edited (held old) db bytes name now) → (other : ℕ) → other ≢ name → owner_under new other ≡ owner_under old other
-unfolding owner_under with_bytes
-owner_left old new db bytes name now l other ne = ap owner_of (l.map other ∙ apart (rewritten (held old) db bytes) name now other ne) ∙ elim (cases_eq other db) [
-  | inl e ↦ ap owner_of (here (held old) db (changed (λ live. record live { bytes = bytes }) (held old db)) other e) ∙ owner_with bytes (held old db) ∙ ap (λ (n : ℕ). owner_of (held old n)) (sym e)
-  | inr away ↦ ap owner_of (apart (held old) db (changed (λ live. record live { bytes = bytes }) (held old db)) other away)
-]
-
--- the manager's chunks are those of the same names, and the other chunk is none of them
-pub owners_edited : (old new : List ℕ) (db : ℕ) (bytes : List ℕ) (name : ℕ) (now : Option LiveChunk) → Leaves old new (edited (held old) db bytes name now) → owner_under old name ≢ managers_owner → owner_of now ≢ managers_owner
+-- the manager's chunks are those of the same names, and what was changed is none of them
+pub owners_edited : (old new : List ℕ) (db : ℕ) (bytes : List ℕ) (changes : List Change) → Leaves old new (edited (held old) db bytes changes) → owner_under old db ≡ managers_owner → All (IsCallersChange old) changes
     → (other : ℕ) → ((owner_under new other ≡ managers_owner) ↔ (owner_under old other ≡ managers_owner))
-owners_edited old new db bytes name now l was is other = elim (cases_eq other name) [
-  | inl e ↦ (
-    λ own. absurd (is (sym (owner_now old new db bytes name now l) ∙ ap (owner_under new) (sym e) ∙ own)),
-    λ own. absurd (was (ap (owner_under old) (sym e) ∙ own)),
-  )
-  | inr away ↦ let owner = owner_left old new db bytes name now l other away in (λ own. sym owner ∙ own, λ own. owner ∙ own)
+unfolding owner_under
+owners_edited old new db bytes changes l own each other = elim (cases_eq other db) [
+  | inl e ↦
+      let was : owner_of (held old other) ≡ 0 = ap (λ (n : ℕ). owner_of (held old n)) e ∙ own in
+      let is : owner_of (held new other) ≡ 0 = ap (λ (n : ℕ). owner_of (held new n)) e ∙ ap owner_of (header_held old new db bytes changes l own each) ∙ owner_with bytes (held old db) ∙ own in
+      (λ z. was, λ z. is)
+  | inr away ↦ elim (changed_or_kept (IsCallersChange old) (rewritten (held old) db bytes) (held old) changes other each) [
+    | inl c ↦ (
+      λ z. absurd (c.holds.callers_now (sym (ap owner_of (l.map other ∙ c.now)) ∙ z)),
+      λ z. absurd (c.holds.callers (ap (λ (n : ℕ). owner_of (held old n)) (sym c.is) ∙ z)),
+    )
+    | inr k ↦ let same_owner = ap owner_of (l.map other ∙ k.same_chunk ∙ rewritten_apart (held old) db bytes other away) in (λ z. sym same_owner ∙ z, λ z. same_owner ∙ z)
+  ]
 ]
 
-pub callers_edited : (old new : List ℕ) (db : ℕ) (bytes : List ℕ) (name : ℕ) (now : Option LiveChunk) → Leaves old new (edited (held old) db bytes name now) → owner_under old db ≡ managers_owner → db ≢ name → owner_of now ≢ managers_owner
-    → (other : ℕ) → callers_map new other ≡ updated (callers_map old) name now other
+pub callers_edited : (old new : List ℕ) (db : ℕ) (bytes : List ℕ) (changes : List Change) → Leaves old new (edited (held old) db bytes changes) → owner_under old db ≡ managers_owner → All (IsCallersChange old) changes
+    → (other : ℕ) → callers_map new other ≡ all_updated (callers_map old) changes other
 unfolding owner_under
-callers_edited old new db bytes name now l own ne is other = elim (cases_eq other name) [
-  | inl e ↦ ap (callers_map new) e ∙ ap (not_owned 0) (chunk_held old new db bytes name now l) ∙ shown now is ∙ sym (here (callers_map old) name now other e)
-  | inr away ↦
-      elim (cases_eq other db) [
-        | inl e ↦
-            let was : owner_of (held old other) ≡ 0 = ap (λ (n : ℕ). owner_of (held old n)) e ∙ own in
-            let still : owner_of (held new other) ≡ 0 = owner_left old new db bytes name now l other away ∙ was in
-            hidden (held new other) still ∙ sym (hidden (held old other) was)
-        | inr far ↦ ap (not_owned 0) (other_held old new db bytes name now l other away far)
-      ]
-      ∙ sym (apart (callers_map old) name now other away)
+callers_edited old new db bytes changes l own each other = elim (cases_eq other db) [
+  | inl e ↦
+      let was : owner_of (held old db) ≡ 0 = own in
+      let is : owner_of (held new db) ≡ 0 = ap owner_of (header_held old new db bytes changes l own each) ∙ owner_with bytes (held old db) ∙ own in
+      ap (callers_map new) e
+      ∙ hidden (held new db) is
+      ∙ sym (hidden (held old db) was)
+      ∙ sym (kept_header old (callers_map old) db changes own each)
+      ∙ ap (all_updated (callers_map old) changes) (sym e)
+  | inr away ↦ elim (changed_or_kept (IsCallersChange old) (rewritten (held old) db bytes) (callers_map old) changes other each) [
+    | inl c ↦ ap (not_owned 0) (l.map other ∙ c.now) ∙ shown c.one.now c.holds.callers_now ∙ sym c.other_now
+    | inr k ↦ ap (not_owned 0) (l.map other ∙ k.same_chunk ∙ rewritten_apart (held old) db bytes other away) ∙ sym k.other_same
+  ]
 ]
+
+-- the owners, where the database alone was edited, or one chunk, or two
+pub owner_rewritten : (map : ChunkMap) (db : ℕ) (bytes : List ℕ) (other : ℕ) → owner_of (rewritten map db bytes other) ≡ owner_of (map other)
+unfolding with_bytes
+owner_rewritten map db bytes other = elim (cases_eq other db) [
+  | inl e ↦ ap owner_of (here map db (changed (λ live. record live { bytes = bytes }) (map db)) other e) ∙ owner_with bytes (map db) ∙ ap (λ (n : ℕ). owner_of (map n)) (sym e)
+  | inr away ↦ ap owner_of (rewritten_apart map db bytes other away)
+]
+
+pub owner_now : (old new : List ℕ) (db : ℕ) (bytes : List ℕ) (name : ℕ) (now : Option LiveChunk) (more : List Change) → Leaves old new (edited (held old) db bytes (record { name = name; now = now } ∷ more)) → owner_under new name ≡ owner_of now
+unfolding owner_under
+owner_now old new db bytes name now more l = ap owner_of (l.map name ∙ here (edited (held old) db bytes more) name now name refl)
+
+pub owner_left : (old new : List ℕ) (db : ℕ) (bytes : List ℕ) (name : ℕ) (now : Option LiveChunk) → Leaves old new (edited (held old) db bytes (one_change name now)) → (other : ℕ) → other ≢ name → owner_under new other ≡ owner_under old other
+unfolding owner_under
+owner_left old new db bytes name now l other ne = ap owner_of (l.map other ∙ apart (rewritten (held old) db bytes) name now other ne) ∙ owner_rewritten (held old) db bytes other
 
 -- ---- how often names are those of chunks for data
 
-balances : (old new : List ℕ) (db : ℕ) (bytes : List ℕ) (name : ℕ) (now : Option LiveChunk) → Leaves old new (edited (held old) db bytes name now) → (before after : Database ℕ)
+balances : (old new : List ℕ) (db : ℕ) (bytes : List ℕ) (name : ℕ) (now : Option LiveChunk) → Leaves old new (edited (held old) db bytes (one_change name now)) → (before after : Database ℕ)
     → (0 < name → times name (data_in after) + same (owner_under old name) data_owner ≡ times name (data_in before) + same (owner_of now) data_owner)
     → ((q : ℕ) → 0 < q → q ≢ name → times q (data_in after) ≡ times q (data_in before))
     → (q : ℕ) → 0 < q → times q (data_in after) + same (owner_under old q) data_owner ≡ times q (data_in before) + same (owner_under new q) data_owner
@@ -144,7 +203,7 @@ balances old new db bytes name now l before after at others q some = elim (cases
       let one = at (subst (λ (n : ℕ). 0 < n) e some) in
       let was = ap (λ (n : ℕ). same (owner_under old n) data_owner) e in
       let is = ap (λ (n : ℕ). same (owner_under new n) data_owner) e in
-      let own = ap (λ (o : ℕ). same o data_owner) (owner_now old new db bytes name now l) in
+      let own = ap (λ (o : ℕ). same o data_owner) (owner_now old new db bytes name now [] l) in
       let a = ap (λ (n : ℕ). times n (data_in after)) e in
       let b = ap (λ (n : ℕ). times n (data_in before)) e in
       omega arith
@@ -155,20 +214,20 @@ balances old new db bytes name now l before after at others q some = elim (cases
 ]
 
 -- the database names a new chunk for data
-pub made_balance : (old new : List ℕ) (db : ℕ) (bytes : List ℕ) (name : ℕ) (now : Option LiveChunk) → Leaves old new (edited (held old) db bytes name now) → (before after : Database ℕ) → owner_under old name ≢ data_owner → owner_of now ≡ data_owner
-    → ((q : ℕ) → times q (data_in after) ≡ times q (data_in before) + same name q)
+pub made_balance : (old new : List ℕ) (db : ℕ) (bytes : List ℕ) (name : ℕ) (now : Option LiveChunk) → Leaves old new (edited (held old) db bytes (one_change name now)) → (before after : Database ℕ) → owner_under old name ≢ data_owner → owner_of now ≡ data_owner
+    → ((q : ℕ) → 0 < q → times q (data_in after) ≡ times q (data_in before) + same name q)
     → (q : ℕ) → 0 < q → times q (data_in after) + same (owner_under old q) data_owner ≡ times q (data_in before) + same (owner_under new q) data_owner
 made_balance old new db bytes name now l before after was is names = balances old new db bytes name now l before after
     (λ some.
-    let one = names name in
+    let one = names name some in
     let yes = same-yes name name refl in
     let a = same-no (owner_under old name) data_owner was in
     let b = same-yes (owner_of now) data_owner is in
     omega arith)
-    (λ q some ne. let one = names q in let no = same-no name q (λ e. ne (sym e)) in omega arith)
+    (λ q some ne. let one = names q some in let no = same-no name q (λ e. ne (sym e)) in omega arith)
 
 -- the database named a chunk for data that is none now
-pub gone_balance : (old new : List ℕ) (db : ℕ) (bytes : List ℕ) (name : ℕ) (now : Option LiveChunk) → Leaves old new (edited (held old) db bytes name now) → (before after : Database ℕ)
+pub gone_balance : (old new : List ℕ) (db : ℕ) (bytes : List ℕ) (name : ℕ) (now : Option LiveChunk) → Leaves old new (edited (held old) db bytes (one_change name now)) → (before after : Database ℕ)
     → (0 < name → owner_under old name ≡ data_owner) → owner_of now ≢ data_owner
     → ((q : ℕ) → 0 < q → times q (data_in after) + same name q ≡ times q (data_in before))
     → (q : ℕ) → 0 < q → times q (data_in after) + same (owner_under old q) data_owner ≡ times q (data_in before) + same (owner_under new q) data_owner
@@ -181,36 +240,51 @@ gone_balance old new db bytes name now l before after was is names = balances ol
     omega arith)
     (λ q some ne. let one = names q some in let no = same-no name q (λ e. ne (sym e)) in omega arith)
 
--- the database names what it named, and the owner of the chunk stays
-pub kept_balance : (old new : List ℕ) (db : ℕ) (bytes : List ℕ) (name : ℕ) (now : Option LiveChunk) → Leaves old new (edited (held old) db bytes name now) → (before after : Database ℕ) → owner_of now ≡ owner_under old name
-    → ((q : ℕ) → 0 < q → times q (data_in after) ≡ times q (data_in before))
+-- A chunk for data went to a caller, and a caller's became one. The database names the one now, and the other
+-- no more.
+pub exchanged_balance : (old new : List ℕ) (db : ℕ) (bytes : List ℕ) (name : ℕ) (now : Option LiveChunk) (slot : ℕ) (handed : Option LiveChunk)
+    → Leaves old new (edited (held old) db bytes (record { name = name; now = now } ∷ one_change slot handed)) → (before after : Database ℕ) → owner_under old name ≢ data_owner → owner_of now ≡ data_owner → owner_under old slot ≡ data_owner
+    → owner_of handed ≢ data_owner → ((q : ℕ) → times q (data_in after) + same slot q ≡ times q (data_in before) + same name q)
     → (q : ℕ) → 0 < q → times q (data_in after) + same (owner_under old q) data_owner ≡ times q (data_in before) + same (owner_under new q) data_owner
-kept_balance old new db bytes name now l before after own names = balances old new db bytes name now l before after
-    (λ some. let one = names name some in let is = ap (λ (o : ℕ). same o data_owner) own in omega arith)
-    (λ q some ne. names q some)
+unfolding owner_under
+exchanged_balance old new db bytes name now slot handed l before after was is slot_was slot_is names q some =
+    let count = names q in
+    elim (cases_eq q name) [
+      | inl e ↦
+          let own : owner_under new q ≡ data_owner = ap (owner_under new) e ∙ owner_now old new db bytes name now (one_change slot handed) l ∙ is in
+          let a = same-no (owner_under old q) data_owner (λ z. was (ap (owner_under old) (sym e) ∙ z)) in
+          let b = same-yes (owner_under new q) data_owner own in
+          let yes = same-yes name q (sym e) in
+          let no = same-no slot q (λ z. was (ap (owner_under old) (sym e ∙ sym z) ∙ slot_was)) in
+          omega arith
+      | inr ne ↦
+          let no = same-no name q (λ e. ne (sym e)) in
+          let now_is = l.map q ∙ apart (edited (held old) db bytes (one_change slot handed)) name now q ne in
+          elim (cases_eq q slot) [
+            | inl e ↦
+                let a = same-yes (owner_under old q) data_owner (ap (owner_under old) e ∙ slot_was) in
+                let b = same-no (owner_under new q) data_owner (λ z. slot_is (sym (ap owner_of (now_is ∙ here (rewritten (held old) db bytes) slot handed q e)) ∙ z)) in
+                let yes = same-yes slot q (sym e) in
+                omega arith
+            | inr far ↦
+                let own : owner_under new q ≡ owner_under old q = ap owner_of (now_is ∙ apart (rewritten (held old) db bytes) slot handed q far) ∙ owner_rewritten (held old) db bytes q in
+                let kept = ap (λ (o : ℕ). same o data_owner) own in
+                let none = same-no slot q (λ e. far (sym e)) in
+                omega arith
+          ]
+    ]
 
--- ---- one database alone
+-- the database alone was edited, and names what it named
+pub kept_balance : (old new : List ℕ) (db : ℕ) (bytes : List ℕ) → Leaves old new (rewritten (held old) db bytes) → (before after : Database ℕ) → ((q : ℕ) → 0 < q → times q (data_in after) ≡ times q (data_in before))
+    → (q : ℕ) → 0 < q → times q (data_in after) + same (owner_under old q) data_owner ≡ times q (data_in before) + same (owner_under new q) data_owner
+unfolding owner_under
+kept_balance old new db bytes l before after names q some =
+    let own : owner_under new q ≡ owner_under old q = ap owner_of (l.map q) ∙ owner_rewritten (held old) db bytes q in
+    let kept = ap (λ (o : ℕ). same o data_owner) own in
+    let names_same = names q some in
+    omega arith
 
--- where no chunk was edited, none was under the name 0
-pub respelled : (old new : List ℕ) (db : ℕ) (d : Database ℕ) → Respells old new db d → Leaves old new (edited (held old) db (spelled d) 0 None)
-respelled old new db d l = record {
-  map = λ other. elim (cases_eq other 0) [
-    | inl e ↦
-        ap (held new) e
-        ∙ held-zero new l.frame.accepted
-        ∙ sym (here (rewritten (held old) db (spelled d)) 0 None other e)
-    | inr ne ↦ l.map other ∙ sym (apart (rewritten (held old) db (spelled d)) 0 None other ne)
-  ];
-  frame = l.frame;
-  still = l.still;
-}
-
--- what callers name is as it was where 0, which names nothing, is taken away
-pub callers_zero : (image : List ℕ) → HeapAccepted image → (other : ℕ) → updated (callers_map image) 0 None other ≡ callers_map image other
-callers_zero image heap other = elim (cases_eq other 0) [
-  | inl e ↦ here (callers_map image) 0 None other e ∙ sym (ap (callers_map image) e ∙ ap (not_owned 0) (held-zero image heap))
-  | inr ne ↦ apart (callers_map image) 0 None other ne
-]
+-- ---- bytes written over those of a database
 
 put_is : (bytes after : List ℕ) (o : Option LiveChunk) → overwritten (bytes_of o) 0 bytes ≡ after → changed (λ live. record live { bytes = overwritten live.bytes 0 bytes }) o ≡ changed (with_bytes after) o
 unfolding with_bytes

@@ -1,9 +1,10 @@
--- Images in which one database and one chunk were edited, or one of these alone, mean the store with these.
-use Rattle.std.proofs.Common.{◌≡◌, ◌≢◌, ℕ, ◌+◌, ◌<◌, List, length, get_or, set, replicate, ◌≤◌, Option, Some, None, refl, sym, ap, subst, ◌∙◌, arith, inl, inr}
+-- Images in which one database and some chunks were edited, or one chunk alone, mean the store with these.
+use Rattle.std.proofs.Common.{◌≡◌, ◌≢◌, ℕ, ◌+◌, ◌<◌, List, [], ◌∷◌, length, get_or, set, replicate, ◌≤◌, Option, Some, None, refl, sym, ap, subst, ◌∙◌, arith, inl, inr}
 use Rattle.std.proofs.lemmas.Bool.{cases_eq}
 use Rattle.std.proofs.lemmas.List.{get_or-set_same, get_or-set_other, length-set, length-map, map-set, get_or-map}
 use Rattle.std.proofs.lemmas.Option.{slice_get_within, get_or_from_slice_get}
-use Rattle.std.specs.Prelude.{IsSome, slice_get}
+use Rattle.std.proofs.lemmas.List.Elements.{All-nil, All-cons}
+use Rattle.std.specs.Prelude.{IsSome, All, slice_get}
 use Rattle.heap_model.specs.Bytes.{sized_to}
 use Rattle.heap_model.specs.Meaning.{LiveChunk}
 use Rattle.heap_model.specs.Reading.{held}
@@ -19,8 +20,7 @@ use Rattle.heap_model.specs.EntrySteps.{most_entries, with_entry_at, entry_made,
 use Rattle.heap_model.specs.declared.names.Db.{Db}
 use Rattle.laws_heap.proofs.Deciding.{none_some, same_some}
 use Rattle.laws_store.specs.Entries.{HasNewId}
-use Rattle.laws_store.specs.Changes.{Rewrites, HasStore, Edits}
-use Rattle.laws_store.proofs.Owners.{owner-zero}
+use Rattle.laws_store.specs.Changes.{Rewrites, HasStore, Change, all_updated, IsCallersChange, Edits}
 use Rattle.laws_store.proofs.Counting.{has_databases}
 use Rattle.laws_store.proofs.Keeping.{databases_kept}
 use Rattle.laws_store.proofs.Rewriting.{names_set, other_number, get-any}
@@ -28,54 +28,48 @@ use Rattle.laws_store.proofs.Stepping.{has_store, set_steps}
 use Rattle.laws_store.proofs.Stepping as stepping
 use Rattle.laws_store.proofs.Numbered.{number_stands, number_slot, number_held, accepted_sound}
 use Rattle.laws_store.proofs.Entries.{inserted_sound, inserted_names, seeded_name}
-use Rattle.laws_store.proofs.Edited.{here, apart, shown, lock_same, edited, other_held, body_edited, locks_edited, owners_edited, callers_edited, made_balance, kept_balance, respelled, callers_zero}
+use Rattle.laws_store.proofs.Edited.{here, apart, shown, lock_same, one_change, edited, managers_held, body_edited, locks_edited, owners_edited, callers_edited, made_balance, kept_balance}
 
--- ---- one database and one chunk edited
-
--- the database is the manager's chunk, and the other chunk none of these
-pub db_apart : (image : List ℕ) (db name : ℕ) → owner_under image db ≡ managers_owner → owner_under image name ≢ managers_owner → db ≢ name
-db_apart image db name own callers e = callers (ap (owner_under image) (sym e) ∙ own)
+-- ---- one database and some chunks edited
 
 -- what an edit needs to be one, whether the database keeps its name or not
-record Parts (old new : List ℕ) (db : ℕ) (d : Database ℕ) (name : ℕ) (now : Option LiveChunk) : Type 0 where
-  leaves : Leaves old new (edited (held old) db (spelled d) name now)
+record Parts (old new : List ℕ) (db : ℕ) (d : Database ℕ) (changes : List Change) : Type 0 where
+  leaves : Leaves old new (edited (held old) db (spelled d) changes)
   sound : IsSound d
-  callers : owner_under old name ≢ managers_owner
-  callers_now : owner_of now ≢ managers_owner
+  each : All (IsCallersChange old) changes
   balance : (other : ℕ) → 0 < other → times other (data_in d) + same (owner_under old other) data_owner ≡ times other (data_in (database_here old db)) + same (owner_under new other) data_owner
 
-rewrites : (old new : List ℕ) (db index : ℕ) (d : Database ℕ) (name : ℕ) (now : Option LiveChunk) → Accepted old → IsSome (with_number (store_of old) db) → slice_get (databases old) index ≡ Some (database_under old db) → Parts old new db d name now
+rewrites : (old new : List ℕ) (db index : ℕ) (d : Database ℕ) (changes : List Change) → Accepted old → IsSome (with_number (store_of old) db) → slice_get (databases old) index ≡ Some (database_under old db) → Parts old new db d changes
     → Distinct (names_of (set (databases old) index (record { db = db; database = d }))) → Rewrites old new (databases old) index (record { db = db; database = d })
-rewrites old new db index d name now a has at p names =
+rewrites old new db index d changes a has at p names =
     let one : StoredDatabase = record { db = db; database = d } in
     let was : StoredDatabase = database_under old db in
     let stands : get_or (databases old) index one ≡ was = get_or_from_slice_get (databases old) index was one at in
     let slot = number_slot old db a has in
-    let ne = db_apart old db name slot.owner p.callers in
     record {
       heap = p.leaves.frame.accepted;
       directory = p.leaves.frame.directory;
       inside = slice_get_within (databases old) index was at;
       number = sym (ap (λ (x : StoredDatabase). x.db) stands);
       whole = record {
-        spelled = record { fits = p.sound.fits; bytes_are = body_edited old new db (spelled d) name now p.leaves ne (number_held old db a has) };
+        spelled = record { fits = p.sound.fits; bytes_are = body_edited old new db (spelled d) changes p.leaves slot.owner p.each (number_held old db a has) };
         entries = p.sound.entries;
         ids = p.sound.ids;
       };
       own_names = names;
-      managers = λ other away own. other_held old new db (spelled d) name now p.leaves other (λ e. p.callers (ap (owner_under old) (sym e) ∙ own)) away;
-      owners = owners_edited old new db (spelled d) name now p.leaves p.callers p.callers_now;
+      managers = managers_held old new db (spelled d) changes p.leaves p.each;
+      owners = owners_edited old new db (spelled d) changes p.leaves slot.owner p.each;
       balance = λ other some. p.balance other some ∙ ap (λ (x : StoredDatabase). times other (data_in x.database) + same (owner_under new other) data_owner) (sym stands);
     }
 
-steps : (old new : List ℕ) (db index : ℕ) (change : Database ℕ → Database ℕ) (name : ℕ) (now : Option LiveChunk) → Accepted old → IsSome (with_number (store_of old) db) → slice_get (databases old) index ≡ Some (database_under old db)
-    → Parts old new db (change (database_here old db)) name now → Distinct (names_of (set (databases old) index (record { db = db; database = change (database_here old db) })))
-    → HasStore new (record { map = updated (callers_map old) name now; databases = with_changed (databases old) db change })
-steps old new db index change name now a has at p names =
+steps : (old new : List ℕ) (db index : ℕ) (change : Database ℕ → Database ℕ) (changes : List Change) → Accepted old → IsSome (with_number (store_of old) db) → slice_get (databases old) index ≡ Some (database_under old db)
+    → Parts old new db (change (database_here old db)) changes → Distinct (names_of (set (databases old) index (record { db = db; database = change (database_here old db) })))
+    → HasStore new (record { map = all_updated (callers_map old) changes; databases = with_changed (databases old) db change })
+steps old new db index change changes a has at p names =
     let d : Database ℕ = change (database_here old db) in
     let slot = number_slot old db a has in
-    set_steps old new db index (database_under old db) change (updated (callers_map old) name now) a at refl (rewrites old new db index d name now a has at p names)
-    (callers_edited old new db (spelled d) name now p.leaves slot.owner (db_apart old db name slot.owner p.callers) p.callers_now)
+    set_steps old new db index (database_under old db) change (all_updated (callers_map old) changes) a at refl (rewrites old new db index d changes a has at p names)
+    (callers_edited old new db (spelled d) changes p.leaves slot.owner p.each)
 
 -- the names of all, where that of one database stays
 names_kept : (image : List ℕ) (db index : ℕ) (d : Database ℕ) → Accepted image → slice_get (databases image) index ≡ Some (database_under image db) → d.header.name ≡ (database_here image db).header.name
@@ -87,22 +81,26 @@ names_kept image db index d a at name =
     subst (λ (names : List (List ℕ)). Distinct names)
     (sym (names_set (databases image) index one (slice_get_within (databases image) index was at) (name ∙ sym (ap (λ (x : StoredDatabase). x.database.header.name) stands)))) a.own_names
 
-pub edit_steps : (old new : List ℕ) (db : Db) (change : Database ℕ → Database ℕ) (name : ℕ) (now : Option LiveChunk) → Accepted old → IsSome (with_number (store_of old) db.0) → Edits old new db.0 (change (database_here old db.0)) name now
-    → LeavesStore old new (record { map = updated (callers_map old) name now; databases = with_changed (databases old) db.0 change })
-edit_steps old new db change name now a has s =
+pub edit_steps : (old new : List ℕ) (db : Db) (change : Database ℕ → Database ℕ) (changes : List Change) → Accepted old → IsSome (with_number (store_of old) db.0) → Edits old new db.0 (change (database_here old db.0)) changes
+    → LeavesStore old new (record { map = all_updated (callers_map old) changes; databases = with_changed (databases old) db.0 change })
+edit_steps old new db change changes a has s =
     let d : Database ℕ = change (database_here old db.0) in
     let at = number_stands old db.0 has in
     let slot = number_slot old db.0 a has in
-    let store = steps old new db.0 at.0 change name now a has at.1 (record { leaves = s.leaves; sound = s.sound; callers = s.callers; callers_now = s.callers_now; balance = s.balance }) (names_kept old db.0 at.0 d a at.1 s.same_name) in
+    let store = steps old new db.0 at.0 change changes a has at.1 (record { leaves = s.leaves; sound = s.sound; each = s.each; balance = s.balance }) (names_kept old db.0 at.0 d a at.1 s.same_name) in
     record {
       accepted = store.accepted;
       same = store.same;
       len = s.leaves.frame.len;
       count = ap length s.leaves.frame.slots;
       directory = s.leaves.frame.directory;
-      locks = locks_edited old new db.0 (spelled d) name now s.leaves (db_apart old db.0 name slot.owner s.callers) s.locks;
+      locks = locks_edited old new db.0 (spelled d) changes s.leaves slot.owner s.each;
       still = s.leaves.still;
     }
+
+-- each change, where there is one
+pub each_one : (image : List ℕ) (name : ℕ) (now : Option LiveChunk) → IsCallersChange image (record { name = name; now = now }) → All (IsCallersChange image) (one_change name now)
+each_one image name now is = All-cons (IsCallersChange image) (record { name = name; now = now }) [] is (All-nil (IsCallersChange image))
 
 -- ---- an entry that came, with its data
 
@@ -110,7 +108,7 @@ edit_steps old new db change name now a has s =
 pub made_edit : (old new : List ℕ) (db : ℕ) (d : Database ℕ) (slot size : ℕ) → Leaves old new (made (rewritten (held old) db (spelled d)) slot size data_owner 0)
     → held old slot ≡ None → IsSound d → d.header.name ≡ (database_here old db).header.name
     → ((q : ℕ) → times q (data_in d) ≡ times q (data_in (database_here old db)) + same slot q)
-    → Edits old new db d slot (Some (record { bytes = replicate size 0; lock = 0; owner = data_owner }))
+    → Edits old new db d (one_change slot (Some (record { bytes = replicate size 0; lock = 0; owner = data_owner })))
 unfolding owner_under
 made_edit old new db d slot size l none sound name counts =
     let chunk : LiveChunk = record { bytes = replicate size 0; lock = 0; owner = data_owner } in
@@ -119,10 +117,12 @@ made_edit old new db d slot size l none sound name counts =
       leaves = l;
       sound = sound;
       same_name = name;
-      callers = λ z. omega arith;
-      callers_now = λ z. omega arith;
-      locks = λ before after there is. absurd (none_some (held old slot) before none there);
-      balance = made_balance old new db (spelled d) slot (Some chunk) l (database_here old db) d (λ z. omega arith) refl counts;
+      each = each_one old slot (Some chunk) (record {
+        callers = λ z. omega arith;
+        callers_now = λ z. omega arith;
+        locks = λ before after there is. absurd (none_some (held old slot) before none there);
+      });
+      balance = made_balance old new db (spelled d) slot (Some chunk) l (database_here old db) d (λ z. omega arith) refl (λ q some. counts q);
     }
 
 pub make_steps : (old new : List ℕ) (db : Db) (index : ℕ) (e : Entry ℕ) (size : ℕ) → Accepted old → IsSome (with_number (store_of old) db.0)
@@ -132,24 +132,20 @@ pub make_steps : (old new : List ℕ) (db : Db) (index : ℕ) (e : Entry ℕ) (s
 unfolding store_of
 make_steps old new db index e size a has l none fits names own inside few =
     let d : Database ℕ = database_here old db.0 in
-    edit_steps old new db (with_entry_at index e) (entry_data e) (Some (record { bytes = replicate size 0; lock = 0; owner = data_owner })) a has
+    edit_steps old new db (with_entry_at index e) (one_change (entry_data e) (Some (record { bytes = replicate size 0; lock = 0; owner = data_owner }))) a has
     (made_edit old new db.0 (with_entry_at index e d) (entry_data e) size l none (inserted_sound d index e (accepted_sound old db.0 a has) fits names own inside few)
     (seeded_name e d.header) (λ q. inserted_names q d index e))
 
 -- ---- one database alone
 
-respell_parts : (old new : List ℕ) (db : ℕ) (d : Database ℕ) → Accepted old → IsSome (with_number (store_of old) db) → Respells old new db d → IsSound d
-    → ((q : ℕ) → 0 < q → times q (data_in d) ≡ times q (data_in (database_here old db))) → Parts old new db d 0 None
-respell_parts old new db d a has l sound counts =
-    let none : owner_under old 0 ≡ 16 = owner-zero old a.heap in
-    let leaves = respelled old new db d l in
-    record {
-      leaves = leaves;
-      sound = sound;
-      callers = λ z. omega arith;
-      callers_now = λ z. omega arith;
-      balance = kept_balance old new db (spelled d) 0 None leaves (database_here old db) d (sym none) counts;
-    }
+-- what a database needs that became another with the same data
+respell_parts : (old new : List ℕ) (db : ℕ) (d : Database ℕ) → Respells old new db d → IsSound d → ((q : ℕ) → 0 < q → times q (data_in d) ≡ times q (data_in (database_here old db))) → Parts old new db d []
+respell_parts old new db d l sound counts = record {
+  leaves = l;
+  sound = sound;
+  each = All-nil (IsCallersChange old);
+  balance = kept_balance old new db (spelled d) l (database_here old db) d counts;
+}
 
 -- a database that became another, of the same name and with the same data
 pub respell_steps : (old new : List ℕ) (db : Db) (change : Database ℕ → Database ℕ) → Accepted old → IsSome (with_number (store_of old) db.0) → Respells old new db.0 (change (database_here old db.0))
@@ -157,26 +153,8 @@ pub respell_steps : (old new : List ℕ) (db : Db) (change : Database ℕ → Da
     → ((q : ℕ) → 0 < q → times q (data_in (change (database_here old db.0))) ≡ times q (data_in (database_here old db.0))) → LeavesStore old new (record (store_of old) { databases = with_changed (store_of old).databases db.0 change })
 unfolding store_of
 respell_steps old new db change a has l sound name counts =
-    let d : Database ℕ = change (database_here old db.0) in
-    let p = respell_parts old new db.0 d a has l sound counts in
-    let store = edit_steps old new db change 0 None a has (record {
-      leaves = p.leaves;
-      sound = sound;
-      same_name = name;
-      callers = p.callers;
-      callers_now = p.callers_now;
-      locks = λ before after was is. absurd cc;
-      balance = p.balance;
-    }) in
-    record {
-      accepted = store.accepted;
-      same = record { map = λ other. store.same.map other ∙ callers_zero old a.heap other; databases = store.same.databases };
-      len = store.len;
-      count = store.count;
-      directory = store.directory;
-      locks = store.locks;
-      still = store.still;
-    }
+    let p = respell_parts old new db.0 (change (database_here old db.0)) l sound counts in
+    edit_steps old new db change [] a has (record { leaves = p.leaves; sound = sound; same_name = name; each = p.each; balance = p.balance })
 
 -- ---- one database renamed
 
@@ -225,8 +203,7 @@ unfolding store_of
 rename_steps old new db change a has l sound free counts =
     let d : Database ℕ = change (database_here old db) in
     let at = number_stands old db has in
-    let store = steps old new db at.0 change 0 None a has at.1 (respell_parts old new db d a has l sound counts) (names_free old db at.0 d a at.1 free) in
-    record { accepted = store.accepted; same = record { map = λ other. store.same.map other ∙ callers_zero old a.heap other; databases = store.same.databases } }
+    steps old new db at.0 change [] a has at.1 (respell_parts old new db d l sound counts) (names_free old db at.0 d a at.1 free)
 
 -- ---- one chunk for data edited
 

@@ -134,7 +134,7 @@ kind_here image db has = ap kind_of (number_here image db.0 has)
 
 -- ---- an entry of it
 
-number_database : (image : List ℕ) (db : ℕ) → Accepted image → IsSome (with_number (store_of image) db) → IsDatabase image (database_under image db)
+pub number_database : (image : List ℕ) (db : ℕ) → Accepted image → IsSome (with_number (store_of image) db) → IsDatabase image (database_under image db)
 number_database image db a has =
     let at = number_stands image db has in
     let one : StoredDatabase = database_under image db in

@@ -1,9 +1,9 @@
 -- What a call leaves of an image with databases: which chunks of the manager's are as they were, and how
 -- many of the names for data are.
-use Rattle.std.specs.Prelude.{◌≡◌, ◌≢◌, ◌<◌, ◌+◌, ◌%◌, ◌++◌, ◌↔◌, ℕ, List, Option, Some, None, [], ◌∷◌, length, slice_index_or, slice_set}
+use Rattle.std.specs.Prelude.{◌≡◌, ◌≢◌, ◌<◌, ◌+◌, ◌%◌, ◌++◌, ◌↔◌, ℕ, List, Option, Some, None, [], ◌∷◌, length, slice_index_or, slice_set, All}
 use Rattle.std.specs.List.{remove}
 use Rattle.heap_model.specs.Heap.{HeapAccepted, directory_of}
-use Rattle.heap_model.specs.Meaning.{LiveChunk}
+use Rattle.heap_model.specs.Meaning.{LiveChunk, ChunkMap}
 use Rattle.heap_model.specs.Reading.{held}
 use Rattle.heap_model.specs.Maps.{updated}
 use Rattle.heap_model.specs.Lists.{same, times, Distinct}
@@ -79,15 +79,29 @@ pub record HasStore (image : List ℕ) (store : Store) : Type 0 where
   pub accepted : Accepted image
   pub same : SameStore (store_of image) store
 
--- One database became another, of the same name, and one chunk that callers may name, or none where `name` is
--- 0 and `now` is none, was made, changed or freed. All other chunks are as they were. A name is that of a chunk
--- for data as often more as the database names it more often.
-pub record Edits (old new : List ℕ) (db : ℕ) (database : Database ℕ) (name : ℕ) (now : Option LiveChunk) : Type 0 where
-  pub leaves : Leaves old new (updated (rewritten (held old) db (spelled database)) name now)
+-- what a name stands for now
+pub record Change : Type 0 where
+  pub name : ℕ
+  pub now : Option LiveChunk
+
+-- a map with what some names stand for replaced
+abbrev pub all_updated : ChunkMap → List Change → ChunkMap
+all_updated map [] = map
+all_updated map (one ∷ more) = updated (all_updated map more) one.name one.now
+
+-- a chunk that callers may name is made, changed or freed, and keeps its locks
+pub record IsCallersChange (image : List ℕ) (one : Change) : Type 0 where
+  pub callers : owner_under image one.name ≢ managers_owner
+  pub callers_now : owner_of one.now ≢ managers_owner
+  pub locks : (before after : LiveChunk) → held image one.name ≡ Some before → one.now ≡ Some after → after.lock ≡ before.lock
+
+-- One database became another, of the same name, and some chunks that callers may name were made, changed or
+-- freed. All other chunks are as they were. A name is that of a chunk for data as often more as the database
+-- names it more often.
+pub record Edits (old new : List ℕ) (db : ℕ) (database : Database ℕ) (changes : List Change) : Type 0 where
+  pub leaves : Leaves old new (all_updated (rewritten (held old) db (spelled database)) changes)
   pub sound : IsSound database
   pub same_name : database.header.name ≡ (database_here old db).header.name
-  pub callers : owner_under old name ≢ managers_owner
-  pub callers_now : owner_of now ≢ managers_owner
-  pub locks : (before after : LiveChunk) → held old name ≡ Some before → now ≡ Some after → after.lock ≡ before.lock
+  pub each : All (IsCallersChange old) changes
   pub balance : (other : ℕ) → 0 < other
       → times other (data_in database) + same (owner_under old other) data_owner ≡ times other (data_in (database_here old db)) + same (owner_under new other) data_owner

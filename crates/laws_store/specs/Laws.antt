@@ -28,7 +28,7 @@ use Rattle.heap_model.specs.EntrySteps.{most_entries, entry_made, replaced, with
 use Rattle.heap_model.specs.StoreSteps.{StoreAsBefore, DoesInStore}
 use Rattle.laws_store.specs.Entries.{HasNewId, HasOwnId}
 use Rattle.laws_store.specs.StoreTests.{is_store}
-use Rattle.laws_store.specs.Changes.{KeepsManagers, Rewrites, Appends, Drops, Clears, HasStore, Edits}
+use Rattle.laws_store.specs.Changes.{KeepsManagers, Rewrites, Appends, Drops, Clears, HasStore, Change, all_updated, Edits}
 
 -- ---- spellings
 
@@ -219,12 +219,12 @@ RefusalsAreSteps =
     ((old new : List ℕ) → Accepted old → SameFrame old new → ((name : ℕ) → held new name ≡ held old name) → HasStore new (store_of old))
     × ((old new : Memory) → Accepted old.bytes → SameFrame old.bytes new.bytes → AsBefore old new → Accepted new.bytes × StoreAsBefore old new)
 
--- an image in which one database and one chunk were edited means the store with these changed
+-- an image in which one database and some chunks were edited means the store with these changed
 abbrev pub EditsAreSteps : Type 0
 EditsAreSteps =
-    (old new : List ℕ) (db : Db) (change : Database ℕ → Database ℕ) (name : ℕ) (now : Option LiveChunk) → Accepted old → IsSome (with_number (store_of old) db.0)
-    → Edits old new db.0 (change (database_here old db.0)) name now
-    → LeavesStore old new (record { map = updated (callers_map old) name now; databases = with_changed (databases old) db.0 change })
+    (old new : List ℕ) (db : Db) (change : Database ℕ → Database ℕ) (changes : List Change) → Accepted old → IsSome (with_number (store_of old) db.0)
+    → Edits old new db.0 (change (database_here old db.0)) changes
+    → LeavesStore old new (record { map = all_updated (callers_map old) changes; databases = with_changed (databases old) db.0 change })
 
 -- an image to which an entry came that fits, with a new chunk for its data, means the store where it was made
 abbrev pub MakesAreSteps : Type 0

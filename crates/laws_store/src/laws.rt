@@ -152,7 +152,7 @@ pub fn refusals_are_steps()
     ensures { RefusalsAreSteps }
 {}
 
-/// An image in which one database and one chunk were edited means the store with these changed.
+/// An image in which one database and some chunks were edited means the store with these changed.
 pub fn edits_are_steps()
     ensures { EditsAreSteps }
 {}

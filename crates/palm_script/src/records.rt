@@ -12,8 +12,9 @@ use crate::replies::{done, made, named, number, record};
 use heap_model::{Db, RecordCall, Reply};
 use palm_store::Store;
 use record_db::{
-    archive, delete, get, move_record, new_record, num_records, query, record_info, release,
-    remove, resize_record,
+    archive, delete, delete_category, detach, find_by_id, get, move_category, move_record,
+    new_record, next_in_category, num_in_category, num_records, position_in_category, query,
+    record_info, release, remove, resize_record, set_record_info,
 };
 
 /// Does a call on records and answers its reply.
@@ -46,5 +47,35 @@ pub(crate) fn do_record_call<D: Given<Db>>(
             done(resize_record(store, db.among(databases), *index, *size))
         }
         RecordCall::Count(db) => number(num_records(store, db.among(databases))),
+        RecordCall::Detach { db, index, owner } => {
+            named(detach(store, db.among(databases), *index, *owner))
+        }
+        RecordCall::SetInfo {
+            db,
+            index,
+            attributes,
+            id,
+        } => done(set_record_info(store, db.among(databases), *index, *attributes, *id)),
+        RecordCall::FindById(db, id) => number(find_by_id(store, db.among(databases), *id)),
+        RecordCall::CountInCategory(db, category) => {
+            number(num_in_category(store, db.among(databases), *category))
+        }
+        RecordCall::NextInCategory { db, from, category } => {
+            number(next_in_category(store, db.among(databases), *from, *category))
+        }
+        RecordCall::PositionInCategory {
+            db,
+            index,
+            category,
+        } => number(position_in_category(store, db.among(databases), *index, *category)),
+        RecordCall::MoveCategory {
+            db,
+            to,
+            from,
+            dirty,
+        } => done(move_category(store, db.among(databases), *to, *from, *dirty)),
+        RecordCall::DeleteCategory(db, category) => {
+            done(delete_category(store, db.among(databases), *category))
+        }
     }
 }

@@ -12,31 +12,17 @@ use Rattle.heap_model.specs.Leaving.{database_here}
 use Rattle.heap_model.specs.EntrySteps.{entries_in, OfEntry, Tells, resources_under}
 use Rattle.heap_model.specs.declared.names.Db.{Db}
 use Rattle.heap_model.specs.declared.entry.Entry as heard
+use Rattle.db_format.proofs.ViewLaws.{attributes_read, length-read, entry_read}
 use Rattle.laws_store.proofs.Shapes.{offset_below}
-use Rattle.laws_store.proofs.Numbered.{in_store, number_spelled, entries_here, kind_here, entry_fits, accepted_sound}
-use Rattle.palm_store.specs.Databases.{HasNumber}
+use Rattle.laws_store.proofs.Numbered.{in_store, number_here, number_spelled, entries_here, kind_here, entry_fits, accepted_sound}
+use Rattle.palm_store.specs.Databases.{HasNumber, HasDatabase}
 use Rattle.palm_store.specs.EntryCalls.{IsHeard}
 use Rattle.palm_store.proofs.Numbers.{number_shape}
-
-attributes_read : (body : List ℕ) → (database_in body).header.attributes ≡ u16_at body attributes_at
-unfolding database_in header_in
-attributes_read body = refl
 
 pub attributes_in_store : (image body : List ℕ) (db : Db) (attributes : ℕ) → HasNumber image db.0 → body ≡ bytes_under image db.0 → attributes ≡ u16_at body attributes_at → In (store_of image) db (λ database. database.header.attributes ≡ attributes)
 attributes_in_store image body db attributes has body_is is =
     in_store image db (λ (database : Database ℕ). database.header.attributes ≡ attributes) has
     (attributes_read (bytes_under image db.0) ∙ ap (λ (xs : List ℕ). u16_at xs attributes_at) (sym body_is) ∙ sym is)
-
-length-read : (body : List ℕ) → length (database_in body).entries ≡ entry_count_in body
-unfolding database_in
-length-read body = length-map-range_with_len (entry_in body) 0 (entry_count_in body)
-
-pub entry_read : (body : List ℕ) (index : ℕ) → index < entry_count_in body → slice_get (database_in body).entries index ≡ Some (entry_in body index)
-unfolding database_in
-entry_read body index below =
-    let long = length-map-range_with_len (entry_in body) 0 (entry_count_in body) in
-    slice_get-get_or (database_in body).entries index (entry_in body index) (omega arith)
-    ∙ ap (λ (entry : Entry ℕ). Some entry) (get_or-map-range_with_len (entry_in body) 0 (entry_count_in body) index index (entry_in body index) below (omega arith))
 
 pub count_here : (image body : List ℕ) (db : Db) → HasNumber image db.0 → body ≡ bytes_under image db.0 → length (entries_in (store_of image) db) ≡ entry_count_in body
 count_here image body db has body_is = ap length (entries_here image db has) ∙ length-read (bytes_under image db.0) ∙ ap entry_count_in (sym body_is)
@@ -88,6 +74,12 @@ index_most image db index has most = subst (λ (entries : List (Entry ℕ)). ind
 
 pub records_here : (image body : List ℕ) (db : Db) → HasNumber image db.0 → body ≡ bytes_under image db.0 → resources_under (store_of image) db ≡ false → resources_in body ≡ false
 records_here image body db has body_is records = ap resources_in body_is ∙ ap has_resources (sym (attributes_read (bytes_under image db.0))) ∙ sym (kind_here image db has) ∙ records
+
+-- ---- a database that is read
+
+pub read_here : (image body : List ℕ) (db : Db) (database : Database ℕ) → HasNumber image db.0 → body ≡ bytes_under image db.0 → database ≡ database_in body → HasDatabase image db.0 database
+read_here image body db database has body_is is =
+    number_here image db.0 has ∙ ap (λ (d : Database ℕ). Some (record { db = db.0; database = d })) (ap database_in (sym body_is) ∙ sym is)
 
 -- ---- what is heard of an index
 

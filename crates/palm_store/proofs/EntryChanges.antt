@@ -1,5 +1,6 @@
 -- Changes of one database, and of one chunk for data that it names, are changes of the store.
-use Rattle.std.proofs.Common.{◌≡◌, ◌≢◌, ℕ, ◌+◌, ◌<◌, ◌≤◌, Bool, true, false, List, length, Option, Some, None, refl, sym, ap, subst, ◌∙◌, arith, rules}
+use Rattle.std.proofs.Common.{◌≡◌, ◌≢◌, ℕ, ◌+◌, ◌<◌, ◌≤◌, Bool, true, false, List, [], length, Option, Some, None, refl, sym, ap, subst, ◌∙◌, arith, rules}
+use Rattle.std.proofs.lemmas.List.Elements.{All-nil}
 use Rattle.std.specs.Prelude.{IsSome, slice_get, slice_set}
 use Rattle.std.specs.List.{remove}
 use Rattle.heap_model.specs.Heap.{directory_of}
@@ -21,15 +22,16 @@ use Rattle.laws_store.proofs.Found.{changed_twice}
 use Rattle.laws_store.proofs.Listing.{same-no}
 use Rattle.laws_store.proofs.Owners.{owned_some}
 use Rattle.laws_store.proofs.Numbered.{accepted_sound, number_slot, number_some, number_held, data_here, entry_here, entry_owner}
-use Rattle.laws_store.proofs.Edited.{edited, gone_balance, respelled}
-use Rattle.laws_store.proofs.Editing.{edit_steps, respell_steps}
+use Rattle.laws_store.specs.Changes.{Change}
+use Rattle.laws_store.proofs.Edited.{one_change, edited, gone_balance}
+use Rattle.laws_store.proofs.Editing.{edit_steps, each_one, respell_steps}
 use Rattle.laws_store.proofs.Entries.{raised_sound, replaced_is, replaced_kept, replaced_own, replaced_names, removed_sound, removed_names, moved_sound, moved_names}
 use Rattle.mem_manager.specs.Lookup.{IsMovable}
 use Rattle.database_edits.specs.Edits.{counted, counted_if, with_moved, entry_moved, entry_written, entry_removed}
 use Rattle.palm_store.specs.Databases.{HasNumber}
 use Rattle.palm_store.specs.EntryCalls.{IsEntryData, raised_if}
 use Rattle.palm_store.proofs.DataChunks.{for_data, data_callers, data_movable, data_no_directory}
-use Rattle.palm_store.proofs.TwoSteps.{rewritten_apart, respelled_then, none_made, no_chunk}
+use Rattle.palm_store.proofs.TwoSteps.{rewritten_apart, respelled_then, none_made, none_made_by, no_chunk}
 
 -- ---- the number
 
@@ -50,7 +52,7 @@ callers_name image name a own e = (let some = owned_some image name 0 a.heap e (
 
 pub respelled_none : (old new : List ℕ) (db : ℕ) (d : Database ℕ) → Accepted old → HasNumber old db → Respells old new db d → MakesNone old new
 respelled_none old new db d a has l =
-    none_made old new db 0 (spelled d) None (respelled old new db d l) (number_held old db a has) (λ there. absurd (no_chunk None refl there))
+    none_made old new db (spelled d) [] l (number_held old db a has) (All-nil (λ (one : Change). IsSome one.now → IsSome (held old one.name)))
 
 -- ---- a change that is counted
 
@@ -124,20 +126,18 @@ set_steps counts old new db index change entry after a has at is l fits names ow
 -- ---- one database changed, and a chunk that it names no more
 
 -- a database changed, which names a chunk no more; that is freed, or has another owner
-pub unnamed : (old new : List ℕ) (db : Db) (change : Database ℕ → Database ℕ) (slot : ℕ) (now : Option LiveChunk) → Accepted old → HasNumber old db.0 → Leaves old new (edited (held old) db.0 (spelled (change (database_here old db.0))) slot now) → IsSound (change (database_here old db.0))
+pub unnamed : (old new : List ℕ) (db : Db) (change : Database ℕ → Database ℕ) (slot : ℕ) (now : Option LiveChunk) → Accepted old → HasNumber old db.0 → Leaves old new (edited (held old) db.0 (spelled (change (database_here old db.0))) (one_change slot now)) → IsSound (change (database_here old db.0))
     → (change (database_here old db.0)).header.name ≡ (database_here old db.0).header.name → (0 < slot → owner_under old slot ≡ data_owner) → owner_of now ≢ managers_owner → owner_of now ≢ data_owner
-    → ((before after : LiveChunk) → held old slot ≡ Some before → now ≡ Some after → after.lock ≡ before.lock) → ((q : ℕ) → times q (data_in (change (database_here old db.0))) + same slot q ≡ times q (data_in (database_here old db.0)))
+    → ((before after : LiveChunk) → held old slot ≡ Some before → now ≡ Some after → after.lock ≡ before.lock) → ((q : ℕ) → 0 < q → times q (data_in (change (database_here old db.0))) + same slot q ≡ times q (data_in (database_here old db.0)))
     → LeavesStore old new (record { map = updated (callers_map old) slot now; databases = with_changed (databases old) db.0 change })
 unnamed old new db change slot now a has l sound name own callers other locks counts =
     let d : Database ℕ = change (database_here old db.0) in
-    edit_steps old new db change slot now a has (record {
+    edit_steps old new db change (one_change slot now) a has (record {
       leaves = l;
       sound = sound;
       same_name = name;
-      callers = callers_name old slot a own;
-      callers_now = callers;
-      locks = locks;
-      balance = gone_balance old new db.0 (spelled d) slot now l (database_here old db.0) d own other (λ q some. counts q);
+      each = each_one old slot now (record { callers = callers_name old slot a own; callers_now = callers; locks = locks });
+      balance = gone_balance old new db.0 (spelled d) slot now l (database_here old db.0) d own other counts;
     })
 
 -- ---- the slot of an entry's data, when the database was written anew
@@ -176,34 +176,35 @@ slot_movable old mid db index slot entry d a has at is l some =
 
 -- ---- the data of an entry freed
 
-pub free_steps : (old mid new : List ℕ) (db : Db) (index : ℕ) (entry after : Entry ℕ) → Accepted old → HasNumber old db.0 → slice_get (database_here old db.0).entries index ≡ Some entry → after ≡ without_data entry
-    → Respells old mid db.0 (entry_written true index after (database_here old db.0)) → Leaves mid new (gone (held mid) (entry_data entry))
+pub free_steps : (counts : Bool) (old mid new : List ℕ) (db : Db) (index : ℕ) (entry after : Entry ℕ) → Accepted old → HasNumber old db.0 → slice_get (database_here old db.0).entries index ≡ Some entry → after ≡ without_data entry
+    → Respells old mid db.0 (entry_written counts index after (database_here old db.0)) → Leaves mid new (gone (held mid) (entry_data entry))
     → EntryFits (has_resources (database_here old db.0).header.attributes) (without_data entry) → NamesData (without_data entry) → unique_id (without_data entry) ≡ unique_id entry → entry_data (without_data entry) ≡ 0
-    → LeavesStore old new (raised (data_freed (store_of old) db index) db) × MakesNone old new
+    → LeavesStore old new (raised_if counts (data_freed (store_of old) db index) db) × MakesNone old new
 unfolding store_of with_entry_set
-free_steps old mid new db index entry after a has at is first second fits names same_id none =
+free_steps counts old mid new db index entry after a has at is first second fits names same_id none =
     let d : Database ℕ = database_here old db.0 in
     let emptied : Database ℕ → Database ℕ = with_entry_set index without_data in
-    let change : Database ℕ → Database ℕ = λ database. counted (with_entry_set index without_data database) in
+    let change : Database ℕ → Database ℕ = λ database. counted_if counts (with_entry_set index without_data database) in
     let slot : ℕ = entry_data entry in
     let own = entry_owner old db.0 index entry a has at in
-    let apart = name_apart old db.0 slot a has own in
-    let leaves = respelled_then old mid new db.0 slot (change d) None apart (subst (λ (other : Database ℕ). Respells old mid db.0 (counted other)) (set_is d index without_data entry after at is) first) second in
-    let sound = raised_sound (emptied d) (replaced_kept d index without_data entry (accepted_sound old db.0 a has) at fits names same_id) in
-    let counts : (q : ℕ) → 0 < q → times q (data_in (change d)) + same slot q ≡ times q (data_in d) = λ q some.
-    (let sums = replaced_names q d index without_data entry at in let zero_is = same-no (entry_data (without_data entry)) q (λ e. omega arith) in omega arith) in
-    let store = edit_steps old new db change slot None a has (record {
+    let leaves = respelled_then old mid new db.0 slot (change d) None (subst (λ (other : Database ℕ). Respells old mid db.0 (counted_if counts other)) (set_is d index without_data entry after at is) first) second in
+    let sound = counted_sound counts (emptied d) (replaced_kept d index without_data entry (accepted_sound old db.0 a has) at fits names same_id) in
+    let balances : (q : ℕ) → 0 < q → times q (data_in (change d)) + same slot q ≡ times q (data_in d) = λ q some.
+    (let same_data = counted_names q counts (emptied d) in let sums = replaced_names q d index without_data entry at in let zero_is = same-no (entry_data (without_data entry)) q (λ e. omega arith) in omega arith) in
+    let store = edit_steps old new db change (one_change slot None) a has (record {
       leaves = leaves;
       sound = sound;
-      same_name = refl;
-      callers = callers_name old slot a own;
-      callers_now = λ e. omega arith;
-      locks = λ before later was now. absurd (none_some None later refl now);
-      balance = gone_balance old new db.0 (spelled (change d)) slot None leaves d (change d) own (λ e. omega arith) counts;
+      same_name = counted_name counts (emptied d);
+      each = each_one old slot None (record {
+        callers = callers_name old slot a own;
+        callers_now = λ e. omega arith;
+        locks = λ before later was now. absurd (none_some None later refl now);
+      });
+      balance = gone_balance old new db.0 (spelled (change d)) slot None leaves d (change d) own (λ e. omega arith) balances;
     }) in (
-      subst (λ (name : ℕ). LeavesStore old new (raised (record { map = gone (callers_map old) name; databases = with_changed (databases old) db.0 emptied }) db)) (sym (data_here old db index entry has at))
-          (then_raised old new db emptied (record { map = gone (callers_map old) slot; databases = databases old }) store),
-      none_made old new db.0 slot (spelled (change d)) None leaves (number_held old db.0 a has) (λ there. absurd (no_chunk None refl there)),
+      subst (λ (name : ℕ). LeavesStore old new (raised_if counts (record { map = gone (callers_map old) name; databases = with_changed (databases old) db.0 emptied }) db)) (sym (data_here old db index entry has at))
+          (then_raised_if counts old new db emptied (record { map = gone (callers_map old) slot; databases = databases old }) store),
+      none_made_by old new db.0 slot (spelled (change d)) None leaves (number_held old db.0 a has) (λ there. absurd (no_chunk None refl there)),
     )
 
 -- ---- an entry dropped
@@ -221,12 +222,12 @@ drop_steps old mid new db index entry a has at inside first second =
     let change : Database ℕ → Database ℕ = λ database. counted (without_entry index database) in
     let slot : ℕ = entry_data entry in
     let own = entry_owner old db.0 index entry a has at in
-    let leaves = respelled_then old mid new db.0 slot (change d) None (name_apart old db.0 slot a has own) first second in
+    let leaves = respelled_then old mid new db.0 slot (change d) None first second in
     let store = unnamed old new db change slot None a has leaves (raised_sound (out d) (removed_sound d index (accepted_sound old db.0 a has) inside)) refl own (λ e. omega arith) (λ e. omega arith)
-    (λ before later was now. absurd (none_some None later refl now)) (λ q. removed_names q d index entry at) in (
+    (λ before later was now. absurd (none_some None later refl now)) (λ q some. removed_names q d index entry at) in (
       subst (λ (name : ℕ). LeavesStore old new (raised (record { map = gone (callers_map old) name; databases = with_changed (databases old) db.0 out }) db)) (sym (data_here old db index entry has at))
           (then_raised old new db out (record { map = gone (callers_map old) slot; databases = databases old }) store),
-      none_made old new db.0 slot (spelled (change d)) None leaves (number_held old db.0 a has) (λ there. absurd (no_chunk None refl there)),
+      none_made_by old new db.0 slot (spelled (change d)) None leaves (number_held old db.0 a has) (λ there. absurd (no_chunk None refl there)),
     )
 
 given_to : ℕ → LiveChunk → LiveChunk
@@ -247,11 +248,11 @@ hand_over_steps old mid new db index owner slot entry a has at is_slot inside th
     let is : changed (given_to owner) (held mid slot) ≡ now = ap (changed (given_to owner)) (kept ∙ chunk.there ∙ sym (data_callers old slot chunk)) in
     let some : now ≡ Some (given_to owner chunk.live) = ap (changed (given_to owner)) (data_callers old slot chunk) in
     let owner_is : owner_of now ≡ owner = ap owner_of some in
-    let leaves = respelled_then old mid new db.0 slot (change d) now (name_apart old db.0 slot a has own) first (subst (λ (o : Option LiveChunk). Leaves mid new (updated (held mid) slot o)) is second) in
+    let leaves = respelled_then old mid new db.0 slot (change d) now first (subst (λ (o : Option LiveChunk). Leaves mid new (updated (held mid) slot o)) is second) in
     let store = unnamed old new db change slot now a has leaves (raised_sound (out d) (removed_sound d index (accepted_sound old db.0 a has) inside)) refl own (λ e. omega arith) (λ e. omega arith)
     (λ before later was then. ap (λ (live : LiveChunk). live.lock) (same_some later (given_to owner chunk.live) (sym then ∙ some)) ∙ ap (λ (live : LiveChunk). live.lock) (same_some chunk.live before (sym chunk.there ∙ was)))
-    (λ q. (let counts = removed_names q d index entry at in let name = ap (λ (n : ℕ). same n q) is_slot in omega arith)) in (
+    (λ q some. (let counts = removed_names q d index entry at in let name = ap (λ (n : ℕ). same n q) is_slot in omega arith)) in (
       subst (λ (name : ℕ). LeavesStore old new (raised (record { map = reowned (callers_map old) name owner; databases = with_changed (databases old) db.0 out }) db)) (is_slot ∙ sym (data_here old db index entry has at))
           (then_raised old new db out (record { map = updated (callers_map old) slot now; databases = databases old }) store),
-      none_made old new db.0 slot (spelled (change d)) now leaves (number_held old db.0 a has) (λ z. subst (λ (o : Option LiveChunk). IsSome o) (sym chunk.there) (search rules)),
+      none_made_by old new db.0 slot (spelled (change d)) now leaves (number_held old db.0 a has) (λ z. subst (λ (o : Option LiveChunk). IsSome o) (sym chunk.there) (search rules)),
     )

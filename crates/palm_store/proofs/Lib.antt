@@ -16,3 +16,6 @@ pub mod EntryChanges
 pub mod EntryInfos
 pub mod DataGrowth
 pub mod NewEntries
+pub mod GivenData
+pub mod Giving
+pub mod InfoBlocks

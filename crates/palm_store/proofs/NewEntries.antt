@@ -25,7 +25,7 @@ use Rattle.mem_manager.specs.Lookup.{MakesNew}
 use Rattle.laws_store.specs.Entries.{HasNewId}
 use Rattle.laws_store.proofs.Creating.{managers_loose}
 use Rattle.laws_store.proofs.Entries.{fresh_new, inserted_sound, inserted_names, raised_sound, seeded_name}
-use Rattle.laws_store.proofs.Edited.{here as updated_here, apart as updated_apart}
+use Rattle.laws_store.proofs.Edited.{one_change, here as updated_here, apart as updated_apart}
 use Rattle.laws_store.proofs.Editing.{edit_steps, made_edit, same_steps}
 use Rattle.laws_store.proofs.Numbered.{accepted_sound, in_here, in_store, entries_here, kind_here}
 use Rattle.laws_store.proofs.Owners.{owned_some, directory_owner}
@@ -103,7 +103,7 @@ pub record Header (image : List ℕ) (db : ℕ) : Type 0 where
   pub there : held image db ≡ Some live
   pub loose : live.lock ≡ 0
 
-header : (image : List ℕ) (db : ℕ) → SpellsHere image db → Header image db
+pub header : (image : List ℕ) (db : ℕ) → SpellsHere image db → Header image db
 unfolding owner_under
 header image db s = by (held image db) refl s.owner where
   by : (o : Option LiveChunk) → held image db ≡ o → owner_of o ≡ 0 → Header image db
@@ -148,11 +148,11 @@ pub made_of : (image : List ℕ) (db : Db) (entry : NewEntry) (slot : ℕ) (one 
 made_of image db (new.Record attributes) slot one is = (is.0, is.1, ap (entry_with (λ none. slot)) is.2)
 made_of image db (new.Resource kind id) slot one is = ap (entry_with (λ none. slot)) is
 
-names_some : (slot : ℕ) (entry : Entry ℕ) → 0 < slot → NamesData (entry_with (λ none. slot) entry)
+pub names_some : (slot : ℕ) (entry : Entry ℕ) → 0 < slot → NamesData (entry_with (λ none. slot) entry)
 names_some slot (a_record attributes id none) some = λ e. absurd (omega arith)
 names_some slot (a_resource kind id none) some = some
 
-new_id : (image : List ℕ) (db : Db) (entry : NewEntry) (slot : ℕ) (one : Entry ℕ) → HasNumber image db.0 → IsMadeOf (store_of image) db entry slot one → HasNewId (unique_ids (database_here image db.0)) one
+pub new_id : (image : List ℕ) (db : Db) (entry : NewEntry) (slot : ℕ) (one : Entry ℕ) → HasNumber image db.0 → IsMadeOf (store_of image) db entry slot one → HasNewId (unique_ids (database_here image db.0)) one
 new_id image db (new.Record attributes) slot one has is =
     let fresh = in_here image db (λ (database : Database ℕ). IsFresh (unique_ids database) (seed_in database.header.seed) is.0) has is.1 in
     let new = fresh_new (unique_ids (database_here image db.0)) (database_here image db.0).header.seed is.0 fresh in
@@ -184,7 +184,7 @@ new_steps old after db at entry one kind slot size a has is puts same_kind fits 
       one_made,
       made_is,
       then_raised old after db put_in (record { map = made (callers_map old) (entry_data one_made) size data_owner 0; databases = databases old })
-          (edit_steps old after db (entry_inserted at one_made) (entry_data one_made) (chunk_made size) a has edit),
+          (edit_steps old after db (entry_inserted at one_made) (one_change (entry_data one_made) (chunk_made size)) a has edit),
     )
 
 -- ---- a new record
@@ -204,3 +204,6 @@ left_as_before old new a l =
     let same = same_steps old.bytes new.bytes a l in
     let free = as_before old.bytes new.bytes a.heap l.frame l.map in
     record { store = same.same; free = free.0; slots = free.1 }
+
+pub same_as_before : (old new : Memory) → new ≡ old → StoreAsBefore old new
+same_as_before old new same = subst (λ (memory : Memory). StoreAsBefore old memory) (sym same) (record { store = record { map = λ name. refl; databases = refl }; free = refl; slots = refl })

@@ -1,23 +1,25 @@
--- What two calls leave, one behind the other: one that writes a database anew, and one that changes what one
--- other name stands for.
-use Rattle.std.proofs.Common.{◌≡◌, ◌≢◌, ℕ, ◌<◌, List, Option, Some, None, refl, sym, ap, subst, ◌∙◌, inl, inr}
+-- What several calls leave, one behind the other: one that writes a database anew, and those that change what
+-- one other name stands for.
+use Rattle.std.proofs.Common.{◌≡◌, ◌≢◌, ℕ, ◌<◌, List, [], ◌∷◌, Option, Some, None, refl, sym, ap, subst, ◌∙◌, arith, inl, inr}
 use Rattle.std.proofs.lemmas.Bool.{cases_eq}
-use Rattle.std.specs.Prelude.{IsSome}
+use Rattle.std.proofs.lemmas.List.Elements.{All-nil, All-cons}
+use Rattle.std.specs.Prelude.{IsSome, All}
 use Rattle.std.specs.Option.{is_some}
 use Rattle.heap_model.specs.Heap.{HeapAccepted}
 use Rattle.heap_model.specs.Meaning.{LiveChunk, ChunkMap}
 use Rattle.heap_model.specs.Placing.{SameFrame}
 use Rattle.heap_model.specs.Reading.{held}
 use Rattle.heap_model.specs.Space.{Still}
-use Rattle.heap_model.specs.Maps.{updated, changed, gone}
+use Rattle.heap_model.specs.Maps.{updated, changed, changed_at, gone}
 use Rattle.heap_model.specs.Database.{Database, spelled, database_in}
 use Rattle.heap_model.specs.Leaving.{Leaves, Respells, rewritten, database_here}
 use Rattle.heap_model.specs.EntrySteps.{MakesNone}
-use Rattle.laws_heap.proofs.Deciding.{none_some}
+use Rattle.laws_heap.proofs.Deciding.{none_some, same_some}
 use Rattle.laws_heap.proofs.Becoming.{same_frame, frame_then}
 use Rattle.laws_heap.proofs.Meanings.{held-zero}
 use Rattle.laws_store.proofs.Keeping.{bytes_like}
-use Rattle.laws_store.proofs.Edited.{edited, here as updated_here, apart as updated_apart}
+use Rattle.laws_store.specs.Changes.{Change}
+use Rattle.laws_store.proofs.Edited.{one_change, edited, changed_or_kept, here as updated_here, apart as updated_apart}
 
 -- ---- what names stand for
 
@@ -30,10 +32,10 @@ rewritten_here map db bytes = updated_here map db (changed (with_bytes bytes) (m
 pub rewritten_apart : (map : ChunkMap) (db other : ℕ) (bytes : List ℕ) → other ≢ db → rewritten map db bytes other ≡ map other
 rewritten_apart map db other bytes ne = updated_apart map db (changed (with_bytes bytes) (map db)) other ne
 
-edited_db : (map : ChunkMap) (db name : ℕ) (bytes : List ℕ) (now : Option LiveChunk) → name ≢ db → edited map db bytes name now db ≡ changed (with_bytes bytes) (map db)
+edited_db : (map : ChunkMap) (db name : ℕ) (bytes : List ℕ) (now : Option LiveChunk) → name ≢ db → edited map db bytes (one_change name now) db ≡ changed (with_bytes bytes) (map db)
 edited_db map db name bytes now ne = updated_apart (rewritten map db bytes) name now db (λ e. ne (sym e)) ∙ rewritten_here map db bytes
 
-edited_apart : (map : ChunkMap) (db name other : ℕ) (bytes : List ℕ) (now : Option LiveChunk) → other ≢ name → other ≢ db → edited map db bytes name now other ≡ map other
+edited_apart : (map : ChunkMap) (db name other : ℕ) (bytes : List ℕ) (now : Option LiveChunk) → other ≢ name → other ≢ db → edited map db bytes (one_change name now) other ≡ map other
 edited_apart map db name other bytes now ne away = updated_apart (rewritten map db bytes) name now other ne ∙ rewritten_apart map db other bytes away
 
 -- ---- the frame, and what stays
@@ -53,32 +55,55 @@ still_between old mid new first second kept name live e locked there =
 pub no_chunk : (o : Option LiveChunk) → o ≡ None → IsSome o → ⊥
 no_chunk o none some = let no : IsSome {T = LiveChunk} None = subst (λ (x : Option LiveChunk). IsSome x) none some in absurd cc
 
--- ---- a database written anew, and then a chunk
+-- each chunk is there afterwards, with as many locks
+abbrev pub KeepsChunks : List ℕ → List ℕ → Type 0
+KeepsChunks old new = (name : ℕ) (live : LiveChunk) → held old name ≡ Some live → (after : LiveChunk) × (held new name ≡ Some after) × (after.lock ≡ live.lock)
 
-pub respelled_then : (old mid new : List ℕ) (db name : ℕ) (d : Database ℕ) (now : Option LiveChunk) → name ≢ db → Respells old mid db d → Leaves mid new (updated (held mid) name now) → Leaves old new (edited (held old) db (spelled d) name now)
-respelled_then old mid new db name d now ne first second = record {
+-- a chunk was changed, but for its locks
+pub changed_keeps : (old new : List ℕ) (name : ℕ) (change : LiveChunk → LiveChunk) → ((live : LiveChunk) → (change live).lock ≡ live.lock) → Leaves old new (changed_at (held old) name change) → KeepsChunks old new
+changed_keeps old new name change loose l other live e = elim (cases_eq other name) [
+  | inl is ↦
+      (change live, l.map other ∙ updated_here (held old) name (changed change (held old name)) other is ∙ ap (changed change) (ap (held old) (sym is) ∙ e), loose live)
+  | inr ne ↦ (live, l.map other ∙ updated_apart (held old) name (changed change (held old name)) other ne ∙ e, refl)
+]
+
+pub respelled_keeps : (old new : List ℕ) (db : ℕ) (d : Database ℕ) → Respells old new db d → KeepsChunks old new
+respelled_keeps old new db d l = changed_keeps old new db (with_bytes (spelled d)) (λ live. refl) l
+
+pub keeps_then : (old mid new : List ℕ) → KeepsChunks old mid → KeepsChunks mid new → KeepsChunks old new
+keeps_then old mid new first second name live e =
+    let one = first name live e in
+    let other = second name one.0 one.1 in
+    (other.0, other.1, other.2 ∙ one.2)
+
+-- ---- and then a chunk
+
+pub then_changed : (old mid new : List ℕ) (map : ChunkMap) (name : ℕ) (now : Option LiveChunk) → KeepsChunks old mid → Leaves old mid map → Leaves mid new (updated (held mid) name now) → Leaves old new (updated map name now)
+then_changed old mid new map name now keeps first second = record {
   map = λ other. elim (cases_eq other name) [
-    | inl e ↦ second.map other ∙ updated_here (held mid) name now other e ∙ sym (updated_here (rewritten (held old) db (spelled d)) name now other e)
-    | inr apart ↦ second.map other ∙ updated_apart (held mid) name now other apart ∙ first.map other ∙ sym (updated_apart (rewritten (held old) db (spelled d)) name now other apart)
+    | inl e ↦ second.map other ∙ updated_here (held mid) name now other e ∙ sym (updated_here map name now other e)
+    | inr apart ↦ second.map other ∙ updated_apart (held mid) name now other apart ∙ first.map other ∙ sym (updated_apart map name now other apart)
   ];
   frame = frames old mid new first.frame second.frame;
-  still = still_between old mid new first.still second.still (λ other live e locked there. elim (cases_eq other db) [
-    | inl is ↦
-        (with_bytes (spelled d) live, ap (held mid) is ∙ first.map db ∙ rewritten_here (held old) db (spelled d) ∙ ap (changed (with_bytes (spelled d))) (ap (held old) (sym is) ∙ e), locked)
-    | inr away ↦ (live, first.map other ∙ rewritten_apart (held old) db other (spelled d) away ∙ e, locked)
-  ]);
+  still = still_between old mid new first.still second.still (λ other live e locked there.
+      let kept = keeps other live e in
+      let same = kept.2 in
+      (kept.0, kept.1, omega arith));
 }
+
+pub respelled_then : (old mid new : List ℕ) (db name : ℕ) (d : Database ℕ) (now : Option LiveChunk) → Respells old mid db d → Leaves mid new (updated (held mid) name now) → Leaves old new (edited (held old) db (spelled d) (one_change name now))
+respelled_then old mid new db name d now first second = then_changed old mid new (rewritten (held old) db (spelled d)) name now (respelled_keeps old mid db d first) first second
 
 -- ---- a chunk made, and then a database written anew
 
-pub then_respelled : (old mid new : List ℕ) (db name : ℕ) (d : Database ℕ) (now : Option LiveChunk) → name ≢ db → held old name ≡ None → Leaves old mid (updated (held old) name now) → Respells mid new db d → Leaves old new (edited (held old) db (spelled d) name now)
+pub then_respelled : (old mid new : List ℕ) (db name : ℕ) (d : Database ℕ) (now : Option LiveChunk) → name ≢ db → held old name ≡ None → Leaves old mid (updated (held old) name now) → Respells mid new db d → Leaves old new (edited (held old) db (spelled d) (one_change name now))
 then_respelled old mid new db name d now ne fresh first second = record {
   map = λ other. elim (cases_eq other db) [
     | inl e ↦
         ap (held new) e
         ∙ second.map db ∙ rewritten_here (held mid) db (spelled d)
         ∙ ap (changed (with_bytes (spelled d))) (first.map db ∙ updated_apart (held old) name now db (λ is. ne (sym is)))
-        ∙ sym (edited_db (held old) db name (spelled d) now ne) ∙ ap (edited (held old) db (spelled d) name now) (sym e)
+        ∙ sym (edited_db (held old) db name (spelled d) now ne) ∙ ap (edited (held old) db (spelled d) (one_change name now)) (sym e)
     | inr away ↦ second.map other ∙ rewritten_apart (held mid) db other (spelled d) away ∙ first.map other ∙ elim (cases_eq other name) [
       | inl e ↦ updated_here (held old) name now other e ∙ sym (updated_here (rewritten (held old) db (spelled d)) name now other e)
       | inr apart ↦ updated_apart (held old) name now other apart ∙ sym (edited_apart (held old) db name other (spelled d) now apart away)
@@ -93,14 +118,19 @@ then_respelled old mid new db name d now ne fresh first second = record {
 
 -- ---- no name is new
 
-pub none_made : (old new : List ℕ) (db name : ℕ) (bytes : List ℕ) (now : Option LiveChunk) → Leaves old new (edited (held old) db bytes name now) → IsSome (held old db) → (IsSome now → IsSome (held old name)) → MakesNone old new
-none_made old new db name bytes now l there was other some = elim (cases_eq other name) [
-  | inl e ↦ subst (λ (n : ℕ). IsSome (held old n)) (sym e) (was (subst (λ (o : Option LiveChunk). IsSome o) (l.map other ∙ updated_here (rewritten (held old) db bytes) name now other e) some))
-  | inr ne ↦ elim (cases_eq other db) [
+pub none_made : (old new : List ℕ) (db : ℕ) (bytes : List ℕ) (changes : List Change) → Leaves old new (edited (held old) db bytes changes) → IsSome (held old db) → All (λ one. IsSome one.now → IsSome (held old one.name)) changes → MakesNone old new
+none_made old new db bytes changes l there each other some = elim (changed_or_kept (λ one. IsSome one.now → IsSome (held old one.name)) (rewritten (held old) db bytes) (held old) changes other each) [
+  | inl c ↦ subst (λ (n : ℕ). IsSome (held old n)) (sym c.is) (c.holds (subst (λ (o : Option LiveChunk). IsSome o) (l.map other ∙ c.now) some))
+  | inr k ↦ elim (cases_eq other db) [
     | inl e ↦ subst (λ (n : ℕ). IsSome (held old n)) (sym e) there
-    | inr away ↦ subst (λ (o : Option LiveChunk). IsSome o) (l.map other ∙ edited_apart (held old) db name other bytes now ne away) some
+    | inr away ↦ subst (λ (o : Option LiveChunk). IsSome o) (l.map other ∙ k.same_chunk ∙ rewritten_apart (held old) db other bytes away) some
   ]
 ]
+
+-- where one chunk was changed
+pub none_made_by : (old new : List ℕ) (db name : ℕ) (bytes : List ℕ) (now : Option LiveChunk) → Leaves old new (edited (held old) db bytes (one_change name now)) → IsSome (held old db) → (IsSome now → IsSome (held old name)) → MakesNone old new
+none_made_by old new db name bytes now l there was =
+    none_made old new db bytes (one_change name now) l there (All-cons (λ (one : Change). IsSome one.now → IsSome (held old one.name)) (record { name = name; now = now }) [] was (All-nil (λ (one : Change). IsSome one.now → IsSome (held old one.name))))
 
 -- ---- bytes that stay
 

@@ -1,12 +1,16 @@
 -- The databases of an image, by their numbers.
-use Rattle.std.specs.Prelude.{◌≡◌, ◌≢◌, ◌<◌, ℕ, List, length, slice_index, IsSome}
-use Rattle.heap_model.specs.Database.{name_in, data_in, database_in}
+use Rattle.std.specs.Prelude.{◌≡◌, ◌≢◌, ◌<◌, ℕ, List, length, slice_index, Some, IsSome}
+use Rattle.heap_model.specs.Database.{Database, name_in, data_in, database_in}
 use Rattle.heap_model.specs.Store.{bytes_under, listed, store_of}
 use Rattle.heap_model.specs.StoreWords.{with_number}
 
 -- a database of the store that the image means has this number
 abbrev pub HasNumber : List ℕ → ℕ → Type 0
 HasNumber image db = IsSome (with_number (store_of image) db)
+
+-- and it is this one
+abbrev pub HasDatabase : List ℕ → ℕ → Database ℕ → Type 0
+HasDatabase image db database = with_number (store_of image) db ≡ Some (record { db = db; database = database })
 
 -- the directory has this number at this index
 pub record IsListedAt (image : List ℕ) (db index : ℕ) : Type 0 where

@@ -1,16 +1,18 @@
 -- What the calls on entries ask and promise of the store that an image means, by the image.
-use Rattle.std.specs.Prelude.{◌≡◌, ◌<◌, ◌≤◌, ℕ, Bool, true, false, List, length, Option, Some, None}
+use Rattle.std.specs.Prelude.{◌≡◌, ◌≢◌, ◌<◌, ◌≤◌, ℕ, Bool, true, false, List, [], ◌∷◌, length, Option, Some, None}
 use Rattle.heap_model.specs.Memory.{Memory}
+use Rattle.heap_model.specs.Chunk.{fixed_lock}
 use Rattle.heap_model.specs.Database.{Entry}
 use Rattle.heap_model.specs.Lists.{moved}
 use Rattle.heap_model.specs.Maps.{sized}
 use Rattle.heap_model.specs.Refusals.{Check}
-use Rattle.heap_model.specs.MemorySteps.{Of, IsLocked, growth_checks}
-use Rattle.heap_model.specs.Store.{Store, store_of}
+use Rattle.heap_model.specs.MemorySteps.{Of, IsLocked, unknown, where_it, growth_checks}
+use Rattle.heap_model.specs.Store.{Store, data_owner, store_of}
 use Rattle.heap_model.specs.StoreWords.{In}
-use Rattle.heap_model.specs.EntrySteps.{entries_in, entry_under, OfEntry, Tells, data_under, resources_under, with_entries, with_chunks, entry_made, entry_changed, raised, making_checks, LeavesStore}
+use Rattle.heap_model.specs.EntrySteps.{entries_in, entry_under, OfEntry, Tells, data_under, resources_under, with_entries, with_chunks, entry_made, entry_attached, entry_changed, entry_swapped, raised, making_checks, attaching_checks, LeavesStore}
 use Rattle.heap_model.specs.declared.names.Db.{Db}
 use Rattle.heap_model.specs.declared.entry.Entry as heard
+use Rattle.heap_model.specs.declared.refusal.Refusal.TheVariants.{OwnedByDatabase, ChunkFixed}
 use Rattle.palm_store.specs.declared.entries.infos.EntryInfo.{EntryInfo}
 use Rattle.palm_store.specs.declared.entries.infos.NewEntry.{NewEntry}
 use Rattle.palm_store.specs.Databases.{HasNumber}
@@ -51,6 +53,10 @@ pub record IsEntryData (image : List ℕ) (name : ℕ) : Type 0 where
   pub is : data_of_image image db index ≡ name
   pub some : 0 < name
 
+-- A caller's chunk that a database can take: it is not one for data, and it is movable.
+abbrev pub MayBeGiven : List ℕ → ℕ → Type 0
+MayBeGiven image name = Of ((store_of image).map name) (λ live. (live.owner ≢ data_owner) × (live.lock ≢ fixed_lock))
+
 abbrev pub MayHave : List ℕ → Db → ℕ → EntryInfo → Type 0
 MayHave image db index info = CanHave (store_of image) db (resources_of_image image db) index info
 
@@ -58,6 +64,17 @@ MayHave image db index info = CanHave (store_of image) db (resources_of_image im
 
 abbrev pub checks_of_making : List ℕ → Db → ℕ → List Check
 checks_of_making image db size = making_checks image (store_of image) db size
+
+abbrev pub checks_of_attaching : List ℕ → Db → List Check
+checks_of_attaching image db = attaching_checks image (store_of image) db
+
+-- whether a database can take a name's chunk
+abbrev pub checks_of_giving : List ℕ → ℕ → List Check
+checks_of_giving image name =
+    unknown (store_of image).map name
+    ∷ where_it (store_of image).map name (λ live. live.owner ≡ data_owner) OwnedByDatabase
+    ∷ where_it (store_of image).map name (λ live. live.lock ≡ fixed_lock) ChunkFixed
+    ∷ []
 
 abbrev pub checks_of_growth : List ℕ → ℕ → ℕ → List Check
 checks_of_growth image name size = growth_checks image (store_of image).map name size
@@ -78,8 +95,17 @@ abbrev pub LeavesMade : Memory → Memory → Db → ℕ → NewEntry → ℕ �
 LeavesMade old new db at entry slot size =
     (made : Entry ℕ) × IsMadeOf (store_of old.bytes) db entry slot made × LeavesChanged old new (λ store. raised (entry_made store db at made size) db)
 
+-- the same, where its data is a chunk that was a caller's
+abbrev pub LeavesAttached : Memory → Memory → Db → ℕ → NewEntry → ℕ → Type 0
+LeavesAttached old new db at entry slot =
+    (made : Entry ℕ) × IsMadeOf (store_of old.bytes) db entry slot made × LeavesChanged old new (λ store. raised (entry_attached store db at made) db)
+
 abbrev pub entry_informed : Store → Db → ℕ → EntryInfo → Store
 entry_informed store db index info = entry_changed store db index (with_info info)
+
+-- the same, where its data is a caller's chunk, and the chunk that it had gets an owner
+abbrev pub entry_given : Store → Db → ℕ → EntryInfo → ℕ → ℕ → Store
+entry_given store db index info name owner = entry_swapped store db index (with_info info) name owner
 
 abbrev pub entry_moved : Store → Db → ℕ → ℕ → Store
 entry_moved store db from to = with_entries store db (λ entries. moved entries from to)

@@ -1,9 +1,9 @@
 -- What callers say of an entry: of a new one, and of one that is set.
-use Rattle.std.specs.Prelude.{◌≡◌, ◌≢◌, ◌<◌, ◌≤◌, ℕ, Bool, true, false, Option, Some, None}
+use Rattle.std.specs.Prelude.{◌≡◌, ◌<◌, ◌≤◌, ℕ, Bool, true, false, Option, Some, None}
 use Rattle.heap_model.specs.Database.{Entry, a_record, a_resource, is_deleted}
 use Rattle.heap_model.specs.UniqueIds.{greatest_id}
-use Rattle.heap_model.specs.Store.{Store, unique_id}
-use Rattle.heap_model.specs.EntrySteps.{entry_under, OfEntry, data_under, IsFreshIn, entry_dropped, entry_handed_over}
+use Rattle.heap_model.specs.Store.{Store}
+use Rattle.heap_model.specs.EntrySteps.{data_under, IsFreshIn, HasOther, entry_dropped, entry_handed_over}
 use Rattle.heap_model.specs.declared.names.Db.{Db}
 use Rattle.palm_store.specs.declared.entries.infos.EntryInfo.{EntryInfo}
 use Rattle.palm_store.specs.declared.entries.infos.EntryInfo.TheVariants as infos
@@ -35,10 +35,6 @@ with_info (infos.Resource kind id) (a_resource old_kind old_id slot) = a_resourc
 abbrev pub HasFittingInfo : EntryInfo → Type 0
 HasFittingInfo (infos.Record attributes id) = id ≤ greatest_id
 HasFittingInfo (infos.Resource kind id) = Unit {0}
-
--- another entry of the database has the ID
-abbrev pub HasOther : Store → Db → ℕ → ℕ → Type 0
-HasOther store db index id = (other : ℕ) × (other ≢ index) × OfEntry (entry_under store db other) (λ entry. unique_id entry ≡ Some id)
 
 -- An entry can have this info: it is one for records, with an ID of its own, deleted where there is no data;
 -- or one for resources.

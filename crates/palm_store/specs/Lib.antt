@@ -4,4 +4,5 @@ pub mod HeaderInfos
 pub mod EntryInfos
 pub mod NewEntries
 pub mod EntryCalls
+pub mod InfoBlocks
 pub mod Replies

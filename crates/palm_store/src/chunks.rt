@@ -1,13 +1,15 @@
-//! The chunk of a slot that a database has.
+//! The chunk of a slot that a database has, or of a name that it is to have.
 
-ghost use Rattle.std.specs.Prelude.{◌≡◌, ◌<◌, IsSome};
+ghost use Rattle.std.specs.Prelude.{◌≡◌, ◌<◌, IsSome, OnOk, IfErr};
 ghost use Rattle.heap_model.specs.Heap.{HeapAccepted, directory_of};
 ghost use Rattle.heap_model.specs.Reading.{held};
 ghost use Rattle.heap_model.specs.Maps.{gone};
 ghost use Rattle.heap_model.specs.Leaving.{Leaves};
+ghost use Rattle.heap_model.specs.Refusals.{NoneHolds, FirstBrings};
+ghost use Rattle.palm_store.specs.EntryCalls.{MayBeGiven, checks_of_giving};
 
-use heap_model::Name;
-use mem_manager::Heap;
+use heap_model::{Name, Refusal};
+use mem_manager::{DATA_OWNER, FIXED_LOCK, Heap, MANAGERS_OWNER};
 
 /// Frees the chunk of a slot, if there is one.
 pub(crate) fn free_chunk_of(heap: &mut Heap, slot: Name)
@@ -20,4 +22,25 @@ pub(crate) fn free_chunk_of(heap: &mut Heap, slot: Name)
     if slot.0 != 0 {
         heap.sys_free(slot);
     }
+}
+
+/// Whether a database can take the chunk of a name. Refused: `InvalidHandle`, `OwnedByDatabase`, `ChunkFixed`.
+pub(crate) fn check_taken(heap: &Heap, name: Name) -> Result<(), Refusal>
+    ensures may { OnOk result (MayBeGiven heap.now.bytes name.0) }
+    ensures could { OnOk result (NoneHolds (checks_of_giving heap.now.bytes name.0)) }
+    ensures why { IfErr result (FirstBrings (checks_of_giving heap.now.bytes name.0)) }
+{
+    let Some((owner, _)) = heap.sys_chunk(name) else {
+        return Err(Refusal::InvalidHandle);
+    };
+    if owner == MANAGERS_OWNER {
+        return Err(Refusal::InvalidHandle);
+    }
+    if owner == DATA_OWNER {
+        return Err(Refusal::OwnedByDatabase);
+    }
+    if heap.sys_locks(name) == FIXED_LOCK {
+        return Err(Refusal::ChunkFixed);
+    }
+    Ok(())
 }

@@ -1,14 +1,16 @@
 //! What the calls that make, change and delete databases are made of: the directory, the header of a database,
-//! and the chunks that a database names.
+//! its info blocks, and the other chunks that a database names.
 //!
 //! A call that takes room for several chunks takes it for one after the other, and writes what they are to
 //! hold only once it has all of it. Where one is refused it gives back what it took.
 
+mod blocks;
 mod clearing;
 mod creating;
 mod deleting;
 mod setting;
 
+pub(crate) use blocks::{block_of, give_block, take_block};
 pub(crate) use clearing::{free_data, has_locked};
 pub(crate) use creating::{empty_header, list_new};
 pub(crate) use deleting::unlist;

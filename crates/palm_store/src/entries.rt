@@ -5,7 +5,7 @@ mod making;
 mod reading;
 mod shapes;
 
-pub use infos::{EntryInfo, FoundEntry, NewEntry, Overview};
-pub(crate) use making::{new_entry, put_in};
+pub use infos::{EntryInfo, FoundEntry, NewEntry};
+pub(crate) use making::{new_entry, put_in, take_in};
 pub(crate) use reading::{count_entries, entry_at, read_entry};
-pub(crate) use shapes::{emptied, entry_with};
+pub(crate) use shapes::{emptied, entry_with, with_slot};

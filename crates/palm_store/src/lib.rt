@@ -12,7 +12,7 @@ mod entries;
 mod lookup;
 mod store;
 
-pub use entries::{EntryInfo, FoundEntry, NewEntry, Overview};
-pub use mem_manager::{FIXED_LOCK, Locked};
+pub use entries::{EntryInfo, FoundEntry, NewEntry};
+pub use mem_manager::{DATA_OWNER, FIXED_LOCK, Locked};
 pub use store::{NotAStore, Store};
 pub use store_check::{StoreFault, StoreSummary};

@@ -1,6 +1,6 @@
 //! The store. Its calls stand in the modules below: those of the memory manager, that ask, that change a
-//! chunk where it stands, and that make, free and move chunks; those on databases; and those on entries, for
-//! the crates of records and resources.
+//! chunk where it stands, and that make, free and move chunks; those on databases and on their info blocks; and those
+//! on entries, for the crates of records and resources.
 
 ghost use Rattle.std.specs.Prelude.{◌≡◌, ◌⊎◌, is_ok, IfOk, IfErr, OnOk};
 ghost use Rattle.heap_model.specs.Store.{Accepted};
@@ -8,6 +8,7 @@ ghost use Rattle.heap_model.specs.Counted.{Writes};
 ghost use Rattle.store_check.specs.Checks.{IsAnswered, Summarizes};
 
 mod asking;
+mod blocks;
 mod changing;
 mod databases;
 mod entries;
@@ -26,7 +27,7 @@ use store_check::{StoreFault, StoreSummary, check_store_from};
 use thiserror::Error;
 
 /// A region that is an accepted image. Contracts see the region's value alone, and no method but those on
-/// entries asks for anything of its caller: what a call can't do it refuses. Neither its region nor its
+/// entries and info blocks asks for anything of its caller: what a call can't do it refuses. Neither its region nor its
 /// heap is lent, so no byte of it is written but by its calls.
 #[derive(Drop)]
 pub struct Store {

@@ -5,7 +5,7 @@ use Rattle.std.proofs.lemmas.Nat.Bits.{and_pow, bit_at-lt, bit_at_and, bit_at_or
 use Rattle.std.specs.Prelude.{◌==◌, min, max}
 use Rattle.std.specs.Int.{bit_at}
 use Rattle.heap_model.specs.Database.{is_deleted}
-use Rattle.heap_model.specs.RecordSteps.{is_busy, released}
+use Rattle.heap_model.specs.RecordSteps.{is_busy, released, attributes_set}
 
 -- ---- tested
 
@@ -39,3 +39,11 @@ dirty_deleted attributes e =
 pub released_deleted : (dirty : Bool) (attributes : ℕ) → is_deleted attributes ≡ true → is_deleted (released dirty attributes) ≡ true
 released_deleted false attributes e = kept_deleted attributes e
 released_deleted true attributes e = dirty_deleted (bit_and attributes 0xDF) (kept_deleted attributes e)
+
+-- and so does one for which attributes are given
+pub set_deleted : (given attributes : ℕ) → is_deleted attributes ≡ true → is_deleted (attributes_set given attributes) ≡ true
+set_deleted given attributes e =
+    let bit : bit_at attributes 7 ≡ 1 = is_one (bit_at attributes 7) e in
+    let kept : bit_at (bit_and attributes 0xA0) 7 ≡ 1 = bit_at_and attributes 0xA0 7 ∙ ap (λ (b : ℕ). min b (bit_at 0xA0 7)) bit in
+    let none : bit_at (bit_and given 0x5F) 7 ≡ 0 = bit_at_and given 0x5F 7 ∙ (let least : min (bit_at given 7) 0 ≡ 0 = omega arith in least) in
+    ap (λ (b : ℕ). b == 1) (bit_at_or (bit_and attributes 0xA0) (bit_and given 0x5F) 7 ∙ ap (λ (b : ℕ). max b (bit_at (bit_and given 0x5F) 7)) kept ∙ ap (λ (b : ℕ). max 1 b) none)

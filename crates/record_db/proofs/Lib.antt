@@ -1,5 +1,10 @@
 mod Bits
 mod Entries
+mod EntriesChanged
 mod Opening
+mod SearchLaws
 mod SetAttributes
 mod Raising
+mod Turns
+mod CategoryTurns
+mod OneRecord

@@ -1,21 +1,24 @@
 -- Records whose attributes are set: their IDs stay.
-use Rattle.std.proofs.Common.{◌≡◌, ◌≢◌, ℕ, zero, suc, ◌+◌, ◌<◌, ◌≤◌, Bool, true, false, List, [], ◌∷◌, set, Option, Some, refl, sym, ap, subst, ◌∙◌, arith}
-use Rattle.std.specs.Prelude.{IsSome, slice_get, slice_set}
+use Rattle.std.proofs.Common.{◌≡◌, ◌≢◌, ℕ, zero, suc, ◌+◌, ◌^◌, ◌<◌, ◌≤◌, Bool, true, false, List, [], ◌∷◌, Option, Some, refl, sym, ap, subst, ◌∙◌, arith, inl, inr}
+use Rattle.std.proofs.Math.Nat.{mod-lt}
+use Rattle.std.proofs.lemmas.Bool.{cases_eq, eq-eqb, ne_eqb}
+use Rattle.std.specs.Prelude.{◌⊎◌, ◌==◌, IsSome, slice_get}
 use Rattle.std.specs.List.{filter_map}
 use Rattle.heap_model.specs.Lists.{times}
-use Rattle.heap_model.specs.Database.{Database, Entry, a_record, a_resource, is_deleted}
-use Rattle.heap_model.specs.Store.{StoredDatabase, databases, unique_id, unique_ids, Accepted, store_of}
-use Rattle.heap_model.specs.StoreWords.{with_changed, with_number}
-use Rattle.heap_model.specs.EntrySteps.{entries_of, entry_under, OfEntry, data_of_entry, resources_under, replaced_if, replaced, with_attributes, entry_changed, LeavesStore}
+use Rattle.heap_model.specs.Database.{Entry, a_record, a_resource, is_deleted}
+use Rattle.heap_model.specs.Store.{StoredDatabase, unique_id, unique_ids, Accepted, store_of}
+use Rattle.heap_model.specs.StoreWords.{with_number}
+use Rattle.heap_model.specs.EntrySteps.{entries_of, entries_in, entry_under, OfEntry, HasId, HasOther, data_of_entry, resources_under, with_attributes, entry_changed, LeavesStore}
+use Rattle.heap_model.specs.RecordSteps.{id_in, id_set}
 use Rattle.heap_model.specs.declared.names.Db.{Db}
-use Rattle.laws_heap.proofs.Deciding.{same_some, none_some}
+use Rattle.laws_heap.proofs.Deciding.{cond-true, cond-false, same_some, none_some}
 use Rattle.laws_store.proofs.Listing.{same-yes, times-cons, all-times, distinct-times}
-use Rattle.laws_store.proofs.Found.{changed_by_number}
-use Rattle.laws_store.proofs.Stepping.{number_once}
-use Rattle.palm_store.specs.EntryInfos.{with_info, HasOther, CanHave}
+use Rattle.palm_store.specs.EntryInfos.{with_info, CanHave}
 use Rattle.palm_store.specs.EntryCalls.{raised_if}
+use Rattle.record_db.specs.Search.{SomeHas}
 use Rattle.palm_store.specs.declared.entries.infos.EntryInfo.TheVariants as infos
-use Rattle.record_db.proofs.Entries.{Here, here, entry_is, fits}
+use Rattle.record_db.proofs.Entries.{here, entry_is, fits, no_data}
+use Rattle.record_db.proofs.EntriesChanged.{entry_alike}
 
 -- ---- IDs
 
@@ -79,29 +82,58 @@ may_have image db index attributes id slot now a has records e deleted =
     omega (arith, two, once)) in
     (records, omega (arith, positive), omega (arith, small), alone, λ none. deleted (sym (ap data_of_entry e) ∙ none))
 
+-- ---- what is said of a record with another ID
+
+-- the ID that is given is a record's own, or the one in the number
+pub id_given : (number own : ℕ) → (id_set number own ≡ own) ⊎ ((id_set number own ≡ id_in number) × (0 < id_in number))
+id_given number own = elim (cases_eq (id_in number) 0) [
+  | inl none ↦ inl (cond-true (id_in number == 0) own (id_in number) (eq-eqb (id_in number) 0 none))
+  | inr some ↦ inr (cond-false (id_in number == 0) own (id_in number) (ne_eqb (id_in number) 0 some), omega (arith, some))
+]
+
+-- where an ID is in the number it is given
+pub given_in : (number own : ℕ) → id_in number ≢ 0 → id_set number own ≡ id_in number
+given_in number own some = cond-false (id_in number == 0) own (id_in number) (ne_eqb (id_in number) 0 some)
+
+pub may_have_id : (image : List ℕ) (db : Db) (index attributes id slot now number : ℕ) → Accepted image → IsSome (with_number (store_of image) db.0) → resources_under (store_of image) db ≡ false → entry_under (store_of image) db index ≡ Some (a_record attributes id slot)
+    → (slot ≡ 0 → is_deleted now ≡ true) → (id_set number id ≡ id) ⊎ (SomeHas (entries_in (store_of image) db) (HasId (id_set number id)) → ⊥) → CanHave (store_of image) db (resources_under (store_of image) db) index (infos.Record now (id_set number id))
+may_have_id image db index attributes id slot now number a has records e deleted which =
+    let own = may_have image db index attributes id slot now a has records e deleted in
+    let as_own : id_set number id ≡ id → CanHave (store_of image) db (resources_under (store_of image) db) index (infos.Record now (id_set number id)) =
+    λ same. subst (λ (n : ℕ). CanHave (store_of image) db (resources_under (store_of image) db) index (infos.Record now n)) (sym same) own in
+    elim which [
+      | inl same ↦ as_own same
+      | inr none ↦ elim (id_given number id) [
+        | inl same ↦ as_own same
+        | inr new ↦
+            let is = new.0 in
+            let some = new.1 in
+            (own.0, omega (arith, is, some), (let small : id_in number < 2 ^ 24 = mod-lt number (omega arith) in omega (arith, is, small)), (λ other. none (other.0, other.2)), own.4)
+      ]
+    ]
+
+-- no other record has the ID that is in the number
+pub no_other : (image : List ℕ) (db : Db) (index attributes id slot number : ℕ) → Accepted image → IsSome (with_number (store_of image) db.0) → resources_under (store_of image) db ≡ false → entry_under (store_of image) db index ≡ Some (a_record attributes id slot)
+    → (id_set number id ≡ id) ⊎ (SomeHas (entries_in (store_of image) db) (HasId (id_set number id)) → ⊥) → (id_in number ≢ 0) × HasOther (store_of image) db index (id_in number) → ⊥
+no_other image db index attributes id slot number a has records e which both =
+    let given = given_in number id both.0 in
+    elim which [
+      | inl same ↦
+          let own = may_have image db index attributes id slot attributes a has records e (λ none. no_data image db index attributes id slot a has e none) in
+          own.3 (subst (HasOther (store_of image) db index) (sym given ∙ same) both.1)
+      | inr none ↦ none (both.1.0, subst (λ (n : ℕ). OfEntry (entry_under (store_of image) db both.1.0) (HasId n)) (sym given) both.1.2)
+    ]
+
 -- ---- what it changes
 
-changed_alike : (image : List ℕ) (db : ℕ) (one other : Database ℕ → Database ℕ) (h : Here image db) → Accepted image → one h.one.database ≡ other h.one.database → with_changed (store_of image).databases db one ≡ with_changed (store_of image).databases db other
-unfolding store_of
-changed_alike image db one other h a alike =
-    let once = number_once image db a in
-    let number = ap (λ (s : StoredDatabase). s.db) h.at ∙ h.number in
-    changed_by_number db one (databases image) h.index h.one once h.inside number
-    ∙ ap (λ (d : Database ℕ). set (databases image) h.index (record { db = db; database = d }))
-    (ap (λ (s : StoredDatabase). one s.database) h.at ∙ alike ∙ sym (ap (λ (s : StoredDatabase). other s.database) h.at))
-    ∙ sym (changed_by_number db other (databases image) h.index h.one once h.inside number)
+-- an entry that is set is changed, by any change that makes the same of it
+pub set_as : (counts : Bool) (image new : List ℕ) (db : Db) (index : ℕ) (entry : Entry ℕ) (info change : Entry ℕ → Entry ℕ) → Accepted image → IsSome (with_number (store_of image) db.0) → entry_under (store_of image) db index ≡ Some entry → info entry ≡ change entry
+    → LeavesStore image new (raised_if counts (entry_changed (store_of image) db index info) db) → LeavesStore image new (raised_if counts (entry_changed (store_of image) db index change) db)
+set_as counts image new db index entry info change a has e same leaves =
+    subst (λ (stored : List StoredDatabase). LeavesStore image new (raised_if counts (record (store_of image) { databases = stored }) db)) (entry_alike image db index entry info change a has e same) leaves
 
 -- where it is said with the record's ID, its attributes change alone
 pub attributes_set : (counts : Bool) (image new : List ℕ) (db : Db) (index attributes id slot now : ℕ) (change : ℕ → ℕ) → Accepted image → IsSome (with_number (store_of image) db.0) → entry_under (store_of image) db index ≡ Some (a_record attributes id slot) → now ≡ change attributes
     → LeavesStore image new (raised_if counts (entry_changed (store_of image) db index (with_info (infos.Record now id))) db) → LeavesStore image new (raised_if counts (entry_changed (store_of image) db index (with_attributes change)) db)
 attributes_set counts image new db index attributes id slot now change a has e is leaves =
-    let h = here image db.0 a has in
-    let all : List (Entry ℕ) = h.one.database.entries in
-    let entry : Entry ℕ = a_record attributes id slot in
-    let there : slice_get all index ≡ Some entry = entry_is image db index entry h e in
-    let info : Entry ℕ → Entry ℕ = with_info (infos.Record now id) in
-    let alike : replaced all index info ≡ replaced all index (with_attributes change) =
-    ap (replaced_if all index info) there ∙ ap (λ (x : ℕ). slice_set all index (a_record x id slot)) is ∙ sym (ap (replaced_if all index (with_attributes change)) there) in
-    let same = changed_alike image db.0 (λ database. record database { entries = replaced database.entries index info }) (λ database. record database { entries = replaced database.entries index (with_attributes change) }) h a
-    (ap (λ (entries : List (Entry ℕ)). record h.one.database { entries = entries }) alike) in
-    subst (λ (stored : List StoredDatabase). LeavesStore image new (raised_if counts (record (store_of image) { databases = stored }) db)) same leaves
+    set_as counts image new db index (a_record attributes id slot) (with_info (infos.Record now id)) (with_attributes change) a has e (ap (λ (x : ℕ). a_record x id slot) is) leaves

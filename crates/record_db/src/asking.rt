@@ -6,8 +6,9 @@ ghost use Rattle.heap_model.specs.declared.call.Reply.{Reply};
 ghost use Rattle.palm_store.specs.Replies.{number_or_refused, name_or_refused};
 ghost use Rattle.record_db.specs.Checks.{DoesRecord};
 
-use crate::checks::{Access, count_records};
+use crate::checks::{Access, count_records, open_records};
 use crate::records::{find_live, find_record};
+use crate::search::find_id;
 use heap_model::{Db, Name, RecordInfo, Refusal};
 use palm_store::Store;
 
@@ -37,4 +38,14 @@ pub fn record_info(store: &Store, db: Db, index: u32) -> Result<RecordInfo, Refu
         (reply_of (λ info. Reply.Record info) result) store.now }
 {
     find_record(store, db, index, Access::Read)
+}
+
+/// The index of the record that has a unique ID, of a deleted one too.
+///
+/// Refused: `NoSuchDatabase`, `NotRecordDatabase`; `UniqueIdNotFound`, where no record has it: an ID has 24 bits.
+pub fn find_by_id(store: &Store, db: Db, id: u32) -> Result<u32, Refusal>
+    ensures { DoesRecord store.now (RecordCall.FindById db id) (number_or_refused result) store.now }
+{
+    let records = open_records(store, db, Access::Read)?;
+    find_id(&records, id).ok_or(Refusal::UniqueIdNotFound)
 }

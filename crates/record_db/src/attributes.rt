@@ -1,13 +1,17 @@
 //! The attributes of records that the calls look at, and those that they set.
 
-ghost use Rattle.std.specs.Prelude.{◌≡◌, bit_or};
+ghost use Rattle.std.specs.Prelude.{◌≡◌, ◌<◌, bit_or};
 ghost use Rattle.heap_model.specs.Database as databases;
 ghost use Rattle.heap_model.specs.EntrySteps.{deleted_bit};
 ghost use Rattle.heap_model.specs.RecordSteps.{busy_bit, new_attributes};
+ghost use Rattle.heap_model.specs.Categories as categories;
 ghost use Rattle.heap_model.specs.RecordSteps as steps;
 
 use bitflags::Flags;
 use db_format::RecordAttrs;
+
+/// What stands for all categories, in the calls that count.
+pub(crate) const ALL_CATEGORIES: u8 = 0xFF;
 
 /// Whether a record is deleted.
 pub(crate) fn is_deleted(attributes: u8) -> bool
@@ -59,4 +63,36 @@ pub(crate) fn of_new_record() -> u8
     ensures { result ≡ new_attributes }
 {
     RecordAttrs::DIRTY.union(RecordAttrs::BUSY).bits()
+}
+
+/// Whether a record is not deleted and of a category, or of any, for 0xFF.
+pub(crate) fn has_category(attributes: RecordAttrs, category: u8) -> bool
+    ensures { result ≡ categories.has_category category attributes.0 }
+{
+    if attributes.is_deleted() {
+        return false;
+    }
+    category == ALL_CATEGORIES || attributes.category() == category
+}
+
+/// The attributes of a record for which others are given: it stays deleted and busy as it was.
+pub(crate) fn with_given(attributes: u8, given: u8) -> u8
+    ensures { result ≡ steps.attributes_set given attributes }
+{
+    let kept = RecordAttrs::DELETE.union(RecordAttrs::BUSY);
+    let old = RecordAttrs::from_bits_retain(attributes).intersection(kept);
+    let new = RecordAttrs::from_bits_retain(given).difference(kept);
+    old.union(new).bits()
+}
+
+/// The attributes of a record in another category, and dirty if `dirty` says so.
+pub(crate) fn recategorized(attributes: RecordAttrs, category: u8, dirty: bool) -> u8
+    requires { category < categories.categories }
+    ensures { result ≡ categories.recategorized category dirty attributes.0 }
+{
+    let mut attributes = attributes.with_category(category);
+    if dirty {
+        attributes.insert(RecordAttrs::DIRTY);
+    }
+    attributes.bits()
 }

@@ -1,14 +1,17 @@
 //! Records changed, moved and taken out.
 
+ghost use Rattle.std.specs.Prelude.{◌≡◌};
+ghost use Rattle.heap_model.specs.RecordSteps.{id_set};
 ghost use Rattle.heap_model.specs.declared.call.RecordCall.{RecordCall};
 ghost use Rattle.palm_store.specs.Replies.{done_or_refused, name_or_refused};
 ghost use Rattle.record_db.specs.Checks.{DoesRecord};
 
-use crate::attributes::{is_busy, marked_busy, marked_deleted, released};
+use crate::attributes::{is_busy, marked_busy, marked_deleted, released, with_given};
 use crate::checks::{Access, count_records};
-use crate::records::{find_live, find_record, has_locked, is_locked};
+use crate::records::{find_live, find_record, has_id, has_locked, is_locked};
+use db_format::GREATEST_ID;
 use heap_model::{Db, Name, Refusal};
-use palm_store::{EntryInfo, Store};
+use palm_store::{DATA_OWNER, EntryInfo, Store};
 
 /// Frees the data of a record. Its entry stays as that of a deleted one, with its ID.
 ///
@@ -21,7 +24,7 @@ pub fn delete(store: &mut Store, db: Db, index: u32) -> Result<(), Refusal>
     if is_locked(store, live.data) {
         return Err(Refusal::ChunkLocked);
     }
-    store.entry_free_data(db, index);
+    store.entry_free_data(db, index, true);
     Ok(())
 }
 
@@ -103,4 +106,56 @@ pub fn release(store: &mut Store, db: Db, index: u32, dirty: bool) -> Result<(),
     };
     store.entry_set(db, index, left, false);
     Ok(())
+}
+
+/// Takes a record out, and hands its data over to an owner, 1 to 14. The data keeps its lock; its name is
+/// answered.
+///
+/// Refused: `NoSuchDatabase`, `NotRecordDatabase`, `ReadOnly`, `IndexOutOfRange`, `RecordDeleted`, `InvalidOwner`.
+pub fn detach(store: &mut Store, db: Db, index: u32, owner: u8) -> Result<Name, Refusal>
+    ensures { DoesRecord store.old (RecordCall.Detach db index owner)
+        (name_or_refused result) store.new }
+{
+    let live = find_live(store, db, index, Access::Write)?;
+    if owner == 0 || owner >= DATA_OWNER {
+        return Err(Refusal::InvalidOwner);
+    }
+    store.entry_drop(db, index, Some(owner));
+    Ok(live.data)
+}
+
+/// Sets the attributes of a record, but the bits of a deleted and of a busy one, and its unique ID: the low 24
+/// bits of `id`, where they are not 0.
+///
+/// Refused: `NoSuchDatabase`, `NotRecordDatabase`, `ReadOnly`, `IndexOutOfRange`; `DuplicateId`, where another record
+/// has the ID.
+pub fn set_record_info(
+    store: &mut Store,
+    db: Db,
+    index: u32,
+    attributes: u8,
+    id: u32,
+) -> Result<(), Refusal>
+    ensures { DoesRecord store.old (RecordCall.SetInfo db index attributes id)
+        (done_or_refused result) store.new }
+{
+    let info = find_record(store, db, index, Access::Write)?;
+    let id = id_or(id, info.id);
+    if id != info.id && has_id(store, db, id) {
+        return Err(Refusal::DuplicateId);
+    }
+    let given = EntryInfo::Record {
+        attributes: with_given(info.attributes, attributes),
+        id,
+    };
+    store.entry_set(db, index, given, true);
+    Ok(())
+}
+
+/// The unique ID in the low 24 bits of a number, and a record's own where they are 0.
+fn id_or(number: u32, own: u32) -> u32
+    ensures { result ≡ id_set number own }
+{
+    let id = number & GREATEST_ID;
+    if id == 0 { own } else { id }
 }

@@ -4,11 +4,11 @@ ghost use Rattle.std.specs.Prelude.{◌≡◌, [], false, OnOk, IfOk, IfErr};
 ghost use Rattle.heap_model.specs.Database.{has_resources};
 ghost use Rattle.heap_model.specs.Store.{Accepted};
 ghost use Rattle.heap_model.specs.Refusals.{NoneHolds, FirstBrings};
-ghost use Rattle.palm_store.specs.Databases.{HasNumber};
+ghost use Rattle.palm_store.specs.Databases.{HasNumber, HasDatabase};
 ghost use Rattle.palm_store.specs.EntryCalls.{resources_of_image, HasCount};
 ghost use Rattle.record_db.specs.Checks.{attribute_checks, opening_checks};
 
-use db_format::DbAttrs;
+use db_format::{DatabaseView, DbAttrs};
 use heap_model::{Db, Refusal};
 use palm_store::Store;
 
@@ -35,6 +35,23 @@ pub(crate) fn check_attributes(attributes: DbAttrs, access: Access) -> Result<()
     }
 }
 
+/// A database that holds records and may be used so.
+pub(crate) fn open_records<'a>(
+    store: &'a Store,
+    db: Db,
+    access: Access,
+) -> Result<DatabaseView<'a>, Refusal>
+    ensures accepted { Accepted store.now.bytes }
+    ensures is { IfOk result (λ records. HasDatabase store.now.bytes db.0 records) }
+    ensures records { IfOk result (λ records. has_resources records.header.attributes ≡ false) }
+    ensures passes { OnOk result (NoneHolds (opening_checks store.now.bytes db access [])) }
+    ensures refused { IfErr result (FirstBrings (opening_checks store.now.bytes db access [])) }
+{
+    let records = store.find_database(db)?;
+    check_attributes(records.attributes(), access)?;
+    Ok(records)
+}
+
 /// How many records a database has that may be used so.
 pub(crate) fn count_records(store: &Store, db: Db, access: Access) -> Result<u32, Refusal>
     ensures accepted { Accepted store.now.bytes }
@@ -44,7 +61,5 @@ pub(crate) fn count_records(store: &Store, db: Db, access: Access) -> Result<u32
     ensures passes { OnOk result (NoneHolds (opening_checks store.now.bytes db access [])) }
     ensures refused { IfErr result (FirstBrings (opening_checks store.now.bytes db access [])) }
 {
-    let overview = store.overview(db)?;
-    check_attributes(overview.attributes, access)?;
-    Ok(overview.entry_count)
+    Ok(open_records(store, db, access)?.entry_count())
 }

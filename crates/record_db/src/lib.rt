@@ -7,11 +7,16 @@
 
 mod asking;
 mod attributes;
+mod categories;
 mod changing;
 mod checks;
 mod making;
 mod records;
+mod search;
 
-pub use asking::{num_records, query, record_info};
-pub use changing::{archive, delete, get, move_record, release, remove};
+pub use asking::{find_by_id, num_records, query, record_info};
+pub use categories::{
+    delete_category, move_category, next_in_category, num_in_category, position_in_category,
+};
+pub use changing::{archive, delete, detach, get, move_record, release, remove, set_record_info};
 pub use making::{new_record, resize_record};

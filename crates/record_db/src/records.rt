@@ -4,13 +4,16 @@ ghost use Rattle.std.specs.Prelude.{◌≡◌, ◌<◌, ◌↔◌, false, Some, 
 ghost use Rattle.heap_model.specs.Database.{a_record};
 ghost use Rattle.heap_model.specs.Store.{Accepted, store_of};
 ghost use Rattle.heap_model.specs.Refusals.{NoneHolds, FirstBrings};
-ghost use Rattle.heap_model.specs.EntrySteps.{entry_under};
+ghost use Rattle.heap_model.specs.EntrySteps.{entry_under, HasId};
+ghost use Rattle.heap_model.specs.RecordSteps.{HasLockedOf};
 ghost use Rattle.palm_store.specs.Databases.{HasNumber};
 ghost use Rattle.palm_store.specs.EntryCalls.{entries_of_image, resources_of_image};
+ghost use Rattle.record_db.specs.Search.{SomeHas};
 ghost use Rattle.record_db.specs.Checks.{IsTold, IsLockedChunk, finding_checks, living_checks};
 
-use crate::attributes::is_deleted;
+use crate::attributes::{has_category, is_deleted};
 use crate::checks::{Access, check_attributes};
+use crate::search::find_id;
 use heap_model::{Db, Entry, Name, RecordInfo, Refusal};
 use palm_store::{FIXED_LOCK, Store};
 
@@ -100,4 +103,29 @@ pub(crate) fn has_locked(store: &Store, data: Option<Name>) -> bool
         Some(name) => is_locked(store, name),
         None => false,
     }
+}
+
+/// Whether a record of a database has a unique ID.
+pub(crate) fn has_id(store: &Store, db: Db, id: u32) -> bool
+    requires known { HasNumber store.now.bytes db.0 }
+    requires records { resources_of_image store.now.bytes db ≡ false }
+    ensures { IsTrue result ↔ SomeHas (entries_of_image store.now.bytes db) (HasId id) }
+{
+    find_id(&store.database(db), id).is_some()
+}
+
+/// Whether the data of a record is locked that is of a category and not deleted.
+pub(crate) fn has_locked_of(store: &Store, db: Db, category: u8) -> bool
+    requires known { HasNumber store.now.bytes db.0 }
+    requires records { resources_of_image store.now.bytes db ≡ false }
+    ensures { IsTrue result ↔ HasLockedOf (store_of store.now.bytes) db category }
+{
+    let records = store.database(db);
+    for index in 0..records.entry_count() {
+        let record = records.record(index);
+        if has_category(record.attributes, category) && is_locked(store, Name(record.slot)) {
+            return true;
+        }
+    }
+    false
 }

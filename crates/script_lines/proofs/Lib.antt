@@ -6,3 +6,4 @@ pub mod NumberLaws
 pub mod ReadingLaws
 pub mod CommandLaws
 pub mod ReadBack
+mod TableLaws

@@ -157,6 +157,14 @@ record_row records.Release = row (codes "recrelease") (kinds.Database ∷ kinds.
 record_row records.Info = row (codes "recinfo") (kinds.Database ∷ kinds.Number ∷ []) (λ db index. Print (on_records (record_calls.Info db index)))
 record_row records.Resize = row (codes "recresize") (kinds.Database ∷ kinds.Number ∷ kinds.Number ∷ []) (λ db index size. Print (on_records (record_calls.Resize db index size)))
 record_row records.Count = row (codes "reccount") (kinds.Database ∷ []) (λ db. Print (on_records (record_calls.Count db)))
+record_row records.Detach = row (codes "recdetach") (kinds.Database ∷ kinds.Number ∷ kinds.Byte ∷ kinds.Chunk ∷ []) (λ db index owner label. BindChunk label (on_records (record_calls.Detach db index owner)))
+record_row records.SetInfo = row (codes "recset") (kinds.Database ∷ kinds.Number ∷ kinds.Byte ∷ kinds.Number ∷ []) (λ db index attributes id. Print (on_records (record_calls.SetInfo db index attributes id)))
+record_row records.Find = row (codes "recfind") (kinds.Database ∷ kinds.Number ∷ []) (λ db id. Print (on_records (record_calls.FindById db id)))
+record_row records.CountInCategory = row (codes "catcount") (kinds.Database ∷ kinds.Byte ∷ []) (λ db category. Print (on_records (record_calls.CountInCategory db category)))
+record_row records.NextInCategory = row (codes "catnext") (kinds.Database ∷ kinds.Number ∷ kinds.Byte ∷ []) (λ db from category. Print (on_records (record_calls.NextInCategory db from category)))
+record_row records.PositionInCategory = row (codes "catpos") (kinds.Database ∷ kinds.Number ∷ kinds.Byte ∷ []) (λ db index category. Print (on_records (record_calls.PositionInCategory db index category)))
+record_row records.MoveCategory = row (codes "catmove") (kinds.Database ∷ kinds.Byte ∷ kinds.Byte ∷ kinds.Flag ∷ []) (λ db to from dirty. Print (on_records (record_calls.MoveCategory db to from dirty)))
+record_row records.DeleteCategory = row (codes "catdelete") (kinds.Database ∷ kinds.Byte ∷ []) (λ db category. Print (on_records (record_calls.DeleteCategory db category)))
 
 abbrev pub row_of : Command → CommandRow
 row_of (Memory command) = memory_row command
@@ -181,7 +189,7 @@ abbrev pub database_commands : List DatabaseCommand
 database_commands = Create ∷ Find ∷ Nth ∷ Count ∷ Delete ∷ Info ∷ SetInfo ∷ []
 
 abbrev pub record_commands : List RecordCommand
-record_commands = records.New ∷ records.Delete ∷ records.Archive ∷ records.Remove ∷ records.Move ∷ records.Get ∷ records.Query ∷ records.Release ∷ records.Info ∷ records.Resize ∷ records.Count ∷ []
+record_commands = records.New ∷ records.Delete ∷ records.Archive ∷ records.Remove ∷ records.Move ∷ records.Get ∷ records.Query ∷ records.Release ∷ records.Info ∷ records.Resize ∷ records.Count ∷ records.Detach ∷ records.SetInfo ∷ records.Find ∷ records.CountInCategory ∷ records.NextInCategory ∷ records.PositionInCategory ∷ records.MoveCategory ∷ records.DeleteCategory ∷ []
 
 abbrev pub commands : List Command
 commands = map Memory memory_commands ++ map Database database_commands ++ map Record record_commands

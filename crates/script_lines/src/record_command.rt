@@ -9,7 +9,7 @@ ghost use Rattle.script_lines.specs.declared.line.Line.TheVariants.{BindChunk, P
 
 use crate::command::{Command, CommandRow, line_if, row};
 use crate::line::{ChunkLabel, DatabaseLabel, Line};
-use crate::value::Value::{Chunk, Database, Flag, Number};
+use crate::value::Value::{Byte, Chunk, Database, Flag, Number};
 use crate::value::{Kind, Value};
 use heap_model::{Call, RecordCall};
 
@@ -27,10 +27,18 @@ pub(crate) enum RecordCommand {
     Info,
     Resize,
     Count,
+    Detach,
+    SetInfo,
+    Find,
+    CountInCategory,
+    NextInCategory,
+    PositionInCategory,
+    MoveCategory,
+    DeleteCategory,
 }
 
 /// Every one of them.
-pub(crate) const RECORD_COMMANDS: [Command; 11] = [
+pub(crate) const RECORD_COMMANDS: [Command; 19] = [
     Command::Record(RecordCommand::New),
     Command::Record(RecordCommand::Delete),
     Command::Record(RecordCommand::Archive),
@@ -42,12 +50,40 @@ pub(crate) const RECORD_COMMANDS: [Command; 11] = [
     Command::Record(RecordCommand::Info),
     Command::Record(RecordCommand::Resize),
     Command::Record(RecordCommand::Count),
+    Command::Record(RecordCommand::Detach),
+    Command::Record(RecordCommand::SetInfo),
+    Command::Record(RecordCommand::Find),
+    Command::Record(RecordCommand::CountInCategory),
+    Command::Record(RecordCommand::NextInCategory),
+    Command::Record(RecordCommand::PositionInCategory),
+    Command::Record(RecordCommand::MoveCategory),
+    Command::Record(RecordCommand::DeleteCategory),
 ];
 
 // What the words behind a command may be.
 const DATABASE: &[Kind] = &[Kind::Database];
 
+const DATABASE_BYTE: &[Kind] = &[Kind::Database, Kind::Byte];
+
+const DATABASE_TWO_BYTES_FLAG: &[Kind] = &[Kind::Database, Kind::Byte, Kind::Byte, Kind::Flag];
+
 const DATABASE_NUMBER: &[Kind] = &[Kind::Database, Kind::Number];
+
+const DATABASE_NUMBER_BYTE: &[Kind] = &[Kind::Database, Kind::Number, Kind::Byte];
+
+const DATABASE_NUMBER_BYTE_NUMBER: &[Kind] = &[
+    Kind::Database,
+    Kind::Number,
+    Kind::Byte,
+    Kind::Number,
+];
+
+const DATABASE_NUMBER_BYTE_CHUNK: &[Kind] = &[
+    Kind::Database,
+    Kind::Number,
+    Kind::Byte,
+    Kind::Chunk,
+];
 
 const DATABASE_NUMBER_CHUNK: &[Kind] = &[Kind::Database, Kind::Number, Kind::Chunk];
 
@@ -81,6 +117,14 @@ pub(crate) fn record_row(command: RecordCommand) -> CommandRow
         RecordCommand::Info => row(b"recinfo", DATABASE_NUMBER),
         RecordCommand::Resize => row(b"recresize", DATABASE_TWO_NUMBERS),
         RecordCommand::Count => row(b"reccount", DATABASE),
+        RecordCommand::Detach => row(b"recdetach", DATABASE_NUMBER_BYTE_CHUNK),
+        RecordCommand::SetInfo => row(b"recset", DATABASE_NUMBER_BYTE_NUMBER),
+        RecordCommand::Find => row(b"recfind", DATABASE_NUMBER),
+        RecordCommand::CountInCategory => row(b"catcount", DATABASE_BYTE),
+        RecordCommand::NextInCategory => row(b"catnext", DATABASE_NUMBER_BYTE),
+        RecordCommand::PositionInCategory => row(b"catpos", DATABASE_NUMBER_BYTE),
+        RecordCommand::MoveCategory => row(b"catmove", DATABASE_TWO_BYTES_FLAG),
+        RecordCommand::DeleteCategory => row(b"catdelete", DATABASE_BYTE),
     }
 }
 
@@ -125,5 +169,26 @@ pub(crate) fn make_record_line(command: RecordCommand, values: &[Value]) -> Opti
         RecordCommand::Resize => line_if!(values, &[Database(db), Number(index), Number(size)] =>
             printed(RecordCall::Resize { db, index, size })),
         RecordCommand::Count => line_if!(values, &[Database(db)] => printed(RecordCall::Count(db))),
+        RecordCommand::Detach => line_if!(values,
+            &[Database(db), Number(index), Byte(owner), Chunk(label)] =>
+            bound(label, RecordCall::Detach { db, index, owner })),
+        RecordCommand::SetInfo => line_if!(values,
+            &[Database(db), Number(index), Byte(attributes), Number(id)] =>
+            printed(RecordCall::SetInfo { db, index, attributes, id })),
+        RecordCommand::Find => line_if!(values, &[Database(db), Number(id)] =>
+            printed(RecordCall::FindById(db, id))),
+        RecordCommand::CountInCategory => line_if!(values, &[Database(db), Byte(category)] =>
+            printed(RecordCall::CountInCategory(db, category))),
+        RecordCommand::NextInCategory => line_if!(values,
+            &[Database(db), Number(from), Byte(category)] =>
+            printed(RecordCall::NextInCategory { db, from, category })),
+        RecordCommand::PositionInCategory => line_if!(values,
+            &[Database(db), Number(index), Byte(category)] =>
+            printed(RecordCall::PositionInCategory { db, index, category })),
+        RecordCommand::MoveCategory => line_if!(values,
+            &[Database(db), Byte(to), Byte(from), Flag(dirty)] =>
+            printed(RecordCall::MoveCategory { db, to, from, dirty })),
+        RecordCommand::DeleteCategory => line_if!(values, &[Database(db), Byte(category)] =>
+            printed(RecordCall::DeleteCategory(db, category))),
     }
 }

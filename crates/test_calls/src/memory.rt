@@ -35,7 +35,8 @@ fn any_place(random: &mut Pcg32, pieces: &[Piece]) -> Place {
     }
 }
 
-fn any_owner(random: &mut Pcg32) -> u8 {
+/// An owner: that of a caller, of a database or of the manager, or none.
+pub(crate) fn any_owner(random: &mut Pcg32) -> u8 {
     random.random_range(0u8..17)
 }
 

@@ -1,11 +1,12 @@
 //! Calls on records.
 
 use crate::database::any_db;
-use crate::memory::any_size;
+use crate::memory::{any_owner, any_size};
 use heap_model::{Db, RecordCall};
 use rand::RngExt;
+use rand::seq::IndexedRandom;
 use rand_pcg::Pcg32;
-use test_model::{Database, Image};
+use test_model::{Database, Entries, Image};
 
 /// An index: most often one below a count, else the count, one above it, or a very large one.
 fn any_index(random: &mut Pcg32, count: u32) -> u32 {
@@ -27,38 +28,135 @@ fn entries_of(databases: &[Database], db: Db) -> u32 {
     0
 }
 
+/// The ID of a record of some database, 0 where that has none.
+fn known_id(random: &mut Pcg32, databases: &[Database]) -> u32 {
+    match databases.choose(random) {
+        Some(
+            Database {
+                entries: Entries::Records(records),
+                ..
+            },
+        ) => records.choose(random).map_or(0, |record| record.id),
+        _ => 0,
+    }
+}
+
+/// An ID: most often that of a record, else the same with a bit above the 24 that an ID has, a small one, or
+/// any number.
+fn any_id(random: &mut Pcg32, databases: &[Database]) -> u32 {
+    match random.random_range(0u32..8) {
+        0 => known_id(random, databases) | 0x0100_0000,
+        1 => random.random_range(0u32..16),
+        2 => random.random_range(0u32..u32::MAX),
+        _ => known_id(random, databases),
+    }
+}
+
+/// A category: most often one of the first, else any of them, the number behind the last, what stands for
+/// all, or any number.
+fn any_category(random: &mut Pcg32) -> u8 {
+    match random.random_range(0u32..12) {
+        0 => 16,
+        1 => 0xFF,
+        2 => random.random_range(0u8..=255),
+        3..=4 => random.random_range(0u8..16),
+        _ => random.random_range(0u8..3),
+    }
+}
+
+fn any_flag(random: &mut Pcg32) -> bool {
+    random.random_range(0u32..2) == 0
+}
+
+/// Attributes: any of the bits, most often with one of the first categories.
+fn any_attributes(random: &mut Pcg32) -> u8 {
+    random.random_range(0u8..16) * 16 + any_category(random) % 16
+}
+
 /// A call on records.
 pub fn record_call(random: &mut Pcg32, image: &Image, databases: &[Database]) -> RecordCall {
     let db = any_db(random, image, databases);
     let count = entries_of(databases, db);
     let index = any_index(random, count);
-    match random.random_range(0u32..32) {
-        0..=9 => RecordCall::New {
-            db,
-            at: index,
-            size: any_size(random, image.largest_room()),
-        },
-        10..=11 => RecordCall::Delete(db, index),
-        12 => RecordCall::Archive(db, index),
-        13..=14 => RecordCall::Remove(db, index),
-        15..=17 => RecordCall::Move {
+    match random.random_range(0u32..48) {
+        0..=16 => changing_call(random, image, db, index),
+        17..=19 => RecordCall::Move {
             db,
             from: index,
             to: any_index(random, count),
         },
-        18..=20 => RecordCall::Get(db, index),
-        21 => RecordCall::Query(db, index),
-        22..=24 => RecordCall::Release {
+        20..=31 => using_call(random, image, db, index),
+        32..=33 => RecordCall::Detach {
             db,
             index,
-            dirty: random.random_range(0u32..2) == 0,
+            owner: any_owner(random),
         },
-        25..=26 => RecordCall::Info(db, index),
-        27..=30 => RecordCall::Resize {
+        34..=36 => RecordCall::SetInfo {
+            db,
+            index,
+            attributes: any_attributes(random),
+            id: any_id(random, databases),
+        },
+        37..=38 => RecordCall::FindById(db, any_id(random, databases)),
+        _ => category_call(random, db, index),
+    }
+}
+
+/// A call that makes, deletes or removes a record.
+fn changing_call(random: &mut Pcg32, image: &Image, db: Db, index: u32) -> RecordCall {
+    match random.random_range(0u32..16) {
+        0..=10 => RecordCall::New {
+            db,
+            at: index,
+            size: any_size(random, image.largest_room()),
+        },
+        11..=12 => RecordCall::Delete(db, index),
+        13 => RecordCall::Archive(db, index),
+        _ => RecordCall::Remove(db, index),
+    }
+}
+
+/// A call that takes a record into use or out of it, asks for it, or gives its data another length.
+fn using_call(random: &mut Pcg32, image: &Image, db: Db, index: u32) -> RecordCall {
+    match random.random_range(0u32..14) {
+        0..=2 => RecordCall::Get(db, index),
+        3 => RecordCall::Query(db, index),
+        4..=6 => RecordCall::Release {
+            db,
+            index,
+            dirty: any_flag(random),
+        },
+        7..=8 => RecordCall::Info(db, index),
+        9..=12 => RecordCall::Resize {
             db,
             index,
             size: any_size(random, image.largest_room()),
         },
         _ => RecordCall::Count(db),
+    }
+}
+
+/// A call on a category.
+fn category_call(random: &mut Pcg32, db: Db, index: u32) -> RecordCall {
+    let category = any_category(random);
+    match random.random_range(0u32..9) {
+        0 => RecordCall::CountInCategory(db, category),
+        1..=2 => RecordCall::NextInCategory {
+            db,
+            from: index,
+            category,
+        },
+        3..=4 => RecordCall::PositionInCategory {
+            db,
+            index,
+            category,
+        },
+        5..=6 => RecordCall::MoveCategory {
+            db,
+            to: any_category(random),
+            from: category,
+            dirty: any_flag(random),
+        },
+        _ => RecordCall::DeleteCategory(db, category),
     }
 }

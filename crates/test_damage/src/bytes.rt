@@ -12,7 +12,7 @@ use test_images::{DATABASE, bytes_of};
 /// Calls on chunks, databases and records, each with its reply on the image as it is. They ask of the
 /// database, its records and their data, change them and delete it, and then make another, with chunks of
 /// callers beside it.
-const CALLS: [(&str, &str); 52] = [
+const CALLS: [(&str, &str); 61] = [
     ("find d \"R\"", "ok"),
     ("nth d 0", "ok"),
     ("dbcount", "ok 1"),
@@ -36,12 +36,21 @@ const CALLS: [(&str, &str); 52] = [
     ),
     ("free a", "ok"),
     ("recinfo d 0", "ok 00 1 data"),
+    ("catcount d 0", "ok 2"),
+    ("catmove d 3 0 0", "ok"),
+    ("catnext d 1 3", "ok 1"),
+    ("recset d 1 3 7", "ok"),
+    ("recfind d 7", "ok 1"),
     ("recget d 1 s", "ok"),
     ("recrelease d 1 1", "ok"),
     ("recmove d 1 0", "ok"),
     ("recdelete d 0", "ok"),
-    ("recinfo d 0", "ok c0 2 none"),
+    ("recinfo d 0", "ok c3 7 none"),
     ("reccount d", "ok 2"),
+    ("recdetach d 1 5 y", "ok"),
+    ("owner y", "ok 5"),
+    ("free y", "ok"),
+    ("catdelete d 3", "ok"),
     ("dbdelete d", "ok"),
     ("largest", "ok 152"),
     ("new a 3 1", "ok"),

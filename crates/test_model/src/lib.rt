@@ -13,6 +13,7 @@
 #![tactic(auto)]
 
 mod accepted;
+mod category_calls;
 mod database;
 mod database_calls;
 mod heap;

@@ -286,7 +286,7 @@ fn copy(to: &mut [u8], from: &[u8]) {
 }
 
 /// Refuses an owner that callers may not give: theirs are 1 to 14.
-fn check_owner(owner: u8) -> Result<(), Refusal> {
+pub(crate) fn check_owner(owner: u8) -> Result<(), Refusal> {
     if owner == 0 || owner > 14 {
         return Err(Refusal::InvalidOwner);
     }

@@ -3,7 +3,7 @@
 
 use crate::database::{DELETED, Entries, Record};
 use crate::image::{Image, Kind};
-use crate::memory_calls::number;
+use crate::memory_calls::{check_owner, number};
 use crate::parts::{Part, can_run_out};
 use crate::store::PlainStore;
 use heap_model::{Db, Name, RecordCall, RecordInfo, Refusal, Reply};
@@ -19,7 +19,7 @@ const RECORD_LENGTH: u32 = 8;
 const READ_ONLY: u16 = 0x0002;
 
 /// The bits of a record's attributes that say that it was changed, and that it is in use.
-const DIRTY: u8 = 0x40;
+pub(crate) const DIRTY: u8 = 0x40;
 
 const BUSY: u8 = 0x20;
 
@@ -51,6 +51,30 @@ impl PlainStore {
                 self.resize_record(*db, *index, *size, before)
             }
             RecordCall::Count(db) => Ok(number(self.records(*db)?.len())),
+            RecordCall::Detach { db, index, owner } => self.detach_record(*db, *index, *owner),
+            RecordCall::SetInfo {
+                db,
+                index,
+                attributes,
+                id,
+            } => self.set_record(*db, *index, *attributes, *id),
+            RecordCall::FindById(db, id) => self.find_record(*db, *id),
+            RecordCall::CountInCategory(db, category) => self.count_in_category(*db, *category),
+            RecordCall::NextInCategory { db, from, category } => {
+                self.next_in_category(*db, *from, *category)
+            }
+            RecordCall::PositionInCategory {
+                db,
+                index,
+                category,
+            } => self.position_in_category(*db, *index, *category),
+            RecordCall::MoveCategory {
+                db,
+                to,
+                from,
+                dirty,
+            } => self.move_category(*db, *to, *from, *dirty),
+            RecordCall::DeleteCategory(db, category) => self.delete_category(alloc, *db, *category),
         }
     }
 
@@ -153,11 +177,54 @@ impl PlainStore {
         self.check_written(db)?;
         let data = self.record(db, index)?.data;
         self.free_data(data)?;
-        let records = self.records_mut(db)?;
-        if (index as usize) < records.len() {
-            records.remove(index as usize);
-        }
+        self.drop_entry(db, index)?;
         self.count_change(db)
+    }
+
+    /// Its data goes to a caller, with its locks, and its entry goes.
+    fn detach_record(&mut self, db: Db, index: u32, owner: u8) -> Result<Reply, Refusal> {
+        self.check_written(db)?;
+        let record = self.kept_record(db, index)?;
+        check_owner(owner)?;
+        let data = record.data.ok_or(Refusal::RecordDeleted)?;
+        self.heap.chunk_mut(data)?.owner = owner;
+        self.drop_entry(db, index)?;
+        self.count_change(db)?;
+        Ok(Reply::Named(data))
+    }
+
+    /// It has these attributes, but for the bits of deleted and of busy ones, and this ID, where that is
+    /// not 0.
+    fn set_record(
+        &mut self,
+        db: Db,
+        index: u32,
+        attributes: u8,
+        id: u32,
+    ) -> Result<Reply, Refusal> {
+        self.check_written(db)?;
+        let kept = self.record(db, index)?.attributes & (DELETED | BUSY);
+        let id = id & GREATEST_ID;
+        if id != 0 {
+            for (at, record) in self.records(db)?.iter().enumerate() {
+                if at != index as usize && record.id == id {
+                    return Err(Refusal::DuplicateId);
+                }
+            }
+            self.record_mut(db, index)?.id = id;
+        }
+        self.record_mut(db, index)?.attributes = kept | attributes & !(DELETED | BUSY);
+        self.count_change(db)
+    }
+
+    /// The index of the record with an ID, deleted or not.
+    fn find_record(&self, db: Db, id: u32) -> Result<Reply, Refusal> {
+        for (index, record) in self.records(db)?.iter().enumerate() {
+            if record.id == id {
+                return Ok(number(index));
+            }
+        }
+        Err(Refusal::UniqueIdNotFound)
     }
 
     /// It comes in front of the record that stands at `to`, or behind the last.
@@ -214,15 +281,24 @@ impl PlainStore {
         Ok(Reply::Done)
     }
 
+    /// The entry of a record goes.
+    fn drop_entry(&mut self, db: Db, index: u32) -> Result<(), Refusal> {
+        let records = self.records_mut(db)?;
+        if (index as usize) < records.len() {
+            records.remove(index as usize);
+        }
+        Ok(())
+    }
+
     /// The records of a database that has records.
-    fn records(&self, db: Db) -> Result<&[Record], Refusal> {
+    pub(crate) fn records(&self, db: Db) -> Result<&[Record], Refusal> {
         match &self.database(db)?.entries {
             Entries::Records(records) => Ok(records),
             Entries::Resources(_) => Err(Refusal::NotRecordDatabase),
         }
     }
 
-    fn records_mut(&mut self, db: Db) -> Result<&mut Vec<Record>, Refusal> {
+    pub(crate) fn records_mut(&mut self, db: Db) -> Result<&mut Vec<Record>, Refusal> {
         match &mut self.database_mut(db)?.entries {
             Entries::Records(records) => Ok(records),
             Entries::Resources(_) => Err(Refusal::NotRecordDatabase),
@@ -230,7 +306,7 @@ impl PlainStore {
     }
 
     /// Refuses a database that has no records, or that may only be read.
-    fn check_written(&self, db: Db) -> Result<(), Refusal> {
+    pub(crate) fn check_written(&self, db: Db) -> Result<(), Refusal> {
         self.records(db)?;
         if self.database(db)?.header.attributes & READ_ONLY != 0 {
             return Err(Refusal::ReadOnly);
@@ -270,7 +346,7 @@ impl PlainStore {
     }
 
     /// The modification number of a database rises.
-    fn count_change(&mut self, db: Db) -> Result<Reply, Refusal> {
+    pub(crate) fn count_change(&mut self, db: Db) -> Result<Reply, Refusal> {
         let header = &mut self.database_mut(db)?.header;
         header.modification_number = header.modification_number.wrapping_add(1);
         Ok(Reply::Done)

@@ -73,7 +73,15 @@ fn asks_in_store(call: &Call) -> bool {
                 | DatabaseCall::Nth(_)
                 | DatabaseCall::Count
                 | DatabaseCall::Info(_)
-        ) | Call::Record(RecordCall::Query(..) | RecordCall::Info(..) | RecordCall::Count(_))
+        ) | Call::Record(
+            RecordCall::Query(..)
+                | RecordCall::Info(..)
+                | RecordCall::Count(_)
+                | RecordCall::FindById(..)
+                | RecordCall::CountInCategory(..)
+                | RecordCall::NextInCategory { .. }
+                | RecordCall::PositionInCategory { .. }
+        )
     )
 }
 

@@ -3,8 +3,9 @@
 use heap_model::{Bytes, Call, DatabaseCall, MemoryCall, Name, RecordCall, Refusal, Reply};
 use palm_store::{Locked, Store};
 use record_db::{
-    archive, delete, get, move_record, new_record, num_records, query, record_info, release,
-    remove, resize_record,
+    archive, delete, delete_category, detach, find_by_id, get, move_category, move_record,
+    new_record, next_in_category, num_in_category, num_records, position_in_category, query,
+    record_info, release, remove, resize_record, set_record_info,
 };
 use std::alloc::Global;
 
@@ -55,6 +56,36 @@ fn record_call(store: &mut Store, call: &RecordCall) -> Result<Reply, Refusal> {
             resize_record(store, *db, *index, *size).map(done)
         }
         RecordCall::Count(db) => num_records(store, *db).map(Reply::Number),
+        RecordCall::Detach { db, index, owner } => {
+            detach(store, *db, *index, *owner).map(Reply::Named)
+        }
+        RecordCall::SetInfo {
+            db,
+            index,
+            attributes,
+            id,
+        } => set_record_info(store, *db, *index, *attributes, *id).map(done),
+        RecordCall::FindById(db, id) => find_by_id(store, *db, *id).map(Reply::Number),
+        RecordCall::CountInCategory(db, category) => {
+            num_in_category(store, *db, *category).map(Reply::Number)
+        }
+        RecordCall::NextInCategory { db, from, category } => {
+            next_in_category(store, *db, *from, *category).map(Reply::Number)
+        }
+        RecordCall::PositionInCategory {
+            db,
+            index,
+            category,
+        } => position_in_category(store, *db, *index, *category).map(Reply::Number),
+        RecordCall::MoveCategory {
+            db,
+            to,
+            from,
+            dirty,
+        } => move_category(store, *db, *to, *from, *dirty).map(done),
+        RecordCall::DeleteCategory(db, category) => {
+            delete_category(store, *db, *category).map(done)
+        }
     }
 }
 

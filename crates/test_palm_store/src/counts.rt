@@ -111,6 +111,14 @@ fn record_name(call: &RecordCall) -> &'static str {
         RecordCall::Info(..) => "record_info",
         RecordCall::Resize { .. } => "resize_record",
         RecordCall::Count(_) => "num_records",
+        RecordCall::Detach { .. } => "detach",
+        RecordCall::SetInfo { .. } => "set_record_info",
+        RecordCall::FindById(..) => "find_by_id",
+        RecordCall::CountInCategory(..) => "num_in_category",
+        RecordCall::NextInCategory { .. } => "next_in_category",
+        RecordCall::PositionInCategory { .. } => "position_in_category",
+        RecordCall::MoveCategory { .. } => "move_category",
+        RecordCall::DeleteCategory(..) => "delete_category",
     }
 }
 

@@ -2,7 +2,7 @@
 
 use crate::beside::Beside;
 use crate::images::MIXED;
-use heap_model::{Call, DatabaseCall, Db, DbName, MemoryCall, Name, Refusal, Reply};
+use heap_model::{Call, DatabaseCall, Db, DbName, MemoryCall, Name, RecordCall, Refusal, Reply};
 use std::process::Abort;
 use std::test::*;
 use test_images::{TWO_DATABASES, bytes_of as listed};
@@ -84,4 +84,44 @@ fn a_header_that_is_not_listed_is_given_back(rt: HostRuntime) -> Result<(), Fail
         Call::Database(DatabaseCall::Count),
         Reply::Number(2),
     )
+}
+
+/// Does a call on records, which must be answered by this reply.
+fn check_record(
+    rt: &(impl Abort + AllocGlobal),
+    beside: &mut Beside,
+    call: RecordCall,
+    reply: Reply,
+) -> Result<(), Fail> {
+    check(rt, beside, Call::Record(call), reply)
+}
+
+/// All records are of one category, and the data of the first has two locks: while it has them nothing is
+/// deleted.
+#[test]
+fn a_locked_record_keeps_its_category(rt: HostRuntime) -> Result<(), Fail> {
+    let mut beside = Beside::new(rt.alloc(), listed(rt.alloc(), MIXED)?)?;
+    let db = Db(36);
+    for from in [3, 5] {
+        let call = RecordCall::MoveCategory {
+            db,
+            to: 0,
+            from,
+            dirty: true,
+        };
+        check_record(&rt, &mut beside, call, Reply::Done)?;
+    }
+    let locked = Reply::Refused(Refusal::ChunkLocked);
+    check_record(&rt, &mut beside, RecordCall::DeleteCategory(db, 0), locked)?;
+    let count = RecordCall::CountInCategory(db, 0xFF);
+    check_record(&rt, &mut beside, count, Reply::Number(3))?;
+    unlock_all(&rt, &mut beside, &[(Name(28), 2)])?;
+    check_record(
+        &rt,
+        &mut beside,
+        RecordCall::DeleteCategory(db, 0),
+        Reply::Done,
+    )?;
+    let count = RecordCall::CountInCategory(db, 0xFF);
+    check_record(&rt, &mut beside, count, Reply::Number(0))
 }

@@ -90,3 +90,21 @@ fn records_are_at_most_65535(rt: HostRuntime) -> Result<(), Fail> {
     assert_eq!(rt; new_in_front(&rt, &mut beside)?, too_many);
     Ok(())
 }
+
+/// An ID is searched for up to the last of 65,535 records.
+#[test]
+fn the_last_of_65535_records_is_found(rt: HostRuntime) -> Result<(), Fail> {
+    let mut beside = Beside::new(rt.alloc(), full_database(rt.alloc())?)?;
+    let db = Db(20);
+    let find = Call::Record(RecordCall::FindById(db, 65_535));
+    assert_eq!(rt; beside.call(&rt, "full", &find)?, Reply::Number(65_534));
+    let set = Call::Record(RecordCall::SetInfo {
+        db,
+        index: 0,
+        attributes: 0,
+        id: 65_535,
+    });
+    let duplicate = Reply::Refused(Refusal::DuplicateId);
+    assert_eq!(rt; beside.call(&rt, "full", &set)?, duplicate);
+    Ok(())
+}

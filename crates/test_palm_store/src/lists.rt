@@ -16,7 +16,7 @@ use test_model::Image;
 
 /// Each call with the refusals that it must have met, beside being accepted. That there are too many
 /// databases or records has tests of its own.
-const OUTCOMES: [(&str, &[Refusal]); 37] = [
+const OUTCOMES: [(&str, &[Refusal]); 45] = [
     (
         "handle_new",
         &[Refusal::InvalidOwner, Refusal::NotEnoughSpace],
@@ -183,6 +183,71 @@ const OUTCOMES: [(&str, &[Refusal]); 37] = [
         "num_records",
         &[Refusal::NoSuchDatabase, Refusal::NotRecordDatabase],
     ),
+    (
+        "detach",
+        &[
+            Refusal::NoSuchDatabase,
+            Refusal::NotRecordDatabase,
+            Refusal::ReadOnly,
+            Refusal::IndexOutOfRange,
+            Refusal::RecordDeleted,
+            Refusal::InvalidOwner,
+        ],
+    ),
+    (
+        "set_record_info",
+        &[
+            Refusal::NoSuchDatabase,
+            Refusal::NotRecordDatabase,
+            Refusal::ReadOnly,
+            Refusal::IndexOutOfRange,
+            Refusal::DuplicateId,
+        ],
+    ),
+    (
+        "find_by_id",
+        &[
+            Refusal::NoSuchDatabase,
+            Refusal::NotRecordDatabase,
+            Refusal::UniqueIdNotFound,
+        ],
+    ),
+    (
+        "num_in_category",
+        &[
+            Refusal::NoSuchDatabase,
+            Refusal::NotRecordDatabase,
+            Refusal::InvalidCategory,
+        ],
+    ),
+    ("next_in_category", &COUNTED),
+    ("position_in_category", &COUNTED),
+    (
+        "move_category",
+        &[
+            Refusal::NoSuchDatabase,
+            Refusal::NotRecordDatabase,
+            Refusal::ReadOnly,
+            Refusal::InvalidCategory,
+        ],
+    ),
+    (
+        "delete_category",
+        &[
+            Refusal::NoSuchDatabase,
+            Refusal::NotRecordDatabase,
+            Refusal::ReadOnly,
+            Refusal::InvalidCategory,
+            Refusal::ChunkLocked,
+        ],
+    ),
+];
+
+const COUNTED: [Refusal; 4] = [
+    Refusal::NoSuchDatabase,
+    Refusal::NotRecordDatabase,
+    Refusal::InvalidCategory,
+    Refusal::IndexOutOfRange,
 ];
 
 const ASKED: [Refusal; 3] = [
@@ -266,7 +331,7 @@ fn check_again(
 fn lists_of_calls(rt: HostRuntime) -> Result<(), Fail> {
     let alloc = rt.alloc();
     let mut counts = Counts::new(alloc);
-    for seed in 1..9u64 {
+    for seed in 1..33u64 {
         run_list(&rt, &mut counts, blank_image(alloc, 256, 8)?, seed, 150)?;
         run_list(&rt, &mut counts, blank_image(alloc, 512, 6)?, seed, 150)?;
         run_list(&rt, &mut counts, blank_image(alloc, 4096, 40)?, seed, 300)?;

@@ -65,6 +65,34 @@ fn put_record_call(text: &mut String, call: &RecordCall<DatabaseLabel>) -> Resul
         RecordCall::Info(db, index) => write!(text, "recinfo {} {index}", db.0),
         RecordCall::Resize { db, index, size } => write!(text, "recresize {} {index} {size}", db.0),
         RecordCall::Count(db) => write!(text, "reccount {}", db.0),
+        RecordCall::Detach { db, index, owner } => write!(
+            text,
+            "recdetach {} {index} {owner}",
+            db.0
+        ),
+        RecordCall::SetInfo {
+            db,
+            index,
+            attributes,
+            id,
+        } => write!(text, "recset {} {index} {attributes} {id}", db.0),
+        RecordCall::FindById(db, id) => write!(text, "recfind {} {id}", db.0),
+        RecordCall::CountInCategory(db, category) => write!(text, "catcount {} {category}", db.0),
+        RecordCall::NextInCategory { db, from, category } => {
+            write!(text, "catnext {} {from} {category}", db.0)
+        }
+        RecordCall::PositionInCategory {
+            db,
+            index,
+            category,
+        } => write!(text, "catpos {} {index} {category}", db.0),
+        RecordCall::MoveCategory {
+            db,
+            to,
+            from,
+            dirty,
+        } => write!(text, "catmove {} {to} {from} {dirty}", db.0),
+        RecordCall::DeleteCategory(db, category) => write!(text, "catdelete {} {category}", db.0),
     }
 }
 
@@ -383,6 +411,58 @@ const RECORD_CASES: [(&[u8], &str); 36] = [
 #[test]
 fn records(rt: HostRuntime) -> Result<(), Fail> {
     check(&rt, &RECORD_CASES)
+}
+
+const CATEGORY_CASES: [(&[u8], &str); 38] = [
+    (b"recdetach d 1 2 h", "recdetach 0 1 2 0;"),
+    (b"recset d 1 0xF3 4294967295", "recset 0 1 243 4294967295;"),
+    (b"recfind d 9", "recfind 0 9;"),
+    (b"catcount d 255", "catcount 0 255;"),
+    (b"catnext d 4294967295 3", "catnext 0 4294967295 3;"),
+    (b"catpos d 4 16", "catpos 0 4 16;"),
+    (b"catmove d 5 3 0", "catmove 0 5 3 false;"),
+    (b"catmove d 5 3 1", "catmove 0 5 3 true;"),
+    (b"catdelete d 0x0f", "catdelete 0 15;"),
+    // a label is bound to the data that is detached
+    (
+        b"free a\nrecdetach d 0 1 h\nsize h\ncatcount e 0",
+        "free 0;recdetach 0 0 1 1;size 1;catcount 1 0;",
+    ),
+    // too few words, and too many
+    (b"recdetach d 1 2", "line 1 WrongCount"),
+    (b"recdetach d 1 2 h 0", "line 1 WrongCount"),
+    (b"recset d 1 2", "line 1 WrongCount"),
+    (b"recset d 1 2 3 4", "line 1 WrongCount"),
+    (b"recfind d", "line 1 WrongCount"),
+    (b"catcount d", "line 1 WrongCount"),
+    (b"catnext d 0", "line 1 WrongCount"),
+    (b"catpos d 0 1 2", "line 1 WrongCount"),
+    (b"catmove d 5 3", "line 1 WrongCount"),
+    (b"catdelete d 5 3", "line 1 WrongCount"),
+    // words that aren't of their kinds
+    (b"recdetach 0 1 2 h", "line 1 BadWord 2"),
+    (b"recdetach d h 2 h", "line 1 BadWord 3"),
+    (b"recdetach d 1 256 h", "line 1 BadWord 4"),
+    (b"recdetach d 1 2 3", "line 1 BadWord 5"),
+    (b"recset d x 2 3", "line 1 BadWord 3"),
+    (b"recset d 1 256 3", "line 1 BadWord 4"),
+    (b"recset d 1 2 4294967296", "line 1 BadWord 5"),
+    (b"recfind d \"9\"", "line 1 BadWord 3"),
+    (b"catcount d 256", "line 1 BadWord 3"),
+    (b"catnext d -1 3", "line 1 BadWord 3"),
+    (b"catnext d 0 256", "line 1 BadWord 4"),
+    (b"catpos d 0 all", "line 1 BadWord 4"),
+    (b"catmove d 256 3 1", "line 1 BadWord 3"),
+    (b"catmove d 5 256 1", "line 1 BadWord 4"),
+    (b"catmove d 5 3 2", "line 1 BadWord 5"),
+    (b"catdelete 5 d", "line 1 BadWord 2"),
+    (b"catdelete d -", "line 1 BadWord 3"),
+    (b"catset d 0 0", "line 1 UnknownCommand"),
+];
+
+#[test]
+fn categories(rt: HostRuntime) -> Result<(), Fail> {
+    check(&rt, &CATEGORY_CASES)
 }
 
 const DATABASE_CASES: [(&[u8], &str); 41] = [

@@ -5,6 +5,8 @@
 #[cfg(test)]
 mod calls;
 #[cfg(test)]
+mod categories;
+#[cfg(test)]
 mod commands;
 #[cfg(test)]
 mod databases;

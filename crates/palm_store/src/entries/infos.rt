@@ -3,13 +3,6 @@
 use db_format::DbAttrs;
 use heap_model::Entry;
 
-/// What the calls on the entries of a database look at first.
-#[derive(Clone, Copy, Debug, PartialEq, Eq)]
-pub struct Overview {
-    pub attributes: DbAttrs,
-    pub entry_count: u32,
-}
-
 /// What is found at an index of a database.
 #[derive(Clone, Copy, Debug, PartialEq, Eq)]
 pub struct FoundEntry {

@@ -1,6 +1,6 @@
 //! Entries that are made.
 
-ghost use Rattle.std.specs.Prelude.{◌≡◌, ◌⊎◌, ℕ, ◌+◌, ◌<◌, ◌≤◌, [], ◌∷◌, length, IfOk, OnErr, IfErr};
+ghost use Rattle.std.specs.Prelude.{◌≡◌, ◌⊎◌, ℕ, ◌+◌, ◌<◌, ◌≤◌, [], ◌∷◌, length, IfOk, OnOk, OnErr, IfErr};
 ghost use Rattle.heap_model.specs.Reading.{held};
 ghost use Rattle.heap_model.specs.Space.{free_slots, rooms};
 ghost use Rattle.heap_model.specs.Rooms.{making, growth, Stuck};
@@ -8,11 +8,12 @@ ghost use Rattle.heap_model.specs.DatabaseFields.{entry_size};
 ghost use Rattle.heap_model.specs.Database.{entry_with, EntryFits};
 ghost use Rattle.heap_model.specs.Store.{Accepted, bytes_under, store_of};
 ghost use Rattle.heap_model.specs.Leaving.{Leaves};
-ghost use Rattle.heap_model.specs.EntrySteps.{entries_in, resources_under};
+ghost use Rattle.heap_model.specs.EntrySteps.{entries_in, resources_under, MakesNone};
 ghost use Rattle.db_format.specs.EitherEntry.{entry_of, is_resource, HasFittingId};
 ghost use Rattle.palm_store.specs.Databases.{HasNumber};
 ghost use Rattle.palm_store.specs.EntryInfos.{makes_resource, IsMadeOf};
-ghost use Rattle.palm_store.specs.NewEntries.{PutsIn};
+ghost use Rattle.palm_store.specs.EntryCalls.{MayBeGiven};
+ghost use Rattle.palm_store.specs.NewEntries.{PutsIn, TakesIn};
 
 use crate::entries::infos::NewEntry;
 use crate::entries::shapes::with_slot;
@@ -57,6 +58,39 @@ pub(crate) fn put_in(
         return Err(refusal);
     }
     Ok(name)
+}
+
+/// Puts an entry in at an index, with a caller's chunk for its data; the database counts the call. Refused
+/// `NotEnoughSpace` alone, and then nothing has changed.
+pub(crate) fn take_in(
+    heap: &mut Heap,
+    db: Db,
+    at: u32,
+    entry: DbEntry,
+    name: Name,
+) -> Result<(), Refusal>
+    requires accepted { Accepted heap.old.bytes }
+    requires number { HasNumber heap.old.bytes db.0 }
+    requires inside { at ≤ length (entries_in (store_of heap.old.bytes) db) }
+    requires few { length (entries_in (store_of heap.old.bytes) db) < 65535 }
+    requires kind { is_resource entry ≡ resources_under (store_of heap.old.bytes) db }
+    requires id { HasFittingId entry }
+    requires given { MayBeGiven heap.old.bytes name.0 }
+    ensures takes { OnOk result (TakesIn heap.old.bytes heap.new.bytes db.0 at
+        (entry_with (λ (none : ℕ). name.0) (entry_of entry)) name.0) }
+    ensures none_made { MakesNone heap.old.bytes heap.new.bytes }
+    ensures name_fits { EntryFits (is_resource entry) (entry_of entry)
+        → EntryFits (is_resource entry) (entry_with (λ (none : ℕ). name.0) (entry_of entry)) }
+    ensures no_room { OnErr result (Stuck (rooms heap.old.bytes) (growth heap.old.bytes db.0
+        (length (bytes_under heap.old.bytes db.0)
+        + entry_size (resources_under (store_of heap.old.bytes) db)) ∷ [])) }
+    ensures refusal { IfErr result (λ refusal. refusal ≡ Refusal.NotEnoughSpace) }
+    ensures refused { OnErr result (heap.new ≡ heap.old) }
+    ensures rest { heap.new ≡ record heap.old { bytes = heap.new.bytes; slid = heap.new.slid } }
+{
+    insert_entry(heap, db, at as u16, with_slot(entry, name))?;
+    heap.sys_set_owner(name, DATA_OWNER);
+    Ok(())
 }
 
 /// The new entry, without data yet: a record gets a fresh ID.

@@ -10,42 +10,46 @@ ghost use Rattle.heap_model.specs.Refusals.{NoneHolds, FirstBrings};
 ghost use Rattle.heap_model.specs.StoreWords.{with_number};
 ghost use Rattle.heap_model.specs.EntrySteps.{data_freed, raised, MakesNone};
 ghost use Rattle.heap_model.specs.StoreSteps.{StoreAsBefore};
-ghost use Rattle.palm_store.specs.Databases.{HasNumber};
+ghost use Rattle.palm_store.specs.Databases.{HasNumber, HasDatabase};
 ghost use Rattle.palm_store.specs.EntryInfos.{makes_resource, MayOwn, dropped_to};
-ghost use Rattle.palm_store.specs.EntryCalls.{entries_of_image, resources_of_image, data_of_image, HasDbAttributes, HasCount, HasLockedData, IsEntryData, IsHeard, MayHave, checks_of_making, checks_of_growth, raised_if, LeavesChanged, LeavesMade, entry_informed, entry_moved, data_sized};
+ghost use Rattle.palm_store.specs.EntryCalls.{entries_of_image, resources_of_image, data_of_image, HasDbAttributes, HasLockedData, IsEntryData, IsHeard, MayHave, MayBeGiven, checks_of_giving, checks_of_making, checks_of_attaching, checks_of_growth, raised_if, LeavesChanged, LeavesMade, LeavesAttached, entry_informed, entry_given, entry_moved, data_sized};
 
-use crate::chunks::free_chunk_of;
+use crate::chunks::{check_taken, free_chunk_of};
 use crate::entries::{
-    EntryInfo, FoundEntry, NewEntry, Overview, count_entries, emptied, entry_at, entry_with,
-    new_entry, put_in, read_entry,
+    EntryInfo, FoundEntry, NewEntry, count_entries, emptied, entry_at, entry_with, new_entry,
+    put_in, read_entry, take_in, with_slot,
 };
-use crate::lookup::find_header;
+use crate::lookup::{find_header, header_of};
 use crate::store::Store;
 use database_edits::{move_entry, raise_modification, remove_entry, write_entry};
-use db_format::DbAttrs;
+use db_format::{DatabaseView, DbAttrs};
 use heap_model::{Db, Name, Refusal};
+use mem_manager::DATA_OWNER;
 
 /// The most entries that a database may have.
 const MOST_ENTRIES: u32 = 65535;
 
 impl Store {
-    /// The attributes of a database, and how many entries it has.
+    /// The database of a number, to be read.
     ///
     /// Refused: `NoSuchDatabase`.
-    pub fn overview(&self, db: Db) -> Result<Overview, Refusal>
+    pub fn find_database<'a>(&'a self, db: Db) -> Result<DatabaseView<'a>, Refusal>
         ensures accepted { Accepted self.now.bytes }
-        ensures known { OnOk result (HasNumber self.now.bytes db.0) }
-        ensures attributes { IfOk result (λ overview.
-            HasDbAttributes self.now.bytes db overview.attributes.0) }
-        ensures count { IfOk result (λ overview. HasCount self.now.bytes db overview.entry_count) }
+        ensures is { IfOk result (λ view. HasDatabase self.now.bytes db.0 view) }
         ensures unknown { OnErr result (with_number (store_of self.now.bytes) db.0 ≡ None) }
         ensures refusal { IfErr result (λ refusal. refusal ≡ Refusal.NoSuchDatabase) }
     {
         let header = find_header(&self.heap, db)?;
-        Ok(Overview {
-            attributes: DbAttrs(db_format::attributes(header)),
-            entry_count: db_format::entry_count(header) as u32,
-        })
+        Ok(DatabaseView::of(header))
+    }
+
+    /// The database of a number that there is, to be read.
+    pub fn database<'a>(&'a self, db: Db) -> DatabaseView<'a>
+        requires { HasNumber self.now.bytes db.0 }
+        ensures accepted { Accepted self.now.bytes }
+        ensures is { HasDatabase self.now.bytes db.0 result }
+    {
+        DatabaseView::of(header_of(&self.heap, db))
     }
 
     /// The attributes of a database, and what its entry at an index says, if there is one.
@@ -98,6 +102,49 @@ impl Store {
         Ok(name)
     }
 
+    /// Whether a database can take a chunk of a caller's.
+    ///
+    /// Refused: `InvalidHandle`; `OwnedByDatabase`, where it is one for data; `ChunkFixed`.
+    pub fn check_given(&self, name: Name) -> Result<(), Refusal>
+        ensures may { OnOk result (MayBeGiven self.now.bytes name.0) }
+        ensures could { OnOk result (NoneHolds (checks_of_giving self.now.bytes name.0)) }
+        ensures why { IfErr result (FirstBrings (checks_of_giving self.now.bytes name.0)) }
+    {
+        check_taken(&self.heap, name)
+    }
+
+    /// Makes an entry at an index, whose data is a movable chunk of a caller's: that becomes one for data, and
+    /// keeps its locks. The database counts the call.
+    ///
+    /// Refused: `TooManyEntries`, where there are 65,535; `NotEnoughSpace`, where room for one entry more in
+    /// the header can run out. Then nothing has changed.
+    pub fn entry_attach(
+        &mut self,
+        db: Db,
+        at: u32,
+        entry: NewEntry,
+        name: Name,
+    ) -> Result<(), Refusal>
+        requires number { HasNumber self.old.bytes db.0 }
+        requires inside { at ≤ length (entries_of_image self.old.bytes db) }
+        requires kind { makes_resource entry ≡ resources_of_image self.old.bytes db }
+        requires given { MayBeGiven self.old.bytes name.0 }
+        ensures attached { OnOk result (LeavesAttached self.old self.new db at entry name.0) }
+        ensures none_made { MakesNone self.old.bytes self.new.bytes }
+        ensures could { OnOk result (NoneHolds (checks_of_attaching self.old.bytes db)) }
+        ensures why { IfErr result (FirstBrings (checks_of_attaching self.old.bytes db)) }
+        ensures refused { OnErr result (LeavesChanged self.old self.new (λ store. store)) }
+        ensures as_before { OnErr result (StoreAsBefore self.old self.new) }
+        ensures rest { self.new ≡ record self.old { bytes = self.new.bytes; slid = self.new.slid } }
+    {
+        if count_entries(&self.heap, db) >= MOST_ENTRIES {
+            return Err(Refusal::TooManyEntries);
+        }
+        let made = new_entry(&self.heap, db, entry);
+        take_in(&mut self.heap, db, at, made, name)?;
+        Ok(())
+    }
+
     /// Gives the data of an entry, by its name, so many bytes: its first ones, or all of them and zeros behind
     /// them.
     ///
@@ -133,6 +180,28 @@ impl Store {
         write_entry(&mut self.heap, db, index as u16, entry, counts);
     }
 
+    /// Gives an entry a movable chunk of a caller's for its data, and sets what it says. The chunk becomes one for
+    /// data, and that of the data that the entry had gets an owner; both keep their locks. The database counts
+    /// the call.
+    pub fn entry_swap(&mut self, db: Db, index: u32, info: EntryInfo, name: Name, owner: u8)
+        requires number { HasNumber self.old.bytes db.0 }
+        requires inside { index < length (entries_of_image self.old.bytes db) }
+        requires info { MayHave self.old.bytes db index info }
+        requires there { 0 < data_of_image self.old.bytes db index }
+        requires given { MayBeGiven self.old.bytes name.0 }
+        requires owner { MayOwn owner }
+        ensures swapped { LeavesChanged self.old self.new
+            (λ store. raised (entry_given store db index info name.0 owner) db) }
+        ensures none_made { MakesNone self.old.bytes self.new.bytes }
+        ensures rest { self.new ≡ record self.old { bytes = self.new.bytes } }
+    {
+        let was = read_entry(&self.heap, db, index);
+        let entry = with_slot(entry_with(was, info), name);
+        write_entry(&mut self.heap, db, index as u16, entry, true);
+        self.heap.sys_set_owner(Name(was.slot()), owner);
+        self.heap.sys_set_owner(name, DATA_OWNER);
+    }
+
     /// Moves the entry at an index in front of the one that stands at another, or behind the last: `to` counts
     /// the entries as they stand before. The database counts the call.
     pub fn entry_move(&mut self, db: Db, from: u32, to: u32)
@@ -148,19 +217,19 @@ impl Store {
     }
 
     /// Frees the data of a record, if it has any. The record is deleted then, and keeps its ID and its other
-    /// attributes. The database counts the call.
-    pub fn entry_free_data(&mut self, db: Db, index: u32)
+    /// attributes. The database counts the call if `counts` says so.
+    pub fn entry_free_data(&mut self, db: Db, index: u32, counts: bool)
         requires number { HasNumber self.old.bytes db.0 }
         requires records { resources_of_image self.old.bytes db ≡ false }
         requires inside { index < length (entries_of_image self.old.bytes db) }
         requires unlocked { HasLockedData self.old.bytes db index → ⊥ }
         ensures freed { LeavesChanged self.old self.new
-            (λ store. raised (data_freed store db index) db) }
+            (λ store. raised_if counts (data_freed store db index) db) }
         ensures none_made { MakesNone self.old.bytes self.new.bytes }
         ensures rest { self.new ≡ record self.old { bytes = self.new.bytes } }
     {
         let entry = read_entry(&self.heap, db, index);
-        write_entry(&mut self.heap, db, index as u16, emptied(entry), true);
+        write_entry(&mut self.heap, db, index as u16, emptied(entry), counts);
         free_chunk_of(&mut self.heap, Name(entry.slot()));
     }
 

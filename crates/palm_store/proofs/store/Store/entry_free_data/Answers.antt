@@ -53,7 +53,7 @@ invariant_of-self c =
     let image : List ℕ = c.self.inside.heap.bytes in
     let mid : List ℕ = c.write_entry.new.heap.bytes in
     let entry : Entry ℕ = entry_of c.read_entry-entry.result in
-    let left = (free_steps image mid c.free_chunk_of.new.heap.bytes c.args.db c.args.index entry (entry_of c.emptied.result) c.self.invariant number c.read_entry-entry.ensures.is c.emptied.ensures.is c.write_entry.ensures.written
+    let left = (free_steps c.args.counts image mid c.free_chunk_of.new.heap.bytes c.args.db c.args.index entry (entry_of c.emptied.result) c.self.invariant number c.read_entry-entry.ensures.is c.emptied.ensures.is c.write_entry.ensures.written
     (subst (λ (slot : ℕ). Leaves mid c.free_chunk_of.new.heap.bytes (gone (held mid) slot)) c.slot.ensures c.free_chunk_of.ensures.leaves)
     (fits_here (without_data entry) _ _ _ (c.emptied.ensures.kind ∙ c.read_entry-entry.ensures.kind) c.emptied.ensures.is c.emptied.ensures.fits)
     (emptied_names image c.args.db c.args.index entry c.self.invariant number c.read_entry-entry.ensures.is records) (emptied_id entry) (emptied_data entry)).0 in
@@ -66,7 +66,7 @@ returns-clause-freed c =
     rw (← c.self.view_is) (let image : List ℕ = c.self.inside.heap.bytes in
     let mid : List ℕ = c.write_entry.new.heap.bytes in
     let entry : Entry ℕ = entry_of c.read_entry-entry.result in
-    (free_steps image mid c.free_chunk_of.new.heap.bytes c.args.db c.args.index entry (entry_of c.emptied.result) c.self.invariant number c.read_entry-entry.ensures.is c.emptied.ensures.is c.write_entry.ensures.written
+    (free_steps c.args.counts image mid c.free_chunk_of.new.heap.bytes c.args.db c.args.index entry (entry_of c.emptied.result) c.self.invariant number c.read_entry-entry.ensures.is c.emptied.ensures.is c.write_entry.ensures.written
     (subst (λ (slot : ℕ). Leaves mid c.free_chunk_of.new.heap.bytes (gone (held mid) slot)) c.slot.ensures c.free_chunk_of.ensures.leaves)
     (fits_here (without_data entry) _ _ _ (c.emptied.ensures.kind ∙ c.read_entry-entry.ensures.kind) c.emptied.ensures.is c.emptied.ensures.fits)
     (emptied_names image c.args.db c.args.index entry c.self.invariant number c.read_entry-entry.ensures.is records) (emptied_id entry) (emptied_data entry)).0)
@@ -78,7 +78,7 @@ returns-clause-none_made c =
     rw (← c.self.view_is) (let image : List ℕ = c.self.inside.heap.bytes in
     let mid : List ℕ = c.write_entry.new.heap.bytes in
     let entry : Entry ℕ = entry_of c.read_entry-entry.result in
-    (free_steps image mid c.free_chunk_of.new.heap.bytes c.args.db c.args.index entry (entry_of c.emptied.result) c.self.invariant number c.read_entry-entry.ensures.is c.emptied.ensures.is c.write_entry.ensures.written
+    (free_steps c.args.counts image mid c.free_chunk_of.new.heap.bytes c.args.db c.args.index entry (entry_of c.emptied.result) c.self.invariant number c.read_entry-entry.ensures.is c.emptied.ensures.is c.write_entry.ensures.written
     (subst (λ (slot : ℕ). Leaves mid c.free_chunk_of.new.heap.bytes (gone (held mid) slot)) c.slot.ensures c.free_chunk_of.ensures.leaves)
     (fits_here (without_data entry) _ _ _ (c.emptied.ensures.kind ∙ c.read_entry-entry.ensures.kind) c.emptied.ensures.is c.emptied.ensures.fits)
     (emptied_names image c.args.db c.args.index entry c.self.invariant number c.read_entry-entry.ensures.is records) (emptied_id entry) (emptied_data entry)).1)

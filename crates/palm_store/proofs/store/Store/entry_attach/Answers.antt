@@ -1,0 +1,51 @@
+-- What came is the entry that was asked for, with the chunk that was given; what was refused has changed nothing.
+use Rattle.std.proofs.Common.{◌<◌, ◌∙◌, arith, inl, inr, ℕ, List, length, ◌≤◌, ◌≡◌}
+use Rattle.heap_model.specs.EntrySteps.{entries_in, resources_under}
+use Rattle.heap_model.specs.Store.{store_of}
+use Rattle.heap_model.specs.Refusals.{FirstBrings}
+use Rattle.db_format.specs.EitherEntry.{entry_of}
+use Rattle.palm_store.specs.Databases.{HasNumber}
+use Rattle.palm_store.specs.EntryInfos.{makes_resource}
+use Rattle.palm_store.specs.EntryCalls.{MayBeGiven, checks_of_attaching}
+use Rattle.palm_store.proofs.GivenData.{attach_steps}
+use Rattle.palm_store.proofs.NewEntries.{same_as_before}
+use Rattle.laws_heap.proofs.Results.{on_err, if_err}
+use Rattle.palm_store.proofs.store.Store.entry_attach.Goals as goal
+
+pub returns-in_err-take_in-clause-why : goal.returns-in_err-take_in-clause-why
+returns-in_err-take_in-clause-why c =
+    let count = c.count_entries.ensures in
+    let below = c.if-count_entries-ge-MOST_ENTRIES.false in
+    let e = c.from_residual.ensures in
+    rw (← c.self.view_is) (if_err (FirstBrings (checks_of_attaching c.self.inside.heap.bytes c.args.db)) c.from_residual.result (e.0, e.1)
+    (inr ((λ full. omega (arith, count, below, full)), inl (inr c.in_err-take_in.ensures.no_room, c.in_err-take_in.ensures.refusal))))
+
+pub returns-in_err-take_in-clause-as_before : goal.returns-in_err-take_in-clause-as_before
+returns-in_err-take_in-clause-as_before c = rw (← c.self.view_is) (on_err _ c.from_residual.result (same_as_before c.self.inside.heap c.take_in.new.heap c.in_err-take_in.ensures.refused))
+
+pub invariant_of-self-2 : goal.invariant_of-self-2
+invariant_of-self-2 c =
+    let number : HasNumber c.self.inside.heap.bytes c.args.db.0 = rw c.self.view_is c.requires.number in
+    let inside : c.args.at ≤ length (entries_in (store_of c.self.inside.heap.bytes) c.args.db) = rw c.self.view_is c.requires.inside in
+    let kind : makes_resource c.args.entry ≡ resources_under (store_of c.self.inside.heap.bytes) c.args.db = rw c.self.view_is c.requires.kind in
+    let may : MayBeGiven c.self.inside.heap.bytes c.args.name.0 = rw c.self.view_is c.requires.given in
+    let image : List ℕ = c.self.inside.heap.bytes in
+    let count = c.count_entries.ensures in
+    let below = c.if-count_entries-ge-MOST_ENTRIES.false in
+    let few : length (entries_in (store_of image) c.args.db) < 65535 = omega (arith, count, below) in
+    let left = (attach_steps image c.take_in.new.heap.bytes c.args.db c.args.at c.args.entry (entry_of c.new_entry-made.result) _ c.args.name.0 c.self.invariant number c.new_entry-made.ensures.is may c.in_ok-take_in.ensures.takes
+    (c.new_entry-made.ensures.kind ∙ kind) (c.in_ok-take_in.ensures.name_fits c.new_entry-made.ensures.fits) inside few).2 in
+    left.accepted
+
+pub returns-clause-attached : goal.returns-clause-attached
+returns-clause-attached c =
+    let number : HasNumber c.self.inside.heap.bytes c.args.db.0 = rw c.self.view_is c.requires.number in
+    let inside : c.args.at ≤ length (entries_in (store_of c.self.inside.heap.bytes) c.args.db) = rw c.self.view_is c.requires.inside in
+    let kind : makes_resource c.args.entry ≡ resources_under (store_of c.self.inside.heap.bytes) c.args.db = rw c.self.view_is c.requires.kind in
+    let may : MayBeGiven c.self.inside.heap.bytes c.args.name.0 = rw c.self.view_is c.requires.given in
+    rw (← c.self.view_is) (let image : List ℕ = c.self.inside.heap.bytes in
+    let count = c.count_entries.ensures in
+    let below = c.if-count_entries-ge-MOST_ENTRIES.false in
+    let few : length (entries_in (store_of image) c.args.db) < 65535 = omega (arith, count, below) in
+    attach_steps image c.take_in.new.heap.bytes c.args.db c.args.at c.args.entry (entry_of c.new_entry-made.result) _ c.args.name.0 c.self.invariant number c.new_entry-made.ensures.is may c.in_ok-take_in.ensures.takes
+    (c.new_entry-made.ensures.kind ∙ kind) (c.in_ok-take_in.ensures.name_fits c.new_entry-made.ensures.fits) inside few)

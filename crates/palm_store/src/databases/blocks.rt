@@ -1,0 +1,108 @@
+//! The info blocks of a database: chunks for data that its header names.
+
+ghost use Rattle.std.specs.Prelude.{◌≡◌, ◌<◌, ◌≤◌, ℕ, length};
+ghost use Rattle.heap_model.specs.DatabaseFields.{header_size};
+ghost use Rattle.heap_model.specs.Database.{Database, DatabaseFits, database_in};
+ghost use Rattle.heap_model.specs.DatabaseSteps.{info_block, info_block_set, info_block_taken};
+ghost use Rattle.heap_model.specs.EntrySteps.{raised, LeavesStore, MakesNone};
+ghost use Rattle.heap_model.specs.Leaving.{database_here};
+ghost use Rattle.heap_model.specs.Store.{Accepted, store_of};
+ghost use Rattle.database_edits.specs.Edits.{Changes};
+ghost use Rattle.db_format.specs.Headers.{HasHeader};
+ghost use Rattle.palm_store.specs.Databases.{HasNumber};
+ghost use Rattle.palm_store.specs.EntryCalls.{MayBeGiven};
+ghost use Rattle.palm_store.specs.EntryInfos.{MayOwn};
+ghost use Rattle.palm_store.specs.InfoBlocks as blocks;
+ghost use Rattle.palm_store.specs.InfoBlocks.{block_of_image};
+
+use crate::lookup::header_of;
+use db_format::{DbHeader, app_info, sort_info};
+use heap_model::{Db, Name, Which};
+use mem_manager::{DATA_OWNER, Heap};
+
+/// The name of an info block of a database, or `Name(0)` where there is none.
+pub(crate) fn block_of(heap: &Heap, db: Db, which: Which) -> Name
+    requires accepted { Accepted heap.now.bytes }
+    requires number { HasNumber heap.now.bytes db.0 }
+    ensures { result.0 ≡ block_of_image heap.now.bytes db which }
+{
+    Name(block_in(header_of(heap, db), which))
+}
+
+/// The slot of an info block in the bytes of a database, or 0.
+fn block_in(body: &[u8], which: Which) -> u32
+    requires { header_size ≤ length body.now }
+    ensures { result ≡ info_block which (database_in body.now) }
+{
+    match which {
+        Which::App => app_info(body),
+        Which::Sort => sort_info(body),
+    }
+}
+
+/// A header with an info block in this slot, which counts a call more.
+fn with_block(header: DbHeader, which: Which, slot: u32) -> DbHeader
+    ensures { (database : Database ℕ) → HasHeader database header
+        → HasHeader (blocks.with_block which slot database) result }
+{
+    let modification_number = header.modification_number.wrapping_add(1);
+    match which {
+        Which::App => DbHeader {
+            modification_number,
+            app_info: slot,
+            ..header
+        },
+        Which::Sort => DbHeader {
+            modification_number,
+            sort_info: slot,
+            ..header
+        },
+    }
+}
+
+/// Writes the slot of an info block in the header of a database, which counts the call.
+fn put_block(heap: &mut Heap, db: Db, which: Which, slot: u32)
+    requires accepted { Accepted heap.old.bytes }
+    requires number { HasNumber heap.old.bytes db.0 }
+    ensures written { Changes heap.old.bytes heap.new.bytes db.0 (blocks.with_block which slot) }
+    ensures fits { DatabaseFits (blocks.with_block which slot (database_here heap.old.bytes db.0)) }
+    ensures rest { heap.new ≡ record heap.old { bytes = heap.new.bytes } }
+{
+    let header = with_block(DbHeader::read(header_of(heap, db)), which, slot);
+    heap.sys_write(Name(db.0), 0, &header.to_bytes());
+}
+
+/// Makes a movable chunk of a caller's an info block of a database that has none, and keeps its locks. The
+/// database counts the call.
+pub(crate) fn give_block(heap: &mut Heap, db: Db, which: Which, name: Name)
+    requires accepted { Accepted heap.old.bytes }
+    requires number { HasNumber heap.old.bytes db.0 }
+    requires none { block_of_image heap.old.bytes db which ≡ 0 }
+    requires given { MayBeGiven heap.old.bytes name.0 }
+    ensures given { LeavesStore heap.old.bytes heap.new.bytes
+        (raised (info_block_set (store_of heap.old.bytes) db which name.0) db) }
+    ensures none_made { MakesNone heap.old.bytes heap.new.bytes }
+    ensures rest { heap.new ≡ record heap.old { bytes = heap.new.bytes } }
+{
+    put_block(heap, db, which, name.0);
+    heap.sys_set_owner(name, DATA_OWNER);
+}
+
+/// Hands an info block of a database over to an owner, and answers its name; its locks stay. The database has
+/// it no longer, and counts the call.
+pub(crate) fn take_block(heap: &mut Heap, db: Db, which: Which, owner: u8) -> Name
+    requires accepted { Accepted heap.old.bytes }
+    requires number { HasNumber heap.old.bytes db.0 }
+    requires there { 0 < block_of_image heap.old.bytes db which }
+    requires owner { MayOwn owner }
+    ensures is { result.0 ≡ block_of_image heap.old.bytes db which }
+    ensures taken { LeavesStore heap.old.bytes heap.new.bytes
+        (raised (info_block_taken (store_of heap.old.bytes) db which owner) db) }
+    ensures none_made { MakesNone heap.old.bytes heap.new.bytes }
+    ensures rest { heap.new ≡ record heap.old { bytes = heap.new.bytes } }
+{
+    let name = block_of(heap, db, which);
+    put_block(heap, db, which, 0);
+    heap.sys_set_owner(name, owner);
+    name
+}

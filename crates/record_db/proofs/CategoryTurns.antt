@@ -1,0 +1,187 @@
+-- Calls on a category take the records in order: what is left after so many of them.
+use Rattle.std.proofs.Common.{◌≡◌, ℕ, zero, suc, ◌+◌, ◌<◌, ◌≤◌, ◌++◌, Bool, Bool, true, false, List, [], ◌∷◌, length, map, take, Option, Some, None, refl, sym, ap, subst, ◌∙◌, arith, inl, inr}
+use Rattle.std.proofs.lemmas.Bool.{cases_eq, eq-eqb, ne_eqb}
+use Rattle.std.proofs.lemmas.List.{map-append, append_assoc, take_all}
+use Rattle.std.proofs.lemmas.List.Elements.{filter-append}
+use Rattle.std.proofs.lemmas.List.Sums.{sum_by-append}
+use Rattle.std.specs.Prelude.{◌==◌, if◌then◌else◌, slice_get, filter}
+use Rattle.std.specs.List.{find}
+use Rattle.heap_model.specs.Meaning.{LiveChunk, ChunkMap}
+use Rattle.heap_model.specs.Lists.{times}
+use Rattle.heap_model.specs.MemorySteps.{Of, IsLocked}
+use Rattle.heap_model.specs.Database.{Entry, entry_data}
+use Rattle.heap_model.specs.Store.{StoredDatabase, Store, Accepted, store_of}
+use Rattle.heap_model.specs.StoreWords.{SameStore, all_gone, with_changed, with_number}
+use Rattle.heap_model.specs.EntrySteps.{entries_of, entries_in, entry_under, OfEntry, data_of_entry, data_under, replaced, with_entries, with_chunks, entry_changed, raised, LeavesStore, MakesNone}
+use Rattle.heap_model.specs.RecordSteps.{HasLockedOf, category_deleted}
+use Rattle.heap_model.specs.Categories.{is_of, IsOf, data_of_category, deleted_category}
+use Rattle.heap_model.specs.declared.names.Db.{Db}
+use Rattle.laws_heap.proofs.Deciding.{cond-true, cond-false}
+use Rattle.palm_store.specs.EntryCalls.{HasLockedData}
+use Rattle.record_db.specs.Categories.{listed_if, one_deleted}
+use Rattle.record_db.proofs.Entries.{Here}
+use Rattle.record_db.proofs.EntriesChanged.{with_list, changed_alike, changed_behind, changed_nothing, found_changed}
+use Rattle.record_db.proofs.Raising.{left_after, left_as, itself, raised_after}
+use Rattle.record_db.proofs.Turns.{first_changed, none_changed, all_changed, next_kept, next_changed}
+
+-- ---- the database in between
+
+-- where the entries of a database are changed, that is its database
+pub number_mid : (old mid : List ℕ) (db : Db) (change : List (Entry ℕ) → List (Entry ℕ)) (left : Store) (h : Here old db.0) → SameStore (store_of mid) left → left.databases ≡ with_changed (store_of old).databases db.0 (with_list change)
+    → with_number (store_of mid) db.0 ≡ Some (record { db = db.0; database = with_list change h.one.database })
+number_mid old mid db change left h same is =
+    ap (λ (stored : List StoredDatabase). find (λ other. other.db == db.0) stored) (same.databases ∙ is)
+    ∙ found_changed db.0 (with_list change) (store_of old).databases h.one h.found
+
+-- ---- moved to another category
+
+-- so many entries were changed, and no chunk
+abbrev pub HasChanged : List ℕ → List ℕ → Db → (Entry ℕ → Entry ℕ) → ℕ → Type 0
+HasChanged old mid db change count = LeavesStore old mid (with_entries (store_of old) db (first_changed change count))
+
+pub changed_turn : (old mid new : List ℕ) (db : Db) (change : Entry ℕ → Entry ℕ) (count : ℕ) (h : Here old db.0) → Accepted old → count < length h.one.database.entries
+    → HasChanged old mid db change count → LeavesStore mid new (entry_changed (store_of mid) db count change) → MakesNone mid new → HasChanged old new db change (count + 1)
+changed_turn old mid new db change count h a below one two none = subst (HasChanged old new db change) (let more : suc count ≡ count + 1 = omega arith in more)
+    (left_after old mid new (with_entries (store_of old) db (first_changed change count)) (entry_changed (store_of mid) db count change) (with_entries (store_of old) db (first_changed change (suc count))) one two
+    (record {
+      map = one.same.map;
+      databases = ap (λ (stored : List StoredDatabase). with_changed stored db.0 (with_list (λ entries. replaced entries count change))) one.same.databases
+          ∙ changed_behind old db.0 (first_changed change count) (λ entries. replaced entries count change) (first_changed change (suc count)) h a (next_changed change count h.one.database.entries below);
+    }) none)
+
+-- none of them yet
+pub changed_none : (image : List ℕ) (db : Db) (change : Entry ℕ → Entry ℕ) (h : Here image db.0) → Accepted image → HasChanged image image db change 0
+changed_none image db change h a = itself image (with_entries (store_of image) db (first_changed change 0)) a
+    (record { map = λ name. refl; databases = sym (changed_nothing image db.0 (first_changed change 0) h a (none_changed change h.one.database.entries)) })
+
+-- all that were changed are all that there are
+all_alike : (image : List ℕ) (db : Db) (change : Entry ℕ → Entry ℕ) (count : ℕ) (h : Here image db.0) → Accepted image → length h.one.database.entries ≤ count
+    → with_changed (store_of image).databases db.0 (with_list (first_changed change count)) ≡ with_changed (store_of image).databases db.0 (with_list (map change))
+all_alike image db change count h a all =
+    changed_alike image db.0 (with_list (first_changed change count)) (with_list (map change)) h a
+    (ap (λ (entries : List (Entry ℕ)). record h.one.database { entries = entries }) (all_changed change count h.one.database.entries all))
+
+-- ---- deleted
+
+-- the names of the data of some entries, and of others
+data_append : (category : ℕ) (xs ys : List (Entry ℕ)) → data_of_category category (xs ++ ys) ≡ data_of_category category xs ++ data_of_category category ys
+data_append category xs ys = ap (map entry_data) (filter-append (is_of category) xs ys) ∙ map-append entry_data (filter (is_of category) xs) (filter (is_of category) ys)
+
+-- of one entry more
+data_more : (category count : ℕ) (entries : List (Entry ℕ)) → data_of_category category (take (suc count) entries) ≡ data_of_category category (take count entries) ++ data_of_category category (listed_if (slice_get entries count))
+data_more category zero [] = refl
+data_more category zero (entry ∷ entries) = refl
+data_more category (suc count) [] = refl
+data_more category (suc count) (entry ∷ entries) =
+    let first : List ℕ = data_of_category category (entry ∷ []) in
+    data_append category (entry ∷ []) (take (suc count) entries)
+    ∙ ap (λ (names : List ℕ). first ++ names) (data_more category count entries)
+    ∙ sym (append_assoc first (data_of_category category (take count entries)) (data_of_category category (listed_if (slice_get entries count))))
+    ∙ ap (λ (names : List ℕ). names ++ data_of_category category (listed_if (slice_get entries count))) (sym (data_append category (entry ∷ []) (take count entries)))
+
+-- a map without some names, and then without others
+gone_twice : (chunks : ChunkMap) (names more : List ℕ) (name : ℕ) → all_gone (all_gone chunks names) more name ≡ all_gone chunks (names ++ more) name
+gone_twice chunks names more name =
+    let sum : times name (names ++ more) ≡ times name names + times name more = sum_by-append (λ (other : ℕ). if other == name then 1 else 0) names more in
+    elim (cases_eq (times name more) 0) [
+      | inl none ↦
+          cond-true (times name more == 0) (all_gone chunks names name) None (eq-eqb (times name more) 0 none)
+          ∙ ap (λ (count : ℕ). if count == 0 then chunks name else None) (let same : times name names ≡ times name (names ++ more) = omega (arith, sum, none) in same)
+      | inr some ↦
+          cond-false (times name more == 0) (all_gone chunks names name) None (ne_eqb (times name more) 0 some)
+          ∙ sym (cond-false (times name (names ++ more) == 0) (chunks name) None (ne_eqb (times name (names ++ more)) 0 (λ e. some (omega (arith, sum, e)))))
+    ]
+
+-- the store where so many entries were looked at, and those of the category deleted
+abbrev pub deleted_so_far : Store → Db → List (Entry ℕ) → ℕ → ℕ → Store
+deleted_so_far store db entries category count =
+    with_chunks (with_entries store db (first_changed (deleted_category category) count)) (all_gone store.map (data_of_category category (take count entries)))
+
+abbrev pub HasDeleted : List ℕ → List ℕ → Db → List (Entry ℕ) → ℕ → ℕ → Type 0
+HasDeleted old mid db entries category count = LeavesStore old mid (deleted_so_far (store_of old) db entries category count)
+
+-- the next one is as it was
+entry_mid : (old mid : List ℕ) (db : Db) (category count : ℕ) (h : Here old db.0) → HasDeleted old mid db h.one.database.entries category count → entry_under (store_of mid) db count ≡ slice_get h.one.database.entries count
+entry_mid old mid db category count h one =
+    let change : Entry ℕ → Entry ℕ = deleted_category category in
+    ap (λ (x : Option StoredDatabase). slice_get (entries_of x) count)
+    (number_mid old mid db (first_changed change count) (deleted_so_far (store_of old) db h.one.database.entries category count) h one.same refl)
+    ∙ next_kept change count h.one.database.entries
+
+deleted_more : (old mid new : List ℕ) (db : Db) (category count : ℕ) (h : Here old db.0) → Accepted old → count < length h.one.database.entries
+    → HasDeleted old mid db h.one.database.entries category count → LeavesStore mid new (one_deleted (store_of mid) db count category) → MakesNone mid new → HasDeleted old new db h.one.database.entries category (suc count)
+deleted_more old mid new db category count h a below one two none =
+    let entries : List (Entry ℕ) = h.one.database.entries in
+    let change : Entry ℕ → Entry ℕ = deleted_category category in
+    let before : List ℕ = data_of_category category (take count entries) in
+    let now : List ℕ = data_of_category category (listed_if (slice_get entries count)) in
+    left_after old mid new (deleted_so_far (store_of old) db entries category count) (one_deleted (store_of mid) db count category) (deleted_so_far (store_of old) db entries category (suc count)) one two
+    (record {
+      map = λ name.
+          (ap (λ (x : Option (Entry ℕ)). all_gone (store_of mid).map (data_of_category category (listed_if x)) name) (entry_mid old mid db category count h one)
+          ∙ ap (λ (x : Option LiveChunk). if times name now == 0 then x else None) (one.same.map name)
+          ∙ gone_twice (store_of old).map before now name
+          ∙ ap (λ (names : List ℕ). all_gone (store_of old).map names name) (sym (data_more category count entries)));
+      databases = ap (λ (stored : List StoredDatabase). with_changed stored db.0 (with_list (λ es. replaced es count change))) one.same.databases
+          ∙ changed_behind old db.0 (first_changed change count) (λ es. replaced es count change) (first_changed change (suc count)) h a (next_changed change count entries below);
+    }) none
+
+-- as many as were looked at, of the entries of the store
+abbrev pub HasDeletedSome : List ℕ → List ℕ → Db → ℕ → ℕ → Type 0
+HasDeletedSome old mid db category count = HasDeleted old mid db (entries_in (store_of old) db) category count
+
+pub deleted_here : (old mid : List ℕ) (db : Db) (category count : ℕ) (h : Here old db.0) → HasDeletedSome old mid db category count → HasDeleted old mid db h.one.database.entries category count
+deleted_here old mid db category count h one = subst (λ (es : List (Entry ℕ)). HasDeleted old mid db es category count) (ap entries_of h.found) one
+
+pub deleted_turn : (old mid new : List ℕ) (db : Db) (category count : ℕ) (h : Here old db.0) → Accepted old → count < length h.one.database.entries
+    → HasDeletedSome old mid db category count → LeavesStore mid new (one_deleted (store_of mid) db count category) → MakesNone mid new → HasDeletedSome old new db category (count + 1)
+deleted_turn old mid new db category count h a below one two none =
+    subst (λ (es : List (Entry ℕ)). HasDeleted old new db es category (count + 1)) (sym (ap entries_of h.found))
+    (subst (HasDeleted old new db h.one.database.entries category) (let more : suc count ≡ count + 1 = omega arith in more)
+    (deleted_more old mid new db category count h a below (deleted_here old mid db category count h one) two none))
+
+-- none of them yet
+pub deleted_none : (image : List ℕ) (db : Db) (category : ℕ) (h : Here image db.0) → Accepted image → HasDeletedSome image image db category 0
+deleted_none image db category h a = itself image (deleted_so_far (store_of image) db (entries_in (store_of image) db) category 0) a
+    (record { map = λ name. refl; databases = sym (changed_nothing image db.0 (first_changed (deleted_category category) 0) h a (none_changed (deleted_category category) h.one.database.entries)) })
+
+-- what is left of a map
+some_left : (left : Bool) (x : Option LiveChunk) → Of (if left then x else None) IsLocked → Of x IsLocked
+some_left true x p = p
+some_left false x p = absurd p
+
+-- the next one has no data that is locked, where none of the category had at first
+pub next_unlocked : (old mid : List ℕ) (db : Db) (category count : ℕ) (h : Here old db.0) → HasDeletedSome old mid db category count → (HasLockedOf (store_of old) db category → ⊥)
+    → OfEntry (entry_under (store_of mid) db count) (IsOf category) → HasLockedData mid db count → ⊥
+next_unlocked old mid db category count h some none of locked =
+    let one = deleted_here old mid db category count h some in
+    let was : entry_under (store_of old) db count ≡ slice_get h.one.database.entries count = ap (λ (x : Option StoredDatabase). slice_get (entries_of x) count) h.found in
+    let same : entry_under (store_of mid) db count ≡ entry_under (store_of old) db count = entry_mid old mid db category count h one ∙ sym was in
+    let slot : ℕ = data_under (store_of old) db count in
+    let here : Of ((store_of mid).map slot) IsLocked = subst (λ (n : ℕ). Of ((store_of mid).map n) IsLocked) (ap data_of_entry same) locked in
+    let left = subst (λ (x : Option LiveChunk). Of x IsLocked) (one.same.map slot) here in
+    none (count, subst (λ (x : Option (Entry ℕ)). OfEntry x (IsOf category)) same of, some_left (times slot (data_of_category category (take count h.one.database.entries)) == 0) ((store_of old).map slot) left)
+
+-- ---- all of them
+
+pub changed_all : (old mid new : List ℕ) (db : Db) (change : Entry ℕ → Entry ℕ) (count : ℕ) (h : Here old db.0) → Accepted old → length h.one.database.entries ≤ count
+    → HasChanged old mid db change count → LeavesStore mid new (raised (store_of mid) db) → MakesNone mid new → LeavesStore old new (raised (with_entries (store_of old) db (map change)) db)
+changed_all old mid new db change count h a all one two none =
+    raised_after old mid new db (with_entries (store_of old) db (map change))
+    (left_as old mid (with_entries (store_of old) db (first_changed change count)) (with_entries (store_of old) db (map change)) one (record { map = λ name. refl; databases = all_alike old db change count h a all }))
+    two none
+
+pub deleted_all : (old mid new : List ℕ) (db : Db) (category count : ℕ) (h : Here old db.0) → Accepted old → length h.one.database.entries ≤ count
+    → HasDeletedSome old mid db category count → LeavesStore mid new (raised (store_of mid) db) → MakesNone mid new → LeavesStore old new (raised (category_deleted (store_of old) db category) db)
+deleted_all old mid new db category count h a all some two none =
+    let entries : List (Entry ℕ) = h.one.database.entries in
+    let one = deleted_here old mid db category count h some in
+    raised_after old mid new db (category_deleted (store_of old) db category)
+    (left_as old mid (deleted_so_far (store_of old) db entries category count) (category_deleted (store_of old) db category) one
+    (record {
+      map = λ name.
+          (ap (λ (es : List (Entry ℕ)). all_gone (store_of old).map (data_of_category category es) name) (take_all count entries all)
+          ∙ ap (λ (x : Option StoredDatabase). all_gone (store_of old).map (data_of_category category (entries_of x)) name) (sym h.found));
+      databases = all_alike old db (deleted_category category) count h a all;
+    }))
+    two none

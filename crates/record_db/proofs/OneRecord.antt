@@ -1,0 +1,89 @@
+-- What a call on a category leaves of one record.
+use Rattle.std.proofs.Common.{◌≡◌, ℕ, ◌%◌, Bool, true, false, List, [], ◌∷◌, map, Option, Some, None, refl, sym, ap, ◌∙◌, arith, inl, inr}
+use Rattle.std.proofs.lemmas.Bool.{cases_eq, eq-eqb, ne_eqb}
+use Rattle.std.specs.Prelude.{◌==◌, ◌&&◌, ◌||◌, not, if◌then◌else◌, IsSome}
+use Rattle.heap_model.specs.Meaning.{ChunkMap}
+use Rattle.heap_model.specs.Maps.{gone}
+use Rattle.heap_model.specs.Lists.{times}
+use Rattle.heap_model.specs.Database.{Entry, a_record, entry_data, is_deleted}
+use Rattle.heap_model.specs.Store.{Accepted, store_of}
+use Rattle.heap_model.specs.StoreWords.{all_gone, with_number}
+use Rattle.heap_model.specs.EntrySteps.{entry_under, data_of_entry, data_under, without_data, entry_changed, data_freed, LeavesStore}
+use Rattle.heap_model.specs.Categories.{has_category, is_of, data_of_category, recategorized, moved_category, deleted_category}
+use Rattle.heap_model.specs.declared.names.Db.{Db}
+use Rattle.laws_heap.proofs.Deciding.{cond-true, cond-false}
+use Rattle.laws_store.proofs.Listing.{same-yes, same-no, times-cons}
+use Rattle.palm_store.specs.EntryInfos.{with_info}
+use Rattle.palm_store.specs.declared.entries.infos.EntryInfo.TheVariants as infos
+use Rattle.record_db.specs.Categories.{listed_if, one_deleted}
+use Rattle.record_db.proofs.EntriesChanged.{entry_alike, entry_kept}
+use Rattle.record_db.proofs.Raising.{left_as, itself}
+use Rattle.record_db.proofs.SetAttributes.{set_as}
+
+-- a record that is of a category isn't deleted
+pub alive : (category attributes : ℕ) → has_category category attributes ≡ true → is_deleted attributes ≡ false
+alive category attributes of = by (is_deleted attributes) ((category == 255) || (attributes % 16 == category)) of where
+  by : (deleted other : Bool) → not deleted && other ≡ true → deleted ≡ false
+  by true other e = absurd cc
+  by false other e = refl
+
+-- ---- moved to another category
+
+pub moved_one : (image new : List ℕ) (db : Db) (index attributes id slot now to from : ℕ) (dirty : Bool) → Accepted image → IsSome (with_number (store_of image) db.0) → entry_under (store_of image) db index ≡ Some (a_record attributes id slot)
+    → has_category from attributes ≡ true → now ≡ recategorized to dirty attributes → LeavesStore image new (entry_changed (store_of image) db index (with_info (infos.Record now id)))
+    → LeavesStore image new (entry_changed (store_of image) db index (moved_category to from dirty))
+moved_one image new db index attributes id slot now to from dirty a has e of is leaves =
+    set_as false image new db index (a_record attributes id slot) (with_info (infos.Record now id)) (moved_category to from dirty) a has e
+    (ap (λ (x : ℕ). a_record x id slot) is ∙ sym (cond-true (has_category from attributes) (a_record (recategorized to dirty attributes) id slot) (a_record attributes id slot) of)) leaves
+
+pub none_moved : (image : List ℕ) (db : Db) (index to from : ℕ) (dirty : Bool) (entry : Entry ℕ) → Accepted image → IsSome (with_number (store_of image) db.0) → entry_under (store_of image) db index ≡ Some entry → is_of from entry ≡ false
+    → LeavesStore image image (entry_changed (store_of image) db index (moved_category to from dirty))
+none_moved image db index to from dirty entry a has e other =
+    let change : Entry ℕ → Entry ℕ = moved_category to from dirty in
+    itself image (entry_changed (store_of image) db index change) a
+    (record { map = λ name. refl; databases = entry_kept image db index entry change a has e (kept from entry _ other) }) where
+      kept : (from : ℕ) (entry other : Entry ℕ) → is_of from entry ≡ false → (if is_of from entry then other else entry) ≡ entry
+      kept from entry other e = cond-false (is_of from entry) other entry e
+
+-- ---- deleted
+
+one_gone : (chunks : ChunkMap) (slot name : ℕ) → gone chunks slot name ≡ all_gone chunks (slot ∷ []) name
+one_gone chunks slot name =
+    let count = times-cons name slot [] in
+    elim (cases_eq name slot) [
+      | inl e ↦
+          let one = same-yes slot name (sym e) in
+          cond-true (name == slot) None (chunks name) (eq-eqb name slot e)
+          ∙ sym (cond-false (times name (slot ∷ []) == 0) (chunks name) None (ne_eqb (times name (slot ∷ [])) 0 (λ z. omega (arith, count, one, z))))
+      | inr ne ↦
+          let none = same-no slot name (λ z. ne (sym z)) in
+          cond-false (name == slot) None (chunks name) (ne_eqb name slot ne)
+          ∙ sym (cond-true (times name (slot ∷ []) == 0) (chunks name) None (eq-eqb (times name (slot ∷ [])) 0 (omega (arith, count, none))))
+    ]
+
+pub deleted_one : (image new : List ℕ) (db : Db) (index category : ℕ) (entry : Entry ℕ) → Accepted image → IsSome (with_number (store_of image) db.0) → entry_under (store_of image) db index ≡ Some entry → is_of category entry ≡ true
+    → LeavesStore image new (data_freed (store_of image) db index) → LeavesStore image new (one_deleted (store_of image) db index category)
+deleted_one image new db index category entry a has e of leaves =
+    let slot : data_under (store_of image) db index ≡ entry_data entry = ap data_of_entry e in
+    let names : data_of_category category (entry ∷ []) ≡ entry_data entry ∷ [] = ap (map entry_data) (cond-true (is_of category entry) (entry ∷ []) [] of) in
+    left_as image new (data_freed (store_of image) db index) (one_deleted (store_of image) db index category) leaves
+    (record {
+      map = λ name.
+          (ap (λ (n : ℕ). gone (store_of image).map n name) slot
+          ∙ one_gone (store_of image).map (entry_data entry) name
+          ∙ ap (λ (ns : List ℕ). all_gone (store_of image).map ns name) (sym names)
+          ∙ ap (λ (x : Option (Entry ℕ)). all_gone (store_of image).map (data_of_category category (listed_if x)) name) (sym e));
+      databases = entry_alike image db index entry without_data (deleted_category category) a has e (sym (cond-true (is_of category entry) (without_data entry) entry of));
+    })
+
+pub none_deleted : (image : List ℕ) (db : Db) (index category : ℕ) (entry : Entry ℕ) → Accepted image → IsSome (with_number (store_of image) db.0) → entry_under (store_of image) db index ≡ Some entry → is_of category entry ≡ false
+    → LeavesStore image image (one_deleted (store_of image) db index category)
+none_deleted image db index category entry a has e other =
+    let names : data_of_category category (entry ∷ []) ≡ [] = ap (map entry_data) (cond-false (is_of category entry) (entry ∷ []) [] other) in
+    itself image (one_deleted (store_of image) db index category) a
+    (record {
+      map = λ name.
+          (ap (λ (ns : List ℕ). all_gone (store_of image).map ns name) (sym names)
+          ∙ ap (λ (x : Option (Entry ℕ)). all_gone (store_of image).map (data_of_category category (listed_if x)) name) (sym e));
+      databases = entry_kept image db index entry (deleted_category category) a has e (cond-false (is_of category entry) (without_data entry) entry other);
+    })

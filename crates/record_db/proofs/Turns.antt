@@ -1,0 +1,47 @@
+-- Changes of the entries of a database one behind the other, in the order of their indexes: what is left after
+-- so many of them, and after all.
+use Rattle.std.proofs.Common.{◌≡◌, ℕ, zero, suc, ◌<◌, ◌≤◌, ◌++◌, List, [], ◌∷◌, length, map, take, drop, Option, Some, None, refl, ap, ◌∙◌, arith}
+use Rattle.std.proofs.lemmas.List.{take_all, drop_all, append-nil}
+use Rattle.std.specs.Prelude.{slice_get}
+use Rattle.heap_model.specs.Database.{Entry}
+use Rattle.heap_model.specs.EntrySteps.{replaced_if, replaced}
+
+-- the first of some entries changed
+abbrev pub first_changed : (Entry ℕ → Entry ℕ) → ℕ → List (Entry ℕ) → List (Entry ℕ)
+first_changed change count entries = map change (take count entries) ++ drop count entries
+
+pub none_changed : (change : Entry ℕ → Entry ℕ) (entries : List (Entry ℕ)) → first_changed change 0 entries ≡ entries
+none_changed change [] = refl
+none_changed change (entry ∷ entries) = refl
+
+pub all_changed : (change : Entry ℕ → Entry ℕ) (count : ℕ) (entries : List (Entry ℕ)) → length entries ≤ count → first_changed change count entries ≡ map change entries
+all_changed change count entries all =
+    ap (λ (xs : List (Entry ℕ)). map change xs ++ drop count entries) (take_all count entries all)
+    ∙ ap (λ (xs : List (Entry ℕ)). map change entries ++ xs) (drop_all count entries all)
+    ∙ append-nil (map change entries)
+
+-- the one behind them is as it was
+pub next_kept : (change : Entry ℕ → Entry ℕ) (count : ℕ) (entries : List (Entry ℕ)) → slice_get (first_changed change count entries) count ≡ slice_get entries count
+next_kept change zero [] = refl
+next_kept change zero (entry ∷ entries) = refl
+next_kept change (suc count) [] = refl
+next_kept change (suc count) (entry ∷ entries) = next_kept change count entries
+
+-- and with that one changed too they are one more
+pub next_changed : (change : Entry ℕ → Entry ℕ) (count : ℕ) (entries : List (Entry ℕ)) → count < length entries → replaced (first_changed change count entries) count change ≡ first_changed change (suc count) entries
+next_changed change count [] below = absurd (omega arith)
+next_changed change zero (entry ∷ entries) below = refl
+next_changed change (suc count) (entry ∷ entries) below =
+    behind (change entry) (first_changed change count entries) count change ∙ ap (λ (xs : List (Entry ℕ)). change entry ∷ xs) (next_changed change count entries (omega arith)) where
+      behind : (first : Entry ℕ) (xs : List (Entry ℕ)) (index : ℕ) (change : Entry ℕ → Entry ℕ) → replaced (first ∷ xs) (suc index) change ≡ first ∷ replaced xs index change
+      behind first xs index change = by (slice_get xs index) where
+        by : (x : Option (Entry ℕ)) → replaced_if (first ∷ xs) (suc index) change x ≡ first ∷ replaced_if xs index change x
+        by None = refl
+        by (Some entry) = refl
+
+-- as many as there were
+pub length-changed : (change : Entry ℕ → Entry ℕ) (count : ℕ) (entries : List (Entry ℕ)) → length (first_changed change count entries) ≡ length entries
+length-changed change zero [] = refl
+length-changed change zero (entry ∷ entries) = refl
+length-changed change (suc count) [] = refl
+length-changed change (suc count) (entry ∷ entries) = ap suc (length-changed change count entries)

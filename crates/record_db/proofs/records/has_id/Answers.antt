@@ -1,0 +1,12 @@
+use Rattle.std.proofs.Common.{ℕ, List, sym, subst}
+use Rattle.std.specs.Prelude.{◌↔◌, IsTrue}
+use Rattle.heap_model.specs.Database.{Entry}
+use Rattle.heap_model.specs.EntrySteps.{HasId}
+use Rattle.record_db.specs.Search.{SomeHas}
+use Rattle.record_db.proofs.SearchLaws.{entries_read, found_or_none}
+use Rattle.record_db.proofs.records.has_id.Goals as goal
+
+pub returns : goal.returns
+returns c =
+    subst (λ (entries : List (Entry ℕ)). IsTrue c.is_some.result ↔ SomeHas entries (HasId c.args.id)) (sym (entries_read c.args.store.now.bytes c.args.db c.database.result c.database.ensures.is))
+    (found_or_none c.database.result.entries (HasId c.args.id) c.find_id.result c.is_some.result c.is_some.ensures c.find_id.ensures.is c.find_id.ensures.none)

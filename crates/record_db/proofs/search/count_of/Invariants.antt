@@ -1,0 +1,7 @@
+-- So many of the records that were passed are of the category.
+use Rattle.std.proofs.Common.{◌≡◌, take, count_by}
+use Rattle.heap_model.specs.Categories.{is_of}
+use Rattle.record_db.proofs.search.count_of.Given as goal
+
+abbrev pub invariant-loop-index : goal.invariant-loop-index
+invariant-loop-index l = l.count ≡ count_by (is_of l.category) (take l.index l.records.entries)

@@ -1,0 +1,7 @@
+-- None of the records that were passed is of the category.
+use Rattle.heap_model.specs.Categories.{IsOf}
+use Rattle.record_db.proofs.SearchLaws.{NoneUntil}
+use Rattle.record_db.proofs.search.first_of.Given as goal
+
+abbrev pub invariant-loop-index : goal.invariant-loop-index
+invariant-loop-index l = NoneUntil l.records.entries l.fn.from l.index (IsOf l.category)

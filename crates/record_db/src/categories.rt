@@ -1,0 +1,168 @@
+//! Categories of records: those of one are counted, moved to another, or deleted.
+
+ghost use Rattle.std.specs.Prelude.{◌≡◌, ◌<◌, false, [], ◌∷◌, length, OnOk, IfErr};
+ghost use Rattle.heap_model.specs.Store.{store_of};
+ghost use Rattle.heap_model.specs.Refusals.{NoneHolds, FirstBrings};
+ghost use Rattle.heap_model.specs.EntrySteps.{entry_under, OfEntry, entry_changed, MakesNone};
+ghost use Rattle.heap_model.specs.Categories.{categories, IsOf, moved_category};
+ghost use Rattle.heap_model.specs.RecordSteps.{no_category, no_categories};
+ghost use Rattle.heap_model.specs.declared.call.RecordCall.{RecordCall};
+ghost use Rattle.palm_store.specs.Databases.{HasNumber};
+ghost use Rattle.palm_store.specs.EntryCalls.{entries_of_image, resources_of_image, HasLockedData, LeavesChanged};
+ghost use Rattle.palm_store.specs.Replies.{done_or_refused, number_or_refused};
+ghost use Rattle.record_db.specs.Checks.{DoesRecord};
+ghost use Rattle.record_db.specs.Categories.{one_deleted};
+
+use crate::attributes::{ALL_CATEGORIES, has_category, recategorized};
+use crate::checks::{Access, count_records, open_records};
+use crate::records::has_locked_of;
+use crate::search::{count_of, first_of};
+use db_format::CATEGORIES;
+use heap_model::{Db, Refusal};
+use palm_store::{EntryInfo, Store};
+
+/// How many records are of a category, 0 to 15, or of any, for 0xFF. Deleted ones are passed over.
+///
+/// Refused: `NoSuchDatabase`, `NotRecordDatabase`, `InvalidCategory`.
+pub fn num_in_category(store: &Store, db: Db, category: u8) -> Result<u32, Refusal>
+    ensures { DoesRecord store.now (RecordCall.CountInCategory db category)
+        (number_or_refused result) store.now }
+{
+    let records = open_records(store, db, Access::Read)?;
+    check_counted(category)?;
+    Ok(count_of(&records, category, records.entry_count()))
+}
+
+/// The first record from an index on that is of a category, 0 to 15, or of any, for 0xFF. Deleted ones are passed
+/// over.
+///
+/// Refused: `NoSuchDatabase`, `NotRecordDatabase`, `InvalidCategory`; `IndexOutOfRange`, where there is none.
+pub fn next_in_category(store: &Store, db: Db, from: u32, category: u8) -> Result<u32, Refusal>
+    ensures { DoesRecord store.now (RecordCall.NextInCategory db from category)
+        (number_or_refused result) store.now }
+{
+    let records = open_records(store, db, Access::Read)?;
+    check_counted(category)?;
+    first_of(&records, from, category).ok_or(Refusal::IndexOutOfRange)
+}
+
+/// How many records of a category, 0 to 15, or of any, for 0xFF, stand in front of an index. Deleted ones are
+/// passed over; the record of the index itself may be of any category, and deleted too.
+///
+/// Refused: `NoSuchDatabase`, `NotRecordDatabase`, `InvalidCategory`, `IndexOutOfRange`.
+pub fn position_in_category(store: &Store, db: Db, index: u32, category: u8) -> Result<u32, Refusal>
+    ensures { DoesRecord store.now (RecordCall.PositionInCategory db index category)
+        (number_or_refused result) store.now }
+{
+    let records = open_records(store, db, Access::Read)?;
+    check_counted(category)?;
+    if index >= records.entry_count() {
+        return Err(Refusal::IndexOutOfRange);
+    }
+    Ok(count_of(&records, category, index))
+}
+
+/// Gives each record of a category another one. They are dirty then if `dirty` says so. Deleted ones are passed
+/// over.
+///
+/// Refused: `NoSuchDatabase`, `NotRecordDatabase`, `ReadOnly`; `InvalidCategory`, where one of the two is not 0 to 15.
+pub fn move_category(
+    store: &mut Store,
+    db: Db,
+    to: u8,
+    from: u8,
+    dirty: bool,
+) -> Result<(), Refusal>
+    ensures { DoesRecord store.old (RecordCall.MoveCategory db to from dirty)
+        (done_or_refused result) store.new }
+{
+    let count = count_records(store, db, Access::Write)?;
+    check_category(to)?;
+    check_category(from)?;
+    for index in 0..count {
+        move_one(store, db, index, to, from, dirty);
+    }
+    store.raise(db);
+    Ok(())
+}
+
+/// Deletes each record of a category that isn't deleted: its data is freed, and its entry stays.
+///
+/// Refused: `NoSuchDatabase`, `NotRecordDatabase`, `ReadOnly`; `InvalidCategory`, where it is not 0 to 15;
+/// `ChunkLocked`, where the data of one of them is locked. Then none was deleted.
+pub fn delete_category(store: &mut Store, db: Db, category: u8) -> Result<(), Refusal>
+    ensures { DoesRecord store.old (RecordCall.DeleteCategory db category)
+        (done_or_refused result) store.new }
+{
+    let count = count_records(store, db, Access::Write)?;
+    check_category(category)?;
+    if has_locked_of(store, db, category) {
+        return Err(Refusal::ChunkLocked);
+    }
+    for index in 0..count {
+        delete_one(store, db, index, category);
+    }
+    store.raise(db);
+    Ok(())
+}
+
+/// Refuses what is no category: it is 0 to 15.
+fn check_category(category: u8) -> Result<(), Refusal>
+    ensures passes { OnOk result (NoneHolds (no_category category ∷ [])) }
+    ensures refused { IfErr result (FirstBrings (no_category category ∷ [])) }
+{
+    if category >= CATEGORIES {
+        return Err(Refusal::InvalidCategory);
+    }
+    Ok(())
+}
+
+/// Refuses what is no category and doesn't stand for all of them.
+fn check_counted(category: u8) -> Result<(), Refusal>
+    ensures passes { OnOk result (NoneHolds (no_categories category ∷ [])) }
+    ensures refused { IfErr result (FirstBrings (no_categories category ∷ [])) }
+{
+    if category >= CATEGORIES && category != ALL_CATEGORIES {
+        return Err(Refusal::InvalidCategory);
+    }
+    Ok(())
+}
+
+/// Gives the record of an index another category, if it is of one and not deleted.
+fn move_one(store: &mut Store, db: Db, index: u32, to: u8, from: u8, dirty: bool)
+    requires known { HasNumber store.old.bytes db.0 }
+    requires records { resources_of_image store.old.bytes db ≡ false }
+    requires inside { index < length (entries_of_image store.old.bytes db) }
+    requires category { to < categories }
+    ensures moved { LeavesChanged store.old store.new
+        (λ before. entry_changed before db index (moved_category to from dirty)) }
+    ensures none_made { MakesNone store.old.bytes store.new.bytes }
+    ensures rest { store.new ≡ record store.old { bytes = store.new.bytes } }
+{
+    let record = store.database(db).record(index);
+    if has_category(record.attributes, from) {
+        let moved = EntryInfo::Record {
+            attributes: recategorized(record.attributes, to, dirty),
+            id: record.id,
+        };
+        store.entry_set(db, index, moved, false);
+    }
+}
+
+/// Deletes the record of an index, if it is of a category and not deleted.
+fn delete_one(store: &mut Store, db: Db, index: u32, category: u8)
+    requires known { HasNumber store.old.bytes db.0 }
+    requires records { resources_of_image store.old.bytes db ≡ false }
+    requires inside { index < length (entries_of_image store.old.bytes db) }
+    requires unlocked { OfEntry (entry_under (store_of store.old.bytes) db index) (IsOf category)
+        → HasLockedData store.old.bytes db index → ⊥ }
+    ensures deleted { LeavesChanged store.old store.new
+        (λ before. one_deleted before db index category) }
+    ensures none_made { MakesNone store.old.bytes store.new.bytes }
+    ensures rest { store.new ≡ record store.old { bytes = store.new.bytes } }
+{
+    let record = store.database(db).record(index);
+    if has_category(record.attributes, category) {
+        store.entry_free_data(db, index, false);
+    }
+}

@@ -1,0 +1,13 @@
+-- Commands found in tables, one behind the other.
+use Rattle.std.proofs.Common.{◌≡◌, List, [], ◌∷◌, ◌++◌, Bool, true, false, cond, refl}
+use Rattle.std.specs.Prelude.{Some, None}
+use Rattle.std.specs.List.{find}
+use Rattle.script_lines.specs.declared.command.Command.{Command}
+
+-- what the first of two tables doesn't have is looked for in the second
+pub found_behind : (test : Command → Bool) (first second : List Command) → find test first ≡ None → find test (first ++ second) ≡ find test second
+found_behind test [] second none = refl
+found_behind test (command ∷ first) second none = by (test command) (found_behind test first second) none where
+  by : (here : Bool) → (find test first ≡ None → find test (first ++ second) ≡ find test second) → cond here (Some command) (find test first) ≡ None → cond here (Some command) (find test (first ++ second)) ≡ find test second
+  by true rest none = absurd cc
+  by false rest none = rest none

@@ -1,0 +1,14 @@
+use Rattle.std.proofs.Common.{Bool, ◌++◌, map, sym, ◌∙◌}
+use Rattle.std.specs.Str.{bytes_eq}
+use Rattle.script_lines.specs.Commands.{word_of, memory_commands, database_commands, record_commands}
+use Rattle.script_lines.specs.declared.command.Command.{Command}
+use Rattle.script_lines.specs.declared.command.Command.TheVariants.{Memory, Database, Record}
+use Rattle.script_lines.proofs.TableLaws.{found_behind}
+use Rattle.script_lines.proofs.command.find_command.Goals as goal
+
+pub returns : goal.returns
+returns c =
+    let test : Command → Bool = λ command. bytes_eq (word_of command) c.args.word.now in
+    c.find_in-3.ensures
+    ∙ sym (found_behind test (map Memory memory_commands ++ map Database database_commands) (map Record record_commands)
+    (found_behind test (map Memory memory_commands) (map Database database_commands) (sym c.find_in.ensures ∙ c.in_default.is) ∙ (sym c.find_in-2.ensures ∙ c.in_default-find_in.is)))
