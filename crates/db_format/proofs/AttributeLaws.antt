@@ -5,8 +5,7 @@ use Rattle.std.proofs.lemmas.Nat.Bits.{and_pow, bit_at-lt}
 use Rattle.std.specs.Prelude.{◌==◌}
 use Rattle.std.specs.Int.{bit_at}
 use Rattle.std.specs.Int.RustNames.{bit_and}
-use Rattle.heap_model.specs.Database.{is_deleted, has_resources}
-use Rattle.heap_model.specs.RecordSteps.{is_read_only}
+use Rattle.heap_model.specs.Database.{is_deleted, has_resources, is_read_only}
 
 none_of : (m : ℕ) → 0 * m ≡ 0
 none_of m = omega arith

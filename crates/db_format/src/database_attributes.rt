@@ -2,7 +2,6 @@
 
 ghost use Rattle.std.specs.Prelude.{⊤, ◌≡◌, [], ◌∷◌, codes};
 ghost use Rattle.heap_model.specs.Database as databases;
-ghost use Rattle.heap_model.specs.RecordSteps as records;
 ghost use Rattle.db_format.specs.Attributes.{database_bits, with_kind_from};
 
 use bitflags::{Flag, Flags, bitflag_items};
@@ -60,7 +59,7 @@ impl DbAttrs {
     #[inline]
     #[tactic(auto, using(crate::proofs::AttributeLaws::read_only_by_mask))]
     pub fn is_read_only(self) -> bool
-        ensures { result ≡ records.is_read_only self.0 }
+        ensures { result ≡ databases.is_read_only self.0 }
     {
         self.contains(DbAttrs::READ_ONLY)
     }

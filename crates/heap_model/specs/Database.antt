@@ -67,6 +67,10 @@ with_data change database = record {
 abbrev pub has_resources : ℕ → Bool
 has_resources attributes = bit_at attributes 0 == 1
 
+-- a database with these attributes may only be read: 0x0002 is set
+abbrev pub is_read_only : ℕ → Bool
+is_read_only attributes = bit_at attributes 1 == 1
+
 -- a record with these attributes is deleted: 0x80 is set
 abbrev pub is_deleted : ℕ → Bool
 is_deleted attributes = bit_at attributes 7 == 1

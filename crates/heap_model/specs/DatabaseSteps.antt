@@ -1,5 +1,5 @@
 -- What each call on databases as a whole refuses, answers and does: one row a call.
-use Rattle.std.specs.Prelude.{◌≡◌, ◌≢◌, ◌≤◌, ◌+◌, ◌*◌, ◌/◌, ◌%◌, ◌++◌, ◌==◌, if◌then◌else◌, ℕ, Bool, true, false, List, [], ◌∷◌, length, slice_get, Option, Some, None, All}
+use Rattle.std.specs.Prelude.{◌≡◌, ◌≢◌, ◌≤◌, ◌<◌, ◌+◌, ◌*◌, ◌/◌, ◌%◌, ◌++◌, ◌==◌, if◌then◌else◌, ℕ, Bool, true, false, List, [], ◌∷◌, length, slice_get, Option, Some, None, All}
 use Rattle.std.specs.List.{Any}
 use Rattle.heap_model.specs.Memory.{Memory}
 use Rattle.heap_model.specs.Heap.{directory_of}
@@ -10,34 +10,39 @@ use Rattle.heap_model.specs.Maps.{reowned}
 use Rattle.heap_model.specs.Store.{StoredDatabase, Store, data_owner, directory_bytes, numbers_of, names_of, most_databases}
 use Rattle.heap_model.specs.Rooms.{Part, making, growth}
 use Rattle.heap_model.specs.Refusals.{Check, ◌brings◌}
-use Rattle.heap_model.specs.Steps.{Row, done, number}
-use Rattle.heap_model.specs.MemorySteps.{Of, IsLocked}
-use Rattle.heap_model.specs.StoreWords.{with_changed, without_database, all_gone, with_number, In, no_database, may_run_out, becomes, becomes_with, stays, next_modification}
+use Rattle.heap_model.specs.Steps.{Row, done, number, named}
+use Rattle.heap_model.specs.MemorySteps.{Of, IsLocked, no_owner}
+use Rattle.heap_model.specs.EntrySteps.{raised, giving_checks}
+use Rattle.heap_model.specs.StoreWords.{with_changed, without_database, all_gone, with_number, In, no_database, read_only, may_run_out, becomes, becomes_with, stays, next_modification}
+use Rattle.heap_model.specs.declared.names.Name.{Name}
 use Rattle.heap_model.specs.declared.names.Db.{Db}
 use Rattle.heap_model.specs.declared.names.Which.{Which}
 use Rattle.heap_model.specs.declared.names.Which.TheVariants.{App, Sort}
 use Rattle.heap_model.specs.declared.database.DbInfo.{DbInfo}
 use Rattle.heap_model.specs.declared.call.DatabaseCall as given
-use Rattle.heap_model.specs.declared.call.DatabaseCall.TheVariants.{Create, Delete, Find, Nth, Count, Info, SetInfo}
+use Rattle.heap_model.specs.declared.call.DatabaseCall.TheVariants.{Create, Delete, Find, Nth, Count, Info, SetInfo, SetInfoBlock, TakeInfoBlock, InfoBlock}
 use Rattle.heap_model.specs.declared.call.Reply.{Reply}
 use Rattle.heap_model.specs.declared.call.Reply.TheVariants as replies
-use Rattle.heap_model.specs.declared.refusal.Refusal.TheVariants.{ChunkLocked, NoSuchDatabase, TooManyEntries, AlreadyExists, InvalidName}
+use Rattle.heap_model.specs.declared.refusal.Refusal.TheVariants.{ChunkLocked, NoSuchDatabase, TooManyEntries, AlreadyExists, InvalidName, NoInfoBlock}
 
 -- ---- calls
 
--- a call on databases, which are given by their numbers
+-- a call on databases, which are given by their numbers, and chunks by their names
 abbrev pub DatabaseCall : Type 0
-DatabaseCall = given.DatabaseCall Db
+DatabaseCall = given.DatabaseCall Name Db
 
--- the same call, its database given another way
-abbrev pub database_call : {One Other : Type 0} → (One → Other) → given.DatabaseCall One → given.DatabaseCall Other
-database_call number (Create name kind creator resources date) = Create name kind creator resources date
-database_call number (Delete db) = Delete (number db)
-database_call number (Find name) = Find name
-database_call number (Nth index) = Nth index
-database_call number Count = Count
-database_call number (Info db) = Info (number db)
-database_call number (SetInfo db info) = SetInfo (number db) info
+-- the same call, its chunk and its database given another way
+abbrev pub database_call : {One Other ThisOne ThisOther : Type 0} → (One → Other) → (ThisOne → ThisOther) → given.DatabaseCall One ThisOne → given.DatabaseCall Other ThisOther
+database_call chunk number (Create name kind creator resources date) = Create name kind creator resources date
+database_call chunk number (Delete db) = Delete (number db)
+database_call chunk number (Find name) = Find name
+database_call chunk number (Nth index) = Nth index
+database_call chunk number Count = Count
+database_call chunk number (Info db) = Info (number db)
+database_call chunk number (SetInfo db info) = SetInfo (number db) info
+database_call chunk number (SetInfoBlock db which name) = SetInfoBlock (number db) which (chunk name)
+database_call chunk number (TakeInfoBlock db which owner) = TakeInfoBlock (number db) which owner
+database_call chunk number (InfoBlock db which) = InfoBlock (number db) which
 
 -- ---- words of the rows
 
@@ -175,6 +180,13 @@ info_block_taken store db which owner = record {
   databases = with_changed store.databases db.0 (with_info_block which 0);
 }
 
+-- the info block is there, and it isn't
+abbrev pub has_block : Store → Db → Which → Check
+has_block store db which = (0 < info_block_under store db which) brings AlreadyExists
+
+abbrev pub no_block : Store → Db → Which → Check
+no_block store db which = (info_block_under store db which ≡ 0) brings NoInfoBlock
+
 -- ---- the rows
 
 -- the row of a call on a region that means a store
@@ -229,4 +241,31 @@ database_row old store (SetInfo db info) = record {
       (λ before. record before {
         databases = with_changed before.databases db.0 (λ database. record database { header = header_set info database.header });
       });
+}
+database_row old store (SetInfoBlock db which name) = record {
+  only_asks = false;
+  refusals =
+      no_database store db
+      ∷ read_only store db
+      ∷ has_block store db which
+      ∷ giving_checks store.map name.0 [];
+  answers = done;
+  effect = becomes (λ before. raised (info_block_set before db which name.0) db);
+}
+database_row old store (TakeInfoBlock db which owner) = record {
+  only_asks = false;
+  refusals =
+      no_database store db
+      ∷ read_only store db
+      ∷ no_block store db which
+      ∷ no_owner owner
+      ∷ [];
+  answers = named (λ name. name.0 ≡ info_block_under store db which);
+  effect = becomes (λ before. raised (info_block_taken before db which owner) db);
+}
+database_row old store (InfoBlock db which) = record {
+  only_asks = true;
+  refusals = no_database store db ∷ no_block store db which ∷ [];
+  answers = named (λ name. name.0 ≡ info_block_under store db which);
+  effect = stays;
 }

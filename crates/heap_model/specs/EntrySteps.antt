@@ -2,6 +2,7 @@
 -- what a call leaves that does such a change.
 use Rattle.std.specs.Prelude.{◌≡◌, ◌≢◌, ◌≤◌, ◌<◌, ◌+◌, nat_lt, if◌then◌else◌, bit_or, ℕ, Bool, false, List, [], ◌∷◌, length, slice_get, slice_set, Option, Some, None, IsSome}
 use Rattle.std.specs.List.{insert, remove}
+use Rattle.heap_model.specs.Chunk.{fixed_lock}
 use Rattle.heap_model.specs.Slots.{slots_total}
 use Rattle.heap_model.specs.Heap.{directory_of}
 use Rattle.heap_model.specs.Meaning.{LiveChunk, ChunkMap}
@@ -14,6 +15,7 @@ use Rattle.heap_model.specs.UniqueIds.{IsFresh, seed_in, with_seed}
 use Rattle.heap_model.specs.Store.{StoredDatabase, Store, data_owner, bytes_under, unique_id, unique_ids, Accepted, store_of}
 use Rattle.heap_model.specs.Rooms.{Part, making, growth}
 use Rattle.heap_model.specs.Refusals.{Check, ◌brings◌}
+use Rattle.heap_model.specs.MemorySteps.{unknown, where_it}
 use Rattle.heap_model.specs.StoreWords.{SameStore, with_changed, with_number, In, may_run_out, next_modification}
 use Rattle.heap_model.specs.declared.names.Db.{Db}
 use Rattle.heap_model.specs.declared.names.Name.{Name}
@@ -21,7 +23,7 @@ use Rattle.heap_model.specs.declared.entry.RecordInfo.{RecordInfo}
 use Rattle.heap_model.specs.declared.entry.ResourceInfo.{ResourceInfo}
 use Rattle.heap_model.specs.declared.entry.Entry as heard
 use Rattle.heap_model.specs.declared.entry.Entry.TheVariants as entries
-use Rattle.heap_model.specs.declared.refusal.Refusal.TheVariants.{TooManyEntries}
+use Rattle.heap_model.specs.declared.refusal.Refusal.TheVariants.{OwnedByDatabase, ChunkFixed, TooManyEntries}
 
 -- ---- entries of a store
 
@@ -212,6 +214,15 @@ making_checks image store db size = full store db ∷ may_run_out image 1 (makin
 -- Whether an entry can come whose data is there: the header alone has to grow.
 abbrev pub attaching_checks : List ℕ → Store → Db → List Check
 attaching_checks image store db = full store db ∷ may_run_out image 0 (entry_growth image store db ∷ []) ∷ []
+
+-- Whether a database can take a chunk of a caller's, by its name, and other checks behind that: it is movable,
+-- and not one for data.
+abbrev pub giving_checks : ChunkMap → ℕ → List Check → List Check
+giving_checks map name others =
+    unknown map name
+    ∷ where_it map name (λ live. live.owner ≡ data_owner) OwnedByDatabase
+    ∷ where_it map name (λ live. live.lock ≡ fixed_lock) ChunkFixed
+    ∷ others
 
 -- ---- what a call leaves
 

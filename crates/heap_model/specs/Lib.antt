@@ -27,8 +27,8 @@ pub mod Refusals
 pub mod Steps
 pub mod MemorySteps
 pub mod StoreWords
-pub mod DatabaseSteps
 pub mod EntrySteps
+pub mod DatabaseSteps
 pub mod Categories
 pub mod RecordSteps
 pub mod StoreSteps

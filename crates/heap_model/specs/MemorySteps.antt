@@ -83,6 +83,9 @@ unknown map name = (map name ≡ None) brings InvalidHandle
 abbrev pub where_it : ChunkMap → ℕ → (LiveChunk → Type 0) → Refusal → Check
 where_it map name P refusal = Of (map name) P brings refusal
 
+abbrev pub no_owner : ℕ → Check
+no_owner owner = IsNoCaller owner brings InvalidOwner
+
 -- Whether a name's chunk can have so many bytes: it may not move where it is locked, and else there has
 -- to be room for it.
 abbrev pub growth_checks : List ℕ → ChunkMap → ℕ → ℕ → List Check
@@ -97,7 +100,7 @@ abbrev pub row : Memory → ChunkMap → MemoryCall → Row ChunkMap
 row old map (HandleNew size owner) = record {
   only_asks = false;
   refusals =
-      (IsNoCaller owner brings InvalidOwner)
+      no_owner owner
       ∷ (((free_slots old.bytes ≡ 0) ⊎ Short old.bytes (need size)) brings NotEnoughSpace)
       ∷ [];
   answers = named (λ name. held old.bytes name.0 ≡ None);
@@ -106,7 +109,7 @@ row old map (HandleNew size owner) = record {
 row old map (PtrNew size owner) = record {
   only_asks = false;
   refusals =
-      (IsNoCaller owner brings InvalidOwner)
+      no_owner owner
       ∷ (Short old.bytes (need size) brings NotEnoughSpace)
       ∷ [];
   answers = named (λ name. held old.bytes name.0 ≡ None);
@@ -215,7 +218,7 @@ row old map (SetOwner name owner) = record {
   refusals =
       unknown map name.0
       ∷ where_it map name.0 (λ live. live.owner ≡ 15) OwnedByDatabase
-      ∷ (IsNoCaller owner brings InvalidOwner)
+      ∷ no_owner owner
       ∷ [];
   answers = done;
   effect = becomes (λ all. reowned all name.0 owner);
@@ -228,7 +231,7 @@ row old map (Recover place) = record {
 }
 row old map (FreeByOwner owner) = record {
   only_asks = false;
-  refusals = (IsNoCaller owner brings InvalidOwner) ∷ [];
+  refusals = no_owner owner ∷ [];
   answers = number (λ count. count ≡ count_by (is_owned_by owner) (chunks_of old.bytes));
   effect = becomes (λ all. without_owner all owner);
 }

@@ -1,7 +1,7 @@
 -- The numbers and the names of refusals.
 use Rattle.std.specs.Prelude.{ℕ, List, codes}
 use Rattle.heap_model.specs.declared.refusal.Refusal.{Refusal}
-use Rattle.heap_model.specs.declared.refusal.Refusal.TheVariants.{InvalidHandle, OwnedByDatabase, ChunkLocked, ChunkNotLocked, LockOverflow, ChunkFixed, InvalidOwner, NotEnoughSpace, OutOfBounds, NoSuchDatabase, NotRecordDatabase, ReadOnly, IndexOutOfRange, RecordDeleted, RecordBusy, TooManyEntries, InvalidCategory, DuplicateId, UniqueIdNotFound, AlreadyExists, InvalidName, OutOfMemory}
+use Rattle.heap_model.specs.declared.refusal.Refusal.TheVariants.{InvalidHandle, OwnedByDatabase, ChunkLocked, ChunkNotLocked, LockOverflow, ChunkFixed, InvalidOwner, NotEnoughSpace, OutOfBounds, NoSuchDatabase, NotRecordDatabase, ReadOnly, IndexOutOfRange, RecordDeleted, RecordBusy, TooManyEntries, InvalidCategory, DuplicateId, UniqueIdNotFound, AlreadyExists, InvalidName, NoInfoBlock, OutOfMemory}
 
 abbrev pub number_of : Refusal → ℕ
 number_of InvalidHandle = 1
@@ -25,6 +25,7 @@ number_of DuplicateId = 19
 number_of UniqueIdNotFound = 20
 number_of AlreadyExists = 21
 number_of InvalidName = 22
+number_of NoInfoBlock = 24
 number_of OutOfMemory = 26
 
 abbrev pub name_of : Refusal → List ℕ
@@ -49,4 +50,5 @@ name_of DuplicateId = codes "DuplicateId"
 name_of UniqueIdNotFound = codes "UniqueIdNotFound"
 name_of AlreadyExists = codes "AlreadyExists"
 name_of InvalidName = codes "InvalidName"
+name_of NoInfoBlock = codes "NoInfoBlock"
 name_of OutOfMemory = codes "OutOfMemory"

@@ -9,46 +9,48 @@ use Rattle.heap_model.specs.Database.{Entry, a_record, a_resource, has_resources
 use Rattle.heap_model.specs.Store.{Store}
 use Rattle.heap_model.specs.Refusals.{Check, ◌brings◌}
 use Rattle.heap_model.specs.Steps.{Row, done, number, named}
-use Rattle.heap_model.specs.MemorySteps.{Of, IsNoCaller, IsLocked, growth_checks}
-use Rattle.heap_model.specs.StoreWords.{SameStore, all_gone, In, no_database, becomes, stays}
-use Rattle.heap_model.specs.EntrySteps.{entries_in, entry_under, OfEntry, data_under, IsFreshIn, HasId, HasOther, IsInfoOf, index_for, with_attributes, deleted_bit, with_entries, with_chunks, entry_made, entry_changed, data_freed, entry_dropped, entry_handed_over, raised, making_checks}
+use Rattle.heap_model.specs.MemorySteps.{Of, IsLocked, no_owner, growth_checks}
+use Rattle.heap_model.specs.StoreWords.{SameStore, all_gone, In, no_database, read_only, becomes, stays}
+use Rattle.heap_model.specs.EntrySteps.{entries_in, entry_under, OfEntry, data_under, IsFreshIn, HasId, HasOther, IsInfoOf, index_for, with_attributes, deleted_bit, with_entries, with_chunks, entry_made, entry_changed, data_freed, entry_attached, entry_dropped, entry_handed_over, entry_swapped, raised, making_checks, attaching_checks, giving_checks}
 use Rattle.heap_model.specs.Categories.{categories, all_categories, is_of, IsOf, data_of_category, dirty_bit, moved_category, deleted_category}
 use Rattle.heap_model.specs.declared.names.Db.{Db}
 use Rattle.heap_model.specs.declared.names.Name.{Name}
 use Rattle.heap_model.specs.declared.entry.RecordInfo.{RecordInfo}
 use Rattle.heap_model.specs.declared.call.RecordCall as given
-use Rattle.heap_model.specs.declared.call.RecordCall.TheVariants.{New, Delete, Archive, Remove, Move, Get, Query, Release, Info, Resize, Count, Detach, SetInfo, FindById, CountInCategory, NextInCategory, PositionInCategory, MoveCategory, DeleteCategory}
+use Rattle.heap_model.specs.declared.call.RecordCall.TheVariants.{New, Delete, Archive, Remove, Move, Get, Query, Release, Info, Resize, Count, Attach, AttachReplacing, Detach, SetInfo, FindById, CountInCategory, NextInCategory, PositionInCategory, MoveCategory, DeleteCategory}
 use Rattle.heap_model.specs.declared.call.Reply.{Reply}
 use Rattle.heap_model.specs.declared.call.Reply.TheVariants as replies
-use Rattle.heap_model.specs.declared.refusal.Refusal.TheVariants.{ChunkLocked, NotRecordDatabase, ReadOnly, IndexOutOfRange, RecordDeleted, RecordBusy, InvalidOwner, InvalidCategory, DuplicateId, UniqueIdNotFound}
+use Rattle.heap_model.specs.declared.refusal.Refusal.TheVariants.{ChunkLocked, NotRecordDatabase, IndexOutOfRange, RecordDeleted, RecordBusy, InvalidCategory, DuplicateId, UniqueIdNotFound}
 
 -- ---- calls
 
--- a call on records, of which databases are given by their numbers
+-- a call on records, of which chunks are given by their names and databases by their numbers
 abbrev pub RecordCall : Type 0
-RecordCall = given.RecordCall Db
+RecordCall = given.RecordCall Name Db
 
--- the same call, its database given another way
-abbrev pub record_call : {One Other : Type 0} → (One → Other) → given.RecordCall One → given.RecordCall Other
-record_call number (New db at size) = New (number db) at size
-record_call number (Delete db index) = Delete (number db) index
-record_call number (Archive db index) = Archive (number db) index
-record_call number (Remove db index) = Remove (number db) index
-record_call number (Move db from to) = Move (number db) from to
-record_call number (Get db index) = Get (number db) index
-record_call number (Query db index) = Query (number db) index
-record_call number (Release db index dirty) = Release (number db) index dirty
-record_call number (Info db index) = Info (number db) index
-record_call number (Resize db index size) = Resize (number db) index size
-record_call number (Count db) = Count (number db)
-record_call number (Detach db index owner) = Detach (number db) index owner
-record_call number (SetInfo db index attributes id) = SetInfo (number db) index attributes id
-record_call number (FindById db id) = FindById (number db) id
-record_call number (CountInCategory db category) = CountInCategory (number db) category
-record_call number (NextInCategory db from category) = NextInCategory (number db) from category
-record_call number (PositionInCategory db index category) = PositionInCategory (number db) index category
-record_call number (MoveCategory db to from dirty) = MoveCategory (number db) to from dirty
-record_call number (DeleteCategory db category) = DeleteCategory (number db) category
+-- the same call, its chunk and its database given another way
+abbrev pub record_call : {One Other ThisOne ThisOther : Type 0} → (One → Other) → (ThisOne → ThisOther) → given.RecordCall One ThisOne → given.RecordCall Other ThisOther
+record_call chunk number (New db at size) = New (number db) at size
+record_call chunk number (Delete db index) = Delete (number db) index
+record_call chunk number (Archive db index) = Archive (number db) index
+record_call chunk number (Remove db index) = Remove (number db) index
+record_call chunk number (Move db from to) = Move (number db) from to
+record_call chunk number (Get db index) = Get (number db) index
+record_call chunk number (Query db index) = Query (number db) index
+record_call chunk number (Release db index dirty) = Release (number db) index dirty
+record_call chunk number (Info db index) = Info (number db) index
+record_call chunk number (Resize db index size) = Resize (number db) index size
+record_call chunk number (Count db) = Count (number db)
+record_call chunk number (Attach db at name) = Attach (number db) at (chunk name)
+record_call chunk number (AttachReplacing db index name owner) = AttachReplacing (number db) index (chunk name) owner
+record_call chunk number (Detach db index owner) = Detach (number db) index owner
+record_call chunk number (SetInfo db index attributes id) = SetInfo (number db) index attributes id
+record_call chunk number (FindById db id) = FindById (number db) id
+record_call chunk number (CountInCategory db category) = CountInCategory (number db) category
+record_call chunk number (NextInCategory db from category) = NextInCategory (number db) from category
+record_call chunk number (PositionInCategory db index category) = PositionInCategory (number db) index category
+record_call chunk number (MoveCategory db to from dirty) = MoveCategory (number db) to from dirty
+record_call chunk number (DeleteCategory db category) = DeleteCategory (number db) category
 
 -- ---- attributes
 
@@ -59,10 +61,6 @@ busy_bit = 0x20
 -- a record with these attributes is busy: 0x20 is set
 abbrev pub is_busy : ℕ → Bool
 is_busy attributes = bit_at attributes 5 == 1
-
--- a database with these attributes may only be read: 0x0002 is set
-abbrev pub is_read_only : ℕ → Bool
-is_read_only attributes = bit_at attributes 1 == 1
 
 -- the attributes of a new record: dirty and busy, of category 0
 abbrev pub new_attributes : ℕ
@@ -103,9 +101,6 @@ HasAttributes test (a_resource kind id slot) = ⊥
 abbrev pub no_records : Store → Db → Check
 no_records store db = In store db (λ database. has_resources database.header.attributes ≡ true) brings NotRecordDatabase
 
-abbrev pub read_only : Store → Db → Check
-read_only store db = In store db (λ database. is_read_only database.header.attributes ≡ true) brings ReadOnly
-
 abbrev pub no_entry : Store → Db → ℕ → Check
 no_entry store db index = (length (entries_in store db) ≤ index) brings IndexOutOfRange
 
@@ -118,10 +113,6 @@ busy store db index = OfEntry (entry_under store db index) (HasAttributes is_bus
 -- there is data, and it is locked
 abbrev pub locked_entry : Store → Db → ℕ → Check
 locked_entry store db index = Of (store.map (data_under store db index)) IsLocked brings ChunkLocked
-
--- an owner that no caller may give
-abbrev pub no_owner : ℕ → Check
-no_owner owner = IsNoCaller owner brings InvalidOwner
 
 -- no category has this number; and, where calls count, it doesn't stand for all of them either
 abbrev pub no_category : ℕ → Check
@@ -276,6 +267,30 @@ record_row old store (Count db) = record {
   refusals = no_database store db ∷ no_records store db ∷ [];
   answers = number (λ count. count ≡ length (entries_in store db));
   effect = stays;
+}
+record_row old store (Attach db at name) = record {
+  only_asks = false;
+  refusals =
+      no_database store db
+      ∷ no_records store db
+      ∷ read_only store db
+      ∷ giving_checks store.map name.0 (attaching_checks old.bytes store db);
+  answers = number (λ index. index ≡ index_for at (entries_in store db));
+  effect = λ reply before after.
+      (id : ℕ) × IsFreshIn before db id × SameStore after (raised (entry_attached before db (index_for at (entries_in before db)) (a_record dirty_bit id name.0)) db);
+}
+record_row old store (AttachReplacing db index name owner) = record {
+  only_asks = false;
+  refusals =
+      no_database store db
+      ∷ no_records store db
+      ∷ read_only store db
+      ∷ no_entry store db index
+      ∷ deleted store db index
+      ∷ giving_checks store.map name.0 (no_owner owner ∷ []);
+  answers = named (λ old. old.0 ≡ data_under store db index);
+  effect = becomes
+      (λ before. raised (entry_swapped before db index (with_attributes (λ attributes. bit_or attributes dirty_bit)) name.0 owner) db);
 }
 record_row old store (Detach db index owner) = record {
   only_asks = false;

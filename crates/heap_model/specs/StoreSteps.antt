@@ -31,8 +31,8 @@ Call = given.Call Name Db
 -- the same call, its chunk and its database given another way
 abbrev pub call_by : {One Other ThisOne ThisOther : Type 0} → (One → Other) → (ThisOne → ThisOther) → given.Call One ThisOne → given.Call Other ThisOther
 call_by chunk number (calls.Memory call) = calls.Memory (memory.memory_call chunk call)
-call_by chunk number (calls.Database call) = calls.Database (database_call number call)
-call_by chunk number (calls.Record call) = calls.Record (record_call number call)
+call_by chunk number (calls.Database call) = calls.Database (database_call chunk number call)
+call_by chunk number (calls.Record call) = calls.Record (record_call chunk number call)
 
 -- ---- the rows
 
@@ -81,6 +81,7 @@ may_slide (calls.Record (records.New db at size)) = true
 may_slide (calls.Record (records.Remove db index)) = true
 may_slide (calls.Record (records.Move db from to)) = true
 may_slide (calls.Record (records.Resize db index size)) = true
+may_slide (calls.Record (records.Attach db at name)) = true
 may_slide (calls.Record (records.Detach db index owner)) = true
 may_slide (calls.Record call) = false
 

@@ -1,18 +1,18 @@
 -- Words of the rows of calls on a store: its databases by number, the checks that rows share, and how one
 -- store follows on another.
-use Rattle.std.specs.Prelude.{◌≡◌, ◌<◌, ◌+◌, ◌%◌, ◌^◌, ◌⊎◌, ◌==◌, if◌then◌else◌, not, ℕ, List, map, filter, Option, Some, None}
+use Rattle.std.specs.Prelude.{◌≡◌, ◌<◌, ◌+◌, ◌%◌, ◌^◌, ◌⊎◌, ◌==◌, if◌then◌else◌, not, ℕ, true, List, map, filter, Option, Some, None}
 use Rattle.std.specs.List.{find}
 use Rattle.heap_model.specs.Meaning.{ChunkMap}
 use Rattle.heap_model.specs.Space.{free_slots, rooms}
 use Rattle.heap_model.specs.Lists.{times}
-use Rattle.heap_model.specs.Database.{Database}
+use Rattle.heap_model.specs.Database.{Database, is_read_only}
 use Rattle.heap_model.specs.Store.{StoredDatabase, Store}
 use Rattle.heap_model.specs.Rooms.{Part, Stuck}
 use Rattle.heap_model.specs.Refusals.{Check, ◌brings◌, ◌may_bring◌}
 use Rattle.heap_model.specs.declared.names.Db.{Db}
 use Rattle.heap_model.specs.declared.call.Reply.{Reply}
 use Rattle.heap_model.specs.declared.call.Reply.TheVariants as replies
-use Rattle.heap_model.specs.declared.refusal.Refusal.TheVariants.{NotEnoughSpace, NoSuchDatabase}
+use Rattle.heap_model.specs.declared.refusal.Refusal.TheVariants.{NotEnoughSpace, NoSuchDatabase, ReadOnly}
 
 -- ---- stores
 
@@ -56,6 +56,10 @@ In store db P = OfDatabase (with_number store db.0) P
 
 abbrev pub no_database : Store → Db → Check
 no_database store db = (with_number store db.0 ≡ None) brings NoSuchDatabase
+
+-- the database may only be read
+abbrev pub read_only : Store → Db → Check
+read_only store db = In store db (λ database. is_read_only database.header.attributes ≡ true) brings ReadOnly
 
 -- The parts of a call may not all find room: fewer slots are free than the chunks that it makes take, or
 -- the parts, one behind the other, can run out of room.

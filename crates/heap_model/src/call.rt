@@ -3,7 +3,7 @@
 use crate::bytes::Bytes;
 use crate::database::{DbInfo, DbName};
 use crate::entry::RecordInfo;
-use crate::names::{Db, Name, Place};
+use crate::names::{Db, Name, Place, Which};
 use crate::refusal::Refusal;
 
 /// A call of the memory manager (Palm OS Programmer's API Reference, "Memory Manager"), by how it gives
@@ -61,9 +61,9 @@ pub enum MemoryCall<C = Name> {
 }
 
 /// A call on the databases of a store (Palm OS Programmer's API Reference, "Data Manager"), by how it
-/// gives its database: by the number, where nothing else is said.
+/// gives its chunk and its database: by the name and the number, where nothing else is said.
 #[derive(Drop, Debug, PartialEq, Eq)]
-pub enum DatabaseCall<D = Db> {
+pub enum DatabaseCall<C = Name, D = Db> {
     Create {
         name: DbName,
         /// The type, its four bytes as a number.
@@ -82,12 +82,25 @@ pub enum DatabaseCall<D = Db> {
     /// Of what is given the modification number, the seed and the number of entries are passed over, and
     /// the attribute that says whether there are resources.
     SetInfo(D, DbInfo),
+    /// A caller's chunk becomes the info block of a database that has none.
+    SetInfoBlock {
+        db: D,
+        which: Which,
+        name: C,
+    },
+    /// The info block is handed over to an owner of 1 to 14, and the database has none then.
+    TakeInfoBlock {
+        db: D,
+        which: Which,
+        owner: u8,
+    },
+    InfoBlock(D, Which),
 }
 
 /// A call on the records of a database (Palm OS Programmer's API Reference, "Data Manager"), by how it
-/// gives the database. Records are counted from 0.
+/// gives its chunk and its database. Records are counted from 0.
 #[derive(Drop, Debug, PartialEq, Eq)]
-pub enum RecordCall<D = Db> {
+pub enum RecordCall<C = Name, D = Db> {
     /// A record of so many bytes at an index. Where that is beyond the end it is the end.
     New {
         db: D,
@@ -117,6 +130,19 @@ pub enum RecordCall<D = Db> {
         size: u32,
     },
     Count(D),
+    /// A record whose data is a caller's chunk, at an index. Where that is beyond the end it is the end.
+    Attach {
+        db: D,
+        at: u32,
+        name: C,
+    },
+    /// The data of a record is handed over to an owner of 1 to 14, and a caller's chunk becomes it.
+    AttachReplacing {
+        db: D,
+        index: u32,
+        name: C,
+        owner: u8,
+    },
     /// The data is handed over to an owner of 1 to 14.
     Detach {
         db: D,
@@ -159,8 +185,8 @@ pub enum RecordCall<D = Db> {
 #[derive(Drop, Debug, PartialEq, Eq)]
 pub enum Call<C = Name, D = Db> {
     Memory(MemoryCall<C>),
-    Database(DatabaseCall<D>),
-    Record(RecordCall<D>),
+    Database(DatabaseCall<C, D>),
+    Record(RecordCall<C, D>),
 }
 
 /// What a call answers: a refusal, or a value of its own.

@@ -66,12 +66,15 @@ pub enum Refusal {
     /// No record has the unique ID.
     #[error("UniqueIdNotFound")]
     UniqueIdNotFound,
-    /// Another database has the name.
+    /// Another database has the name; or the info block is there.
     #[error("AlreadyExists")]
     AlreadyExists,
     /// The name of a database has 1 to 31 bytes, none of them zero.
     #[error("InvalidName")]
     InvalidName,
+    /// The database has no such info block.
+    #[error("NoInfoBlock")]
+    NoInfoBlock,
     /// Memory for the answer was refused.
     #[error("OutOfMemory")]
     OutOfMemory,
@@ -119,6 +122,7 @@ impl Refusal {
             Refusal::UniqueIdNotFound => (20, "UniqueIdNotFound"),
             Refusal::AlreadyExists => (21, "AlreadyExists"),
             Refusal::InvalidName => (22, "InvalidName"),
+            Refusal::NoInfoBlock => (24, "NoInfoBlock"),
             Refusal::OutOfMemory => (26, "OutOfMemory"),
         }
     }

@@ -9,7 +9,7 @@ use heap_model::Refusal;
 use memchr::memchr;
 
 /// Refuses an owner that no caller may give: those are 1 to 14.
-pub(crate) fn check_owner(owner: u8) -> Result<(), Refusal>
+pub fn check_owner(owner: u8) -> Result<(), Refusal>
     ensures ok { OnOk result (IsNoCaller owner → ⊥) }
     ensures err { OnErr result (IsNoCaller owner) }
     ensures refusal { IfErr result (λ refusal. refusal ≡ Refusal.InvalidOwner) }

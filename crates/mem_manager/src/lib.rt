@@ -10,5 +10,6 @@ mod bounds;
 mod heap;
 mod lookup;
 
+pub use bounds::check_owner;
 pub use chunk_format::{DATA_OWNER, FIXED_LOCK, MANAGERS_OWNER};
 pub use heap::{Heap, Locked, NotAHeap};

@@ -6,13 +6,12 @@ use Rattle.heap_model.specs.Database.{Entry}
 use Rattle.heap_model.specs.Lists.{moved}
 use Rattle.heap_model.specs.Maps.{sized}
 use Rattle.heap_model.specs.Refusals.{Check}
-use Rattle.heap_model.specs.MemorySteps.{Of, IsLocked, unknown, where_it, growth_checks}
+use Rattle.heap_model.specs.MemorySteps.{Of, IsLocked, growth_checks}
 use Rattle.heap_model.specs.Store.{Store, data_owner, store_of}
 use Rattle.heap_model.specs.StoreWords.{In}
-use Rattle.heap_model.specs.EntrySteps.{entries_in, entry_under, OfEntry, Tells, data_under, resources_under, with_entries, with_chunks, entry_made, entry_attached, entry_changed, entry_swapped, raised, making_checks, attaching_checks, LeavesStore}
+use Rattle.heap_model.specs.EntrySteps.{entries_in, entry_under, OfEntry, Tells, data_under, resources_under, with_entries, with_chunks, entry_made, entry_attached, entry_changed, entry_swapped, raised, making_checks, attaching_checks, giving_checks, LeavesStore}
 use Rattle.heap_model.specs.declared.names.Db.{Db}
 use Rattle.heap_model.specs.declared.entry.Entry as heard
-use Rattle.heap_model.specs.declared.refusal.Refusal.TheVariants.{OwnedByDatabase, ChunkFixed}
 use Rattle.palm_store.specs.declared.entries.infos.EntryInfo.{EntryInfo}
 use Rattle.palm_store.specs.declared.entries.infos.NewEntry.{NewEntry}
 use Rattle.palm_store.specs.Databases.{HasNumber}
@@ -70,11 +69,7 @@ checks_of_attaching image db = attaching_checks image (store_of image) db
 
 -- whether a database can take a name's chunk
 abbrev pub checks_of_giving : List ℕ → ℕ → List Check
-checks_of_giving image name =
-    unknown (store_of image).map name
-    ∷ where_it (store_of image).map name (λ live. live.owner ≡ data_owner) OwnedByDatabase
-    ∷ where_it (store_of image).map name (λ live. live.lock ≡ fixed_lock) ChunkFixed
-    ∷ []
+checks_of_giving image name = giving_checks (store_of image).map name []
 
 abbrev pub checks_of_growth : List ℕ → ℕ → ℕ → List Check
 checks_of_growth image name size = growth_checks image (store_of image).map name size

@@ -10,7 +10,7 @@ mod creating;
 mod deleting;
 mod setting;
 
-pub(crate) use blocks::{block_of, give_block, take_block};
+pub(crate) use blocks::{block_in, find_writable_block, give_block, take_block};
 pub(crate) use clearing::{free_data, has_locked};
 pub(crate) use creating::{empty_header, list_new};
 pub(crate) use deleting::unlist;

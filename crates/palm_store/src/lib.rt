@@ -13,6 +13,6 @@ mod lookup;
 mod store;
 
 pub use entries::{EntryInfo, FoundEntry, NewEntry};
-pub use mem_manager::{DATA_OWNER, FIXED_LOCK, Locked};
+pub use mem_manager::{FIXED_LOCK, Locked, check_owner};
 pub use store::{NotAStore, Store};
 pub use store_check::{StoreFault, StoreSummary};

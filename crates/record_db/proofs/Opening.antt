@@ -2,12 +2,11 @@
 use Rattle.std.proofs.Common.{◌≡◌, ℕ, ◌<◌, Bool, true, false, List, length, Option, Some, None, refl, sym, ap, ◌∙◌}
 use Rattle.std.proofs.lemmas.Option.{slice_get_within}
 use Rattle.std.specs.Prelude.{slice_get}
-use Rattle.heap_model.specs.Database.{Entry, has_resources}
+use Rattle.heap_model.specs.Database.{Entry, has_resources, is_read_only}
 use Rattle.heap_model.specs.Store.{StoredDatabase, store_of}
 use Rattle.heap_model.specs.StoreWords.{OfDatabase, with_number}
 use Rattle.heap_model.specs.Refusals.{Check, NoneHolds}
 use Rattle.heap_model.specs.EntrySteps.{OfEntry, kind_of}
-use Rattle.heap_model.specs.RecordSteps.{is_read_only}
 use Rattle.heap_model.specs.declared.names.Db.{Db}
 use Rattle.palm_store.specs.EntryCalls.{HasDbAttributes}
 use Rattle.record_db.specs.Checks.{attribute_checks, opening_checks}

@@ -2,13 +2,13 @@
 use Rattle.std.specs.Prelude.{◌≡◌, ℕ, true, List, [], ◌∷◌}
 use Rattle.heap_model.specs.Memory.{Memory}
 use Rattle.heap_model.specs.MemorySteps.{Of, IsLocked}
-use Rattle.heap_model.specs.Database.{has_resources}
+use Rattle.heap_model.specs.Database.{has_resources, is_read_only}
 use Rattle.heap_model.specs.EntrySteps.{entry_under, OfEntry, IsInfoOf}
 use Rattle.heap_model.specs.StoreSteps.{DoesInStore}
 use Rattle.heap_model.specs.Store.{store_of}
 use Rattle.heap_model.specs.Refusals.{Check, ◌brings◌}
-use Rattle.heap_model.specs.StoreWords.{no_database}
-use Rattle.heap_model.specs.RecordSteps.{RecordCall, is_read_only, no_records, read_only, no_entry, deleted}
+use Rattle.heap_model.specs.StoreWords.{no_database, read_only}
+use Rattle.heap_model.specs.RecordSteps.{RecordCall, no_records, no_entry, deleted}
 use Rattle.heap_model.specs.declared.names.Db.{Db}
 use Rattle.heap_model.specs.declared.names.Name.{Name}
 use Rattle.heap_model.specs.declared.entry.RecordInfo.{RecordInfo}

@@ -37,6 +37,15 @@ pub(crate) fn marked_deleted(attributes: u8) -> u8
         .bits()
 }
 
+/// The attributes of a record that is dirty from now on.
+pub(crate) fn marked_dirty(attributes: u8) -> u8
+    ensures { result ≡ bit_or attributes categories.dirty_bit }
+{
+    RecordAttrs::from_bits_retain(attributes)
+        .union(RecordAttrs::DIRTY)
+        .bits()
+}
+
 /// The attributes of a record that is in use from now on.
 pub(crate) fn marked_busy(attributes: u8) -> u8
     ensures { result ≡ bit_or attributes busy_bit }
@@ -63,6 +72,13 @@ pub(crate) fn of_new_record() -> u8
     ensures { result ≡ new_attributes }
 {
     RecordAttrs::DIRTY.union(RecordAttrs::BUSY).bits()
+}
+
+/// The attributes of a record whose data was a caller's.
+pub(crate) fn of_attached_record() -> u8
+    ensures { result ≡ categories.dirty_bit }
+{
+    RecordAttrs::DIRTY.bits()
 }
 
 /// Whether a record is not deleted and of a category, or of any, for 0xFF.

@@ -11,7 +11,7 @@ use crate::checks::{Access, count_records};
 use crate::records::{find_live, find_record, has_id, has_locked, is_locked};
 use db_format::GREATEST_ID;
 use heap_model::{Db, Name, Refusal};
-use palm_store::{DATA_OWNER, EntryInfo, Store};
+use palm_store::{EntryInfo, Store, check_owner};
 
 /// Frees the data of a record. Its entry stays as that of a deleted one, with its ID.
 ///
@@ -117,9 +117,7 @@ pub fn detach(store: &mut Store, db: Db, index: u32, owner: u8) -> Result<Name, 
         (name_or_refused result) store.new }
 {
     let live = find_live(store, db, index, Access::Write)?;
-    if owner == 0 || owner >= DATA_OWNER {
-        return Err(Refusal::InvalidOwner);
-    }
+    check_owner(owner)?;
     store.entry_drop(db, index, Some(owner));
     Ok(live.data)
 }

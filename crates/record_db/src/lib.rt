@@ -10,6 +10,7 @@ mod attributes;
 mod categories;
 mod changing;
 mod checks;
+mod giving;
 mod making;
 mod records;
 mod search;
@@ -19,4 +20,5 @@ pub use categories::{
     delete_category, move_category, next_in_category, num_in_category, position_in_category,
 };
 pub use changing::{archive, delete, detach, get, move_record, release, remove, set_record_info};
+pub use giving::{attach, attach_replacing};
 pub use making::{new_record, resize_record};

@@ -1,9 +1,10 @@
 //! The info blocks of a database: chunks for data that its header names.
 
-ghost use Rattle.std.specs.Prelude.{◌≡◌, ◌<◌, ◌≤◌, ℕ, length};
+ghost use Rattle.std.specs.Prelude.{◌≡◌, ◌<◌, ◌≤◌, ℕ, length, OnOk, IfOk, IfErr};
 ghost use Rattle.heap_model.specs.DatabaseFields.{header_size};
 ghost use Rattle.heap_model.specs.Database.{Database, DatabaseFits, database_in};
 ghost use Rattle.heap_model.specs.DatabaseSteps.{info_block, info_block_set, info_block_taken};
+ghost use Rattle.heap_model.specs.Refusals.{NoneHolds, FirstBrings};
 ghost use Rattle.heap_model.specs.EntrySteps.{raised, LeavesStore, MakesNone};
 ghost use Rattle.heap_model.specs.Leaving.{database_here};
 ghost use Rattle.heap_model.specs.Store.{Accepted, store_of};
@@ -13,11 +14,11 @@ ghost use Rattle.palm_store.specs.Databases.{HasNumber};
 ghost use Rattle.palm_store.specs.EntryCalls.{MayBeGiven};
 ghost use Rattle.palm_store.specs.EntryInfos.{MayOwn};
 ghost use Rattle.palm_store.specs.InfoBlocks as blocks;
-ghost use Rattle.palm_store.specs.InfoBlocks.{block_of_image};
+ghost use Rattle.palm_store.specs.InfoBlocks.{block_of_image, writing_checks};
 
-use crate::lookup::header_of;
-use db_format::{DbHeader, app_info, sort_info};
-use heap_model::{Db, Name, Which};
+use crate::lookup::{find_header, header_of};
+use db_format::{DbAttrs, DbHeader, app_info, attributes, sort_info};
+use heap_model::{Db, Name, Refusal, Which};
 use mem_manager::{DATA_OWNER, Heap};
 
 /// The name of an info block of a database, or `Name(0)` where there is none.
@@ -29,8 +30,25 @@ pub(crate) fn block_of(heap: &Heap, db: Db, which: Which) -> Name
     Name(block_in(header_of(heap, db), which))
 }
 
+/// The name of an info block of a database that may be written, or `Name(0)` where there is none.
+///
+/// Refused: `NoSuchDatabase`, `ReadOnly`.
+pub(crate) fn find_writable_block(heap: &Heap, db: Db, which: Which) -> Result<Name, Refusal>
+    requires accepted { Accepted heap.now.bytes }
+    ensures known { OnOk result (HasNumber heap.now.bytes db.0) }
+    ensures is { IfOk result (λ name. name.0 ≡ block_of_image heap.now.bytes db which) }
+    ensures passes { OnOk result (NoneHolds (writing_checks heap.now.bytes db)) }
+    ensures refused { IfErr result (FirstBrings (writing_checks heap.now.bytes db)) }
+{
+    let header = find_header(heap, db)?;
+    if DbAttrs(attributes(header)).is_read_only() {
+        return Err(Refusal::ReadOnly);
+    }
+    Ok(Name(block_in(header, which)))
+}
+
 /// The slot of an info block in the bytes of a database, or 0.
-fn block_in(body: &[u8], which: Which) -> u32
+pub(crate) fn block_in(body: &[u8], which: Which) -> u32
     requires { header_size ≤ length body.now }
     ensures { result ≡ info_block which (database_in body.now) }
 {

@@ -1,0 +1,58 @@
+//! Records whose data a caller's chunk becomes.
+
+ghost use Rattle.heap_model.specs.declared.call.RecordCall.{RecordCall};
+ghost use Rattle.palm_store.specs.Replies.{name_or_refused, number_or_refused};
+ghost use Rattle.record_db.specs.Checks.{DoesRecord};
+
+use crate::attributes::{marked_dirty, of_attached_record};
+use crate::checks::{Access, count_records};
+use crate::records::find_live;
+use heap_model::{Db, Name, Refusal};
+use palm_store::{EntryInfo, NewEntry, Store, check_owner};
+
+/// Makes a caller's chunk the data of a new record at an index, or behind the last record where there are not
+/// so many. The chunk keeps its lock. The record is dirty, of category 0, and gets a fresh ID. Its index is
+/// answered.
+///
+/// Refused: `NoSuchDatabase`, `NotRecordDatabase`, `ReadOnly`; `InvalidHandle`, `OwnedByDatabase` and `ChunkFixed`,
+/// where the chunk can't be given; `TooManyEntries`, where there are 65,535 records; `NotEnoughSpace`, where room
+/// for one entry more can run out.
+pub fn attach(store: &mut Store, db: Db, at: u32, name: Name) -> Result<u32, Refusal>
+    ensures { DoesRecord store.old (RecordCall.Attach db at name)
+        (number_or_refused result) store.new }
+{
+    let count = count_records(store, db, Access::Write)?;
+    store.check_given(name)?;
+    let index = at.min(count);
+    let entry = NewEntry::Record {
+        attributes: of_attached_record(),
+    };
+    store.entry_attach(db, index, entry, name)?;
+    Ok(index)
+}
+
+/// Makes a caller's chunk the data of a record, and hands the data that this had over to an owner, 1 to 14. Both
+/// chunks keep their locks, and the record its ID; it is dirty. The name of what was its data is answered.
+///
+/// Refused: `NoSuchDatabase`, `NotRecordDatabase`, `ReadOnly`, `IndexOutOfRange`, `RecordDeleted`; `InvalidHandle`,
+/// `OwnedByDatabase` and `ChunkFixed`, where the chunk can't be given; `InvalidOwner`.
+pub fn attach_replacing(
+    store: &mut Store,
+    db: Db,
+    index: u32,
+    name: Name,
+    owner: u8,
+) -> Result<Name, Refusal>
+    ensures { DoesRecord store.old (RecordCall.AttachReplacing db index name owner)
+        (name_or_refused result) store.new }
+{
+    let live = find_live(store, db, index, Access::Write)?;
+    store.check_given(name)?;
+    check_owner(owner)?;
+    let dirty = EntryInfo::Record {
+        attributes: marked_dirty(live.attributes),
+        id: live.id,
+    };
+    store.entry_swap(db, index, dirty, name, owner);
+    Ok(live.data)
+}
