@@ -2,6 +2,7 @@
 use Rattle.std.proofs.Common.{◌≡◌, ◌≢◌, ◌+◌, ℕ, if◌then◌else◌, List, [], ◌∷◌, ◌++◌, Bool, true, false, refl, ap, sym, ◌∙◌, append_assoc, append-nil}
 use Rattle.std.specs.Prelude.{Option, Some, None, Ok, Err, ◌^◌}
 use Rattle.std.specs.Option.{option_map, option_map_or}
+use Rattle.heap_model.specs.declared.names.Which as names
 use Rattle.script_lines.specs.declared.fault.ScriptFault.TheVariants.{BadWord}
 use Rattle.script_lines.specs.declared.line.ChunkLabel.{ChunkLabel}
 use Rattle.script_lines.specs.declared.line.DatabaseLabel.{DatabaseLabel}
@@ -15,14 +16,14 @@ use Rattle.script_lines.specs.declared.database_command.DatabaseCommand.TheVaria
 use Rattle.script_lines.specs.declared.record_command.RecordCommand.{RecordCommand}
 use Rattle.script_lines.specs.declared.record_command.RecordCommand.TheVariants as records
 use Rattle.script_lines.specs.declared.value.Kind.{Kind}
-use Rattle.script_lines.specs.declared.value.Kind.TheVariants.{Chunk, Database, Byte, Short, Number, Flag, FourBytes, Bytes, Text}
+use Rattle.script_lines.specs.declared.value.Kind.TheVariants.{Chunk, Database, Byte, Short, Number, Flag, Which, FourBytes, Bytes, Text}
 use Rattle.script_lines.specs.declared.value.Value.{Value}
-use Rattle.script_lines.specs.declared.value.Value.TheVariants.{Chunk as ChunkValue, Database as DatabaseValue, Byte as ByteValue, Short as ShortValue, Number as NumberValue, Flag as FlagValue, FourBytes as FourBytesValue}
+use Rattle.script_lines.specs.declared.value.Value.TheVariants.{Chunk as ChunkValue, Database as DatabaseValue, Byte as ByteValue, Short as ShortValue, Number as NumberValue, Flag as FlagValue, Which as WhichValue, FourBytes as FourBytesValue}
 use Rattle.script_lines.specs.Commands.{Makes, memory_row, database_row, record_row, row_of, kinds_of, line_by, line_of}
 use Rattle.script_lines.specs.Kinds.{WordsRead, read_word, read_words, with_bytes, with_chunk, with_database, with_value}
 use Rattle.script_lines.specs.Numbering.{Numberings, label_number}
 use Rattle.script_lines.specs.Reading.{none_read}
-use Rattle.script_lines.specs.Spellings.{is_label, number_below, spelled_bytes, spelled_text, spelled_flag, spelled_four}
+use Rattle.script_lines.specs.Spellings.{is_label, number_below, spelled_bytes, spelled_text, spelled_flag, spelled_which, spelled_four}
 
 -- the values that words of some kinds stand for: one for each word, but none for bytes or text
 abbrev pub AreOfKinds : List Kind → List Value → Type 0
@@ -33,6 +34,7 @@ AreOfKinds (Byte ∷ kinds) values = (byte : ℕ) × (more : List Value) × (val
 AreOfKinds (Short ∷ kinds) values = (number : ℕ) × (more : List Value) × (values ≡ ShortValue number ∷ more) × AreOfKinds kinds more
 AreOfKinds (Number ∷ kinds) values = (number : ℕ) × (more : List Value) × (values ≡ NumberValue number ∷ more) × AreOfKinds kinds more
 AreOfKinds (Flag ∷ kinds) values = (is_set : Bool) × (more : List Value) × (values ≡ FlagValue is_set ∷ more) × AreOfKinds kinds more
+AreOfKinds (Which ∷ kinds) values = (which : names.Which) × (more : List Value) × (values ≡ WhichValue which ∷ more) × AreOfKinds kinds more
 AreOfKinds (FourBytes ∷ kinds) values = (number : ℕ) × (more : List Value) × (values ≡ FourBytesValue number ∷ more) × AreOfKinds kinds more
 AreOfKinds (Bytes ∷ kinds) values = AreOfKinds kinds values
 AreOfKinds (Text ∷ kinds) values = AreOfKinds kinds values
@@ -46,6 +48,7 @@ line_made (Byte ∷ kinds) make values bytes (byte, more, is, fit) = rw is (line
 line_made (Short ∷ kinds) make values bytes (number, more, is, fit) = rw is (line_made kinds (make number) more bytes fit)
 line_made (Number ∷ kinds) make values bytes (number, more, is, fit) = rw is (line_made kinds (make number) more bytes fit)
 line_made (Flag ∷ kinds) make values bytes (is_set, more, is, fit) = rw is (line_made kinds (make is_set) more bytes fit)
+line_made (Which ∷ kinds) make values bytes (which, more, is, fit) = rw is (line_made kinds (make which) more bytes fit)
 line_made (FourBytes ∷ kinds) make values bytes (number, more, is, fit) = rw is (line_made kinds (make number) more bytes fit)
 line_made (Bytes ∷ kinds) make values bytes fit = line_made kinds (make bytes) values bytes fit
 line_made (Text ∷ kinds) make values bytes fit = line_made kinds (make bytes) values bytes fit
@@ -104,6 +107,9 @@ word_adds read next Number word is =
 word_adds read next Flag word is =
     let (is_set, same) = mapped (λ is_set. with_value read (FlagValue is_set)) (spelled_flag word) next is in
     (FlagValue is_set ∷ [], ap (λ (r : WordsRead). r.values) same, λ kinds more fit. (is_set, more, refl, fit))
+word_adds read next Which word is =
+    let (which, same) = mapped (λ which. with_value read (WhichValue which)) (spelled_which word) next is in
+    (WhichValue which ∷ [], ap (λ (r : WordsRead). r.values) same, λ kinds more fit. (which, more, refl, fit))
 word_adds read next FourBytes word is =
     let (number, same) = mapped (λ number. with_value read (FourBytesValue number)) (spelled_four word) next is in
     (FourBytesValue number ∷ [], ap (λ (r : WordsRead). r.values) same, λ kinds more fit. (number, more, refl, fit))

@@ -3,6 +3,7 @@ use Rattle.std.specs.Prelude.{ℕ, Bool, List, [], ◌∷◌, ◌++◌, map, tak
 use Rattle.std.specs.List.{find}
 use Rattle.std.specs.Str.{bytes_eq}
 use Rattle.heap_model.specs.DatabaseFields.{name_size}
+use Rattle.heap_model.specs.declared.names.Which.{Which}
 use Rattle.heap_model.specs.declared.call.Call.{Call}
 use Rattle.heap_model.specs.declared.call.Call.TheVariants as calls
 use Rattle.heap_model.specs.declared.call.MemoryCall.{MemoryCall}
@@ -21,7 +22,7 @@ use Rattle.script_lines.specs.declared.command.Command.TheVariants.{Memory, Data
 use Rattle.script_lines.specs.declared.memory_command.MemoryCommand.{MemoryCommand}
 use Rattle.script_lines.specs.declared.memory_command.MemoryCommand.TheVariants.{Bind, New, PtrNew, Free, Resize, SetOwner, Lock, Unlock, Size, Owner, Locks, Read, Write, Set, StrCopy, FreeByOwner, FreeBytes, Largest, Compact}
 use Rattle.script_lines.specs.declared.database_command.DatabaseCommand.{DatabaseCommand}
-use Rattle.script_lines.specs.declared.database_command.DatabaseCommand.TheVariants.{Create, Find, Nth, Count, Delete, Info, SetInfo}
+use Rattle.script_lines.specs.declared.database_command.DatabaseCommand.TheVariants.{Create, Find, Nth, Count, Delete, Info, SetInfo, SetInfoBlock, TakeInfoBlock, InfoBlock}
 use Rattle.script_lines.specs.declared.record_command.RecordCommand.{RecordCommand}
 use Rattle.script_lines.specs.declared.record_command.RecordCommand.TheVariants as records
 use Rattle.script_lines.specs.declared.value.Kind.{Kind}
@@ -38,6 +39,7 @@ Makes (kinds.Byte ∷ behind) = ℕ → Makes behind
 Makes (kinds.Short ∷ behind) = ℕ → Makes behind
 Makes (kinds.Number ∷ behind) = ℕ → Makes behind
 Makes (kinds.Flag ∷ behind) = Bool → Makes behind
+Makes (kinds.Which ∷ behind) = Which → Makes behind
 Makes (kinds.FourBytes ∷ behind) = ℕ → Makes behind
 Makes (kinds.Bytes ∷ behind) = List ℕ → Makes behind
 Makes (kinds.Text ∷ behind) = List ℕ → Makes behind
@@ -52,6 +54,7 @@ line_by (kinds.Byte ∷ behind) make (values.Byte byte ∷ more) bytes = line_by
 line_by (kinds.Short ∷ behind) make (values.Short number ∷ more) bytes = line_by behind (make number) more bytes
 line_by (kinds.Number ∷ behind) make (values.Number number ∷ more) bytes = line_by behind (make number) more bytes
 line_by (kinds.Flag ∷ behind) make (values.Flag is_set ∷ more) bytes = line_by behind (make is_set) more bytes
+line_by (kinds.Which ∷ behind) make (values.Which which ∷ more) bytes = line_by behind (make which) more bytes
 line_by (kinds.FourBytes ∷ behind) make (values.FourBytes number ∷ more) bytes = line_by behind (make number) more bytes
 line_by (kinds.Bytes ∷ behind) make more bytes = line_by behind (make bytes) more bytes
 line_by (kinds.Text ∷ behind) make more bytes = line_by behind (make bytes) more bytes
@@ -75,10 +78,10 @@ LineCall = Call ChunkLabel DatabaseLabel
 abbrev pub in_memory : MemoryCall ChunkLabel → LineCall
 in_memory call = calls.Memory call
 
-abbrev pub on_databases : DatabaseCall DatabaseLabel → LineCall
+abbrev pub on_databases : DatabaseCall ChunkLabel DatabaseLabel → LineCall
 on_databases call = calls.Database call
 
-abbrev pub on_records : RecordCall DatabaseLabel → LineCall
+abbrev pub on_records : RecordCall ChunkLabel DatabaseLabel → LineCall
 on_records call = calls.Record call
 
 abbrev pub memory_row : MemoryCommand → CommandRow
@@ -144,6 +147,9 @@ database_row Count = row (codes "dbcount") [] (Print (on_databases database.Coun
 database_row Delete = row (codes "dbdelete") (kinds.Database ∷ []) (λ db. Print (on_databases (database.Delete db)))
 database_row Info = row (codes "dbinfo") (kinds.Database ∷ []) (λ db. Print (on_databases (database.Info db)))
 database_row SetInfo = row (codes "dbset") info_kinds info_set
+database_row SetInfoBlock = row (codes "infoset") (kinds.Database ∷ kinds.Which ∷ kinds.Chunk ∷ []) (λ db which name. Print (on_databases (database.SetInfoBlock db which name)))
+database_row TakeInfoBlock = row (codes "infotake") (kinds.Database ∷ kinds.Which ∷ kinds.Byte ∷ kinds.Chunk ∷ []) (λ db which owner label. BindChunk label (on_databases (database.TakeInfoBlock db which owner)))
+database_row InfoBlock = row (codes "info") (kinds.Database ∷ kinds.Which ∷ kinds.Chunk ∷ []) (λ db which label. BindChunk label (on_databases (database.InfoBlock db which)))
 
 abbrev pub record_row : RecordCommand → CommandRow
 record_row records.New = row (codes "recnew") (kinds.Database ∷ kinds.Number ∷ kinds.Number ∷ kinds.Chunk ∷ []) (λ db at size label. BindChunk label (on_records (record_calls.New db at size)))
@@ -157,6 +163,8 @@ record_row records.Release = row (codes "recrelease") (kinds.Database ∷ kinds.
 record_row records.Info = row (codes "recinfo") (kinds.Database ∷ kinds.Number ∷ []) (λ db index. Print (on_records (record_calls.Info db index)))
 record_row records.Resize = row (codes "recresize") (kinds.Database ∷ kinds.Number ∷ kinds.Number ∷ []) (λ db index size. Print (on_records (record_calls.Resize db index size)))
 record_row records.Count = row (codes "reccount") (kinds.Database ∷ []) (λ db. Print (on_records (record_calls.Count db)))
+record_row records.Attach = row (codes "recattach") (kinds.Database ∷ kinds.Number ∷ kinds.Chunk ∷ []) (λ db at name. Print (on_records (record_calls.Attach db at name)))
+record_row records.AttachReplacing = row (codes "recreplace") (kinds.Database ∷ kinds.Number ∷ kinds.Chunk ∷ kinds.Byte ∷ kinds.Chunk ∷ []) (λ db index name owner label. BindChunk label (on_records (record_calls.AttachReplacing db index name owner)))
 record_row records.Detach = row (codes "recdetach") (kinds.Database ∷ kinds.Number ∷ kinds.Byte ∷ kinds.Chunk ∷ []) (λ db index owner label. BindChunk label (on_records (record_calls.Detach db index owner)))
 record_row records.SetInfo = row (codes "recset") (kinds.Database ∷ kinds.Number ∷ kinds.Byte ∷ kinds.Number ∷ []) (λ db index attributes id. Print (on_records (record_calls.SetInfo db index attributes id)))
 record_row records.Find = row (codes "recfind") (kinds.Database ∷ kinds.Number ∷ []) (λ db id. Print (on_records (record_calls.FindById db id)))
@@ -186,10 +194,10 @@ abbrev pub memory_commands : List MemoryCommand
 memory_commands = Bind ∷ New ∷ PtrNew ∷ Free ∷ Resize ∷ SetOwner ∷ Lock ∷ Unlock ∷ Size ∷ Owner ∷ Locks ∷ Read ∷ Write ∷ Set ∷ StrCopy ∷ FreeByOwner ∷ FreeBytes ∷ Largest ∷ Compact ∷ []
 
 abbrev pub database_commands : List DatabaseCommand
-database_commands = Create ∷ Find ∷ Nth ∷ Count ∷ Delete ∷ Info ∷ SetInfo ∷ []
+database_commands = Create ∷ Find ∷ Nth ∷ Count ∷ Delete ∷ Info ∷ SetInfo ∷ SetInfoBlock ∷ TakeInfoBlock ∷ InfoBlock ∷ []
 
 abbrev pub record_commands : List RecordCommand
-record_commands = records.New ∷ records.Delete ∷ records.Archive ∷ records.Remove ∷ records.Move ∷ records.Get ∷ records.Query ∷ records.Release ∷ records.Info ∷ records.Resize ∷ records.Count ∷ records.Detach ∷ records.SetInfo ∷ records.Find ∷ records.CountInCategory ∷ records.NextInCategory ∷ records.PositionInCategory ∷ records.MoveCategory ∷ records.DeleteCategory ∷ []
+record_commands = records.New ∷ records.Delete ∷ records.Archive ∷ records.Remove ∷ records.Move ∷ records.Get ∷ records.Query ∷ records.Release ∷ records.Info ∷ records.Resize ∷ records.Count ∷ records.Attach ∷ records.AttachReplacing ∷ records.Detach ∷ records.SetInfo ∷ records.Find ∷ records.CountInCategory ∷ records.NextInCategory ∷ records.PositionInCategory ∷ records.MoveCategory ∷ records.DeleteCategory ∷ []
 
 abbrev pub commands : List Command
 commands = map Memory memory_commands ++ map Database database_commands ++ map Record record_commands

@@ -4,11 +4,11 @@ use Rattle.std.specs.Option.{option_map, option_map_or}
 use Rattle.script_lines.specs.declared.fault.ScriptFault.{ScriptFault}
 use Rattle.script_lines.specs.declared.fault.ScriptFault.TheVariants.{WrongCount, BadWord}
 use Rattle.script_lines.specs.declared.value.Kind.{Kind}
-use Rattle.script_lines.specs.declared.value.Kind.TheVariants.{Chunk, Database, Byte, Short, Number, Flag, Bytes, Text, FourBytes}
+use Rattle.script_lines.specs.declared.value.Kind.TheVariants.{Chunk, Database, Byte, Short, Number, Flag, Which, Bytes, Text, FourBytes}
 use Rattle.script_lines.specs.declared.value.Value.{Value}
-use Rattle.script_lines.specs.declared.value.Value.TheVariants.{Chunk as ChunkValue, Database as DatabaseValue, Byte as ByteValue, Short as ShortValue, Number as NumberValue, Flag as FlagValue, FourBytes as FourBytesValue}
+use Rattle.script_lines.specs.declared.value.Value.TheVariants.{Chunk as ChunkValue, Database as DatabaseValue, Byte as ByteValue, Short as ShortValue, Number as NumberValue, Flag as FlagValue, Which as WhichValue, FourBytes as FourBytesValue}
 use Rattle.script_lines.specs.Numbering.{Numberings, label_number, with_chunk_label, with_database_label}
-use Rattle.script_lines.specs.Spellings.{is_label, number_below, spelled_bytes, spelled_text, spelled_flag, spelled_four}
+use Rattle.script_lines.specs.Spellings.{is_label, number_below, spelled_bytes, spelled_text, spelled_flag, spelled_which, spelled_four}
 
 -- what was read of a line so far: the values of its words; the bytes of its word of bytes or text,
 -- of which no line has two; and the labels that have appeared in the script
@@ -60,6 +60,7 @@ read_word read Short word =
 read_word read Number word =
     option_map (λ number. with_value read (NumberValue number)) (number_below (2 ^ 32) word)
 read_word read Flag word = option_map (λ is_set. with_value read (FlagValue is_set)) (spelled_flag word)
+read_word read Which word = option_map (λ which. with_value read (WhichValue which)) (spelled_which word)
 read_word read FourBytes word =
     option_map (λ number. with_value read (FourBytesValue number)) (spelled_four word)
 read_word read Bytes word = option_map (with_bytes read) (spelled_bytes word)

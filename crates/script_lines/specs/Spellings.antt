@@ -7,6 +7,8 @@ use Rattle.std.specs.Char.{is_ascii_alphabetic, is_ascii_digit}
 use Rattle.std.specs.Str.{bytes_eq}
 use Rattle.hex.specs.Hex.{decode_of}
 use Rattle.heap_model.specs.Bytes.{u32_at}
+use Rattle.heap_model.specs.declared.names.Which.{Which}
+use Rattle.heap_model.specs.declared.names.Which.TheVariants.{App, Sort}
 use Rattle.palm_text.specs.Pieces.{is_printable}
 
 -- a letter, a digit or `_`
@@ -89,4 +91,11 @@ abbrev pub spelled_flag : List ℕ → Option Bool
 spelled_flag word =
     if bytes_eq word (codes "0") then Some false
     else if bytes_eq word (codes "1") then Some true
+    else None
+
+-- an info block: `app` or `sort`
+abbrev pub spelled_which : List ℕ → Option Which
+spelled_which word =
+    if bytes_eq word (codes "app") then Some App
+    else if bytes_eq word (codes "sort") then Some Sort
     else None

@@ -6,11 +6,11 @@ ghost use Rattle.script_lines.specs.Commands as tables;
 ghost use Rattle.script_lines.specs.Commands.{command_of, line_by};
 ghost use Rattle.script_lines.specs.Commands.{created, creation_kinds, info_kinds, info_set};
 ghost use Rattle.script_lines.specs.declared.command.Command.TheVariants.{Database as OfDatabases};
-ghost use Rattle.script_lines.specs.declared.line.Line.TheVariants.{BindDatabase, Print};
+ghost use Rattle.script_lines.specs.declared.line.Line.TheVariants.{BindChunk, BindDatabase, Print};
 
 use crate::command::{Command, CommandRow, line_if, row};
-use crate::line::{DatabaseLabel, Line};
-use crate::value::Value::{Database, Flag, FourBytes, Number, Short};
+use crate::line::{ChunkLabel, DatabaseLabel, Line};
+use crate::value::Value::{Byte, Chunk, Database, Flag, FourBytes, Number, Short, Which};
 use crate::value::{Kind, Value};
 use heap_model::{Call, DatabaseCall, DbInfo, DbName};
 
@@ -24,10 +24,13 @@ pub(crate) enum DatabaseCommand {
     Delete,
     Info,
     SetInfo,
+    SetInfoBlock,
+    TakeInfoBlock,
+    InfoBlock,
 }
 
 /// Every one of them.
-pub(crate) const DATABASE_COMMANDS: [Command; 7] = [
+pub(crate) const DATABASE_COMMANDS: [Command; 10] = [
     Command::Database(DatabaseCommand::Create),
     Command::Database(DatabaseCommand::Find),
     Command::Database(DatabaseCommand::Nth),
@@ -35,6 +38,9 @@ pub(crate) const DATABASE_COMMANDS: [Command; 7] = [
     Command::Database(DatabaseCommand::Delete),
     Command::Database(DatabaseCommand::Info),
     Command::Database(DatabaseCommand::SetInfo),
+    Command::Database(DatabaseCommand::SetInfoBlock),
+    Command::Database(DatabaseCommand::TakeInfoBlock),
+    Command::Database(DatabaseCommand::InfoBlock),
 ];
 
 // What the words behind a command may be.
@@ -43,6 +49,15 @@ const NOTHING: &[Kind] = &[];
 const DATABASE: &[Kind] = &[Kind::Database];
 
 const DATABASE_NUMBER: &[Kind] = &[Kind::Database, Kind::Number];
+
+const DATABASE_WHICH_CHUNK: &[Kind] = &[Kind::Database, Kind::Which, Kind::Chunk];
+
+const DATABASE_WHICH_BYTE_CHUNK: &[Kind] = &[
+    Kind::Database,
+    Kind::Which,
+    Kind::Byte,
+    Kind::Chunk,
+];
 
 const DATABASE_TEXT: &[Kind] = &[Kind::Database, Kind::Text];
 
@@ -82,21 +97,31 @@ pub(crate) fn database_row(command: DatabaseCommand) -> CommandRow
         DatabaseCommand::Delete => row(b"dbdelete", DATABASE),
         DatabaseCommand::Info => row(b"dbinfo", DATABASE),
         DatabaseCommand::SetInfo => row(b"dbset", INFO),
+        DatabaseCommand::SetInfoBlock => row(b"infoset", DATABASE_WHICH_CHUNK),
+        DatabaseCommand::TakeInfoBlock => row(b"infotake", DATABASE_WHICH_BYTE_CHUNK),
+        DatabaseCommand::InfoBlock => row(b"info", DATABASE_WHICH_CHUNK),
     }
 }
 
 /// A line that prints what a call answers.
-fn printed(call: DatabaseCall<DatabaseLabel>) -> Line
+fn printed(call: DatabaseCall<ChunkLabel, DatabaseLabel>) -> Line
     ensures { result ≡ Print (calls.Database call) }
 {
     Line::Print(Call::Database(call))
 }
 
 /// A line that binds a label to the database that a call answers.
-fn bound(label: DatabaseLabel, call: DatabaseCall<DatabaseLabel>) -> Line
+fn bound(label: DatabaseLabel, call: DatabaseCall<ChunkLabel, DatabaseLabel>) -> Line
     ensures { result ≡ BindDatabase label (calls.Database call) }
 {
     Line::BindDatabase(label, Call::Database(call))
+}
+
+/// A line that binds a label to the chunk that a call answers.
+fn bound_to_chunk(label: ChunkLabel, call: DatabaseCall<ChunkLabel, DatabaseLabel>) -> Line
+    ensures { result ≡ BindChunk label (calls.Database call) }
+{
+    Line::BindChunk(label, Call::Database(call))
 }
 
 /// The line of `create`, if some values are of its kinds.
@@ -178,5 +203,14 @@ pub(crate) fn make_database_line(
         DatabaseCommand::Info =>
             line_if!(values, &[Database(db)] => printed(DatabaseCall::Info(db))),
         DatabaseCommand::SetInfo => info_line(values, text),
+        DatabaseCommand::SetInfoBlock => line_if!(values,
+            &[Database(db), Which(which), Chunk(name)] =>
+            printed(DatabaseCall::SetInfoBlock { db, which, name })),
+        DatabaseCommand::TakeInfoBlock => line_if!(values,
+            &[Database(db), Which(which), Byte(owner), Chunk(label)] =>
+            bound_to_chunk(label, DatabaseCall::TakeInfoBlock { db, which, owner })),
+        DatabaseCommand::InfoBlock => line_if!(values,
+            &[Database(db), Which(which), Chunk(label)] =>
+            bound_to_chunk(label, DatabaseCall::InfoBlock(db, which))),
     }
 }

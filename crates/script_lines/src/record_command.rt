@@ -27,6 +27,8 @@ pub(crate) enum RecordCommand {
     Info,
     Resize,
     Count,
+    Attach,
+    AttachReplacing,
     Detach,
     SetInfo,
     Find,
@@ -38,7 +40,7 @@ pub(crate) enum RecordCommand {
 }
 
 /// Every one of them.
-pub(crate) const RECORD_COMMANDS: [Command; 19] = [
+pub(crate) const RECORD_COMMANDS: [Command; 21] = [
     Command::Record(RecordCommand::New),
     Command::Record(RecordCommand::Delete),
     Command::Record(RecordCommand::Archive),
@@ -50,6 +52,8 @@ pub(crate) const RECORD_COMMANDS: [Command; 19] = [
     Command::Record(RecordCommand::Info),
     Command::Record(RecordCommand::Resize),
     Command::Record(RecordCommand::Count),
+    Command::Record(RecordCommand::Attach),
+    Command::Record(RecordCommand::AttachReplacing),
     Command::Record(RecordCommand::Detach),
     Command::Record(RecordCommand::SetInfo),
     Command::Record(RecordCommand::Find),
@@ -87,6 +91,14 @@ const DATABASE_NUMBER_BYTE_CHUNK: &[Kind] = &[
 
 const DATABASE_NUMBER_CHUNK: &[Kind] = &[Kind::Database, Kind::Number, Kind::Chunk];
 
+const DATABASE_NUMBER_CHUNK_BYTE_CHUNK: &[Kind] = &[
+    Kind::Database,
+    Kind::Number,
+    Kind::Chunk,
+    Kind::Byte,
+    Kind::Chunk,
+];
+
 const DATABASE_NUMBER_FLAG: &[Kind] = &[Kind::Database, Kind::Number, Kind::Flag];
 
 const DATABASE_TWO_NUMBERS: &[Kind] = &[Kind::Database, Kind::Number, Kind::Number];
@@ -117,6 +129,8 @@ pub(crate) fn record_row(command: RecordCommand) -> CommandRow
         RecordCommand::Info => row(b"recinfo", DATABASE_NUMBER),
         RecordCommand::Resize => row(b"recresize", DATABASE_TWO_NUMBERS),
         RecordCommand::Count => row(b"reccount", DATABASE),
+        RecordCommand::Attach => row(b"recattach", DATABASE_NUMBER_CHUNK),
+        RecordCommand::AttachReplacing => row(b"recreplace", DATABASE_NUMBER_CHUNK_BYTE_CHUNK),
         RecordCommand::Detach => row(b"recdetach", DATABASE_NUMBER_BYTE_CHUNK),
         RecordCommand::SetInfo => row(b"recset", DATABASE_NUMBER_BYTE_NUMBER),
         RecordCommand::Find => row(b"recfind", DATABASE_NUMBER),
@@ -129,14 +143,14 @@ pub(crate) fn record_row(command: RecordCommand) -> CommandRow
 }
 
 /// A line that prints what a call answers.
-fn printed(call: RecordCall<DatabaseLabel>) -> Line
+fn printed(call: RecordCall<ChunkLabel, DatabaseLabel>) -> Line
     ensures { result ≡ Print (calls.Record call) }
 {
     Line::Print(Call::Record(call))
 }
 
 /// A line that binds a label to the chunk that a call answers.
-fn bound(label: ChunkLabel, call: RecordCall<DatabaseLabel>) -> Line
+fn bound(label: ChunkLabel, call: RecordCall<ChunkLabel, DatabaseLabel>) -> Line
     ensures { result ≡ BindChunk label (calls.Record call) }
 {
     Line::BindChunk(label, Call::Record(call))
@@ -169,6 +183,11 @@ pub(crate) fn make_record_line(command: RecordCommand, values: &[Value]) -> Opti
         RecordCommand::Resize => line_if!(values, &[Database(db), Number(index), Number(size)] =>
             printed(RecordCall::Resize { db, index, size })),
         RecordCommand::Count => line_if!(values, &[Database(db)] => printed(RecordCall::Count(db))),
+        RecordCommand::Attach => line_if!(values, &[Database(db), Number(at), Chunk(name)] =>
+            printed(RecordCall::Attach { db, at, name })),
+        RecordCommand::AttachReplacing => line_if!(values,
+            &[Database(db), Number(index), Chunk(name), Byte(owner), Chunk(label)] =>
+            bound(label, RecordCall::AttachReplacing { db, index, name, owner })),
         RecordCommand::Detach => line_if!(values,
             &[Database(db), Number(index), Byte(owner), Chunk(label)] =>
             bound(label, RecordCall::Detach { db, index, owner })),

@@ -6,10 +6,10 @@ ghost use Rattle.std.specs.List.{list_all};
 ghost use Rattle.script_lines.specs.Spellings as spellings;
 ghost use Rattle.script_lines.specs.Spellings.{below, number_behind, number_below, hex_bytes};
 ghost use Rattle.script_lines.specs.Spellings.{is_quoted, spelled_bytes, spelled_text};
-ghost use Rattle.script_lines.specs.Spellings.{spelled_flag, spelled_four};
+ghost use Rattle.script_lines.specs.Spellings.{spelled_flag, spelled_four, spelled_which};
 
 use byteorder::{BigEndian, ByteOrder};
-use heap_model::{Allowance, Bytes};
+use heap_model::{Allowance, Bytes, Which};
 use palm_text::are_printable;
 use std::alloc::AllocError;
 
@@ -116,6 +116,17 @@ pub(crate) fn flag_of(word: &[u8]) -> Option<bool>
     match word {
         b"0" => Some(false),
         b"1" => Some(true),
+        _ => None,
+    }
+}
+
+/// The info block that a word names.
+pub(crate) fn which_of(word: &[u8]) -> Option<Which>
+    ensures { result ≡ spelled_which word.now }
+{
+    match word {
+        b"app" => Some(Which::App),
+        b"sort" => Some(Which::Sort),
         _ => None,
     }
 }

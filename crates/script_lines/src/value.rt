@@ -7,9 +7,9 @@ ghost use Rattle.script_lines.specs.Views.{Adds, words_read};
 use crate::label::LabelTables;
 use crate::line::{ChunkLabel, DatabaseLabel};
 use crate::spelling::{
-    byte_of, bytes_of, flag_of, four_bytes_of, is_label, number_of, short_of, text_of,
+    byte_of, bytes_of, flag_of, four_bytes_of, is_label, number_of, short_of, text_of, which_of,
 };
-use heap_model::{Allowance, Bytes};
+use heap_model::{Allowance, Bytes, Which};
 use std::alloc::{AllocError, Global};
 
 /// What a word of a command is to be.
@@ -27,6 +27,8 @@ pub(crate) enum Kind {
     Number,
     /// `0` or `1`.
     Flag,
+    /// `app` or `sort`.
+    Which,
     /// A type or a creator: a text of four bytes.
     FourBytes,
     /// An even number of hex digits, at least two, or `-` for no bytes.
@@ -44,6 +46,7 @@ pub(crate) enum Value {
     Short(u16),
     Number(u32),
     Flag(bool),
+    Which(Which),
     /// The four bytes as a number.
     FourBytes(u32),
 }
@@ -173,6 +176,7 @@ impl Values {
             Kind::Short => self.add_value(memory, short_of(word).map(Value::Short)),
             Kind::Number => self.add_value(memory, number_of(word).map(Value::Number)),
             Kind::Flag => self.add_value(memory, flag_of(word).map(Value::Flag)),
+            Kind::Which => self.add_value(memory, which_of(word).map(Value::Which)),
             Kind::FourBytes => self.add_value(memory, four_bytes_of(word).map(Value::FourBytes)),
             Kind::Bytes => Ok(self.add_bytes(bytes_of(memory, word)?)),
             Kind::Text => Ok(self.add_bytes(text_of(memory, word)?)),
