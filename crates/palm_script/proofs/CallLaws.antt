@@ -13,11 +13,11 @@ memory_call-same : (call : MemoryCall) → memory_call (λ name. name) call ≡ 
 memory_call-same FreeBytes = refl
 memory_call-same call = refl
 
-database_call-same : (call : DatabaseCall) → database_call (λ db. db) call ≡ call
+database_call-same : (call : DatabaseCall) → database_call (λ name. name) (λ db. db) call ≡ call
 database_call-same databases.Count = refl
 database_call-same call = refl
 
-record_call-same : (call : RecordCall) → record_call (λ db. db) call ≡ call
+record_call-same : (call : RecordCall) → record_call (λ name. name) (λ db. db) call ≡ call
 record_call-same (records.Count db) = refl
 record_call-same call = refl
 

@@ -78,18 +78,20 @@ pub(crate) fn do_given<C: Given<Name>, D: Given<Db>>(
 {
     match call {
         Call::Memory(call) => do_memory_call(store, names, call),
-        Call::Database(call) => Replied(do_database_call(store, databases, call)),
-        Call::Record(call) => Replied(do_record_call(store, databases, call)),
+        Call::Database(call) => Replied(do_database_call(store, names, databases, call)),
+        Call::Record(call) => Replied(do_record_call(store, names, databases, call)),
     }
 }
 
-fn do_database_call<D: Given<Db>>(
+fn do_database_call<C: Given<Name>, D: Given<Db>>(
     store: &mut Store,
+    names: &[Name],
     databases: &[Db],
-    call: &DatabaseCall<D>,
+    call: &DatabaseCall<C, D>,
 ) -> Reply
     ensures does { DoesInStore store.old (calls.Call.Database
-        (database_call (λ db. D.meant db databases.now) call.now)) result store.new }
+        (database_call (λ chunk. C.meant chunk names.now) (λ db. D.meant db databases.now)
+        call.now)) result store.new }
     ensures takes_no_memory { result ≢ Reply.Refused Refusal.OutOfMemory }
 {
     match call {
@@ -107,6 +109,15 @@ fn do_database_call<D: Given<Db>>(
         DatabaseCall::Info(db) => info(store.database_info(db.among(databases))),
         DatabaseCall::SetInfo(db, given) => {
             done(store.set_database_info(db.among(databases), given))
+        }
+        DatabaseCall::SetInfoBlock { db, which, name } => {
+            done(store.set_info_block(db.among(databases), *which, name.among(names)))
+        }
+        DatabaseCall::TakeInfoBlock { db, which, owner } => {
+            named(store.take_info_block(db.among(databases), *which, *owner))
+        }
+        DatabaseCall::InfoBlock(db, which) => {
+            named(store.info_block(db.among(databases), *which))
         }
     }
 }

@@ -9,22 +9,24 @@ ghost use Rattle.heap_model.specs.declared.refusal.Refusal.{Refusal};
 
 use crate::bindings::Given;
 use crate::replies::{done, made, named, number, record};
-use heap_model::{Db, RecordCall, Reply};
+use heap_model::{Db, Name, RecordCall, Reply};
 use palm_store::Store;
 use record_db::{
-    archive, delete, delete_category, detach, find_by_id, get, move_category, move_record,
-    new_record, next_in_category, num_in_category, num_records, position_in_category, query,
-    record_info, release, remove, resize_record, set_record_info,
+    archive, attach, attach_replacing, delete, delete_category, detach, find_by_id, get,
+    move_category, move_record, new_record, next_in_category, num_in_category, num_records,
+    position_in_category, query, record_info, release, remove, resize_record, set_record_info,
 };
 
 /// Does a call on records and answers its reply.
-pub(crate) fn do_record_call<D: Given<Db>>(
+pub(crate) fn do_record_call<C: Given<Name>, D: Given<Db>>(
     store: &mut Store,
+    names: &[Name],
     databases: &[Db],
-    call: &RecordCall<D>,
+    call: &RecordCall<C, D>,
 ) -> Reply
     ensures does { DoesInStore store.old (calls.Call.Record
-        (record_call (λ db. D.meant db databases.now) call.now)) result store.new }
+        (record_call (λ chunk. C.meant chunk names.now) (λ db. D.meant db databases.now) call.now))
+        result store.new }
     ensures takes_no_memory { result ≢ Reply.Refused Refusal.OutOfMemory }
 {
     match call {
@@ -47,6 +49,21 @@ pub(crate) fn do_record_call<D: Given<Db>>(
             done(resize_record(store, db.among(databases), *index, *size))
         }
         RecordCall::Count(db) => number(num_records(store, db.among(databases))),
+        RecordCall::Attach { db, at, name } => {
+            number(attach(store, db.among(databases), *at, name.among(names)))
+        }
+        RecordCall::AttachReplacing {
+            db,
+            index,
+            name,
+            owner,
+        } => named(attach_replacing(
+            store,
+            db.among(databases),
+            *index,
+            name.among(names),
+            *owner,
+        )),
         RecordCall::Detach { db, index, owner } => {
             named(detach(store, db.among(databases), *index, *owner))
         }

@@ -52,12 +52,7 @@ const DATABASE_NUMBER: &[Kind] = &[Kind::Database, Kind::Number];
 
 const DATABASE_WHICH_CHUNK: &[Kind] = &[Kind::Database, Kind::Which, Kind::Chunk];
 
-const DATABASE_WHICH_BYTE_CHUNK: &[Kind] = &[
-    Kind::Database,
-    Kind::Which,
-    Kind::Byte,
-    Kind::Chunk,
-];
+const DATABASE_WHICH_BYTE_CHUNK: &[Kind] = &[Kind::Database, Kind::Which, Kind::Byte, Kind::Chunk];
 
 const DATABASE_TEXT: &[Kind] = &[Kind::Database, Kind::Text];
 

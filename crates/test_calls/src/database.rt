@@ -1,7 +1,7 @@
 //! Calls on databases.
 
-use crate::memory::any_name;
-use heap_model::{DatabaseCall, Db, DbInfo, DbName};
+use crate::memory::{any_name, any_owner};
+use heap_model::{DatabaseCall, Db, DbInfo, DbName, Which};
 use rand::RngExt;
 use rand::seq::IndexedRandom;
 use rand_pcg::Pcg32;
@@ -57,9 +57,35 @@ fn any_info(random: &mut Pcg32) -> DbInfo {
     }
 }
 
+fn any_which(random: &mut Pcg32) -> Which {
+    if random.random_range(0u32..2) == 0 {
+        Which::App
+    } else {
+        Which::Sort
+    }
+}
+
+/// A call on an info block, of any chunk.
+fn block_call(random: &mut Pcg32, image: &Image, db: Db) -> DatabaseCall {
+    let which = any_which(random);
+    match random.random_range(0u32..8) {
+        0..=3 => DatabaseCall::SetInfoBlock {
+            db,
+            which,
+            name: any_name(random, &image.pieces),
+        },
+        4..=5 => DatabaseCall::TakeInfoBlock {
+            db,
+            which,
+            owner: any_owner(random),
+        },
+        _ => DatabaseCall::InfoBlock(db, which),
+    }
+}
+
 /// A call on databases, seldom one that deletes one.
 pub fn database_call(random: &mut Pcg32, image: &Image, databases: &[Database]) -> DatabaseCall {
-    match random.random_range(0u32..24) {
+    match random.random_range(0u32..32) {
         0..=6 => DatabaseCall::Create {
             name: any_db_name(random),
             kind: any_word(random),
@@ -72,6 +98,10 @@ pub fn database_call(random: &mut Pcg32, image: &Image, databases: &[Database]) 
         13..=15 => DatabaseCall::Nth(random.random_range(0u32..6)),
         16 => DatabaseCall::Count,
         17..=19 => DatabaseCall::Info(any_db(random, image, databases)),
-        _ => DatabaseCall::SetInfo(any_db(random, image, databases), any_info(random)),
+        20..=23 => DatabaseCall::SetInfo(any_db(random, image, databases), any_info(random)),
+        _ => {
+            let db = any_db(random, image, databases);
+            block_call(random, image, db)
+        }
     }
 }

@@ -1,7 +1,7 @@
 //! Calls on records.
 
 use crate::database::any_db;
-use crate::memory::{any_owner, any_size};
+use crate::memory::{any_name, any_owner, any_size};
 use heap_model::{Db, RecordCall};
 use rand::RngExt;
 use rand::seq::IndexedRandom;
@@ -78,7 +78,7 @@ pub fn record_call(random: &mut Pcg32, image: &Image, databases: &[Database]) ->
     let db = any_db(random, image, databases);
     let count = entries_of(databases, db);
     let index = any_index(random, count);
-    match random.random_range(0u32..48) {
+    match random.random_range(0u32..56) {
         0..=16 => changing_call(random, image, db, index),
         17..=19 => RecordCall::Move {
             db,
@@ -98,7 +98,26 @@ pub fn record_call(random: &mut Pcg32, image: &Image, databases: &[Database]) ->
             id: any_id(random, databases),
         },
         37..=38 => RecordCall::FindById(db, any_id(random, databases)),
-        _ => category_call(random, db, index),
+        39..=47 => category_call(random, db, index),
+        _ => giving_call(random, image, db, index),
+    }
+}
+
+/// A call by which any chunk is to become the data of a record.
+fn giving_call(random: &mut Pcg32, image: &Image, db: Db, index: u32) -> RecordCall {
+    let name = any_name(random, &image.pieces);
+    match random.random_range(0u32..2) {
+        0 => RecordCall::Attach {
+            db,
+            at: index,
+            name,
+        },
+        _ => RecordCall::AttachReplacing {
+            db,
+            index,
+            name,
+            owner: any_owner(random),
+        },
     }
 }
 

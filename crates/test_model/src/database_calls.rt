@@ -42,6 +42,11 @@ impl PlainStore {
             DatabaseCall::Count => Ok(number(self.databases.len())),
             DatabaseCall::Info(db) => Ok(Reply::Info(self.database(*db)?.info())),
             DatabaseCall::SetInfo(db, info) => self.set_info(alloc, *db, info),
+            DatabaseCall::SetInfoBlock { db, which, name } => { self.set_block(*db, *which, *name) }
+            DatabaseCall::TakeInfoBlock { db, which, owner } => {
+                self.take_block(*db, *which, *owner)
+            }
+            DatabaseCall::InfoBlock(db, which) => self.ask_block(*db, *which),
         }
     }
 

@@ -16,6 +16,7 @@ mod accepted;
 mod category_calls;
 mod database;
 mod database_calls;
+mod giving_calls;
 mod heap;
 mod image;
 mod memory_calls;

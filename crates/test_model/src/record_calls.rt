@@ -10,10 +10,10 @@ use heap_model::{Db, Name, RecordCall, RecordInfo, Refusal, Reply};
 use std::alloc::Global;
 
 /// The most entries of a database.
-const MOST_ENTRIES: usize = 65_535;
+pub(crate) const MOST_ENTRIES: usize = 65_535;
 
 /// What the entry of a record takes, in bytes.
-const RECORD_LENGTH: u32 = 8;
+pub(crate) const RECORD_LENGTH: u32 = 8;
 
 /// The bit of a database's attributes that says that it may only be read.
 const READ_ONLY: u16 = 0x0002;
@@ -51,6 +51,15 @@ impl PlainStore {
                 self.resize_record(*db, *index, *size, before)
             }
             RecordCall::Count(db) => Ok(number(self.records(*db)?.len())),
+            RecordCall::Attach { db, at, name } => {
+                self.attach_record(alloc, *db, *at, *name, before, reply)
+            }
+            RecordCall::AttachReplacing {
+                db,
+                index,
+                name,
+                owner,
+            } => self.replace_record(*db, *index, *name, *owner),
             RecordCall::Detach { db, index, owner } => self.detach_record(*db, *index, *owner),
             RecordCall::SetInfo {
                 db,
@@ -121,8 +130,7 @@ impl PlainStore {
         }
     }
 
-    /// A record whose data is zeros, at an index or at the end: dirty and busy, with a fresh ID, which is
-    /// the seed from then on.
+    /// A record whose data is zeros, at an index or at the end: dirty and busy.
     fn insert_record(
         &mut self,
         alloc: Global,
@@ -133,24 +141,37 @@ impl PlainStore {
     ) -> Result<Reply, Refusal> {
         self.heap
             .make(alloc, name, Kind::Movable { locks: 0 }, size, 15)?;
+        let index = self.list_record(db, at, name, DIRTY | BUSY)?;
+        self.count_change(db)?;
+        Ok(Reply::Made {
+            index: u32::try_from(index).unwrap_or(u32::MAX),
+            name,
+        })
+    }
+
+    /// The entry of a record with this data, at an index or at the end, which is answered: it has a fresh ID,
+    /// which is the seed from then on.
+    pub(crate) fn list_record(
+        &mut self,
+        db: Db,
+        at: u32,
+        name: Name,
+        attributes: u8,
+    ) -> Result<usize, Refusal> {
         let seed = self.database(db)?.header.seed;
         let records = self.records_mut(db)?;
         let id = fresh_id(records, seed & GREATEST_ID);
         let index = records.len().min(at as usize);
         let record = Record {
             data: Some(name),
-            attributes: DIRTY | BUSY,
+            attributes,
             id,
         };
         records
             .insert(index, record)
             .map_err(|_| Refusal::OutOfMemory)?;
         self.database_mut(db)?.header.seed = seed & !GREATEST_ID | id;
-        self.count_change(db)?;
-        Ok(Reply::Made {
-            index: u32::try_from(index).unwrap_or(u32::MAX),
-            name,
-        })
+        Ok(index)
     }
 
     /// Its data goes, and its entry stays.
@@ -308,6 +329,11 @@ impl PlainStore {
     /// Refuses a database that has no records, or that may only be read.
     pub(crate) fn check_written(&self, db: Db) -> Result<(), Refusal> {
         self.records(db)?;
+        self.check_writable(db)
+    }
+
+    /// Refuses a database that may only be read.
+    pub(crate) fn check_writable(&self, db: Db) -> Result<(), Refusal> {
         if self.database(db)?.header.attributes & READ_ONLY != 0 {
             return Err(Refusal::ReadOnly);
         }
@@ -322,14 +348,14 @@ impl PlainStore {
         }
     }
 
-    fn record_mut(&mut self, db: Db, index: u32) -> Result<&mut Record, Refusal> {
+    pub(crate) fn record_mut(&mut self, db: Db, index: u32) -> Result<&mut Record, Refusal> {
         self.records_mut(db)?
             .get_mut(index as usize)
             .ok_or(Refusal::IndexOutOfRange)
     }
 
     /// The same of one that isn't deleted.
-    fn kept_record(&self, db: Db, index: u32) -> Result<Record, Refusal> {
+    pub(crate) fn kept_record(&self, db: Db, index: u32) -> Result<Record, Refusal> {
         let record = self.record(db, index)?;
         if record.attributes & DELETED != 0 {
             return Err(Refusal::RecordDeleted);

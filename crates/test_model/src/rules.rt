@@ -73,6 +73,7 @@ fn asks_in_store(call: &Call) -> bool {
                 | DatabaseCall::Nth(_)
                 | DatabaseCall::Count
                 | DatabaseCall::Info(_)
+                | DatabaseCall::InfoBlock(..)
         ) | Call::Record(
             RecordCall::Query(..)
                 | RecordCall::Info(..)

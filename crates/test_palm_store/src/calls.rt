@@ -3,9 +3,9 @@
 use heap_model::{Bytes, Call, DatabaseCall, MemoryCall, Name, RecordCall, Refusal, Reply};
 use palm_store::{Locked, Store};
 use record_db::{
-    archive, delete, delete_category, detach, find_by_id, get, move_category, move_record,
-    new_record, next_in_category, num_in_category, num_records, position_in_category, query,
-    record_info, release, remove, resize_record, set_record_info,
+    archive, attach, attach_replacing, delete, delete_category, detach, find_by_id, get,
+    move_category, move_record, new_record, next_in_category, num_in_category, num_records,
+    position_in_category, query, record_info, release, remove, resize_record, set_record_info,
 };
 use std::alloc::Global;
 
@@ -36,6 +36,13 @@ fn database_call(store: &mut Store, call: &DatabaseCall) -> Result<Reply, Refusa
         DatabaseCall::Count => Ok(Reply::Number(store.count())),
         DatabaseCall::Info(db) => store.database_info(*db).map(Reply::Info),
         DatabaseCall::SetInfo(db, info) => store.set_database_info(*db, info).map(done),
+        DatabaseCall::SetInfoBlock { db, which, name } => {
+            store.set_info_block(*db, *which, *name).map(done)
+        }
+        DatabaseCall::TakeInfoBlock { db, which, owner } => store
+            .take_info_block(*db, *which, *owner)
+            .map(Reply::Named),
+        DatabaseCall::InfoBlock(db, which) => store.info_block(*db, *which).map(Reply::Named),
     }
 }
 
@@ -56,6 +63,13 @@ fn record_call(store: &mut Store, call: &RecordCall) -> Result<Reply, Refusal> {
             resize_record(store, *db, *index, *size).map(done)
         }
         RecordCall::Count(db) => num_records(store, *db).map(Reply::Number),
+        RecordCall::Attach { db, at, name } => attach(store, *db, *at, *name).map(Reply::Number),
+        RecordCall::AttachReplacing {
+            db,
+            index,
+            name,
+            owner,
+        } => attach_replacing(store, *db, *index, *name, *owner).map(Reply::Named),
         RecordCall::Detach { db, index, owner } => {
             detach(store, *db, *index, *owner).map(Reply::Named)
         }

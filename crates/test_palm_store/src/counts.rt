@@ -95,6 +95,9 @@ fn database_name(call: &DatabaseCall) -> &'static str {
         DatabaseCall::Count => "count",
         DatabaseCall::Info(_) => "info",
         DatabaseCall::SetInfo(_, _) => "set_info",
+        DatabaseCall::SetInfoBlock { .. } => "set_info_block",
+        DatabaseCall::TakeInfoBlock { .. } => "take_info_block",
+        DatabaseCall::InfoBlock(..) => "info_block",
     }
 }
 
@@ -111,6 +114,8 @@ fn record_name(call: &RecordCall) -> &'static str {
         RecordCall::Info(..) => "record_info",
         RecordCall::Resize { .. } => "resize_record",
         RecordCall::Count(_) => "num_records",
+        RecordCall::Attach { .. } => "attach",
+        RecordCall::AttachReplacing { .. } => "attach_replacing",
         RecordCall::Detach { .. } => "detach",
         RecordCall::SetInfo { .. } => "set_record_info",
         RecordCall::FindById(..) => "find_by_id",

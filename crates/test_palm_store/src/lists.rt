@@ -16,7 +16,7 @@ use test_model::Image;
 
 /// Each call with the refusals that it must have met, beside being accepted. That there are too many
 /// databases or records has tests of its own.
-const OUTCOMES: [(&str, &[Refusal]); 45] = [
+const OUTCOMES: [(&str, &[Refusal]); 50] = [
     (
         "handle_new",
         &[Refusal::InvalidOwner, Refusal::NotEnoughSpace],
@@ -96,6 +96,30 @@ const OUTCOMES: [(&str, &[Refusal]); 45] = [
             Refusal::InvalidName,
             Refusal::AlreadyExists,
         ],
+    ),
+    (
+        "set_info_block",
+        &[
+            Refusal::NoSuchDatabase,
+            Refusal::ReadOnly,
+            Refusal::AlreadyExists,
+            Refusal::InvalidHandle,
+            Refusal::OwnedByDatabase,
+            Refusal::ChunkFixed,
+        ],
+    ),
+    (
+        "take_info_block",
+        &[
+            Refusal::NoSuchDatabase,
+            Refusal::ReadOnly,
+            Refusal::NoInfoBlock,
+            Refusal::InvalidOwner,
+        ],
+    ),
+    (
+        "info_block",
+        &[Refusal::NoSuchDatabase, Refusal::NoInfoBlock],
     ),
     (
         "new_record",
@@ -182,6 +206,32 @@ const OUTCOMES: [(&str, &[Refusal]); 45] = [
     (
         "num_records",
         &[Refusal::NoSuchDatabase, Refusal::NotRecordDatabase],
+    ),
+    (
+        "attach",
+        &[
+            Refusal::NoSuchDatabase,
+            Refusal::NotRecordDatabase,
+            Refusal::ReadOnly,
+            Refusal::InvalidHandle,
+            Refusal::OwnedByDatabase,
+            Refusal::ChunkFixed,
+            Refusal::NotEnoughSpace,
+        ],
+    ),
+    (
+        "attach_replacing",
+        &[
+            Refusal::NoSuchDatabase,
+            Refusal::NotRecordDatabase,
+            Refusal::ReadOnly,
+            Refusal::IndexOutOfRange,
+            Refusal::RecordDeleted,
+            Refusal::InvalidHandle,
+            Refusal::OwnedByDatabase,
+            Refusal::ChunkFixed,
+            Refusal::InvalidOwner,
+        ],
     ),
     (
         "detach",

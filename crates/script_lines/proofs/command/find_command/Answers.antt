@@ -3,8 +3,13 @@ use Rattle.std.specs.Str.{bytes_eq}
 use Rattle.script_lines.specs.Commands.{word_of, memory_commands, database_commands, record_commands}
 use Rattle.script_lines.specs.declared.command.Command.{Command}
 use Rattle.script_lines.specs.declared.command.Command.TheVariants.{Memory, Database, Record}
-use Rattle.script_lines.proofs.TableLaws.{found_behind}
+use Rattle.script_lines.proofs.TableLaws.{found_behind, found_in_front}
 use Rattle.script_lines.proofs.command.find_command.Goals as goal
+
+pub returns-in-Some : goal.returns-in-Some
+returns-in-Some c =
+    let test : Command → Bool = λ command. bytes_eq (word_of command) c.args.word.now in
+    sym (found_in_front test (map Memory memory_commands) (map Database database_commands ++ map Record record_commands) c.in-Some.command (sym c.find_in.ensures ∙ c.in-Some.is))
 
 pub returns : goal.returns
 returns c =
