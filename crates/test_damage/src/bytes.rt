@@ -12,7 +12,7 @@ use test_images::{DATABASE, bytes_of};
 /// Calls on chunks, databases and records, each with its reply on the image as it is. They ask of the
 /// database, its records and their data, change them and delete it, and then make another, with chunks of
 /// callers beside it.
-const CALLS: [(&str, &str); 61] = [
+const CALLS: [(&str, &str); 68] = [
     ("find d \"R\"", "ok"),
     ("nth d 0", "ok"),
     ("dbcount", "ok 1"),
@@ -49,6 +49,13 @@ const CALLS: [(&str, &str); 61] = [
     ("reccount d", "ok 2"),
     ("recdetach d 1 5 y", "ok"),
     ("owner y", "ok 5"),
+    ("infoset d app y", "ok"),
+    ("info d app z", "ok"),
+    ("infotake d app 5 y", "ok"),
+    ("recattach d 9 y", "ok 1"),
+    ("recinfo d 1", "ok 40 3 data"),
+    ("new w 0 1", "ok"),
+    ("recreplace d 1 w 5 y", "ok"),
     ("free y", "ok"),
     ("catdelete d 3", "ok"),
     ("dbdelete d", "ok"),

@@ -2,7 +2,7 @@
 
 use crate::beside::{Beside, bytes_of, store_of};
 use crate::images::{blank_image, full_database};
-use heap_model::{Call, DatabaseCall, Db, DbName, RecordCall, Refusal, Reply};
+use heap_model::{Call, DatabaseCall, Db, DbName, MemoryCall, RecordCall, Refusal, Reply};
 use std::alloc::Global;
 use std::process::Abort;
 use std::test::*;
@@ -88,6 +88,28 @@ fn records_are_at_most_65535(rt: HostRuntime) -> Result<(), Fail> {
     let made = new_in_front(&rt, &mut beside)?;
     assert!(rt; matches!(made, Reply::Made { index: 0, .. }), "{made:?}");
     assert_eq!(rt; new_in_front(&rt, &mut beside)?, too_many);
+    Ok(())
+}
+
+/// The same where a caller's chunk is to become the data.
+#[test]
+fn a_full_database_takes_no_chunk(rt: HostRuntime) -> Result<(), Fail> {
+    let mut beside = Beside::new(rt.alloc(), full_database(rt.alloc())?)?;
+    let last = Call::Record(RecordCall::Remove(Db(20), 65_534));
+    assert_eq!(rt; beside.call(&rt, "full", &last)?, Reply::Done);
+    let new = Call::Memory(MemoryCall::HandleNew { size: 0, owner: 1 });
+    let Reply::Named(name) = beside.call(&rt, "full", &new)? else {
+        return Err("no chunk")?;
+    };
+    let made = new_in_front(&rt, &mut beside)?;
+    assert!(rt; matches!(made, Reply::Made { .. }), "{made:?}");
+    let attach = Call::Record(RecordCall::Attach {
+        db: Db(20),
+        at: 0,
+        name,
+    });
+    let too_many = Reply::Refused(Refusal::TooManyEntries);
+    assert_eq!(rt; beside.call(&rt, "full", &attach)?, too_many);
     Ok(())
 }
 

@@ -32,6 +32,10 @@ fn put_line(text: &mut String, line: &Line) -> Result<(), AllocError> {
         Line::BindChunk(label, Call::Memory(MemoryCall::PtrNew { size, owner })) => {
             write!(text, "ptrnew {} {size} {owner}", label.0)
         }
+        Line::BindChunk(label, Call::Database(call)) => {
+            put_database_call(text, call)?;
+            write!(text, " {}", label.0)
+        }
         Line::BindChunk(label, Call::Record(call)) => {
             put_record_call(text, call)?;
             write!(text, " {}", label.0)
@@ -50,7 +54,10 @@ fn put_line(text: &mut String, line: &Line) -> Result<(), AllocError> {
 
 /// A call on records, as its command, its label's number and what else stands in its line, but the label
 /// that it binds.
-fn put_record_call(text: &mut String, call: &RecordCall<DatabaseLabel>) -> Result<(), AllocError> {
+fn put_record_call(
+    text: &mut String,
+    call: &RecordCall<ChunkLabel, DatabaseLabel>,
+) -> Result<(), AllocError> {
     match call {
         RecordCall::New { db, at, size } => write!(text, "recnew {} {at} {size}", db.0),
         RecordCall::Delete(db, index) => write!(text, "recdelete {} {index}", db.0),
@@ -65,6 +72,15 @@ fn put_record_call(text: &mut String, call: &RecordCall<DatabaseLabel>) -> Resul
         RecordCall::Info(db, index) => write!(text, "recinfo {} {index}", db.0),
         RecordCall::Resize { db, index, size } => write!(text, "recresize {} {index} {size}", db.0),
         RecordCall::Count(db) => write!(text, "reccount {}", db.0),
+        RecordCall::Attach { db, at, name } => {
+            write!(text, "recattach {} {at} {}", db.0, name.0)
+        }
+        RecordCall::AttachReplacing {
+            db,
+            index,
+            name,
+            owner,
+        } => write!(text, "recreplace {} {index} {} {owner}", db.0, name.0),
         RecordCall::Detach { db, index, owner } => write!(
             text,
             "recdetach {} {index} {owner}",
@@ -100,7 +116,7 @@ fn put_record_call(text: &mut String, call: &RecordCall<DatabaseLabel>) -> Resul
 fn put_creation(
     text: &mut String,
     label: usize,
-    call: &DatabaseCall<DatabaseLabel>,
+    call: &DatabaseCall<ChunkLabel, DatabaseLabel>,
 ) -> Result<(), AllocError> {
     let DatabaseCall::Create {
         name,
@@ -117,16 +133,23 @@ fn put_creation(
     write!(text, " {kind:08x} {creator:08x} {resources} {date}")
 }
 
-/// A call on databases whose answer is printed, likewise.
+/// A call on databases whose answer is printed or is a chunk, likewise.
 fn put_database_call(
     text: &mut String,
-    call: &DatabaseCall<DatabaseLabel>,
+    call: &DatabaseCall<ChunkLabel, DatabaseLabel>,
 ) -> Result<(), AllocError> {
     match call {
         DatabaseCall::Count => write!(text, "dbcount"),
         DatabaseCall::Delete(db) => write!(text, "dbdelete {}", db.0),
         DatabaseCall::Info(db) => write!(text, "dbinfo {}", db.0),
         DatabaseCall::SetInfo(db, info) => put_info(text, db.0, info),
+        DatabaseCall::SetInfoBlock { db, which, name } => {
+            write!(text, "infoset {} {which:?} {}", db.0, name.0)
+        }
+        DatabaseCall::TakeInfoBlock { db, which, owner } => {
+            write!(text, "infotake {} {which:?} {owner}", db.0)
+        }
+        DatabaseCall::InfoBlock(db, which) => write!(text, "info {} {which:?}", db.0),
         DatabaseCall::Create { .. } | DatabaseCall::Find(_) | DatabaseCall::Nth(_) => {
             write!(text, "no line")
         }
@@ -465,6 +488,58 @@ fn categories(rt: HostRuntime) -> Result<(), Fail> {
     check(&rt, &CATEGORY_CASES)
 }
 
+const GIVING_CASES: [(&[u8], &str); 38] = [
+    (b"recattach d 4294967295 h", "recattach 0 4294967295 0;"),
+    (b"recreplace d 1 h 14 o", "recreplace 0 1 0 14 1;"),
+    (b"recreplace d 1 h 0 h", "recreplace 0 1 0 0 0;"),
+    (b"infoset d app h", "infoset 0 App 0;"),
+    (b"infoset d sort h", "infoset 0 Sort 0;"),
+    (b"infotake d app 255 h", "infotake 0 App 255 0;"),
+    (b"infotake d sort 1 h", "infotake 0 Sort 1 0;"),
+    (b"info d app h", "info 0 App 0;"),
+    (b"info d sort h", "info 0 Sort 0;"),
+    // chunks and databases have labels of their own, and a label may be a word for an info block
+    (
+        b"new a 0 1\ninfo app app app\nrecreplace a 0 a 1 b\nsize app\nsize b",
+        "new 0 0 1;info 0 App 1;recreplace 1 0 0 1 2;size 1;size 2;",
+    ),
+    // too few words, and too many
+    (b"recattach d 0", "line 1 WrongCount"),
+    (b"recattach d 0 h o", "line 1 WrongCount"),
+    (b"recreplace d 0 h 1", "line 1 WrongCount"),
+    (b"recreplace d 0 h 1 o o", "line 1 WrongCount"),
+    (b"infoset d app", "line 1 WrongCount"),
+    (b"infoset d app h h", "line 1 WrongCount"),
+    (b"infotake d app 1", "line 1 WrongCount"),
+    (b"infotake d app 1 h h", "line 1 WrongCount"),
+    (b"info d app", "line 1 WrongCount"),
+    (b"info d app h h", "line 1 WrongCount"),
+    // words that aren't of their kinds
+    (b"recattach d h 0", "line 1 BadWord 3"),
+    (b"recattach d 0 1", "line 1 BadWord 4"),
+    (b"recreplace 0 0 h 1 o", "line 1 BadWord 2"),
+    (b"recreplace d 0 1 h o", "line 1 BadWord 4"),
+    (b"recreplace d 0 h 256 o", "line 1 BadWord 5"),
+    (b"recreplace d 0 h 1 2", "line 1 BadWord 6"),
+    (b"infoset 1 app h", "line 1 BadWord 2"),
+    (b"infoset d App h", "line 1 BadWord 3"),
+    (b"infoset d SORT h", "line 1 BadWord 3"),
+    (b"infoset d \"app\" h", "line 1 BadWord 3"),
+    (b"infoset d ap h", "line 1 BadWord 3"),
+    (b"infoset d apps h", "line 1 BadWord 3"),
+    (b"infoset d 0 h", "line 1 BadWord 3"),
+    (b"infotake d sorts 1 h", "line 1 BadWord 3"),
+    (b"infotake d sort x h", "line 1 BadWord 4"),
+    (b"info d h app", "line 1 BadWord 3"),
+    (b"info d app 0", "line 1 BadWord 4"),
+    (b"infofree d app", "line 1 UnknownCommand"),
+];
+
+#[test]
+fn chunks_that_are_given(rt: HostRuntime) -> Result<(), Fail> {
+    check(&rt, &GIVING_CASES)
+}
+
 const DATABASE_CASES: [(&[u8], &str); 41] = [
     (
         b"create d \"No\" \"DATA\" \"Test\" 0 7",
@@ -667,11 +742,14 @@ pub(crate) fn label_count(alloc: Global, script: &[u8]) -> Option<usize> {
     }
 }
 
-const COUNT_CASES: [(&[u8], Option<usize>); 5] = [
+const COUNT_CASES: [(&[u8], Option<usize>); 8] = [
     (b"", Some(0)),
     (b"freebytes", Some(0)),
     (b"free a\nfree b\nbind c 0\nfree d", Some(3)),
     (b"new a 1 1\nnth b 0\nrecget b 0 b", Some(2)),
+    (b"free a\ninfo d app b", Some(2)),
+    (b"free a\ninfotake d app 1 b\nrecreplace d 0 a 1 c", Some(3)),
+    (b"new a 1 1\ninfoset d app b\nrecattach d 0 c", Some(1)),
     (b"free a\nfree", None),
 ];
 

@@ -15,6 +15,8 @@ mod fakes;
 #[cfg(test)]
 mod files;
 #[cfg(test)]
+mod giving;
+#[cfg(test)]
 mod grammar;
 #[cfg(test)]
 mod large;

@@ -12,7 +12,7 @@ use std::test::Fail;
 use test_images::{DATABASE, bytes_of, image};
 
 /// A blank image of 168 bytes with 8 slots.
-const NARROW: &str = "50484931 000000A8 0008 0000 00000000 00*32 80000078 00*116";
+pub(crate) const NARROW: &str = "50484931 000000A8 0008 0000 00000000 00*32 80000078 00*116";
 
 #[test]
 fn lines_on_records_print_their_replies(rt: HostRuntime) -> Result<(), Fail> {
@@ -338,12 +338,13 @@ fn a_database_has_65535_records_at_most(rt: HostRuntime) -> Result<(), Fail> {
         said.as_str(),
         "Done ok size 524424 slots 4 movable 2 fixed 0 free 8\ndatabases 1\n"
     );
-    let script = "find d \"R\"\nrecnew d 0 0 r\nreccount d\nrecinfo d 65534\n";
+    let script =
+        "find d \"R\"\nrecnew d 0 0 r\nnew a 0 1\nrecattach d 0 a\nreccount d\nrecinfo d 65534\n";
     let ran = run_on(rt.alloc(), image.as_slice(), script);
     let printed = String::from_utf8(ran.out).ok().ok_or("no text")?;
     assert_eq!(rt;
         printed.as_str(),
-        "ok\nrefused 17 TooManyEntries\nok 65535\nok 80 65535 none\n"
+        "ok\nrefused 17 TooManyEntries\nok\nrefused 17 TooManyEntries\nok 65535\nok 80 65535 none\n"
     );
     Ok(())
 }
