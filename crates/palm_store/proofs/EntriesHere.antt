@@ -1,11 +1,9 @@
 -- The entries of the database of a number, as its header spells them.
-use Rattle.std.proofs.Common.{◌≡◌, ℕ, ◌+◌, ◌<◌, ◌≤◌, ◌^◌, Bool, false, List, length, Option, Some, None, refl, sym, ap, subst, ◌∙◌, arith}
-use Rattle.std.proofs.lemmas.List.FromFn.{length-map-range_with_len, get_or-map-range_with_len}
-use Rattle.std.proofs.lemmas.Option.{slice_get-get_or}
+use Rattle.std.proofs.Common.{◌≡◌, ℕ, ◌+◌, ◌<◌, ◌≤◌, ◌^◌, Bool, false, List, length, Option, Some, None, sym, ap, subst, ◌∙◌, arith}
 use Rattle.std.specs.Prelude.{slice_get, IfSome, IfNone}
 use Rattle.heap_model.specs.Bytes.{u16_at}
 use Rattle.heap_model.specs.DatabaseFields.{header_size, attributes_at}
-use Rattle.heap_model.specs.Database.{Entry, Database, database_in, header_in, entry_in, entry_count_in, resources_in, entry_offset, has_resources, EntryFits, HasShape}
+use Rattle.heap_model.specs.Database.{Entry, Database, database_in, entry_in, entry_count_in, resources_in, entry_offset, has_resources, EntryFits, HasShape}
 use Rattle.heap_model.specs.Store.{bytes_under, Accepted, store_of}
 use Rattle.heap_model.specs.StoreWords.{In}
 use Rattle.heap_model.specs.Leaving.{database_here}

@@ -7,7 +7,7 @@ use Rattle.heap_model.specs.Reading.{held}
 use Rattle.heap_model.specs.Lists.{same, times}
 use Rattle.heap_model.specs.Maps.{put, reowned, callers_map}
 use Rattle.heap_model.specs.Database.{DatabaseHeader, Entry, entry_data, Database, data_in, has_resources, IsSpelled, database_in, spelled, DatabaseFits}
-use Rattle.heap_model.specs.Store.{StoredDatabase, data_owner, owner_under, bytes_under, IsInfoBlock, database_under, databases, Accepted, store_of}
+use Rattle.heap_model.specs.Store.{data_owner, owner_under, bytes_under, IsInfoBlock, databases, Accepted, store_of}
 use Rattle.heap_model.specs.StoreWords.{with_changed}
 use Rattle.heap_model.specs.Counts.{IsSound}
 use Rattle.heap_model.specs.Leaving.{Leaves, Respells, rewritten, database_here}
@@ -20,7 +20,7 @@ use Rattle.laws_store.proofs.Listing.{times-cons, same-no}
 use Rattle.laws_store.proofs.Edited.{put_respells}
 use Rattle.laws_store.proofs.Numbered.{accepted_sound, number_database, number_here}
 use Rattle.db_format.specs.declared.header.DbHeader.{DbHeader}
-use Rattle.db_format.specs.Headers.{header_of, HasHeader, with_header, WritesHeader}
+use Rattle.db_format.specs.Headers.{HasHeader, with_header, WritesHeader}
 use Rattle.mem_manager.specs.Lookup.{IsMovable}
 use Rattle.palm_store.specs.Databases.{HasNumber}
 use Rattle.palm_store.specs.InfoBlocks.{with_block}

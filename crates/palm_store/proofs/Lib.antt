@@ -19,3 +19,4 @@ pub mod NewEntries
 pub mod GivenData
 pub mod Giving
 pub mod InfoBlocks
+pub mod BlockCalls

@@ -1,6 +1,6 @@
 -- What several calls leave, one behind the other: one that writes a database anew, and those that change what
 -- one other name stands for.
-use Rattle.std.proofs.Common.{◌≡◌, ◌≢◌, ℕ, ◌<◌, List, [], ◌∷◌, Option, Some, None, refl, sym, ap, subst, ◌∙◌, arith, inl, inr}
+use Rattle.std.proofs.Common.{◌≡◌, ◌≢◌, ℕ, ◌<◌, List, [], Option, Some, None, refl, sym, ap, subst, ◌∙◌, arith, inl, inr}
 use Rattle.std.proofs.lemmas.Bool.{cases_eq}
 use Rattle.std.proofs.lemmas.List.Elements.{All-nil, All-cons}
 use Rattle.std.specs.Prelude.{IsSome, All}
@@ -14,7 +14,7 @@ use Rattle.heap_model.specs.Maps.{updated, changed, changed_at, gone}
 use Rattle.heap_model.specs.Database.{Database, spelled, database_in}
 use Rattle.heap_model.specs.Leaving.{Leaves, Respells, rewritten, database_here}
 use Rattle.heap_model.specs.EntrySteps.{MakesNone}
-use Rattle.laws_heap.proofs.Deciding.{none_some, same_some}
+use Rattle.laws_heap.proofs.Deciding.{none_some}
 use Rattle.laws_heap.proofs.Becoming.{same_frame, frame_then}
 use Rattle.laws_heap.proofs.Meanings.{held-zero}
 use Rattle.laws_store.proofs.Keeping.{bytes_like}

@@ -5,10 +5,10 @@ use Rattle.std.proofs.lemmas.Bool.{cases_eq, eq-eqb, ne_eqb}
 use Rattle.std.specs.Prelude.{◌⊎◌, ◌==◌, IsSome, slice_get}
 use Rattle.std.specs.List.{filter_map}
 use Rattle.heap_model.specs.Lists.{times}
-use Rattle.heap_model.specs.Database.{Entry, a_record, a_resource, is_deleted}
+use Rattle.heap_model.specs.Database.{Entry, a_record, a_resource, entry_with, is_deleted}
 use Rattle.heap_model.specs.Store.{StoredDatabase, unique_id, unique_ids, Accepted, store_of}
 use Rattle.heap_model.specs.StoreWords.{with_number}
-use Rattle.heap_model.specs.EntrySteps.{entries_of, entries_in, entry_under, OfEntry, HasId, HasOther, data_of_entry, resources_under, with_attributes, entry_changed, LeavesStore}
+use Rattle.heap_model.specs.EntrySteps.{entries_of, entries_in, entry_under, OfEntry, HasId, HasOther, data_of_entry, data_under, resources_under, with_attributes, entry_changed, data_exchanged, entry_swapped, raised, LeavesStore}
 use Rattle.heap_model.specs.RecordSteps.{id_in, id_set}
 use Rattle.heap_model.specs.declared.names.Db.{Db}
 use Rattle.laws_heap.proofs.Deciding.{cond-true, cond-false, same_some, none_some}
@@ -137,3 +137,11 @@ pub attributes_set : (counts : Bool) (image new : List ℕ) (db : Db) (index att
     → LeavesStore image new (raised_if counts (entry_changed (store_of image) db index (with_info (infos.Record now id))) db) → LeavesStore image new (raised_if counts (entry_changed (store_of image) db index (with_attributes change)) db)
 attributes_set counts image new db index attributes id slot now change a has e is leaves =
     set_as counts image new db index (a_record attributes id slot) (with_info (infos.Record now id)) (with_attributes change) a has e (ap (λ (x : ℕ). a_record x id slot) is) leaves
+
+-- the same, where a caller's chunk becomes its data
+pub data_swapped : (image new : List ℕ) (db : Db) (index attributes id slot now name owner : ℕ) (change : ℕ → ℕ) → Accepted image → IsSome (with_number (store_of image) db.0) → entry_under (store_of image) db index ≡ Some (a_record attributes id slot) → now ≡ change attributes
+    → LeavesStore image new (raised (entry_swapped (store_of image) db index (with_info (infos.Record now id)) name owner) db) → LeavesStore image new (raised (entry_swapped (store_of image) db index (with_attributes change) name owner) db)
+data_swapped image new db index attributes id slot now name owner change a has e is leaves =
+    let given : (Entry ℕ → Entry ℕ) → Entry ℕ → Entry ℕ = λ set entry. entry_with (λ (slot : ℕ). name) (set entry) in
+    subst (λ (stored : List StoredDatabase). LeavesStore image new (raised (record { map = data_exchanged (store_of image).map (data_under (store_of image) db index) owner name; databases = stored }) db))
+    (entry_alike image db index (a_record attributes id slot) (given (with_info (infos.Record now id))) (given (with_attributes change)) a has e (ap (λ (x : ℕ). a_record x id name) is)) leaves

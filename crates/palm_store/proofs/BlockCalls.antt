@@ -1,0 +1,59 @@
+-- The calls on info blocks: what they look at first, and the steps that they make.
+use Rattle.std.proofs.Common.{◌≡◌, ◌≢◌, ℕ, true, List, Option, Some, None, refl, sym, ap, ◌∙◌, inl, inr}
+use Rattle.std.specs.Prelude.{IsSome}
+use Rattle.heap_model.specs.Memory.{Memory}
+use Rattle.heap_model.specs.Database.{is_read_only}
+use Rattle.heap_model.specs.Refusals.{NoneHolds, FirstBrings}
+use Rattle.heap_model.specs.Store.{StoredDatabase, Accepted, store_of}
+use Rattle.heap_model.specs.StoreWords.{OfDatabase, In, with_number}
+use Rattle.heap_model.specs.StoreSteps.{DoesInStore}
+use Rattle.heap_model.specs.declared.names.Db.{Db}
+use Rattle.heap_model.specs.declared.names.Name.{Name}
+use Rattle.heap_model.specs.declared.names.Which.{Which}
+use Rattle.heap_model.specs.declared.call.Call.TheVariants as calls
+use Rattle.heap_model.specs.declared.call.DatabaseCall.TheVariants.{InfoBlock}
+use Rattle.heap_model.specs.declared.call.Reply.TheVariants.{Named, Refused}
+use Rattle.heap_model.specs.declared.refusal.Refusal.TheVariants.{ReadOnly, NoInfoBlock}
+use Rattle.laws_store.proofs.Doing.{asks, same_store, refused}
+use Rattle.palm_store.specs.InfoBlocks.{block_of_image, writing_checks}
+
+-- ---- the database
+
+-- it is there
+there : (x : Option StoredDatabase) (attributes : ℕ) → OfDatabase x (λ database. database.header.attributes ≡ attributes) → x ≡ None → ⊥
+there None attributes is none = is
+there (Some one) attributes is none = cc
+
+-- it has these attributes
+same_attributes : (x : Option StoredDatabase) (attributes : ℕ) → OfDatabase x (λ database. database.header.attributes ≡ attributes) → OfDatabase x (λ database. is_read_only database.header.attributes ≡ true) → is_read_only attributes ≡ true
+same_attributes None attributes is set = absurd is
+same_attributes (Some one) attributes is set = sym (ap is_read_only is) ∙ set
+
+attributes_same : (x : Option StoredDatabase) (attributes : ℕ) → OfDatabase x (λ database. database.header.attributes ≡ attributes) → is_read_only attributes ≡ true → OfDatabase x (λ database. is_read_only database.header.attributes ≡ true)
+attributes_same None attributes is set = is
+attributes_same (Some one) attributes is set = ap is_read_only is ∙ set
+
+pub may_be_written : (image : List ℕ) (db : Db) (attributes : ℕ) → In (store_of image) db (λ database. database.header.attributes ≡ attributes) → (is_read_only attributes ≡ true → ⊥) → NoneHolds (writing_checks image db)
+may_be_written image db attributes is free =
+    let x : Option StoredDatabase = with_number (store_of image) db.0 in
+    (there x attributes is, ((λ set. free (same_attributes x attributes is set)), tt))
+
+pub may_not_be_written : (image : List ℕ) (db : Db) (attributes : ℕ) → In (store_of image) db (λ database. database.header.attributes ≡ attributes) → is_read_only attributes ≡ true → FirstBrings (writing_checks image db) ReadOnly
+may_not_be_written image db attributes is set =
+    let x : Option StoredDatabase = with_number (store_of image) db.0 in
+    inr (there x attributes is, inl (attributes_same x attributes is set, refl))
+
+pub known_number : (image : List ℕ) (db : Db) → IsSome (with_number (store_of image) db.0) → with_number (store_of image) db.0 ≡ None → ⊥
+known_number image db known none = by (with_number (store_of image) db.0) known none where
+  by : (x : Option StoredDatabase) → IsSome x → x ≡ None → ⊥
+  by None known none = absurd cc
+  by (Some one) known none = cc
+
+-- ---- a block that is asked for
+
+pub no_block_there : (region : Memory) (db : Db) (which : Which) → Accepted region.bytes → (with_number (store_of region.bytes) db.0 ≡ None → ⊥) → block_of_image region.bytes db which ≡ 0 → DoesInStore region (calls.Database (InfoBlock db which)) (Refused NoInfoBlock) region
+no_block_there region db which a known none = refused region (calls.Database (InfoBlock db which)) NoInfoBlock a (inr (known, inl (none, refl)))
+
+pub block_told : (region : Memory) (db : Db) (which : Which) (name : Name) → Accepted region.bytes → (with_number (store_of region.bytes) db.0 ≡ None → ⊥) → block_of_image region.bytes db which ≢ 0 → name.0 ≡ block_of_image region.bytes db which
+    → DoesInStore region (calls.Database (InfoBlock db which)) (Named name) region
+block_told region db which name a known some is = asks region (calls.Database (InfoBlock db which)) (Named name) a ((known, (some, tt)), (is, same_store region))
