@@ -125,8 +125,9 @@ const SCRIPTS: &str = "\
 A script is a text of lines. Each is a call of the memory manager, on databases or on their records,
 and prints 'ok' with what the call answers, or 'refused' with the number and the name of the refusal.
 A chunk goes by a label, which 'new', 'ptrnew' and 'bind' give it: a letter, then letters, digits or
-'_'; so does the data of a record, by 'recnew', 'recget', 'recquery' and 'recdetach'. A database goes by a
-label of its own, which 'create', 'find' and 'nth' give it.
+'_'; so do the data of a record, by 'recnew', 'recget', 'recquery', 'recdetach' and 'recreplace', and an
+info block, by 'info' and 'infotake'. A database goes by a label of its own, which 'create', 'find' and
+'nth' give it.
 
   bind A NAME         new A SIZE OWNER    ptrnew A SIZE OWNER
   free A              resize A SIZE       setowner A OWNER
@@ -139,12 +140,14 @@ label of its own, which 'create', 'find' and 'nth' give it.
   find D \"NAME\"       nth D INDEX         dbcount
   dbinfo D            dbdelete D
   dbset D \"NAME\" ATTRIBUTES VERSION CREATED MODIFIED BACKUP \"TYPE\" \"CREATOR\"
+  infoset D BLOCK A   info D BLOCK A      infotake D BLOCK OWNER A
 
   recnew D AT SIZE A  recget D INDEX A    recquery D INDEX A
   recdelete D INDEX   recarchive D INDEX  recremove D INDEX
   recmove D FROM TO   recrelease D INDEX DIRTY
   recinfo D INDEX     recresize D INDEX SIZE
   reccount D          recfind D ID        recdetach D INDEX OWNER A
+  recattach D AT A    recreplace D INDEX A OWNER B
   recset D INDEX ATTRIBUTES ID
   catcount D CATEGORY                     catdelete D CATEGORY
   catnext D FROM CATEGORY                 catpos D INDEX CATEGORY
@@ -152,7 +155,8 @@ label of its own, which 'create', 'find' and 'nth' give it.
 
 'write', 'set' and 'strcopy' need a locked or a fixed chunk. OWNER is 1 to 14. RESOURCES is 1 where
 the entries are resources, and 0 where they are records. DIRTY is 1 where the record is to be dirty,
-and else 0. CATEGORY is 0 to 15, and 255 for all of them in 'catcount', 'catnext' and 'catpos'.
+and else 0. BLOCK is 'app' or 'sort'. 'recreplace' gives a record the data A, and its old data to OWNER
+as B. CATEGORY is 0 to 15, and 255 for all of them in 'catcount', 'catnext' and 'catpos'.
 'catmove' gives the records of category FROM the category TO. TYPE and CREATOR have four bytes.
 Records are counted from 0. Numbers are decimal, or hex behind '0x'. HEX is hex digits, or '-' for no
 byte. A line that is empty or starts with '#' is passed over.";
