@@ -190,7 +190,7 @@ impl Space {
     {
         let kept = take(&mut self.region, &mut self.heads, room, size_of_body(count));
         claim_movable(&mut self.region, room.at, slot, count, owner);
-        build(&mut self.region, &mut self.heads, kept);
+        build(&mut self.region, &mut self.heads, self.built & kept);
         self.built = true;
     }
 
@@ -209,7 +209,7 @@ impl Space {
     {
         let kept = take(&mut self.region, &mut self.heads, room, size_of_body(count));
         claim_fixed_at(&mut self.region, room.at, count, owner);
-        build(&mut self.region, &mut self.heads, kept);
+        build(&mut self.region, &mut self.heads, self.built & kept);
         self.built = true;
         Name(room.at + HEADER_SIZE)
     }
@@ -472,8 +472,11 @@ impl Space {
         ensures slid { OnTrue result (self.new.slid ≡ self.old.slid + min found.length count) }
         ensures rest { self.new ≡ record self.old { bytes = self.new.bytes; slid = self.new.slid } }
     {
-        self.heads = [0; CLASSES];
-        self.built = false;
-        relocate(&mut self.region, found, count)
+        let moved = relocate(&mut self.region, found, count);
+        if moved {
+            self.heads = [0; CLASSES];
+            self.built = false;
+        }
+        moved
     }
 }
