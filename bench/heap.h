@@ -1,13 +1,17 @@
 /*
  * Heaps in plain C, on images of the format of docs/FORMAT.md: what the programs here share.
  *
- * A movable chunk is found by its slot. A new one goes to the front of the first run of neighbouring free
- * chunks that has room, which is looked for from the first chunk on. One that is freed is joined with the
- * free chunk behind it. Where no free run has the room for a new chunk, the first stretch that has it is
- * packed, by one move for each chunk that goes down over the free one in front of it. A chunk that is to be
- * larger than it and the free chunks behind it goes to a free run that has the room; else its stretch is
- * packed, and what is behind it is lifted in one move; else another stretch is packed. No chunk here is
- * fixed, so that a name of no slot names nothing.
+ * A movable chunk is found by its slot. Free chunks are linked in lists, one for each class of sizes: the
+ * second word of each is the offset of the next. A new chunk goes to the front of the first chunk of a list
+ * that has room; where no list begins with one, to the front of the first run of neighbouring free chunks
+ * that has it, which is looked for from the first chunk on. One that is freed goes to the front of its list,
+ * joined with none. A free chunk that is taken from anywhere but the front of its list leaves all lists
+ * dropped, and they are built again, with all neighbours joined, when a chunk is made or freed. Where no
+ * free run has the room for a new chunk, the first stretch that has it is packed, by one move for each chunk
+ * that goes down over the free one in front of it; that drops the lists. A chunk that is to be larger than
+ * it and the free chunks behind it goes to a free run that has the room, which is looked for from the first
+ * chunk on; else its stretch is packed, and what is behind it is lifted in one move; else another stretch is
+ * packed. No chunk here is fixed, so that a name of no slot names nothing.
  */
 #ifndef HEAP_H
 #define HEAP_H
@@ -20,6 +24,9 @@
 
 /* The most bytes of an image, what the header of a chunk takes, and the owner of a database's data. */
 enum { MAX_SIZE = 16777208, HEADER = 8, DATABASE = 15 };
+
+/* How many classes of sizes free chunks have. */
+enum { CLASSES = 21 };
 
 static const uint32_t MAGIC = 0x50484931;
 static const uint32_t FREE_BIT = 0x80000000;
@@ -45,11 +52,14 @@ enum refusal {
     UNIQUE_ID_NOT_FOUND = 20,
 };
 
-/* An image that is an accepted heap. The slots of all numbers below `lowest` are in use. */
+/* An image that is an accepted heap. The slots of all numbers below `lowest` are in use. A list begins at
+ * each head that isn't 0; all free chunks were in their lists when they were `built`. */
 struct heap {
     uint8_t *image;
     uint32_t len;
     uint32_t lowest;
+    uint32_t heads[CLASSES];
+    bool built;
 };
 
 static uint32_t u16_at(const uint8_t *image, size_t at)
@@ -150,6 +160,85 @@ static bool find_run(const struct heap *heap, uint32_t size, uint32_t *run_at, u
     return false;
 }
 
+/* The class of a free chunk of `size` bytes. */
+static uint32_t class_of(uint32_t size)
+{
+    return 31 - (uint32_t)__builtin_clz(size / 8);
+}
+
+/* Puts a free chunk in front of its list. */
+static void push(struct heap *heap, uint32_t at, uint32_t size)
+{
+    uint32_t class = class_of(size);
+    put_u32(heap->image, at + 4, heap->heads[class]);
+    heap->heads[class] = at;
+}
+
+static void drop_lists(struct heap *heap)
+{
+    memset(heap->heads, 0, sizeof heap->heads);
+    heap->built = false;
+}
+
+/* Finds a free chunk with `size` bytes at the front of a list. */
+static bool find_listed(const struct heap *heap, uint32_t size, uint32_t *at, uint32_t *found)
+{
+    for (uint32_t class = class_of(size); class < CLASSES; class++) {
+        *at = heap->heads[class];
+        if (*at == 0)
+            continue;
+        *found = size_of_chunk(heap, *at);
+        if (*found >= size)
+            return true;
+    }
+    return false;
+}
+
+/* Takes free chunks from their lists. Where they are not one at the front of its list, the lists are
+ * dropped. */
+static void unlink_run(struct heap *heap, uint32_t at, uint32_t size)
+{
+    if (size == 0)
+        return;
+    if (size_of_chunk(heap, at) == size) {
+        uint32_t class = class_of(size);
+        if (heap->heads[class] == at) {
+            heap->heads[class] = u32_at(heap->image, at + 4);
+            return;
+        }
+    }
+    drop_lists(heap);
+}
+
+/* The sizes together of the free chunks that stand at `at`. */
+static uint32_t free_run(const struct heap *heap, uint32_t at)
+{
+    uint32_t end = at;
+    while (end < heap->len && is_free(heap, end))
+        end += size_of_chunk(heap, end);
+    return end - at;
+}
+
+/* Builds the lists, where they are not built: joins free neighbours, and puts each free chunk into its
+ * list. */
+static void build(struct heap *heap)
+{
+    if (heap->built)
+        return;
+    drop_lists(heap);
+    for (uint32_t at = area_start(slot_count(heap)); at < heap->len;) {
+        uint32_t size = free_run(heap, at);
+        if (size == 0) {
+            at += size_of_chunk(heap, at);
+            continue;
+        }
+        put_free(heap, at, size);
+        push(heap, at, size);
+        at += size;
+    }
+    heap->built = true;
+}
+
 static bool stays(const struct heap *heap, uint32_t at)
 {
     return !is_free(heap, at) && u32_at(heap->image, at + 4) >> 28 != 0;
@@ -196,6 +285,7 @@ static uint32_t pack(struct heap *heap, uint32_t start, uint32_t end, uint32_t *
 {
     uint32_t moved = 0;
     *room = 0;
+    drop_lists(heap);
     for (uint32_t at = start; at < end;) {
         uint32_t size = size_of_chunk(heap, at);
         if (is_free(heap, at)) {
@@ -228,7 +318,7 @@ static void lift(struct heap *heap, uint32_t start, uint32_t end, uint32_t gap)
 static bool make_room(struct heap *heap, uint32_t size, uint32_t *run_at, uint32_t *run_size)
 {
     uint32_t start, end, room;
-    if (find_run(heap, size, run_at, run_size))
+    if (find_listed(heap, size, run_at, run_size) || find_run(heap, size, run_at, run_size))
         return true;
     if (!find_stretch(heap, size, &start, &end))
         return false;
@@ -247,40 +337,35 @@ static enum refusal make_chunk(struct heap *heap, uint32_t length, uint32_t owne
     uint32_t at, run;
     if (number >= slots || size == 0 || !make_room(heap, size, &at, &run))
         return NOT_ENOUGH_SPACE;
-    if (run > size)
+    unlink_run(heap, at, run);
+    if (run > size) {
         put_free(heap, at + size, run - size);
+        push(heap, at + size, run - size);
+    }
     uint32_t slot = 16 + 4 * number;
     uint32_t h_offset = (uint32_t)(((int32_t)slot - (int32_t)at) / 2) & 0xFFFFFF;
     put_u32(heap->image, at, (size - HEADER - length) << 24 | size);
     put_u32(heap->image, at + 4, owner << 24 | h_offset);
     memset(heap->image + at + HEADER, 0, length);
     put_u32(heap->image, slot, at + HEADER);
+    build(heap);
     heap->lowest = number;
     *name = slot;
     return DONE;
 }
 
-/* Frees a chunk, and joins it with the free one behind it. */
+/* Frees a chunk. */
 static void free_chunk(struct heap *heap, uint32_t name, const struct found *found)
 {
     uint32_t number = (name - 16) / 4;
     if (number < heap->lowest)
         heap->lowest = number;
+    build(heap);
     uint32_t at = found->place - HEADER;
     uint32_t size = size_of_chunk(heap, at);
-    if (at + size < heap->len && is_free(heap, at + size))
-        size += size_of_chunk(heap, at + size);
     put_free(heap, at, size);
     put_u32(heap->image, name, 0);
-}
-
-/* The sizes together of the free chunks that stand at `at`. */
-static uint32_t free_run(const struct heap *heap, uint32_t at)
-{
-    uint32_t end = at;
-    while (end < heap->len && is_free(heap, end))
-        end += size_of_chunk(heap, end);
-    return end - at;
+    push(heap, at, size);
 }
 
 /* Gives a chunk another length where it stands, out of its own size and of `behind` free bytes. */
@@ -288,12 +373,16 @@ static void resize_at(struct heap *heap, const struct found *found, uint32_t len
 {
     uint32_t at = found->place - HEADER;
     uint32_t size = chunk_size(length);
-    uint32_t left = chunk_size(found->length) + behind - size;
+    uint32_t own = chunk_size(found->length);
+    uint32_t left = own + behind - size;
+    unlink_run(heap, at + own, behind);
     if (length > found->length)
         memset(heap->image + found->place + found->length, 0, length - found->length);
-    if (left > 0)
-        put_free(heap, at + size, left);
     put_u32(heap->image, at, (size - HEADER - length) << 24 | size);
+    if (left > 0) {
+        put_free(heap, at + size, left);
+        push(heap, at + size, left);
+    }
 }
 
 static bool resize_in_place(struct heap *heap, const struct found *found, uint32_t length)
@@ -344,6 +433,7 @@ static void relocate(struct heap *heap, uint32_t name, uint32_t length, uint32_t
         freed += size_of_chunk(heap, from + freed);
     put_free(heap, from, freed);
     mend(heap, from, at);
+    drop_lists(heap);
 }
 
 /* Gives a chunk a length that it can't have in its place. */

@@ -503,6 +503,7 @@ static bool time_walks(const struct scattered *scattered, const struct work *wor
         for (size_t i = 0; i < work->rounds; i++) {
             memcpy(heap.image, scattered->heap.image, heap.len);
             heap.lowest = 0;
+            drop_lists(&heap);
             if (walk == HANDLE_NEW)
                 part(&heap, scattered);
             uint64_t start = nanoseconds();

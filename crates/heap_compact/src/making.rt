@@ -5,17 +5,17 @@ ghost use Rattle.heap_model.specs.Heap.{HeapAccepted};
 ghost use Rattle.heap_model.specs.Reading.{chunks_of};
 ghost use Rattle.heap_model.specs.Space.{NoRun, Short, moved_bytes};
 ghost use Rattle.heap_model.specs.Packing.{SlidesOneStretch};
-ghost use Rattle.heap_model.specs.Layout.{IsRoom};
+ghost use Rattle.heap_model.specs.Layout.{IsRoom, IsSpot};
 
 use heap_place::{Room, Space};
 
-/// Room for a chunk of `size` bytes, header included: the front of a run of neighbouring free chunks.
-/// Where no run has so many bytes, the chunks of one stretch whose room has them are packed. None where
-/// every stretch is short of them, and then nothing has changed.
+/// Room for a chunk of `size` bytes, header included: neighbouring free chunks. Where no run of such has
+/// so many bytes, the chunks of one stretch whose room has them are packed. None where every stretch is
+/// short of them, and then nothing has changed.
 pub fn make_room(space: &mut Space, size: u32) -> Option<Room>
     requires accepted { HeapAccepted space.old.bytes }
     requires some_size { 0 < size }
-    ensures room { IfSome result (λ room. IsRoom space.new.bytes room.at room.size) }
+    ensures room { IfSome result (λ room. IsSpot space.new.bytes room.at room.size) }
     ensures enough { IfSome result (λ room. size ≤ room.size) }
     ensures not_short { IfSome result (λ room. Short space.old.bytes size → ⊥) }
     ensures short { IfNone result (Short space.old.bytes size) }

@@ -115,6 +115,21 @@ pub record IsRoom (image : List ℕ) (at size : ℕ) : Type 0 where
   pub sums : size ≡ total run
   pub front : layout_of image ≡ merged before ++ merged (run ++ after)
 
+-- Room for a chunk: a chunk begins at an offset, and from there on neighbouring free chunks take so many
+-- bytes. What stands in front of them is left open, a free chunk too.
+pub record IsSpot (image : List ℕ) (at size : ℕ) : Type 0 where
+  pub before : List Chunk
+  pub run : List Chunk
+  pub after : List Chunk
+  pub chunks : chunks_of image ≡ before ++ (run ++ after)
+  pub all_free : AllFree run
+  pub there : at ≡ area_start image + total before
+  pub sums : size ≡ total run
+
+-- a chunk stands at the front of room, what is left of the room is free, and all else is as it was
+abbrev pub Claims : List ℕ → List ℕ → ℕ → ℕ → Chunk → Type 0
+Claims old new at room chunk = (r : IsSpot old at room) → Becomes old new (r.before ++ ((chunk ∷ gap (room - size_of chunk)) ++ r.after))
+
 -- ---- the first words of free chunks
 
 -- a first word of a free chunk in which every bit but the free one and those of the size is zero

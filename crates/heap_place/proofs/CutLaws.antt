@@ -3,12 +3,12 @@ use Rattle.std.proofs.Common.{◌≡◌, ℕ, zero, suc, ◌+◌, ◌-◌, ◌*�
 use Rattle.std.specs.Prelude.{slice_range}
 use Rattle.std.proofs.lemmas.List.{length-replicate, drop_all, append-nil}
 use Rattle.heap_model.specs.Bytes.{u32_at, u32_bytes, overwritten}
-use Rattle.heap_model.specs.Chunk.{Chunk, free, movable, fixed, fixed_lock, need, size_of, total, IsFree, IsLive, Spelled, SpelledAll}
+use Rattle.heap_model.specs.Chunk.{Chunk, free, movable, fixed, fixed_lock, need, total, IsFree, IsLive, Spelled, SpelledAll}
 use Rattle.heap_model.specs.Slots.{IsSlot, area_start, table_end, head_end}
 use Rattle.heap_model.specs.Heap.{HeapAccepted}
 use Rattle.heap_model.specs.Reading.{chunks_of}
 use Rattle.heap_model.specs.Placed.{AnyPlaced}
-use Rattle.heap_model.specs.Layout.{merged, layout_of, Becomes, exchanged, Exchanges, gap, in_front, IsRoom, IsPlain, IsFreeAt, WritesPlain}
+use Rattle.heap_model.specs.Layout.{merged, Becomes, gap, IsSpot, IsPlain, IsFreeAt, WritesPlain}
 use Rattle.laws_heap.proofs.Frames.{u32_at-written, slice-same, slice-overwritten, length-u32_bytes}
 use Rattle.laws_heap.proofs.Chunks.{Spelled-same}
 use Rattle.laws_heap.proofs.Runs.{chunks_of-tiled}
@@ -17,14 +17,16 @@ use Rattle.laws_heap.proofs.Replacing.{SameHead, head_same, slot_there, Replaces
 use Rattle.laws_heap.proofs.Writing.{WroteWithin, wrote_none, wrote_part, wrote_word, wrote_wider, wrote_then, wrote_apart, wrote_word_apart, WroteArea, area_replaces, wrote_slots, area_slots, beside_same, beside_word}
 use Rattle.laws_heap.proofs.Freeing.{free_replaced, OtherSlots, claimed}
 use Rattle.laws_heap.proofs.Layouts.{merged-left, merged-right, runs-merged}
-use Rattle.laws_heap.proofs.Becoming.{frame_then, becomes_heap, becomes_alike, becomes_start}
-use Rattle.laws_heap.proofs.Exchanging.{gap_free, claims_parts}
+use Rattle.laws_heap.proofs.Becoming.{becomes_heap, becomes_alike}
+use Rattle.laws_heap.proofs.Exchanging.{gap_free}
 use Rattle.laws_heap.proofs.Plain.{free_plain, lives_plain, replaced_plain}
 use Rattle.laws_heap.proofs.Altering.{overwritten_body, claimed_fixed}
 use Rattle.chunk_format.specs.declared.header.Header.TheVariants as headers
 use Rattle.chunk_format.specs.Header.{header_of, HasHeader, header_bytes, live_words, h_offset_to}
-use Rattle.heap_place.specs.Search.{IsCut, WroteRest}
+use Rattle.heap_place.specs.Search.{WroteRest}
+use Rattle.heap_place.specs.Lists.{IsFreeChunk, KeepsFree, Outside, ButAt}
 use Rattle.heap_place.proofs.FoundLaws.{heap_in_parts, middle_of}
+use Rattle.heap_place.proofs.KeepLaws.{keeps_replaced, outside_apart, other_apart}
 
 -- ---- headers of free chunks
 
@@ -71,8 +73,8 @@ cut_plain old mid new at size rest least inside small whole is r len =
     free_plain new at size (gap rest) (ap (λ (x : List ℕ). u32_at x at) is ∙ u32_at-written (2 ^ 31 + size) at mid (omega arith) (omega arith)) (omega arith)
     (gap_plain old mid new at size (at + size) rest refl least inside (omega arith) whole (wrote_wider mid new at (at + 4) at (at + 8) (wrote_word mid new at (2 ^ 31 + size) is (omega arith)) (omega arith) (omega arith)) r len)
 
-pub was_cut : (old mid new : List ℕ) (at room size : ℕ) → HeapAccepted old → IsRoom old at room → 8 ≤ size → size % 8 ≡ 0 → size ≤ room → WroteRest old mid (at + size) (room - size)
-    → new ≡ overwritten mid at (u32_bytes (2 ^ 31 + size)) → HasHeader new at (headers.Free size) → Becomes old new (chunks_of old) × IsCut new at size × WritesPlain old new
+pub was_cut : (old mid new : List ℕ) (at room size : ℕ) → HeapAccepted old → (r : IsSpot old at room) → 8 ≤ size → size % 8 ≡ 0 → size ≤ room → WroteRest old mid (at + size) (room - size)
+    → new ≡ overwritten mid at (u32_bytes (2 ^ 31 + size)) → HasHeader new at (headers.Free size) → Becomes old new (chunks_of old) × (chunks_of new ≡ r.before ++ (free size ∷ (gap (room - size) ++ r.after))) × KeepsFree (Outside at room) old new × WritesPlain old new
 was_cut old mid new at room size accepted r least whole within wrote is header =
     let heap = heap_in_parts old (r.before ++ (r.run ++ r.after)) accepted r.chunks in
     let m = middle_of old r.before r.run r.after at heap r.there in
@@ -98,18 +100,14 @@ was_cut old mid new at room size accepted r least whole within wrote is header =
     let start_new : area_start new ≡ area_start old = same_start old new replaces.head in
     let becomes = becomes_alike old new (r.before ++ (others ++ r.after)) (chunks_of old) all_alike (becomes_heap old new (r.before ++ (others ++ r.after)) replaces.head new_heap) in (
       becomes,
-      record {
-        before = r.before;
-        after = gap rest ++ r.after;
-        chunks = chunks_of-tiled new (r.before ++ (others ++ r.after)) new_heap.tiles;
-        there = omega arith;
-        front = becomes.layout ∙ r.front ∙ ap (λ (cs : List Chunk). merged r.before ++ cs) (sym alike);
-      },
+      chunks_of-tiled new (r.before ++ (others ++ r.after)) new_heap.tiles,
+      λ there out b. keeps_replaced old new r.before r.run others r.after at accepted r.chunks new_heap replaces there
+          (outside_apart old r.before r.run r.after at there heap r.there (subst (λ (n : ℕ). Outside at n there) sums out)) b,
       replaced_plain old new r.before r.run others r.after at r.chunks new_heap replaces (cut_plain old mid new at size rest least (omega arith) (omega arith) (omega arith) is wrote len_mid),
     )
 
 -- where room lies
-pub room_facts : (image : List ℕ) (at size : ℕ) → HeapAccepted image → IsRoom image at size → (at + size ≤ length image) × (size % 8 ≡ 0) × (length image ≤ 16777208)
+pub room_facts : (image : List ℕ) (at size : ℕ) → HeapAccepted image → IsSpot image at size → (at + size ≤ length image) × (size % 8 ≡ 0) × (length image ≤ 16777208)
 room_facts image at size accepted r =
     let m = middle_of image r.before r.run r.after at (heap_in_parts image (r.before ++ (r.run ++ r.after)) accepted r.chunks) r.there in
     let inside = m.inside in
@@ -120,14 +118,10 @@ room_facts image at size accepted r =
 pub rest_length : (old new : List ℕ) (at size : ℕ) → WroteRest old new at size → at + size ≤ length old → size % 8 ≡ 0 → length new ≡ length old
 rest_length old new at size w inside whole = (rest_within old new at size at (at + size) w (omega arith) (omega arith) inside whole).len
 
--- a free chunk that was cut off is room
-pub cut_room : (image : List ℕ) (at size : ℕ) → IsCut image at size → IsRoom image at size
-cut_room image at size c = record { before = c.before; run = free size ∷ []; after = c.after; chunks = c.chunks; all_free = tt; there = c.there; sums = (let e : size ≡ size + 0 = omega arith in e); front = c.front }
-
 -- ---- a free chunk is claimed
 
 -- where a free chunk lies that was cut off
-pub cut_facts : (image : List ℕ) (size at : ℕ) → HeapAccepted image → IsCut image at size → (at + size ≤ length image) × (area_start image ≤ at) × (at % 8 ≡ 0) × (length image ≤ 16777208)
+pub cut_facts : (image : List ℕ) (size at : ℕ) → HeapAccepted image → IsFreeChunk image at size → (at + size ≤ length image) × (area_start image ≤ at) × (at % 8 ≡ 0) × (length image ≤ 16777208)
 cut_facts image size at accepted r =
     let there = r.there in
     let m = middle_of image r.before (free size ∷ []) r.after at (heap_in_parts image (r.before ++ free size ∷ r.after) accepted r.chunks) r.there in
@@ -200,20 +194,9 @@ table_kept old new low high slot accepted w there inside s =
     let same = wrote_head old new low high w there inside in
     (head_table new (head_same old new same accepted.1.tiles.head), slot_there old new slot same s)
 
--- a chunk that takes all of what was cut off
-claimed_front : (old new : List ℕ) (at size : ℕ) (d : Chunk) → HeapAccepted old → (r : IsCut old at size) → size_of d ≡ size → Becomes old new (r.before ++ d ∷ r.after) → Exchanges old new at (in_front d)
-unfolding cut_room
-claimed_front old new at size d accepted r takes b =
-    let facts = cut_facts old size at accepted r in
-    let spelled = (middle_of old r.before (free size ∷ []) r.after at (heap_in_parts old (r.before ++ free size ∷ r.after) accepted r.chunks) r.there).spelled.0 in
-    let least = spelled.header_fits in
-    let none : size - size_of d ≡ 0 = omega arith in
-    let whole : r.before ++ ((d ∷ gap (size - size_of d)) ++ r.after) ≡ r.before ++ d ∷ r.after = ap (λ (n : ℕ). r.before ++ ((d ∷ gap n) ++ r.after)) none in
-    claims_parts old new at size d accepted (omega arith) (cut_room old at size r) (omega arith) (subst (λ (cs : List Chunk). Becomes old new cs) (sym whole) b)
-
-pub claimed_write : (old h z new : List ℕ) (at count owner slot : ℕ) → HeapAccepted old → IsCut old at (need count) → IsSlot old slot → u32_at old slot ≡ 0
+pub claimed_write : (old h z new : List ℕ) (at count owner slot : ℕ) → HeapAccepted old → (r : IsFreeChunk old at (need count)) → IsSlot old slot → u32_at old slot ≡ 0
     → h ≡ overwritten old at (live_words count 0 owner (h_offset_to at slot)) → HasHeader h at (headers.Movable count 0 owner slot) → z ≡ overwritten h (at + 8) (replicate count 0) → new ≡ overwritten z slot (u32_bytes (at + 8))
-    → Exchanges old new at (in_front (movable (replicate count 0) 0 owner slot)) × WritesPlain old new
+    → Becomes old new (r.before ++ movable (replicate count 0) 0 owner slot ∷ r.after) × KeepsFree (ButAt at) old new × WritesPlain old new
 claimed_write old h z new at count owner slot accepted r s empty h_is header z_is new_is =
     let size : ℕ = need count in
     let heap = heap_in_parts old (r.before ++ free size ∷ r.after) accepted r.chunks in
@@ -248,7 +231,8 @@ claimed_write old h z new at count owner slot accepted r s empty h_is header z_i
     let now : u32_at new slot ≡ at + 8 = ap (λ (x : List ℕ). u32_at x slot) new_is ∙ u32_at-written (at + 8) slot z (omega arith) (omega arith) in
     let others : OtherSlots old new slot = record { same = λ t ts ne. area_slots old new r.before (free size ∷ []) r.after at t heap.tiles tt is wrote ts (λ e. ne (sym (slot_of e))) } in
     let c = claimed old new r.before r.after at (free size) (replicate count 0) owner slot tt heap replaces s empty now others in (
-      claimed_front old new at size (movable (replicate count 0) 0 owner slot) accepted r takes (becomes_heap old new (r.before ++ movable (replicate count 0) 0 owner slot ∷ r.after) replaces.head c),
+      becomes_heap old new (r.before ++ movable (replicate count 0) 0 owner slot ∷ r.after) replaces.head c,
+      λ there apart b. keeps_replaced old new r.before (free size ∷ []) (movable (replicate count 0) 0 owner slot ∷ []) r.after at accepted r.chunks c replaces there (other_apart at size there apart) b,
       replaced_plain old new r.before (free size ∷ []) (movable (replicate count 0) 0 owner slot ∷ []) r.after at r.chunks c replaces (lives_plain new at (movable (replicate count 0) 0 owner slot ∷ []) refl),
     ) where
       slot_of : {t : ℕ} → slot ≡ t → slot ≡ t
@@ -273,8 +257,8 @@ wrote_words old new at count lock owner way inside is =
     let eight = live_words_length count lock owner way in
     subst (λ (n : ℕ). WroteWithin old new at (at + n)) eight (wrote_part old new at (live_words count lock owner way) is (omega arith))
 
-pub fixed_claimed : (old mid new : List ℕ) (at count owner : ℕ) → HeapAccepted old → IsCut old at (need count) → 0 < owner → owner < 15 → mid ≡ overwritten old at (header_bytes at (headers.Fixed count owner)) → HasHeader mid at (headers.Fixed count owner)
-    → new ≡ overwritten mid (at + 8) (replicate count 0) → Exchanges old new at (in_front (fixed (replicate count 0) owner)) × WritesPlain old new
+pub fixed_claimed : (old mid new : List ℕ) (at count owner : ℕ) → HeapAccepted old → (r : IsFreeChunk old at (need count)) → 0 < owner → owner < 15 → mid ≡ overwritten old at (header_bytes at (headers.Fixed count owner)) → HasHeader mid at (headers.Fixed count owner)
+    → new ≡ overwritten mid (at + 8) (replicate count 0) → Becomes old new (r.before ++ fixed (replicate count 0) owner ∷ r.after) × KeepsFree (ButAt at) old new × WritesPlain old new
 fixed_claimed old mid new at count owner h r some most mid_is header new_is =
     let heap = heap_in_parts old (r.before ++ free (need count) ∷ r.after) h r.chunks in
     let facts = cut_facts old (need count) at h r in
@@ -297,16 +281,7 @@ fixed_claimed old mid new at count owner h r some most mid_is header new_is =
     let c =
     claimed_fixed old new r.before r.after at (need count) (replicate count 0) owner heap replaces
     (wrote_slots old new r.before (free (need count) ∷ []) r.after at heap.tiles tt r.there (subst (λ (n : ℕ). WroteWithin old new at (at + n)) (sym size) both)) some most in (
-      claimed_front old new at (need count) (fixed (replicate count 0) owner) h r takes (becomes_heap old new (r.before ++ fixed (replicate count 0) owner ∷ r.after) replaces.head c),
+      becomes_heap old new (r.before ++ fixed (replicate count 0) owner ∷ r.after) replaces.head c,
+      λ there apart b. keeps_replaced old new r.before (free (need count) ∷ []) (fixed (replicate count 0) owner ∷ []) r.after at h r.chunks c replaces there (other_apart at (need count) there apart) b,
       replaced_plain old new r.before (free (need count) ∷ []) (fixed (replicate count 0) owner ∷ []) r.after at r.chunks c replaces (lives_plain new at (fixed (replicate count 0) owner ∷ []) refl),
     )
-
--- ---- where the chunks of the layout were the same before
-
-pub exchanges_then : (old mid new : List ℕ) (there : ℕ) (change : Chunk → List Chunk) → Becomes old mid (chunks_of old) → Exchanges mid new there change → Exchanges old new there change
-exchanges_then old mid new there change same x = record {
-  frame = frame_then old mid new same.frame x.frame;
-  layout = x.layout
-      ∙ ap (λ (n : ℕ). merged (exchanged there change n (layout_of mid))) (becomes_start old mid (chunks_of old) same)
-      ∙ ap (λ (cs : List Chunk). merged (exchanged there change (area_start old) cs)) same.layout;
-}

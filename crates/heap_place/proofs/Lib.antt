@@ -24,3 +24,13 @@ pub mod LargestLaws
 pub mod RelocateLaws
 pub mod SummingLaws
 pub mod DirectoryLaws
+pub mod ListLaws
+pub mod KeepLaws
+pub mod ClassLaws
+pub mod SpotLaws
+pub mod TakeLaws
+pub mod WithinLaws
+pub mod GatherLaws
+pub mod GivingLaws
+pub mod SpliceLaws
+pub mod RegrownLaws

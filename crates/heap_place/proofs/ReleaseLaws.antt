@@ -7,7 +7,12 @@ use Rattle.heap_model.specs.Heap.{ManagersHere, directory_of, IsHeap, HeapAccept
 use Rattle.heap_model.specs.Meaning.{LiveChunk, NamedHere}
 use Rattle.heap_model.specs.Reading.{chunks_of}
 use Rattle.heap_model.specs.Space.{AllFree}
-use Rattle.heap_model.specs.Layout.{merged, Alters, FreeUpTo, freed, WritesPlain}
+use Rattle.heap_model.specs.Placed.{AnyPlaced}
+use Rattle.heap_model.specs.Layout.{merged, Alters, FreeUpTo, freed, WritesPlain, IsFreeAt, BeginsFree}
+use Rattle.laws_heap.proofs.Placed.{At, one_at, SpelledAll-takes, AnyPlaced-map, AnyPlaced-mid}
+use Rattle.heap_place.specs.Lists.{class_count, AreLists, HasLists, Any, ButAt, IsFreeChunk, KeepsFree, Pushes}
+use Rattle.heap_place.proofs.ListLaws.{lists_weaker, lists_kept, push_lists}
+use Rattle.heap_place.proofs.KeepLaws.{NotAmong, keeps_replaced, live_apart, free_there}
 use Rattle.heap_model.specs.Placing.{Finds}
 use Rattle.laws_heap.proofs.Frames.{u32_at-written}
 use Rattle.laws_heap.proofs.Chunks.{Spelled-size, Spelled-same}
@@ -17,6 +22,7 @@ use Rattle.laws_heap.proofs.Slots.{slot_facts, free_hold_none, named_hold_none, 
 use Rattle.laws_heap.proofs.Replacing.{Replaces, same_start}
 use Rattle.laws_heap.proofs.Layouts.{merged-middle, runs-merged}
 use Rattle.laws_heap.proofs.Becoming.{becomes_heap, becomes_alike}
+use Rattle.laws_heap.proofs.Finding.{finds_spelled}
 use Rattle.laws_heap.proofs.Exchanging.{exchanges_parts}
 use Rattle.laws_heap.proofs.Changing.{named_live_chunk}
 use Rattle.laws_heap.proofs.Writing.{WroteWithin, wrote_none, wrote_word, wrote_wider, WroteArea, area_replaces, wrote_slot, area_slots, beside_same, beside_word}
@@ -57,15 +63,22 @@ pub record Giving (image : List ℕ) (at : ℕ) (chunk : Chunk) : Type 0 where
   pub all_free : AllFree run
   pub middle : Middle image before (chunk ∷ run) rest at
   pub spelled : Spelled image at chunk
-  pub sums : free_size_at image (at + size_of chunk) ≡ total run
 
-pub giving : (image : List ℕ) (at name : ℕ) (live : LiveChunk) (chunk : Chunk) → HeapAccepted image → Finds image name live chunk at → Giving image at chunk
+-- alone
+unfoldable pub alone : (image : List ℕ) (at name : ℕ) (live : LiveChunk) (chunk : Chunk) → HeapAccepted image → Finds image name live chunk at → Giving image at chunk
+alone image at name live chunk accepted f =
+    let heap : IsHeap image (f.before ++ ((chunk ∷ []) ++ f.after)) = heap_in_parts image (f.before ++ chunk ∷ f.after) accepted f.chunks in
+    let m = middle_of image f.before (chunk ∷ []) f.after at heap f.there in
+    record { before = f.before; run = []; rest = f.after; chunks = f.chunks; heap = heap; all_free = tt; middle = m; spelled = m.spelled.0 }
+
+-- with the free chunk behind it
+pub giving : (image : List ℕ) (at name : ℕ) (live : LiveChunk) (chunk : Chunk) → HeapAccepted image → Finds image name live chunk at → (g : Giving image at chunk) × (free_size_at image (at + size_of chunk) ≡ total g.run)
 giving image at name live chunk accepted f =
     let first = middle_of image f.before (chunk ∷ []) f.after at (heap_in_parts image (f.before ++ chunk ∷ f.after) accepted f.chunks) f.there in
     let b = behind image (at + size_of chunk) f.after (subst (λ (n : ℕ). SpelledAll image n f.after (length image)) (let e : at + (size_of chunk + 0) ≡ at + size_of chunk = omega arith in e) first.behind) in
     let chunks : chunks_of image ≡ f.before ++ ((chunk ∷ b.run) ++ b.rest) = subst (λ (xs : List Chunk). chunks_of image ≡ f.before ++ chunk ∷ xs) b.parts f.chunks in
     let heap : IsHeap image (f.before ++ ((chunk ∷ b.run) ++ b.rest)) = heap_in_parts image (f.before ++ chunk ∷ (b.run ++ b.rest)) accepted chunks in
-    record { before = f.before; run = b.run; rest = b.rest; chunks = chunks; heap = heap; all_free = b.all_free; middle = middle_of image f.before (chunk ∷ b.run) b.rest at heap f.there; spelled = first.spelled.0; sums = b.sums }
+    (record { before = f.before; run = b.run; rest = b.rest; chunks = chunks; heap = heap; all_free = b.all_free; middle = middle_of image f.before (chunk ∷ b.run) b.rest at heap f.there; spelled = first.spelled.0 }, b.sums)
 
 -- ---- the writes
 
@@ -80,7 +93,7 @@ slot_stays : (old mid : List ℕ) (at all name : ℕ) (live : LiveChunk) (chunk 
 slot_stays old mid at all name live (free size) accepted f loose is = absurd f.named
 slot_stays old mid at all name live (fixed bytes o) accepted f loose is = absurd (loose (ap (λ (x : LiveChunk). x.lock) (sym (fixed_live_is at bytes o f.named))))
 slot_stays old mid at all name live (movable bytes l o s) accepted f loose is =
-    let g = giving old at name live (movable bytes l o s) accepted f in
+    let g = alone old at name live (movable bytes l o s) accepted f in
     let inside = g.middle.inside in
     let there = g.middle.there in
     table_kept old mid at (at + total (movable bytes l o s ∷ g.run)) name accepted (first_word old mid at all (movable bytes l o s) g is) (omega arith) (omega arith) (subst (λ (n : ℕ). IsSlot old n) f.named.0 (own_slot old name at live bytes l o s accepted f))
@@ -142,11 +155,9 @@ not_directory image at name live (free size) apart n m = m
 not_directory image at name live (movable bytes lock owner slot) apart n m = apart (sym n.0 ∙ m.0)
 not_directory image at name live (fixed bytes owner) apart n m = m
 
-pub gave_back : (old mid new : List ℕ) (at all name : ℕ) (live : LiveChunk) (chunk : Chunk) → HeapAccepted old → name ≢ directory_of old → Finds old name live chunk at → all ≡ size_of chunk + free_size_at old (at + size_of chunk)
-    → mid ≡ overwritten old at (u32_bytes (2 ^ 31 + all)) → HasHeader mid at (headers.Free all) → Emptied mid chunk new → Alters old new at freed × FreeUpTo new at (at + all) × WritesPlain old new
-gave_back old mid new at all name live chunk accepted own f sums is header emptied =
-    let g = giving old at name live chunk accepted f in
-    let behind_it = g.sums in
+pub gave_back : (old mid new : List ℕ) (at all name : ℕ) (live : LiveChunk) (chunk : Chunk) → HeapAccepted old → name ≢ directory_of old → Finds old name live chunk at → (g : Giving old at chunk) → all ≡ total (chunk ∷ g.run)
+    → mid ≡ overwritten old at (u32_bytes (2 ^ 31 + all)) → HasHeader mid at (headers.Free all) → Emptied mid chunk new → Alters old new at freed × IsFreeChunk new at all × KeepsFree (NotAmong at (chunk ∷ g.run)) old new × WritesPlain old new
+gave_back old mid new at all name live chunk accepted own f g sums is header emptied =
     let least = (Spelled-size old at chunk g.spelled).0 in
     let w = given old mid new at all name live chunk accepted g f (omega arith) is header emptied in
     let replaces : Replaces old new g.before (chunk ∷ g.run) (free all ∷ []) g.rest at = area_replaces old new g.before (chunk ∷ g.run) (free all ∷ []) g.rest at g.heap.tiles g.middle.there g.middle.inside w.area (w.spelled, omega arith) in
@@ -157,9 +168,17 @@ gave_back old mid new at all name live chunk accepted own f sums is header empti
     merged-middle g.before (free all ∷ []) (free (size_of chunk) ∷ g.run) g.rest (runs-merged (free all ∷ []) (free (size_of chunk) ∷ g.run) tt g.all_free (omega arith) (omega arith)) in (
       (exchanges_parts old new at (λ c. freed c ∷ []) g.before chunk (g.run ++ g.rest) accepted (named_live_chunk name at live chunk f.named) g.chunks there).1
           (becomes_alike old new (g.before ++ free all ∷ g.rest) (g.before ++ free (size_of chunk) ∷ (g.run ++ g.rest)) alike (becomes_heap old new (g.before ++ free all ∷ g.rest) replaces.head heap)),
-      record { before = g.before; run = free all ∷ []; after = g.rest; chunks = chunks_of-tiled new (g.before ++ free all ∷ g.rest) heap.tiles; all_free = tt; from = omega arith; to = omega arith; least = omega arith },
+      record { before = g.before; after = g.rest; chunks = chunks_of-tiled new (g.before ++ free all ∷ g.rest) heap.tiles; there = omega arith },
+      keeps_replaced old new g.before (chunk ∷ g.run) (free all ∷ []) g.rest at accepted g.chunks heap replaces,
       replaced_plain old new g.before (chunk ∷ g.run) (free all ∷ []) g.rest at g.chunks heap replaces (free_plain new at all [] w.word (omega arith) (λ there none. absurd none)),
     )
+
+-- a free chunk is free up to its end
+pub chunk_up_to : (image : List ℕ) (at size : ℕ) → HeapAccepted image → IsFreeChunk image at size → FreeUpTo image at (at + size)
+chunk_up_to image at size h f =
+    let there = f.there in
+    let least = (free_there image at size h f).header_fits in
+    record { before = f.before; run = free size ∷ []; after = f.after; chunks = f.chunks; all_free = tt; from = omega arith; to = omega arith; least = omega arith }
 
 -- ---- of a chunk that was found
 
@@ -168,13 +187,25 @@ pub given_size : (image : List ℕ) (found : Found) (size more : ℕ) → HeapAc
     → (8 ≤ size) × (found.place.0 - 8 + (size + more) ≤ length image) × ((size + more) % 8 ≡ 0) × (length image ≤ 16777208)
 given_size image found size more h f size_is more_is =
     let at : ℕ = found.place.0 - 8 in
-    let g = giving image at found.name.0 f.live f.chunk h f.finds in
+    let both = giving image at found.name.0 f.live f.chunk h f.finds in
+    let g = both.0 in
     let is : size ≡ size_of f.chunk = size_is ∙ found_size image found f in
-    let sums : more ≡ total g.run = more_is ∙ ap (λ (n : ℕ). free_size_at image (at + n)) is ∙ g.sums in
+    let sums : more ≡ total g.run = more_is ∙ ap (λ (n : ℕ). free_size_at image (at + n)) is ∙ both.1 in
     let least = (Spelled-size image at f.chunk g.spelled).0 in
     let inside = g.middle.inside in
     let whole = g.middle.whole in
     (omega arith, omega arith, omega arith, g.middle.most)
+
+pub alone_size : (image : List ℕ) (found : Found) (size : ℕ) → HeapAccepted image → IsOne image found → size ≡ need found.length
+    → (8 ≤ size) × (found.place.0 - 8 + size ≤ length image) × (size % 8 ≡ 0) × (length image ≤ 16777208)
+alone_size image found size h f size_is =
+    let at : ℕ = found.place.0 - 8 in
+    let s = finds_spelled image found.name.0 f.live f.chunk at h f.finds in
+    let is : size ≡ size_of f.chunk = size_is ∙ found_size image found f in
+    let t = Spelled-size image at f.chunk s in
+    let least = t.0 in
+    let inside = t.1 in
+    (omega arith, omega arith, subst (λ (n : ℕ). n % 8 ≡ 0) (sym is) t.2, h.1.tiles.head.most)
 
 pub own_slot_stays : (old mid : List ℕ) (found : Found) (all : ℕ) → HeapAccepted old → (f : IsOne old found) → found.lock ≢ fixed_lock → mid ≡ overwritten old (found.place.0 - 8) (u32_bytes (2 ^ 31 + all)) → (table_end mid ≤ length mid) × IsSlot mid found.name.0
 own_slot_stays old mid found all h f loose is = slot_stays old mid (found.place.0 - 8) all found.name.0 f.live f.chunk h f.finds (λ e. loose (f.lock_is ∙ e)) is
@@ -188,7 +219,7 @@ emptied_movable mid new at name live (fixed bytes owner) n loose is = absurd (lo
 pub emptied_fixed : (image mid : List ℕ) (at name : ℕ) (live : LiveChunk) (c : Chunk) → HeapAccepted image → Finds image name live c at → live.lock ≡ fixed_lock → Emptied mid c mid
 emptied_fixed image mid at name live (free size) h f is = absurd f.named
 emptied_fixed image mid at name live (movable bytes lock owner slot) h f is =
-    let s : Spelled image at (movable bytes lock owner slot) = (giving image at name live (movable bytes lock owner slot) h f).spelled in
+    let s : Spelled image at (movable bytes lock owner slot) = (alone image at name live (movable bytes lock owner slot) h f).spelled in
     let same : lock ≡ live.lock = ap (λ (x : LiveChunk). x.lock) f.named.1 in
     let low = s.2 in
     absurd (omega arith)
@@ -201,4 +232,48 @@ gave_back_found old mid new found size more h f apart size_is more_is is header 
     let at : ℕ = found.place.0 - 8 in
     let sizes : size ≡ size_of f.chunk = size_is ∙ found_size old found f in
     let mores : more ≡ free_size_at old (at + size_of f.chunk) = more_is ∙ ap (λ (n : ℕ). free_size_at old (at + n)) sizes in
-    gave_back old mid new at (size + more) found.name.0 f.live f.chunk h apart f.finds (omega arith) is header emptied
+    let g = giving old at found.name.0 f.live f.chunk h f.finds in
+    let sums = g.1 in
+    let done = gave_back old mid new at (size + more) found.name.0 f.live f.chunk h apart f.finds g.0 (omega arith) is header emptied in
+    (done.0, chunk_up_to new at (size + more) done.0.frame.accepted done.1, done.3)
+
+named_free : (name at : ℕ) (live : LiveChunk) (c : Chunk) (n : ℕ) → NamedHere name live at c → c ≡ free n → ⊥
+named_free name at live c n named e = subst (λ (d : Chunk). NamedHere name live at d) e named
+
+-- of the chunk alone
+pub gave_back_alone : (old mid new : List ℕ) (found : Found) (size : ℕ) → HeapAccepted old → (f : IsOne old found) → found.name.0 ≢ directory_of old → size ≡ need found.length
+    → mid ≡ overwritten old (found.place.0 - 8) (u32_bytes (2 ^ 31 + size)) → HasHeader mid (found.place.0 - 8) (headers.Free size) → Emptied mid f.chunk new
+    → Alters old new (found.place.0 - 8) freed × IsFreeChunk new (found.place.0 - 8) size × KeepsFree Any old new × WritesPlain old new
+unfolding alone
+gave_back_alone old mid new found size h f apart size_is is header emptied =
+    let at : ℕ = found.place.0 - 8 in
+    let sizes : size ≡ size_of f.chunk = size_is ∙ found_size old found f in
+    let done = gave_back old mid new at size found.name.0 f.live f.chunk h apart f.finds (alone old at found.name.0 f.live f.chunk h f.finds) (let e : size ≡ size_of f.chunk + 0 = omega arith in e) is header emptied in
+    (done.0, done.1, λ there any b. done.2 there (live_apart at there f.chunk (λ n e. named_free found.name.0 at f.live f.chunk n f.finds.named e)) b, done.3)
+
+-- where it stood no free chunk began
+pub none_there : (image : List ℕ) (found : Found) (there : ℕ) → HeapAccepted image → IsOne image found → BeginsFree image there → there ≢ found.place.0 - 8
+none_there image found there h f b same = live_only f.chunk f.finds.chunks (λ n e. named_free found.name.0 (found.place.0 - 8) f.live f.chunk n f.finds.named e) where
+  at_there : (at : ℕ) (d : Chunk) → IsFreeAt there at d → at ≡ there
+  at_there at (free n) k = k
+  at_there at (movable bytes lock owner slot) k = absurd k
+  at_there at (fixed bytes owner) k = absurd k
+
+  free_not : (d : Chunk) → IsFreeAt there there d → ((n : ℕ) → d ≡ free n → ⊥) → ⊥
+  free_not (free n) k live = live n refl
+  free_not (movable bytes lock owner slot) k live = k
+  free_not (fixed bytes owner) k live = k
+
+  live_only : (c : Chunk) → chunks_of image ≡ f.finds.before ++ c ∷ f.finds.after → ((n : ℕ) → c ≡ free n → ⊥) → ⊥
+  live_only c e live =
+      let both = one_at (IsFreeAt there) (λ at d. d ≡ c) there (area_start image) (chunks_of image) (SpelledAll-takes image (area_start image) (chunks_of image) (length image) (heap_in_parts image (chunks_of image) h refl).tiles.area)
+      (AnyPlaced-map (IsFreeAt there) (At there (IsFreeAt there)) (λ at d free_there. (at_there at d free_there, free_there)) (area_start image) (chunks_of image) b)
+      (subst (λ (cs : List Chunk). AnyPlaced (At there (λ at d. d ≡ c)) (area_start image) cs) (sym e) (AnyPlaced-mid (At there (λ at d. d ≡ c)) (area_start image) f.finds.before c f.finds.after (sym f.finds.there ∙ sym same, refl))) in
+      free_not both.0 both.1 (λ n is. live n (sym both.2 ∙ is))
+
+-- the lists, with the chunk that was made free
+pub given_lists : (old mid new heads after : List ℕ) (found : Found) → HeapAccepted old → IsOne old found → KeepsFree Any old mid → length heads ≡ class_count → Pushes mid new heads after (found.place.0 - 8) → HasLists old heads → HasLists new after
+given_lists old mid new heads after found h f keeps len p lists =
+    let at : ℕ = found.place.0 - 8 in
+    let others : AreLists (ButAt at) old heads = lists_weaker Any (ButAt at) old heads (λ x b any. none_there old found x h f b) lists in
+    push_lists (ButAt at) Any mid new heads after at (lists_kept (ButAt at) old mid heads (λ x apart b. keeps x tt b) others) (λ x b apart. (tt, apart)) tt len p

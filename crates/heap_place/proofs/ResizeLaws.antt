@@ -6,7 +6,7 @@ use Rattle.std.proofs.lemmas.Bool.Decides.{nat_tests}
 use Rattle.std.proofs.lemmas.List.{length-replicate, length-take-le, length-drop, take_all, take-take, drop_all, append-nil}
 use Rattle.heap_model.specs.Bytes.{overwritten, sized_to}
 use Rattle.heap_model.specs.Chunk.{Chunk, free, movable, fixed, fixed_lock, need, size_of, total, Spelled, SpelledAll}
-use Rattle.heap_model.specs.Heap.{IsCallersIfFixed, ManagersHere, directory_of, HeapAccepted}
+use Rattle.heap_model.specs.Heap.{IsCallersIfFixed, ManagersHere, directory_of, HeapAccepted, IsHeap}
 use Rattle.heap_model.specs.Meaning.{LiveChunk, NamedHere}
 use Rattle.heap_model.specs.Placed.{AnyPlaced}
 use Rattle.heap_model.specs.Placing.{Finds}
@@ -21,6 +21,7 @@ use Rattle.laws_heap.proofs.Finding.{finds_spelled}
 use Rattle.laws_heap.proofs.Changing.{named_live_chunk}
 use Rattle.laws_heap.proofs.Writing.{WroteWithin, wrote_part, wrote_wider, wrote_then, wrote_apart}
 use Rattle.laws_heap.proofs.Becoming.{becomes_heap}
+use Rattle.laws_heap.proofs.Replacing.{Replaces}
 use Rattle.laws_heap.proofs.Exchanging.{exchanges_parts, gap_free}
 use Rattle.laws_heap.proofs.Altering.{TiedAlike, rewritten, finds_callers}
 use Rattle.laws_heap.proofs.Plain.{lives_plain, replaced_plain}
@@ -44,7 +45,7 @@ pub record RunFacts (image : List ℕ) (found : Found) (behind : ℕ) : Type 0 w
   pub most : length image ≤ 16777208
   pub body : found.place.0 + found.length ≤ length image
 
-run_middle : (image : List ℕ) (found : Found) (behind : ℕ) → HeapAccepted image → (r : RunBehind image found behind) → Middle image r.one.finds.before (r.one.chunk ∷ r.run) r.rest (found.place.0 - 8)
+pub run_middle : (image : List ℕ) (found : Found) (behind : ℕ) → HeapAccepted image → (r : RunBehind image found behind) → Middle image r.one.finds.before (r.one.chunk ∷ r.run) r.rest (found.place.0 - 8)
 run_middle image found behind h r =
     let f = r.one.finds in
     let c : Chunk = r.one.chunk in
@@ -224,9 +225,16 @@ wrote_header old new at (fixed bytes owner) n inside is = wrote_words old new at
 
 -- ---- the writes
 
+-- the chunk, with what is left of the free ones behind it, stands in their place
+pub record WasResized (old new : List ℕ) (found : Found) (count behind : ℕ) (r : RunBehind old found behind) : Type 0 where
+  pub becomes : Becomes old new (r.one.finds.before ++ ((with_length count r.one.chunk ∷ gap (size_of r.one.chunk + behind - need count)) ++ r.rest))
+  pub plain : WritesPlain old new
+  pub heap : IsHeap new (r.one.finds.before ++ ((with_length count r.one.chunk ∷ gap (size_of r.one.chunk + behind - need count)) ++ r.rest))
+  pub replaces : Replaces old new r.one.finds.before (r.one.chunk ∷ r.run) (with_length count r.one.chunk ∷ gap (size_of r.one.chunk + behind - need count)) r.rest (found.place.0 - 8)
+
 pub resized : (old filled mid new : List ℕ) (found : Found) (count behind : ℕ) → HeapAccepted old → (r : RunBehind old found behind) → need count ≤ need found.length + behind → filled ≡ overwritten old (found.place.0 + found.length) (replicate (count - found.length) 0)
     → WroteRest filled mid (found.place.0 - 8 + need count) (need found.length + behind - need count) → new ≡ overwritten mid (found.place.0 - 8) (header_bytes (found.place.0 - 8) (sized_header found count)) → HasHeader new (found.place.0 - 8) (sized_header found count)
-    → Becomes old new (r.one.finds.before ++ ((with_length count r.one.chunk ∷ gap (size_of r.one.chunk + behind - need count)) ++ r.rest)) × WritesPlain old new
+    → WasResized old new found count behind r
 resized old filled mid new found count behind h r fits filled_is wrote is has =
     let at : ℕ = found.place.0 - 8 in
     let one = r.one in
@@ -270,19 +278,21 @@ resized old filled mid new found count behind h r fits filled_is wrote is has =
     subst (λ (n : ℕ). SpelledAll new n (gap left) (at + total (c ∷ r.run))) (ap (λ (n : ℕ). at + n) (sym taken))
     (gap_spelled filled mid new at (need count) (at + need count) left (at + total (c ∷ r.run)) refl (omega arith) (omega arith) (omega arith) len3 w3 wrote_left) in
     let done = rewritten old new found.name.0 at one.live c r.run d (gap left) r.rest h f r.parts r.all_free (gap_free left) (subst (λ (n : ℕ). WroteWithin old new at n) end w) (spelled, behind_it) (sized_alike c count live) (sized_managers (directory_of old) at count c)
-    (sized_callers at count c (finds_callers old found.name.0 one.live c at h f)) in (
-      becomes_heap old new (f.before ++ ((d ∷ gap left) ++ r.rest)) done.replaces.head done.heap,
-      replaced_plain old new f.before (c ∷ r.run) (d ∷ gap left) r.rest at (f.chunks ∙ ap (λ (cs : List Chunk). f.before ++ c ∷ cs) r.parts) done.heap done.replaces (λ there p. elim p [
+    (sized_callers at count c (finds_callers old found.name.0 one.live c at h f)) in record {
+      becomes = becomes_heap old new (f.before ++ ((d ∷ gap left) ++ r.rest)) done.replaces.head done.heap;
+      plain = replaced_plain old new f.before (c ∷ r.run) (d ∷ gap left) r.rest at (f.chunks ∙ ap (λ (cs : List Chunk). f.before ++ c ∷ cs) r.parts) done.heap done.replaces (λ there p. elim p [
         | inl here ↦ lives_plain new at (d ∷ []) (one_live d live_now) there (inl here)
         | inr later ↦ gap_plain filled mid new at (need count) (at + need count) left refl (omega arith) (omega arith) (omega arith) (omega arith) w3 wrote_left len2 there
             (subst (λ (n : ℕ). AnyPlaced (IsFreeAt there) n (gap left)) (ap (λ (n : ℕ). at + n) taken) later)
-      ]),
-    )
+      ]);
+      heap = done.heap;
+      replaces = done.replaces;
+    }
 
 -- by what the writes were given
 pub resized_by : (old filled mid new : List ℕ) (found : Found) (count behind size own gained : ℕ) (header : Header) → HeapAccepted old → (r : RunBehind old found behind) → need count ≤ need found.length + behind → size ≡ need count → own ≡ need found.length → gained ≡ count - found.length
     → header ≡ sized_header found count → filled ≡ overwritten old (found.place.0 + found.length) (replicate gained 0) → WroteRest filled mid (found.place.0 - 8 + size) (own + behind - size) → new ≡ overwritten mid (found.place.0 - 8) (header_bytes (found.place.0 - 8) header) → HasHeader new (found.place.0 - 8) header
-    → Becomes old new (r.one.finds.before ++ ((with_length count r.one.chunk ∷ gap (size_of r.one.chunk + behind - need count)) ++ r.rest)) × WritesPlain old new
+    → WasResized old new found count behind r
 resized_by old filled mid new found count behind size own gained header h r fits a b g e filled_is wrote is has =
     let at : ℕ = found.place.0 - 8 in
     resized old filled mid new found count behind h r fits (filled_is ∙ ap (λ (n : ℕ). overwritten old (found.place.0 + found.length) (replicate n 0)) g)

@@ -112,7 +112,7 @@ run_done image at end size r none before after x =
 
 -- ---- behind a chunk that was found
 
-ends_behind : (image : List ℕ) (found : Found) (own : ℕ) → own ≡ need found.length → (f : IsOne image found) → Ends image (found.place.0 - 8 + own) (f.finds.before ++ f.chunk ∷ []) f.finds.after
+pub ends_behind : (image : List ℕ) (found : Found) (own : ℕ) → own ≡ need found.length → (f : IsOne image found) → Ends image (found.place.0 - 8 + own) (f.finds.before ++ f.chunk ∷ []) f.finds.after
 ends_behind image found own e f =
     let sum = total-append f.finds.before (f.chunk ∷ []) in
     let size = found_size image found f in

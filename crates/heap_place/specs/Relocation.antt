@@ -1,6 +1,6 @@
 -- A chunk that goes to room elsewhere: a fixed one stands in for it there, gets its bytes, and gets its
 -- name once the chunk is free.
-use Rattle.std.specs.Prelude.{◌≤◌, ◌+◌, ◌-◌, ℕ, List, take}
+use Rattle.std.specs.Prelude.{◌≤◌, ◌+◌, ℕ, List, take}
 use Rattle.heap_model.specs.Chunk.{Chunk, free, movable, fixed, fixed_lock, need}
 use Rattle.heap_model.specs.Layout.{Alters, with_bytes, IsRoom}
 use Rattle.heap_model.specs.Resizing.{with_length, Relocates}

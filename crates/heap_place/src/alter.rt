@@ -5,6 +5,7 @@ ghost use Rattle.heap_model.specs.Chunk.{fixed_lock};
 ghost use Rattle.heap_model.specs.Heap.{HeapAccepted};
 ghost use Rattle.heap_model.specs.Layout.{Alters, with_lock, with_owner, WritesPlain};
 ghost use Rattle.heap_place.specs.Found.{IsOne, CanGoTo, header_at};
+ghost use Rattle.heap_place.specs.Lists.{Any, KeepsFree};
 
 use crate::found::Found;
 use chunk_format::{HEADER_SIZE, put_lock, put_owner};
@@ -18,6 +19,7 @@ pub(crate) fn relock_at(region: &mut Region, found: Found, lock: u8)
     requires lock { lock < fixed_lock }
     requires owned { (lock ≡ 0) ⊎ (0 < found.owner) }
     ensures made { Alters region.old.bytes region.new.bytes (header_at found) (with_lock lock) }
+    ensures keeps { KeepsFree Any region.old.bytes region.new.bytes }
     ensures plain { WritesPlain region.old.bytes region.new.bytes }
     ensures rest { region.new ≡ record region.old { bytes = region.new.bytes } }
 {
@@ -30,6 +32,7 @@ pub(crate) fn reown_at(region: &mut Region, found: Found, owner: u8)
     requires found { IsOne region.old.bytes found }
     requires owner { CanGoTo region.old.bytes found owner }
     ensures made { Alters region.old.bytes region.new.bytes (header_at found) (with_owner owner) }
+    ensures keeps { KeepsFree Any region.old.bytes region.new.bytes }
     ensures plain { WritesPlain region.old.bytes region.new.bytes }
     ensures rest { region.new ≡ record region.old { bytes = region.new.bytes } }
 {

@@ -6,8 +6,9 @@ ghost use Rattle.heap_model.specs.Chunk.{movable, fixed, need};
 ghost use Rattle.heap_model.specs.Slots.{IsSlot};
 ghost use Rattle.heap_model.specs.Heap.{HeapAccepted};
 ghost use Rattle.heap_model.specs.Reading.{chunks_of};
-ghost use Rattle.heap_model.specs.Layout.{Becomes, Exchanges, in_front, IsRoom, WritesPlain};
-ghost use Rattle.heap_place.specs.Search.{IsCut, WroteRest};
+ghost use Rattle.heap_model.specs.Layout.{Becomes, IsSpot, Claims, WritesPlain};
+ghost use Rattle.heap_place.specs.Search.{WroteRest};
+ghost use Rattle.heap_place.specs.Lists.{IsFreeChunk, KeepsFree, Outside, ButAt, CutsRoom, Fills};
 
 use crate::room::Room;
 use chunk_format::{HEADER_SIZE, Header, size_of_body};
@@ -17,12 +18,13 @@ use raw_region::Region;
 /// Makes the front of a run of free chunks one free chunk of `size` bytes, and what is left another.
 pub(crate) fn cut(region: &mut Region, room: Room, size: u32)
     requires accepted { HeapAccepted region.old.bytes }
-    requires room { IsRoom region.old.bytes room.at room.size }
+    requires room { IsSpot region.old.bytes room.at room.size }
     requires least { 8 ≤ size }
     requires whole { size % 8 ≡ 0 }
     requires within { size ≤ room.size }
     ensures same { Becomes region.old.bytes region.new.bytes (chunks_of region.old.bytes) }
-    ensures cut { IsCut region.new.bytes room.at size }
+    ensures cut { CutsRoom region.old.bytes region.new.bytes room.at room.size size }
+    ensures keeps { KeepsFree (Outside room.at room.size) region.old.bytes region.new.bytes }
     ensures plain { WritesPlain region.old.bytes region.new.bytes }
     ensures rest { region.new ≡ record region.old { bytes = region.new.bytes } }
 {
@@ -46,12 +48,13 @@ pub(crate) fn write_rest(region: &mut Region, at: u32, size: u32)
 /// Makes the free chunk at `at` a movable one of zeros.
 pub(crate) fn claim_movable(region: &mut Region, at: u32, slot: Name, count: u32, owner: u8)
     requires accepted { HeapAccepted region.old.bytes }
-    requires cut { IsCut region.old.bytes at (need count) }
+    requires free { IsFreeChunk region.old.bytes at (need count) }
     requires slot { IsSlot region.old.bytes slot.0 }
     requires empty { u32_at region.old.bytes slot.0 ≡ 0 }
     requires owner { owner < 16 }
-    ensures made { Exchanges region.old.bytes region.new.bytes at
-        (in_front (movable (replicate count 0) 0 owner slot.0)) }
+    ensures made { Fills region.old.bytes region.new.bytes at (need count)
+        (movable (replicate count 0) 0 owner slot.0) }
+    ensures keeps { KeepsFree (ButAt at) region.old.bytes region.new.bytes }
     ensures plain { WritesPlain region.old.bytes region.new.bytes }
     ensures rest { region.new ≡ record region.old { bytes = region.new.bytes } }
 {
@@ -69,12 +72,12 @@ pub(crate) fn claim_movable(region: &mut Region, at: u32, slot: Name, count: u32
 /// Makes the front of room a fixed chunk of `count` zeros, and answers its name.
 pub(crate) fn claim_fixed(region: &mut Region, room: Room, count: u32, owner: u8) -> Name
     requires accepted { HeapAccepted region.old.bytes }
-    requires room { IsRoom region.old.bytes room.at room.size }
+    requires room { IsSpot region.old.bytes room.at room.size }
     requires enough { need count ≤ room.size }
     requires some_owner { 0 < owner }
     requires most_owner { owner < 15 }
-    ensures made { Exchanges region.old.bytes region.new.bytes room.at
-        (in_front (fixed (replicate count 0) owner)) }
+    ensures made { Claims region.old.bytes region.new.bytes room.at room.size
+        (fixed (replicate count 0) owner) }
     ensures name { result.0 ≡ room.at + 8 }
     ensures plain { WritesPlain region.old.bytes region.new.bytes }
     ensures rest { region.new ≡ record region.old { bytes = region.new.bytes } }
@@ -85,13 +88,14 @@ pub(crate) fn claim_fixed(region: &mut Region, room: Room, count: u32, owner: u8
 }
 
 /// Makes the free chunk at `at` a fixed one of zeros.
-fn claim_fixed_at(region: &mut Region, at: u32, count: u32, owner: u8)
+pub(crate) fn claim_fixed_at(region: &mut Region, at: u32, count: u32, owner: u8)
     requires accepted { HeapAccepted region.old.bytes }
-    requires cut { IsCut region.old.bytes at (need count) }
+    requires free { IsFreeChunk region.old.bytes at (need count) }
     requires some_owner { 0 < owner }
     requires most_owner { owner < 15 }
-    ensures made { Exchanges region.old.bytes region.new.bytes at
-        (in_front (fixed (replicate count 0) owner)) }
+    ensures made { Fills region.old.bytes region.new.bytes at (need count)
+        (fixed (replicate count 0) owner) }
+    ensures keeps { KeepsFree (ButAt at) region.old.bytes region.new.bytes }
     ensures plain { WritesPlain region.old.bytes region.new.bytes }
     ensures rest { region.new ≡ record region.old { bytes = region.new.bytes } }
 {

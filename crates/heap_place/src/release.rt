@@ -5,6 +5,7 @@ ghost use Rattle.heap_model.specs.Heap.{HeapAccepted, directory_of};
 ghost use Rattle.heap_model.specs.Layout.{Alters, FreeUpTo, freed, WritesPlain};
 ghost use Rattle.heap_place.specs.Found.{IsOne, header_at};
 ghost use Rattle.heap_place.specs.Search.{free_size_at, ChunksFrom};
+ghost use Rattle.heap_place.specs.Lists.{Any, IsFreeChunk, KeepsFree};
 
 use crate::found::Found;
 use crate::walks::size_if_free;
@@ -29,6 +30,26 @@ pub(crate) fn release(region: &mut Region, found: Found) -> u32
         master_table::clear(region, found.name);
     }
     joined
+}
+
+/// Makes a live chunk free, alone, and empties its slot, if it has one. Answers the size of the free chunk.
+pub(crate) fn release_alone(region: &mut Region, found: Found) -> u32
+    requires accepted { HeapAccepted region.old.bytes }
+    requires found { IsOne region.old.bytes found }
+    requires no_directory { found.name.0 ≢ directory_of region.old.bytes }
+    ensures gone { Alters region.old.bytes region.new.bytes (header_at found) freed }
+    ensures chunk { IsFreeChunk region.new.bytes (header_at found) result }
+    ensures keeps { KeepsFree Any region.old.bytes region.new.bytes }
+    ensures plain { WritesPlain region.old.bytes region.new.bytes }
+    ensures rest { region.new ≡ record region.old { bytes = region.new.bytes } }
+{
+    let at = found.place.0 - HEADER_SIZE;
+    let size = size_of_body(found.length);
+    Header::Free { size }.write(region, at);
+    if found.lock != FIXED_LOCK {
+        master_table::clear(region, found.name);
+    }
+    size
 }
 
 /// The size of the chunk at `at`, if a free one stands there, and else 0: a live one does, or the image

@@ -7,22 +7,29 @@ ghost use Rattle.heap_model.specs.Heap.{HeapAccepted};
 ghost use Rattle.heap_model.specs.Layout.{WritesPlain};
 ghost use Rattle.heap_model.specs.Resizing.{GrowsInPlace};
 ghost use Rattle.heap_place.specs.Found.{IsOne, header_at};
+ghost use Rattle.heap_place.specs.Lists.{HasLists, Outside, IsFreeChunk, KeepsFree};
 ghost use Rattle.heap_place.specs.Resizes.{sized_header, RunBehind, Resizes, IsBound, BeginsWithFree, TellsWhetherInPlace};
 
 use crate::claim::write_rest;
 use crate::found::Found;
+use crate::lists::{CLASSES, push, unlink_run};
 use crate::release::free_size;
+use crate::room::Room;
 use chunk_format::{FIXED_LOCK, HEADER_SIZE, Header, chunk_size, size_of_body};
 use raw_region::Region;
 
 /// Gives a live chunk `count` bytes where it stands, out of its own and of `behind` bytes of free chunks
-/// directly behind it. Bytes that it gains are zero, and what is left is free.
+/// directly behind it. Bytes that it gains are zero, and what is left is free: so many bytes are answered.
 #[inline]
-pub(crate) fn resize_at(region: &mut Region, found: Found, count: u32, behind: u32)
+fn resize_at(region: &mut Region, found: Found, count: u32, behind: u32) -> u32
     requires accepted { HeapAccepted region.old.bytes }
     requires behind { RunBehind region.old.bytes found behind }
     requires fits { need count ≤ need found.length + behind }
     ensures resized { Resizes region.old.bytes region.new.bytes found count behind }
+    ensures left { result ≡ need found.length + behind - need count }
+    ensures chunk { 0 < result → IsFreeChunk region.new.bytes (header_at found + need count) result }
+    ensures keeps { KeepsFree (Outside (header_at found) (need found.length + behind))
+        region.old.bytes region.new.bytes }
     ensures plain { WritesPlain region.old.bytes region.new.bytes }
     ensures rest { region.new ≡ record region.old { bytes = region.new.bytes } }
 {
@@ -34,6 +41,42 @@ pub(crate) fn resize_at(region: &mut Region, found: Found, count: u32, behind: u
     region.fill(end, gained as usize, 0);
     write_rest(region, at + size, left);
     header_with(found, count).write(region, at);
+    left
+}
+
+/// The same, where the free chunks are in lists: those that are taken are taken from theirs, and what is left
+/// is put into its own. Answers whether all other free chunks are in theirs still.
+pub(crate) fn resize_listed(
+    region: &mut Region,
+    heads: &mut [u32; CLASSES],
+    found: Found,
+    count: u32,
+    behind: u32,
+) -> bool
+    requires accepted { HeapAccepted region.old.bytes }
+    requires behind { RunBehind region.old.bytes found behind }
+    requires fits { need count ≤ need found.length + behind }
+    requires lists { HasLists region.old.bytes heads.old }
+    ensures resized { Resizes region.old.bytes region.new.bytes found count behind }
+    ensures lists { HasLists region.new.bytes heads.new }
+    ensures plain { WritesPlain region.old.bytes region.new.bytes }
+    ensures rest { region.new ≡ record region.old { bytes = region.new.bytes } }
+{
+    let at = found.place.0 - HEADER_SIZE;
+    let end = at + size_of_body(found.length);
+    let kept = unlink_run(
+        region,
+        heads,
+        Room {
+            at: end,
+            size: behind,
+        },
+    );
+    let left = resize_at(region, found, count, behind);
+    if left > 0 {
+        push(region, heads, at + size_of_body(count), left);
+    }
+    kept
 }
 
 /// The header of a chunk that was found, with another length.
@@ -55,11 +98,19 @@ fn header_with(found: Found, count: u32) -> Header
 }
 
 /// Gives a live chunk `count` bytes where it stands, if its own and those of the free chunks directly
-/// behind it suffice, and answers whether they do.
+/// behind it suffice, and answers whether they do. `built` is false afterwards where lists were dropped.
 #[inline]
-pub(crate) fn grow_in_place_at(region: &mut Region, found: Found, count: u32) -> bool
+pub(crate) fn grow_in_place_at(
+    region: &mut Region,
+    heads: &mut [u32; CLASSES],
+    built: &mut bool,
+    found: Found,
+    count: u32,
+) -> bool
     requires accepted { HeapAccepted region.old.bytes }
     requires found { IsOne region.old.bytes found }
+    requires lists { HasLists region.old.bytes heads.old }
+    ensures lists { HasLists region.new.bytes heads.new }
     ensures grown { OnTrue result
         (GrowsInPlace region.old.bytes region.new.bytes (header_at found) count) }
     ensures refused { OnFalse result (region.new ≡ region.old) }
@@ -71,7 +122,8 @@ pub(crate) fn grow_in_place_at(region: &mut Region, found: Found, count: u32) ->
     let behind = free_run(region, found.place.0 - HEADER_SIZE + own);
     match chunk_size(count) {
         Some(size) if size <= own + behind => {
-            resize_at(region, found, count, behind);
+            let kept = resize_listed(region, heads, found, count, behind);
+            *built &= kept;
             true
         }
         _ => false,
@@ -79,7 +131,7 @@ pub(crate) fn grow_in_place_at(region: &mut Region, found: Found, count: u32) ->
 }
 
 /// The sizes together of the free chunks that stand at `at` without one that is not free between them.
-fn free_run(region: &Region, at: u32) -> u32
+pub(crate) fn free_run(region: &Region, at: u32) -> u32
     requires accepted { HeapAccepted region.now.bytes }
     requires bound { IsBound region.now.bytes at }
     ensures { BeginsWithFree region.now.bytes at result }

@@ -13,27 +13,29 @@ ghost use Rattle.heap_model.specs.Resizing.{Shrinks, GrowsInPlace};
 ghost use Rattle.heap_model.specs.Placing.{SameFrame};
 ghost use Rattle.heap_model.specs.Store.{managers_owner, owner_under};
 ghost use Rattle.heap_model.specs.Leaving.{NamesDirectory};
-ghost use Rattle.heap_model.specs.Layout.{Becomes, layout_of, owned_freed, Exchanges, Alters, in_front, freed, with_lock, with_owner, with_bytes, FreeUpTo, IsRoom, WritesPlain};
+ghost use Rattle.heap_model.specs.Layout.{Becomes, layout_of, owned_freed, Alters, freed, with_lock, with_owner, with_bytes, FreeUpTo, IsSpot, Claims, WritesPlain};
 ghost use Rattle.heap_place.specs.Found.{IsFound, IsOne, NothingAt, CanGoTo, SlidesWithin, header_at};
 ghost use Rattle.heap_place.specs.Resizes.{TellsWhetherInPlace};
 ghost use Rattle.heap_place.specs.Relocation.{RelocatesToRun};
 ghost use Rattle.heap_place.specs.Stretches.{IsStretch, IsAmong, HasRoom, HasRoomOf, OpensExactly, PacksStretch, RoomAtEnd, SlidesStretch};
 
 use crate::alter::{relock_at, reown_at};
-use crate::claim::{claim_fixed, claim_movable, cut};
+use crate::claim::{claim_fixed_at, claim_movable};
 use crate::directory::{directory_name, name_directory};
 use crate::found::Found;
+use crate::gather::build;
+use crate::lists::{CLASSES, find_listed, push, take};
 use crate::lookup::{find_named, find_placed};
 use crate::open::open_in;
 use crate::owned::release_owned;
 use crate::pack::{compact, pack_stretch};
-use crate::release::release;
+use crate::release::release_alone;
 use crate::relocate::relocate;
-use crate::resize::{grow_in_place_at, resize_at};
+use crate::resize::{grow_in_place_at, resize_listed};
 use crate::room::{Room, find_room};
 use crate::stretch::{Stretch, largest_room, room_of_stretch, stretch_around, stretch_with_room};
 use crate::walks::free_bytes;
-use chunk_format::size_of_body;
+use chunk_format::{HEADER_SIZE, size_of_body};
 use heap_model::{Name, Place};
 use raw_region::Region;
 use std::marker::Model;
@@ -43,14 +45,21 @@ use std::marker::Model;
 #[derive(Drop)]
 pub struct Space {
     region: Region,
+    /// Of each class the offset at which the first chunk of its list begins, or 0 where the list is empty.
+    heads: [u32; CLASSES],
+    /// Whether the lists were built since they were last dropped. Where not, free chunks are missing in them.
+    built: bool,
 }
 
 impl Model for Space {
     ghost use Rattle.heap_model.specs.Memory.{Memory};
+    ghost use Rattle.heap_place.specs.Lists.{HasLists};
 
     ghost Value = { Memory };
 
     ghost view = { λ space. space.region };
+
+    ghost invariant = { λ space. HasLists space.region.bytes space.heads };
 }
 
 impl Space {
@@ -58,14 +67,18 @@ impl Space {
     pub fn new(region: Region) -> Space
         ensures { result ≡ region }
     {
-        Space { region }
+        Space {
+            region,
+            heads: [0; CLASSES],
+            built: false,
+        }
     }
 
     /// Gives the region back.
     pub fn into_region(self) -> Region
         ensures { result ≡ self }
     {
-        let Space { region } = self;
+        let Space { region, .. } = self;
         region
     }
 
@@ -144,49 +157,61 @@ impl Space {
         largest_room(&self.region)
     }
 
-    /// Room for a chunk of `size` bytes, header included: the front of a run of neighbouring free chunks.
-    /// None where no such run has so many bytes.
+    /// Room for a chunk of `size` bytes, header included: neighbouring free chunks. None where no run of
+    /// such has so many bytes. Of the lists the first chunks are asked; where none has the bytes, the chunks
+    /// are walked.
     pub fn find_room(&self, size: u32) -> Option<Room>
         requires accepted { HeapAccepted self.now.bytes }
         requires some_size { 0 < size }
-        ensures room { IfSome result (λ room. IsRoom self.now.bytes room.at room.size) }
+        ensures room { IfSome result (λ room. IsSpot self.now.bytes room.at room.size) }
         ensures enough { IfSome result (λ room. size ≤ room.size) }
         ensures none { IfNone result (NoRun (chunks_of self.now.bytes) size) }
     {
+        if size >= 8 && size < 0x100_0000 {
+            if let Some(room) = find_listed(&self.region, &self.heads, size) {
+                return Some(room);
+            }
+        }
         find_room(&self.region, size)
     }
 
     /// Makes the front of room a movable chunk of `count` zeros and no locks, which the empty slot names.
     pub fn claim(&mut self, room: Room, slot: Name, count: u32, owner: u8)
         requires accepted { HeapAccepted self.old.bytes }
-        requires room { IsRoom self.old.bytes room.at room.size }
+        requires room { IsSpot self.old.bytes room.at room.size }
         requires enough { need count ≤ room.size }
         requires slot { IsSlot self.old.bytes slot.0 }
         requires empty { u32_at self.old.bytes slot.0 ≡ 0 }
         requires owner { owner < 16 }
-        ensures made { Exchanges self.old.bytes self.new.bytes room.at
-            (in_front (movable (replicate count 0) 0 owner slot.0)) }
+        ensures made { Claims self.old.bytes self.new.bytes room.at room.size
+            (movable (replicate count 0) 0 owner slot.0) }
         ensures plain { WritesPlain self.old.bytes self.new.bytes }
         ensures rest { self.new ≡ record self.old { bytes = self.new.bytes } }
     {
-        cut(&mut self.region, room, size_of_body(count));
+        let kept = take(&mut self.region, &mut self.heads, room, size_of_body(count));
         claim_movable(&mut self.region, room.at, slot, count, owner);
+        build(&mut self.region, &mut self.heads, self.built & kept);
+        self.built = true;
     }
 
     /// Makes the front of room a fixed chunk of `count` zeros, and answers its name.
     pub fn claim_fixed(&mut self, room: Room, count: u32, owner: u8) -> Name
         requires accepted { HeapAccepted self.old.bytes }
-        requires room { IsRoom self.old.bytes room.at room.size }
+        requires room { IsSpot self.old.bytes room.at room.size }
         requires enough { need count ≤ room.size }
         requires some_owner { 0 < owner }
         requires most_owner { owner < 15 }
-        ensures made { Exchanges self.old.bytes self.new.bytes room.at
-            (in_front (fixed (replicate count 0) owner)) }
+        ensures made { Claims self.old.bytes self.new.bytes room.at room.size
+            (fixed (replicate count 0) owner) }
         ensures name { result.0 ≡ room.at + 8 }
         ensures plain { WritesPlain self.old.bytes self.new.bytes }
         ensures rest { self.new ≡ record self.old { bytes = self.new.bytes } }
     {
-        claim_fixed(&mut self.region, room, count, owner)
+        let kept = take(&mut self.region, &mut self.heads, room, size_of_body(count));
+        claim_fixed_at(&mut self.region, room.at, count, owner);
+        build(&mut self.region, &mut self.heads, self.built & kept);
+        self.built = true;
+        Name(room.at + HEADER_SIZE)
     }
 
     /// Makes a live chunk free, and answers how many bytes are free from its header on, up to where the
@@ -200,7 +225,16 @@ impl Space {
         ensures plain { WritesPlain self.old.bytes self.new.bytes }
         ensures rest { self.new ≡ record self.old { bytes = self.new.bytes } }
     {
-        release(&mut self.region, found)
+        build(&mut self.region, &mut self.heads, self.built);
+        self.built = true;
+        let size = release_alone(&mut self.region, found);
+        push(
+            &mut self.region,
+            &mut self.heads,
+            found.place.0 - HEADER_SIZE,
+            size,
+        );
+        size
     }
 
     /// Makes all chunks of an owner but the manager free, locked and fixed ones too, in one walk, and
@@ -214,6 +248,8 @@ impl Space {
         ensures plain { WritesPlain self.old.bytes self.new.bytes }
         ensures rest { self.new ≡ record self.old { bytes = self.new.bytes } }
     {
+        self.heads = [0; CLASSES];
+        self.built = false;
         release_owned(&mut self.region, owner)
     }
 
@@ -313,7 +349,8 @@ impl Space {
         ensures plain { WritesPlain self.old.bytes self.new.bytes }
         ensures rest { self.new ≡ record self.old { bytes = self.new.bytes } }
     {
-        resize_at(&mut self.region, found, count, 0);
+        let kept = resize_listed(&mut self.region, &mut self.heads, found, count, 0);
+        self.built &= kept;
     }
 
     /// Gives a live chunk `count` bytes where it stands, if its own and those of the free chunks directly
@@ -330,7 +367,13 @@ impl Space {
         ensures plain { WritesPlain self.old.bytes self.new.bytes }
         ensures rest { self.new ≡ record self.old { bytes = self.new.bytes } }
     {
-        grow_in_place_at(&mut self.region, found, count)
+        grow_in_place_at(
+            &mut self.region,
+            &mut self.heads,
+            &mut self.built,
+            found,
+            count,
+        )
     }
 
     /// Packs the chunks of each stretch: they go to its front, and its room is behind them. Answers how many
@@ -344,6 +387,8 @@ impl Space {
         ensures slid { self.new.slid ≡ self.old.slid + result }
         ensures rest { self.new ≡ record self.old { bytes = self.new.bytes; slid = self.new.slid } }
     {
+        self.heads = [0; CLASSES];
+        self.built = false;
         compact(&mut self.region)
     }
 
@@ -389,6 +434,8 @@ impl Space {
         ensures slid { SlidesStretch self.old.bytes stretch self.old.slid self.new.slid }
         ensures rest { self.new ≡ record self.old { bytes = self.new.bytes; slid = self.new.slid } }
     {
+        self.heads = [0; CLASSES];
+        self.built = false;
         pack_stretch(&mut self.region, stretch)
     }
 
@@ -404,6 +451,8 @@ impl Space {
         ensures few { self.new.slid ≤ self.old.slid + 2 * (stretch.end - stretch.start) }
         ensures rest { self.new ≡ record self.old { bytes = self.new.bytes; slid = self.new.slid } }
     {
+        self.heads = [0; CLASSES];
+        self.built = false;
         open_in(&mut self.region, stretch, found);
     }
 
@@ -423,6 +472,11 @@ impl Space {
         ensures slid { OnTrue result (self.new.slid ≡ self.old.slid + min found.length count) }
         ensures rest { self.new ≡ record self.old { bytes = self.new.bytes; slid = self.new.slid } }
     {
-        relocate(&mut self.region, found, count)
+        let moved = relocate(&mut self.region, found, count);
+        if moved {
+            self.heads = [0; CLASSES];
+            self.built = false;
+        }
+        moved
     }
 }

@@ -1,8 +1,9 @@
 -- Runs of chunks: put together, taken apart, framed, and one at most in an image.
-use Rattle.std.proofs.Common.{◌≡◌, ℕ, ◌+◌, ◌-◌, ◌*◌, ◌%◌, ◌^◌, ◌<◌, ◌≤◌, List, [], ◌∷◌, ◌++◌, length, take, drop, refl, sym, ap, subst, ◌∙◌, arith}
+use Rattle.std.proofs.Common.{◌≡◌, ℕ, ◌+◌, ◌-◌, ◌*◌, ◌%◌, ◌^◌, ◌<◌, ◌≤◌, List, [], ◌∷◌, ◌++◌, length, take, drop, refl, sym, ap, subst, ◌∙◌, arith, inl, inr}
 use Rattle.heap_model.specs.Bytes.{u32_at}
 use Rattle.heap_model.specs.Chunk.{Chunk, free, movable, fixed, need, size_of, total, slot_named, IsFree, IsLive, Spelled, SpelledAll}
-use Rattle.heap_model.specs.Placed.{EveryPlaced}
+use Rattle.heap_model.specs.Placed.{EveryPlaced, AnyPlaced}
+use Rattle.heap_model.specs.Layout.{IsFreeAt}
 use Rattle.laws_heap.proofs.Frames.{SameBetween, SameBetween-within, u32_at-same, slice-same}
 
 -- ---- sizes
@@ -83,10 +84,15 @@ SpelledAll-same xs ys at (c ∷ cs) end agree len s =
 abbrev pub SameWords : List ℕ → List ℕ → ℕ → List Chunk → Type 0
 SameWords old new at cs = EveryPlaced (λ there c. u32_at new there ≡ u32_at old there) at cs
 
+-- each free one of these chunks has the second word there that it had
+abbrev pub SameSeconds : List ℕ → List ℕ → ℕ → List Chunk → Type 0
+SameSeconds old new at cs = (there : ℕ) → AnyPlaced (IsFreeAt there) at cs → u32_at new (there + 4) ≡ u32_at old (there + 4)
+
 -- chunks that begin at an offset are spelled there again
 pub record SpellsAgain (old new : List ℕ) (at : ℕ) (cs : List Chunk) : Type 0 where
   pub spelled : SpelledAll new at cs (at + total cs)
   pub words : SameWords old new at cs
+  pub seconds : SameSeconds old new at cs
 
 words_same : (old new : List ℕ) (at : ℕ) (cs : List Chunk) (end : ℕ) → SameBetween at end old new → SpelledAll old at cs end → SameWords old new at cs
 words_same old new at [] end agree s = tt
@@ -97,8 +103,22 @@ words_same old new at (c ∷ cs) end agree s =
       words_same old new (at + size_of c) cs end (SameBetween-within at end (at + size_of c) end old new agree (omega arith) (omega arith)) s.1,
     )
 
+seconds_same : (old new : List ℕ) (at : ℕ) (cs : List Chunk) (end : ℕ) → SameBetween at end old new → SpelledAll old at cs end → SameSeconds old new at cs
+seconds_same old new at [] end agree s there h = absurd h
+seconds_same old new at (c ∷ cs) end agree s there h =
+    let least = (Spelled-size old at c s.0).0 in
+    let e : end ≡ at + size_of c + total cs = SpelledAll-end old (at + size_of c) cs end s.1 in
+    elim h [
+      | inl here ↦ subst (λ (k : ℕ). u32_at new (k + 4) ≡ u32_at old (k + 4)) (free_begins at c here) (sym (u32_at-same (at + 4) old new at end agree (omega arith) (omega arith)))
+      | inr later ↦ seconds_same old new (at + size_of c) cs end (SameBetween-within at end (at + size_of c) end old new agree (omega arith) (omega arith)) s.1 there later
+    ] where
+      free_begins : (k : ℕ) (d : Chunk) → IsFreeAt there k d → k ≡ there
+      free_begins k (free size) here = here
+      free_begins k (movable bytes lock owner slot) here = absurd here
+      free_begins k (fixed bytes owner) here = absurd here
+
 pub spells_same : (old new : List ℕ) (at : ℕ) (cs : List Chunk) → SameBetween at (at + total cs) old new → length new ≡ length old → SpelledAll old at cs (at + total cs) → SpellsAgain old new at cs
-spells_same old new at cs agree len s = record { spelled = SpelledAll-same old new at cs (at + total cs) agree len s; words = words_same old new at cs (at + total cs) agree s }
+spells_same old new at cs agree len s = record { spelled = SpelledAll-same old new at cs (at + total cs) agree len s; words = words_same old new at cs (at + total cs) agree s; seconds = seconds_same old new at cs (at + total cs) agree s }
 
 pub words_then : (old mid new : List ℕ) (at : ℕ) (cs : List Chunk) → SameWords old mid at cs → SameWords mid new at cs → SameWords old new at cs
 words_then old mid new at [] first second = tt

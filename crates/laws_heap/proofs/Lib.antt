@@ -19,6 +19,7 @@ pub mod Finding
 pub mod Altering
 pub mod Exchanging
 pub mod Changing
+pub mod Spots
 pub mod OwnedChunks
 pub mod Openness
 pub mod CarriedBytes

@@ -7,20 +7,20 @@ use Rattle.std.proofs.lemmas.Bool.Decides.{nat_tests}
 use Rattle.std.proofs.lemmas.List.{get_or-append_right}
 use Rattle.std.proofs.lemmas.List.Folds.{list_any-append}
 use Rattle.std.proofs.lemmas.List.Sums.{sum_by-append}
-use Rattle.heap_model.specs.Chunk.{Chunk, free, movable, need, total, free_size}
-use Rattle.heap_model.specs.Slots.{area_start}
+use Rattle.heap_model.specs.Chunk.{Chunk, free, movable, need, free_size}
 use Rattle.heap_model.specs.Heap.{HeapAccepted}
 use Rattle.heap_model.specs.Meaning.{LiveChunk}
 use Rattle.heap_model.specs.Reading.{held}
 use Rattle.heap_model.specs.Space.{NoneStays, stretches, room_of, rooms_of, rooms}
-use Rattle.heap_model.specs.Layout.{merged, Becomes, Exchanges, gap, in_front, IsRoom}
+use Rattle.heap_model.specs.Layout.{Becomes, gap, IsSpot, Claims}
 use Rattle.heap_model.specs.Packing.{SlidesOneStretch}
 use Rattle.heap_model.specs.Rooms.{is_movable_as, stretch_of, LowersOne, Lowers}
 use Rattle.laws_heap.proofs.Freeing.{free_sum}
-use Rattle.laws_heap.proofs.Layouts.{total-merged, rooms-merged}
-use Rattle.laws_heap.proofs.Becoming.{rooms-layout}
-use Rattle.laws_heap.proofs.Exchanging.{exchanges_layout, gap_free, gap_total, room_in_layout}
-use Rattle.laws_heap.proofs.StretchNumbers.{LiveAlone, stretch_with, stretch-layout, becomes_stretch}
+use Rattle.laws_heap.proofs.Layouts.{rooms-merged}
+use Rattle.laws_heap.proofs.Becoming.{rooms-layout, same_frame}
+use Rattle.laws_heap.proofs.Exchanging.{gap_free, gap_total}
+use Rattle.laws_heap.proofs.Spots.{spot_layout}
+use Rattle.laws_heap.proofs.StretchNumbers.{LiveAlone, stretch_with, becomes_stretch}
 use Rattle.laws_heap.proofs.Compacting.{slides_alike}
 use Rattle.laws_heap.proofs.Stretches.{stretch_between, rooms_of-append, room_of-middle}
 
@@ -94,32 +94,30 @@ claimed_stretch test before bytes owner slot more left after live fails =
 
 -- ---- of an image
 
--- a movable chunk was made at the front of a room
-pub claim_lowers : (old new : List ℕ) (at size : ℕ) (bytes : List ℕ) (owner slot : ℕ) → HeapAccepted old → IsRoom old at size → need (length bytes) ≤ size → Exchanges old new at (in_front (movable bytes 0 owner slot))
+-- a movable chunk was made at the front of room
+pub claims_lower : (old new : List ℕ) (at size : ℕ) (bytes : List ℕ) (owner slot : ℕ) → HeapAccepted old → IsSpot old at size → need (length bytes) ≤ size → Claims old new at size (movable bytes 0 owner slot)
     → LowersOne (rooms old) (rooms new) (need (length bytes)) × ((name : ℕ) → name ≢ slot → stretch_of new name ≡ stretch_of old name)
-claim_lowers old new at size bytes owner slot h r fits x =
-    let room = room_in_layout old at size h (omega arith) r in
-    let before : List Chunk = merged r.before in
-    let there : at ≡ area_start old + total before = r.there ∙ ap (λ (n : ℕ). area_start old + n) (sym (total-merged r.before)) in
+claims_lower old new at size bytes owner slot h r fits claims =
     let c : Chunk = movable bytes 0 owner slot in
-    let left : ℕ = room.more - need (length bytes) in
-    let within = room.within in
-    let b : Becomes old new (before ++ (c ∷ (gap left ++ room.behind))) = (exchanges_layout old new at (in_front c) before (free room.more) room.behind h room.layout there).0 x in
-    let was : rooms old ≡ rooms_of (stretches (before ++ free room.more ∷ room.behind)) = rooms-layout old ∙ ap (λ (cs : List Chunk). rooms_of (stretches cs)) room.layout in
-    let is : rooms new ≡ rooms_of (stretches (before ++ (c ∷ (gap left ++ room.behind)))) = rooms-layout new ∙ ap (λ (cs : List Chunk). rooms_of (stretches cs)) b.layout ∙ rooms-merged (before ++ (c ∷ (gap left ++ room.behind))) in (
+    let left : ℕ = size - need (length bytes) in
+    let parts = spot_layout old at size (omega arith) r in
+    let b : Becomes old new (r.before ++ (c ∷ (gap left ++ r.after))) = claims r in
+    let was : rooms old ≡ rooms_of (stretches (r.before ++ free size ∷ r.after)) = rooms-layout old ∙ ap (λ (cs : List Chunk). rooms_of (stretches cs)) parts ∙ rooms-merged (r.before ++ free size ∷ r.after) in
+    let is : rooms new ≡ rooms_of (stretches (r.before ++ (c ∷ (gap left ++ r.after)))) = rooms-layout new ∙ ap (λ (cs : List Chunk). rooms_of (stretches cs)) b.layout ∙ rooms-merged (r.before ++ (c ∷ (gap left ++ r.after))) in
+    let same : Becomes old old (r.before ++ free size ∷ r.after) = record { frame = same_frame old h; layout = parts } in (
       subst (λ (rs : List ℕ). LowersOne rs (rooms new) (need (length bytes))) (sym was)
-          (subst (λ (rs : List ℕ). LowersOne (rooms_of (stretches (before ++ free room.more ∷ room.behind))) rs (need (length bytes))) (sym is) (claimed_rooms before bytes owner slot room.more room.behind (omega arith))),
-      λ name apart. becomes_stretch old new (before ++ (c ∷ (gap left ++ room.behind))) name b
-          ∙ claimed_stretch (is_movable_as name) before bytes owner slot room.more left room.behind (λ n. refl) (let other : slot ≢ name = λ e. apart (sym e) in let fails : (slot == name) ≡ false = grind (arith, nat_tests) in fails)
-          ∙ ap (stretch_with (is_movable_as name)) (sym room.layout) ∙ sym (stretch-layout old name),
+          (subst (λ (rs : List ℕ). LowersOne (rooms_of (stretches (r.before ++ free size ∷ r.after))) rs (need (length bytes))) (sym is) (claimed_rooms r.before bytes owner slot size r.after (omega arith))),
+      λ name apart. becomes_stretch old new (r.before ++ (c ∷ (gap left ++ r.after))) name b
+          ∙ claimed_stretch (is_movable_as name) r.before bytes owner slot size left r.after (λ n. refl) (let other : slot ≢ name = λ e. apart (sym e) in let fails : (slot == name) ≡ false = grind (arith, nat_tests) in fails)
+          ∙ sym (becomes_stretch old old (r.before ++ free size ∷ r.after) name same),
     )
 
 -- one stretch has slid, and then a movable chunk was made under a name that stood for nothing
-pub made_lowers : (old mid new : List ℕ) (at size : ℕ) (bytes : List ℕ) (owner slot : ℕ) → HeapAccepted old → SlidesOneStretch old mid → held old slot ≡ None → IsRoom mid at size → need (length bytes) ≤ size
-    → Exchanges mid new at (in_front (movable bytes 0 owner slot)) → Lowers old new (need (length bytes))
-made_lowers old mid new at size bytes owner slot h s none r fits x =
+pub claimed_lowers : (old mid new : List ℕ) (at size : ℕ) (bytes : List ℕ) (owner slot : ℕ) → HeapAccepted old → SlidesOneStretch old mid → held old slot ≡ None → IsSpot mid at size → need (length bytes) ≤ size → Claims mid new at size (movable bytes 0 owner slot)
+    → Lowers old new (need (length bytes))
+claimed_lowers old mid new at size bytes owner slot h s none r fits claims =
     let alike = slides_alike old mid h s in
-    let low = claim_lowers mid new at size bytes owner slot s.becomes.frame.accepted r fits x in
+    let low = claims_lower mid new at size bytes owner slot s.becomes.frame.accepted r fits claims in
     record {
       room = subst (λ (rs : List ℕ). LowersOne rs (rooms new) (need (length bytes))) alike.room low.0;
       kept = λ name was is. low.1 name (λ same. none_there (subst (λ (n : ℕ). IsSome (held old n)) same was)) ∙ alike.stretch name;

@@ -61,7 +61,7 @@ plain_then old mid new first second at h = elim (second at h) [
 ]
 
 -- a free chunk among chunks whose first words are as they were
-free_word : (old new : List ℕ) (there at : ℕ) (cs : List Chunk) → SameWords old new at cs → AnyPlaced (IsFreeAt there) at cs → u32_at new there ≡ u32_at old there
+pub free_word : (old new : List ℕ) (there at : ℕ) (cs : List Chunk) → SameWords old new at cs → AnyPlaced (IsFreeAt there) at cs → u32_at new there ≡ u32_at old there
 free_word old new there at [] same h = absurd h
 free_word old new there at (free size ∷ cs) same h = elim h [ inl here ↦ subst (λ (k : ℕ). u32_at new k ≡ u32_at old k) here same.0 | inr later ↦ free_word old new there (at + size) cs same.1 later ]
 free_word old new there at (movable bytes lock owner slot ∷ cs) same h = elim h [ inl here ↦ absurd here | inr later ↦ free_word old new there (at + need (length bytes)) cs same.1 later ]

@@ -22,6 +22,7 @@
 //! | `Freeing`, `Altering` | the same: free chunks split, joined and claimed, live ones freed and altered |
 //! | `Exchanging` | a chunk of a layout exchanged for others: by parts, and what all names stand for |
 //! | `Changing`, `ChangedName` | the same by what is done: what its name stands for afterwards, and what all others do |
+//! | `Spots` | room for a chunk, whatever stands in front of it: what fits into it, and what a claim of it does |
 //! | `Directory` | the directory word written: all else of the image is as it was |
 //! | `OwnedChunks` | all chunks of an owner made free |
 //! | `Packings` | what packing leaves: it is packed, and one list alone |

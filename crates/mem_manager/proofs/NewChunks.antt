@@ -11,7 +11,7 @@ use Rattle.heap_model.specs.Reading.{chunks_of, held}
 use Rattle.heap_model.specs.Maps.{callers_map}
 use Rattle.heap_model.specs.Space.{Short}
 use Rattle.heap_model.specs.Packing.{SlidesOneStretch}
-use Rattle.heap_model.specs.Layout.{layout_of, Becomes, Exchanges, in_front, owned_freed, IsRoom}
+use Rattle.heap_model.specs.Layout.{layout_of, Becomes, owned_freed, IsSpot, Claims}
 use Rattle.heap_model.specs.Rooms.{Lowers}
 use Rattle.heap_model.specs.MemorySteps.{Does, IsNoCaller, IsLocked, reply_of}
 use Rattle.heap_model.specs.declared.names.Name.{Name}
@@ -25,13 +25,13 @@ use Rattle.laws_heap.proofs.Meanings.{held-is, empty_unheld}
 use Rattle.laws_heap.proofs.Accepted.{heap_of_read}
 use Rattle.laws_heap.proofs.Exchanging.{ChangesName}
 use Rattle.laws_heap.proofs.FixedNames.{fixed_name, fixed_has_name, fixed_place}
-use Rattle.laws_heap.proofs.Changing.{claim_changes, room_unheld}
+use Rattle.laws_heap.proofs.Spots.{claims_change, spot_unheld}
 use Rattle.laws_heap.proofs.OwnedChunks.{owned-merged, owned_held, owned_place}
 use Rattle.heap_place.specs.declared.found.Found.{Found}
 use Rattle.heap_place.specs.Found.{IsFound}
 use Rattle.laws_heap.proofs.Becoming.{frame_then, frame_slots}
 use Rattle.laws_heap.proofs.Compacting.{slides_alike}
-use Rattle.laws_heap.proofs.LoweredRoom.{made_lowers}
+use Rattle.laws_heap.proofs.LoweredRoom.{claimed_lowers}
 use Rattle.mem_manager.specs.Lookup.{IsManaged, MakesNew, HasNoRoomFor}
 use Rattle.mem_manager.proofs.SlidChunks.{BytesAndSlid, rest_then, held_then, still_then, first_slid, used_slid}
 use Rattle.mem_manager.proofs.Stepping.{known, of_known, not_of_known, is_known, refused, OnlyBytes, still_others, used_altered}
@@ -106,10 +106,10 @@ new_step old new size owner (Err brought) h caller made had no_room refusal refu
     subst (λ (r : Refusal). Does old (HandleNew size owner) (Refused r) new) (sym refusal) (subst (λ (m : Memory). Does old (HandleNew size owner) (Refused NotEnoughSpace) m) (sym refused_is) (refused old (HandleNew size owner) NotEnoughSpace h (inr (caller, inl (no_room, refl)))))
 
 -- what changes is its name, which stood for nothing
-pub new_changes : (old new : List ℕ) (at room size owner slot : ℕ) → HeapAccepted old → IsRoom old at room → need size ≤ room → held old slot ≡ None → Exchanges old new at (in_front (movable (replicate size 0) 0 owner slot)) → ChangesName old new slot (Some (zeros size 0 owner)) (Some (at + 8))
+pub new_changes : (old new : List ℕ) (at room size owner slot : ℕ) → HeapAccepted old → IsSpot old at room → need size ≤ room → held old slot ≡ None → Claims old new at room (movable (replicate size 0) 0 owner slot) → ChangesName old new slot (Some (zeros size 0 owner)) (Some (at + 8))
 new_changes old new at room size owner slot h r fits none x =
     let takes : need (length (replicate {A = ℕ} size 0)) ≡ need size = ap need (length-replicate size 0) in
-    claim_changes old new at room slot (zeros size 0 owner) (movable (replicate size 0) 0 owner slot) h (omega arith) r none x (omega arith) (refl, refl)
+    claims_change old new at room slot (zeros size 0 owner) (movable (replicate size 0) 0 owner slot) h (omega arith) r none x (omega arith) (refl, refl)
 
 -- ---- the slot of a new handle
 
@@ -145,10 +145,10 @@ some_owner : (owner : ℕ) → (IsNoCaller owner → ⊥) → 0 < owner
 some_owner zero caller = absurd (caller (inl refl))
 some_owner (suc owner) caller = omega arith
 
-pub ptr_changes : (old new : List ℕ) (at room size owner : ℕ) → HeapAccepted old → (IsNoCaller owner → ⊥) → IsRoom old at room → need size ≤ room → Exchanges old new at (in_front (fixed (replicate size 0) owner)) → ChangesName old new (fixed_name at) (Some (zeros size fixed_lock owner)) (Some (at + 8))
+pub ptr_changes : (old new : List ℕ) (at room size owner : ℕ) → HeapAccepted old → (IsNoCaller owner → ⊥) → IsSpot old at room → need size ≤ room → Claims old new at room (fixed (replicate size 0) owner) → ChangesName old new (fixed_name at) (Some (zeros size fixed_lock owner)) (Some (at + 8))
 ptr_changes old new at room size owner h caller r fits x =
     let takes : need (length (replicate {A = ℕ} size 0)) ≡ need size = ap need (length-replicate size 0) in
-    claim_changes old new at room (fixed_name at) (zeros size fixed_lock owner) (fixed (replicate size 0) owner) h (omega arith) r (room_unheld old at room h (omega arith) r) x (omega arith) (fixed_has_name at (replicate size 0) owner (some_owner owner caller))
+    claims_change old new at room (fixed_name at) (zeros size fixed_lock owner) (fixed (replicate size 0) owner) h (omega arith) r (spot_unheld old at room h (omega arith) r) x (omega arith) (fixed_has_name at (replicate size 0) owner (some_owner owner caller))
 
 -- ---- all chunks of an owner
 
@@ -164,7 +164,7 @@ owner_freed old new owner count h caller b counted rest = record {
 
 -- ---- where chunks of one stretch have slid before
 
-pub new_claimed : (old mid new : List ℕ) (at room size owner slot before : ℕ) → HeapAccepted old → SlidesOneStretch old mid → IsFirstEmpty old slot before → IsRoom mid at room → need size ≤ room → Exchanges mid new at (in_front (movable (replicate size 0) 0 owner slot))
+pub new_claimed : (old mid new : List ℕ) (at room size owner slot before : ℕ) → HeapAccepted old → SlidesOneStretch old mid → IsFirstEmpty old slot before → IsSpot mid at room → need size ≤ room → Claims mid new at room (movable (replicate size 0) 0 owner slot)
     → ChangesName mid new slot (Some (zeros size 0 owner)) (Some (at + 8))
 new_claimed old mid new at room size owner slot before h s first r fits x =
     new_changes mid new at room size owner slot s.becomes.frame.accepted r fits (slot_unheld mid slot before s.becomes.frame.accepted (first_slid old mid slot before h s first)) x
@@ -173,24 +173,24 @@ pub new_unheld : (old mid : List ℕ) (slot before : ℕ) → HeapAccepted old �
 new_unheld old mid slot before h s first = slot_unheld mid slot before s.becomes.frame.accepted (first_slid old mid slot before h s first)
 
 -- one room is lower by what the chunk takes
-pub new_lowers : (old mid new : List ℕ) (at room size owner slot before : ℕ) → HeapAccepted old → SlidesOneStretch old mid → IsFirstEmpty old slot before → IsRoom mid at room → need size ≤ room → Exchanges mid new at (in_front (movable (replicate size 0) 0 owner slot)) → Lowers old new (need size)
+pub new_lowers : (old mid new : List ℕ) (at room size owner slot before : ℕ) → HeapAccepted old → SlidesOneStretch old mid → IsFirstEmpty old slot before → IsSpot mid at room → need size ≤ room → Claims mid new at room (movable (replicate size 0) 0 owner slot) → Lowers old new (need size)
 new_lowers old mid new at room size owner slot before h s first r fits x =
     let takes : need (length (replicate {A = ℕ} size 0)) ≡ need size = ap need (length-replicate size 0) in
-    subst (λ (taken : ℕ). Lowers old new taken) takes (made_lowers old mid new at room (replicate size 0) owner slot h s (slot_unheld old slot before h first) r (omega arith) x)
+    subst (λ (taken : ℕ). Lowers old new taken) takes (claimed_lowers old mid new at room (replicate size 0) owner slot h s (slot_unheld old slot before h first) r (omega arith) x)
 
 -- the slot that was found, of the region that is the heap's value
 pub as_first : (region read : Memory) (result : Option EmptySlot) (slot : EmptySlot) → read ≡ region → result ≡ Some slot → IfSome result (λ slot. IsFirstEmpty read.bytes slot.name.0 slot.before) → IsFirstEmpty region.bytes slot.name.0 slot.before
 as_first region read result slot same is first =
     subst (λ (m : Memory). IsFirstEmpty m.bytes slot.name.0 slot.before) same (subst (λ (x : Option EmptySlot). IfSome x (λ slot. IsFirstEmpty read.bytes slot.name.0 slot.before)) is first)
 
-pub ptr_unheld : (old mid : List ℕ) (at room size : ℕ) → SlidesOneStretch old mid → IsRoom mid at room → need size ≤ room → held mid (fixed_name at) ≡ None
-ptr_unheld old mid at room size s r fits = room_unheld mid at room s.becomes.frame.accepted (omega arith) r
+pub ptr_unheld : (old mid : List ℕ) (at room size : ℕ) → SlidesOneStretch old mid → IsSpot mid at room → need size ≤ room → held mid (fixed_name at) ≡ None
+ptr_unheld old mid at room size s r fits = spot_unheld mid at room s.becomes.frame.accepted (omega arith) r
 
-pub ptr_claimed : (old mid new : List ℕ) (at room size owner name : ℕ) → name ≡ at + 8 → (IsNoCaller owner → ⊥) → SlidesOneStretch old mid → IsRoom mid at room → need size ≤ room → Exchanges mid new at (in_front (fixed (replicate size 0) owner)) → ChangesName mid new name (Some (zeros size fixed_lock owner)) (Some (at + 8))
+pub ptr_claimed : (old mid new : List ℕ) (at room size owner name : ℕ) → name ≡ at + 8 → (IsNoCaller owner → ⊥) → SlidesOneStretch old mid → IsSpot mid at room → need size ≤ room → Claims mid new at room (fixed (replicate size 0) owner) → ChangesName mid new name (Some (zeros size fixed_lock owner)) (Some (at + 8))
 ptr_claimed old mid new at room size owner name is caller s r fits x =
     subst (λ (n : ℕ). ChangesName mid new n (Some (zeros size fixed_lock owner)) (Some (at + 8))) (fixed_place at ∙ sym is) (ptr_changes mid new at room size owner s.becomes.frame.accepted caller r fits x)
 
 -- the same slots are in use
-pub used_ptr : (old mid new : List ℕ) (used at room size owner : ℕ) → IsManaged old used → (IsNoCaller owner → ⊥) → SlidesOneStretch old mid → IsRoom mid at room → need size ≤ room → Exchanges mid new at (in_front (fixed (replicate size 0) owner)) → IsManaged new used
+pub used_ptr : (old mid new : List ℕ) (used at room size owner : ℕ) → IsManaged old used → (IsNoCaller owner → ⊥) → SlidesOneStretch old mid → IsSpot mid at room → need size ≤ room → Claims mid new at room (fixed (replicate size 0) owner) → IsManaged new used
 used_ptr old mid new used at room size owner m caller s r fits x =
     used_altered mid new used (fixed_name at) _ _ (used_slid old mid used m s.becomes.frame (slides_alike old mid m.accepted s)) (ptr_changes mid new at room size owner s.becomes.frame.accepted caller r fits x)

@@ -22,18 +22,30 @@ impl Beside {
         Ok(Beside { image, chunks })
     }
 
-    /// Does a call on both, and checks what came of it.
+    /// Does a call on both, where the heap is adopted for it, and checks what came of it.
     pub(crate) fn call(
         &mut self,
         rt: &(impl Abort + AllocGlobal),
         spot: &str,
         call: &MemoryCall,
     ) -> Result<Reply, Fail> {
+        let mut heap = adopt(rt.alloc(), &self.image)?;
+        self.call_on(rt, &mut heap, spot, call)
+    }
+
+    /// The same on a heap that holds the image, and may have had calls before. What it leaves must be one
+    /// that can be adopted.
+    pub(crate) fn call_on(
+        &mut self,
+        rt: &(impl Abort + AllocGlobal),
+        heap: &mut Heap,
+        spot: &str,
+        call: &MemoryCall,
+    ) -> Result<Reply, Fail> {
         let alloc = rt.alloc();
-        let mut heap = adopt(alloc, &self.image)?;
-        let reply = do_call(alloc, &mut heap, call)?;
-        let region = heap.into_region();
-        let after = Vec::from_slice(alloc, bytes_of(&region))?;
+        let reply = do_call(alloc, heap, call)?;
+        let after = Vec::from_slice(alloc, heap.image())?;
+        adopt(alloc, &after)?;
         check(
             rt,
             spot,

@@ -9,6 +9,8 @@ mod beside;
 #[cfg(test)]
 mod caller;
 #[cfg(test)]
+mod classes;
+#[cfg(test)]
 mod examples;
 #[cfg(test)]
 mod images;

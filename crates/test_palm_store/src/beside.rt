@@ -3,6 +3,7 @@
 use crate::calls::do_call;
 use heap_model::{Call, Reply};
 use palm_store::Store;
+use palm_text::Counted;
 use raw_region::Region;
 use std::alloc::Global;
 use std::process::Abort;
@@ -22,17 +23,34 @@ impl Beside {
         Ok(Beside { image, plain })
     }
 
-    /// Does a call on both, and checks what came of it.
+    /// Does a call on both, where the image is checked as a store for it, and checks what came of it.
     pub(crate) fn call(
         &mut self,
         rt: &(impl Abort + AllocGlobal),
         spot: &str,
         call: &Call,
     ) -> Result<Reply, Fail> {
+        let mut store = store_of(rt.alloc(), &self.image)?;
+        self.call_on(rt, &mut store, spot, call)
+    }
+
+    /// The same on a store that has the image, and may have had calls before. What it leaves must be one
+    /// that is taken as a store.
+    pub(crate) fn call_on(
+        &mut self,
+        rt: &(impl Abort + AllocGlobal),
+        store: &mut Store,
+        spot: &str,
+        call: &Call,
+    ) -> Result<Reply, Fail> {
         let alloc = rt.alloc();
-        let mut store = store_of(alloc, &self.image)?;
-        let reply = do_call(alloc, &mut store, call);
-        let after = Vec::from_slice(alloc, bytes_of(&store.into_region()))?;
+        let reply = do_call(alloc, store, call);
+        let mut written = Counted::new(Vec::new(alloc));
+        if store.write_image(&mut written).is_err() {
+            return Err("no image")?;
+        }
+        let after = written.into_inner();
+        store_of(alloc, &after)?;
         check(rt, spot, &mut self.plain, call, &reply, &self.image, &after)?;
         self.image = after;
         Ok(reply)

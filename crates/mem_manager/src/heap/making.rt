@@ -6,7 +6,7 @@ ghost use Rattle.heap_model.specs.Heap.{HeapAccepted};
 ghost use Rattle.heap_model.specs.Reading.{chunks_of};
 ghost use Rattle.heap_model.specs.Space.{NoRun, Short, MovesOneStretch, moved_bytes};
 ghost use Rattle.heap_model.specs.Packing.{SlidesOneStretch};
-ghost use Rattle.heap_model.specs.Layout.{IsRoom};
+ghost use Rattle.heap_model.specs.Layout.{IsSpot};
 ghost use Rattle.heap_model.specs.Rooms.{Lowers};
 ghost use Rattle.heap_model.specs.MemorySteps.{Does};
 ghost use Rattle.heap_model.specs.declared.call.MemoryCall.{MemoryCall};
@@ -128,7 +128,7 @@ pub(crate) fn make_movable(
 /// Room for a chunk of `size` bytes, for which one stretch is packed where it has to be.
 fn room_for(space: &mut Space, size: u32) -> Result<Room, Refusal>
     requires accepted { HeapAccepted space.old.bytes }
-    ensures room { IfOk result (λ room. IsRoom space.new.bytes room.at room.size) }
+    ensures room { IfOk result (λ room. IsSpot space.new.bytes room.at room.size) }
     ensures enough { IfOk result (λ room. need size ≤ room.size) }
     ensures not_short { OnOk result (Short space.old.bytes (need size) → ⊥) }
     ensures short { OnErr result (Short space.old.bytes (need size)) }

@@ -1,9 +1,9 @@
-use Rattle.laws_heap.proofs.Fits.{room_not_short}
+use Rattle.laws_heap.proofs.Spots.{spot_not_short}
 use Rattle.heap_compact.proofs.MakingLaws.{slides_nothing, moves_none}
 use Rattle.heap_compact.proofs.making.make_room.Goals as goal
 
 pub returns-in-Some-clause-not_short : goal.returns-in-Some-clause-not_short
-returns-in-Some-clause-not_short c = room_not_short c.args.space.now.bytes c.in-Some.room.at c.in-Some.room.size c.args.size c.requires.some_size c.in-Some.ensures.room c.in-Some.ensures.enough
+returns-in-Some-clause-not_short c = spot_not_short c.args.space.now.bytes c.in-Some.room.at c.in-Some.room.size c.args.size c.requires.some_size c.in-Some.ensures.room c.in-Some.ensures.enough
 
 pub returns-in-Some-clause-slides : goal.returns-in-Some-clause-slides
 returns-in-Some-clause-slides c = slides_nothing c.args.space.now.bytes c.requires.accepted

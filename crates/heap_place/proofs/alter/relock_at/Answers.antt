@@ -4,6 +4,7 @@ use Rattle.heap_model.specs.Bytes.{u32_at}
 use Rattle.chunk_format.specs.Header.{with_lock_field}
 use Rattle.heap_place.proofs.FoundLaws.{bytes_inside}
 use Rattle.heap_place.proofs.AlterLaws.{relocked_there}
+use Rattle.heap_place.proofs.WithinLaws.{keeps_second}
 use Rattle.heap_place.proofs.alter.relock_at.Goals as goal
 
 pub put_lock-requires-clause-inside : goal.put_lock-requires-clause-inside
@@ -19,3 +20,8 @@ returns-clause-made c =
 pub returns-clause-plain : goal.returns-clause-plain
 returns-clause-plain c =
     (relocked_there c.args.region.now.bytes c.put_lock.new.region.bytes c.args.found c.args.lock (with_lock_field (u32_at c.args.region.now.bytes (c.args.found.place.0 - 8 + 4)) c.args.lock) c.requires.accepted c.requires.found c.requires.movable c.requires.owned c.put_lock.ensures.relocked (ap (λ (m : Memory). m.bytes) c.put_lock.ensures.after)).1
+
+pub returns-clause-keeps : goal.returns-clause-keeps
+returns-clause-keeps c =
+    keeps_second c.args.region.now.bytes c.put_lock.new.region.bytes c.args.found (with_lock_field (u32_at c.args.region.now.bytes (c.args.found.place.0 - 8 + 4)) c.args.lock) c.requires.accepted
+    ((relocked_there c.args.region.now.bytes c.put_lock.new.region.bytes c.args.found c.args.lock (with_lock_field (u32_at c.args.region.now.bytes (c.args.found.place.0 - 8 + 4)) c.args.lock) c.requires.accepted c.requires.found c.requires.movable c.requires.owned c.put_lock.ensures.relocked (ap (λ (m : Memory). m.bytes) c.put_lock.ensures.after)).0).frame.accepted c.requires.found (ap (λ (m : Memory). m.bytes) c.put_lock.ensures.after)

@@ -6,11 +6,11 @@ use Rattle.heap_place.proofs.CutLaws.{cut_facts, claimed_area, table_kept, claim
 use Rattle.heap_place.proofs.claim.claim_movable.Goals as goal
 
 pub write-requires-clause-inside : goal.write-requires-clause-inside
-write-requires-clause-inside c = (cut_facts c.args.region.now.bytes (need c.args.count) c.args.at c.requires.accepted c.requires.cut).0
+write-requires-clause-inside c = (cut_facts c.args.region.now.bytes (need c.args.count) c.args.at c.requires.accepted c.requires.free).0
 
 pub write-requires-clause-writable : goal.write-requires-clause-writable
 write-requires-clause-writable c =
-    let f = cut_facts c.args.region.now.bytes (need c.args.count) c.args.at c.requires.accepted c.requires.cut in
+    let f = cut_facts c.args.region.now.bytes (need c.args.count) c.args.at c.requires.accepted c.requires.free in
     let s = slot_facts c.args.region.now.bytes c.requires.accepted.0 c.args.slot.0 c.requires.accepted.1.tiles c.requires.slot in
     let inside = f.0 in let whole = f.2 in let most = f.3 in
     let slot_inside = s.inside in let four = s.whole in
@@ -18,7 +18,7 @@ write-requires-clause-writable c =
 
 pub set-requires-clause-table : goal.set-requires-clause-table
 set-requires-clause-table c =
-    let f = cut_facts c.args.region.now.bytes (need c.args.count) c.args.at c.requires.accepted c.requires.cut in
+    let f = cut_facts c.args.region.now.bytes (need c.args.count) c.args.at c.requires.accepted c.requires.free in
     let inside = f.0 in
     (table_kept c.args.region.now.bytes c.fill.new.self.bytes c.args.at (c.args.at + need c.args.count) c.args.slot.0 c.requires.accepted
     (claimed_area c.args.region.now.bytes c.write.new.region.bytes c.fill.new.self.bytes c.args.at c.args.count c.args.owner c.args.slot.0 f.0 (ap (λ (m : Memory). m.bytes) c.write.ensures.after) (ap (λ (m : Memory). m.bytes) c.fill.ensures.after))
@@ -26,18 +26,23 @@ set-requires-clause-table c =
 
 pub set-requires-clause-slot : goal.set-requires-clause-slot
 set-requires-clause-slot c =
-    let f = cut_facts c.args.region.now.bytes (need c.args.count) c.args.at c.requires.accepted c.requires.cut in
+    let f = cut_facts c.args.region.now.bytes (need c.args.count) c.args.at c.requires.accepted c.requires.free in
     let inside = f.0 in
     (table_kept c.args.region.now.bytes c.fill.new.self.bytes c.args.at (c.args.at + need c.args.count) c.args.slot.0 c.requires.accepted
     (claimed_area c.args.region.now.bytes c.write.new.region.bytes c.fill.new.self.bytes c.args.at c.args.count c.args.owner c.args.slot.0 f.0 (ap (λ (m : Memory). m.bytes) c.write.ensures.after) (ap (λ (m : Memory). m.bytes) c.fill.ensures.after))
     f.1 (omega arith) c.requires.slot).1
 
 pub returns-clause-made : goal.returns-clause-made
-returns-clause-made c =
-    (claimed_write c.args.region.now.bytes c.write.new.region.bytes c.fill.new.self.bytes c.set.new.region.bytes c.args.at c.args.count c.args.owner c.args.slot.0 c.requires.accepted c.requires.cut c.requires.slot c.requires.empty
+returns-clause-made c f =
+    (claimed_write c.args.region.now.bytes c.write.new.region.bytes c.fill.new.self.bytes c.set.new.region.bytes c.args.at c.args.count c.args.owner c.args.slot.0 c.requires.accepted f c.requires.slot c.requires.empty
     (ap (λ (m : Memory). m.bytes) c.write.ensures.after) c.write.ensures.spelled (ap (λ (m : Memory). m.bytes) c.fill.ensures.after) (ap (λ (m : Memory). m.bytes) c.set.ensures.after)).0
+
+pub returns-clause-keeps : goal.returns-clause-keeps
+returns-clause-keeps c =
+    (claimed_write c.args.region.now.bytes c.write.new.region.bytes c.fill.new.self.bytes c.set.new.region.bytes c.args.at c.args.count c.args.owner c.args.slot.0 c.requires.accepted c.requires.free c.requires.slot c.requires.empty
+    (ap (λ (m : Memory). m.bytes) c.write.ensures.after) c.write.ensures.spelled (ap (λ (m : Memory). m.bytes) c.fill.ensures.after) (ap (λ (m : Memory). m.bytes) c.set.ensures.after)).1
 
 pub returns-clause-plain : goal.returns-clause-plain
 returns-clause-plain c =
-    (claimed_write c.args.region.now.bytes c.write.new.region.bytes c.fill.new.self.bytes c.set.new.region.bytes c.args.at c.args.count c.args.owner c.args.slot.0 c.requires.accepted c.requires.cut c.requires.slot c.requires.empty
-    (ap (λ (m : Memory). m.bytes) c.write.ensures.after) c.write.ensures.spelled (ap (λ (m : Memory). m.bytes) c.fill.ensures.after) (ap (λ (m : Memory). m.bytes) c.set.ensures.after)).1
+    (claimed_write c.args.region.now.bytes c.write.new.region.bytes c.fill.new.self.bytes c.set.new.region.bytes c.args.at c.args.count c.args.owner c.args.slot.0 c.requires.accepted c.requires.free c.requires.slot c.requires.empty
+    (ap (λ (m : Memory). m.bytes) c.write.ensures.after) c.write.ensures.spelled (ap (λ (m : Memory). m.bytes) c.fill.ensures.after) (ap (λ (m : Memory). m.bytes) c.set.ensures.after)).2

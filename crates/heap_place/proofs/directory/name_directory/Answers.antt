@@ -1,6 +1,7 @@
 use Rattle.std.proofs.Common.{ap, arith}
 use Rattle.heap_model.specs.Memory.{Memory}
 use Rattle.laws_heap.proofs.Directory.{directory_written}
+use Rattle.heap_place.proofs.WithinLaws.{keeps_directory}
 use Rattle.heap_place.proofs.directory.name_directory.Goals as goal
 
 pub returns-clause-names : goal.returns-clause-names
@@ -8,3 +9,8 @@ returns-clause-names c = (directory_written c.args.region.now.bytes c.put_direct
 
 pub returns-clause-plain : goal.returns-clause-plain
 returns-clause-plain c = (directory_written c.args.region.now.bytes c.put_directory.new.region.bytes c.args.name.0 c.requires.accepted (ap (λ (m : Memory). m.bytes) c.put_directory.ensures.after) (let small = c.well_formed in omega arith) c.requires.managers).1
+
+pub returns-clause-keeps : goal.returns-clause-keeps
+returns-clause-keeps c =
+    keeps_directory c.args.region.now.bytes c.put_directory.new.region.bytes c.args.name.0 c.requires.accepted (ap (λ (m : Memory). m.bytes) c.put_directory.ensures.after)
+    (directory_written c.args.region.now.bytes c.put_directory.new.region.bytes c.args.name.0 c.requires.accepted (ap (λ (m : Memory). m.bytes) c.put_directory.ensures.after) (let small = c.well_formed in omega arith) c.requires.managers).0

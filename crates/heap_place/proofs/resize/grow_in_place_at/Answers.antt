@@ -22,15 +22,15 @@ overflow_add-own c =
     let f = in_place_facts c.args.region.now.bytes c.args.found c.size_of_body-own.result c.free_run-behind.result c.requires.accepted c.requires.found c.size_of_body-own.ensures c.free_run-behind.ensures in
     let inside = f.0 in let most = f.1 in omega arith
 
-pub resize_at-requires-clause-behind : goal.resize_at-requires-clause-behind
-resize_at-requires-clause-behind c =
+pub resize_listed-kept-requires-clause-behind : goal.resize_listed-kept-requires-clause-behind
+resize_listed-kept-requires-clause-behind c =
     all_behind c.args.region.now.bytes c.args.found c.free_run-behind.result c.requires.found
     (free_behind_found c.args.region.now.bytes c.args.found c.size_of_body-own.result c.free_run-behind.result c.size_of_body-own.ensures c.requires.found c.free_run-behind.ensures)
 
 pub returns-in-Some-clause-grown : goal.returns-in-Some-clause-grown
 returns-in-Some-clause-grown c =
-    grows c.args.region.now.bytes c.resize_at.new.region.bytes c.args.found c.args.count c.free_run-behind.result c.requires.accepted c.requires.found
-    (free_behind_found c.args.region.now.bytes c.args.found c.size_of_body-own.result c.free_run-behind.result c.size_of_body-own.ensures c.requires.found c.free_run-behind.ensures) c.resize_at.ensures.resized
+    grows c.args.region.now.bytes c.resize_listed-kept.new.region.bytes c.args.found c.args.count c.free_run-behind.result c.requires.accepted c.requires.found
+    (free_behind_found c.args.region.now.bytes c.args.found c.size_of_body-own.result c.free_run-behind.result c.size_of_body-own.ensures c.requires.found c.free_run-behind.ensures) c.resize_listed-kept.ensures.resized
 
 pub returns-in-Some-clause-tells : goal.returns-in-Some-clause-tells
 returns-in-Some-clause-tells c =

@@ -3,6 +3,7 @@ use Rattle.heap_model.specs.Memory.{Memory}
 use Rattle.chunk_format.specs.Header.{size_by, IsWritable}
 use Rattle.heap_place.proofs.CutLaws.{rest_length}
 use Rattle.heap_place.proofs.ResizeLaws.{run_facts, sized_writable, resized_by}
+use Rattle.heap_place.proofs.RegrownLaws.{resized_keeps, resized_rest}
 use Rattle.heap_place.proofs.resize.resize_at.Goals as goal
 
 pub size_of_body-size-requires : goal.size_of_body-size-requires
@@ -70,9 +71,25 @@ write-requires-clause-writable c =
 pub returns-clause-resized : goal.returns-clause-resized
 returns-clause-resized c = λ r.
     (resized_by c.args.region.now.bytes c.fill.new.self.bytes c.write_rest.new.region.bytes c.write.new.region.bytes c.args.found c.args.count c.args.behind c.size_of_body-size.result c.size_of_body.result c.saturating_sub-gained.result c.header_with.result c.requires.accepted r c.requires.fits
-    c.size_of_body-size.ensures c.size_of_body.ensures c.saturating_sub-gained.ensures c.header_with.ensures (ap (λ (m : Memory). m.bytes) c.fill.ensures.after) c.write_rest.ensures.wrote (ap (λ (m : Memory). m.bytes) c.write.ensures.after) c.write.ensures.spelled).0
+    c.size_of_body-size.ensures c.size_of_body.ensures c.saturating_sub-gained.ensures c.header_with.ensures (ap (λ (m : Memory). m.bytes) c.fill.ensures.after) c.write_rest.ensures.wrote (ap (λ (m : Memory). m.bytes) c.write.ensures.after) c.write.ensures.spelled).becomes
 
 pub returns-clause-plain : goal.returns-clause-plain
 returns-clause-plain c =
     (resized_by c.args.region.now.bytes c.fill.new.self.bytes c.write_rest.new.region.bytes c.write.new.region.bytes c.args.found c.args.count c.args.behind c.size_of_body-size.result c.size_of_body.result c.saturating_sub-gained.result c.header_with.result c.requires.accepted c.requires.behind c.requires.fits
-    c.size_of_body-size.ensures c.size_of_body.ensures c.saturating_sub-gained.ensures c.header_with.ensures (ap (λ (m : Memory). m.bytes) c.fill.ensures.after) c.write_rest.ensures.wrote (ap (λ (m : Memory). m.bytes) c.write.ensures.after) c.write.ensures.spelled).1
+    c.size_of_body-size.ensures c.size_of_body.ensures c.saturating_sub-gained.ensures c.header_with.ensures (ap (λ (m : Memory). m.bytes) c.fill.ensures.after) c.write_rest.ensures.wrote (ap (λ (m : Memory). m.bytes) c.write.ensures.after) c.write.ensures.spelled).plain
+
+pub returns-clause-left : goal.returns-clause-left
+returns-clause-left c = let own = c.size_of_body.ensures in let size = c.size_of_body-size.ensures in omega arith
+
+pub returns-clause-keeps : goal.returns-clause-keeps
+returns-clause-keeps c =
+    resized_keeps c.args.region.now.bytes c.write.new.region.bytes c.args.found c.args.count c.args.behind c.requires.accepted c.requires.behind
+    (resized_by c.args.region.now.bytes c.fill.new.self.bytes c.write_rest.new.region.bytes c.write.new.region.bytes c.args.found c.args.count c.args.behind c.size_of_body-size.result c.size_of_body.result c.saturating_sub-gained.result c.header_with.result c.requires.accepted c.requires.behind c.requires.fits
+    c.size_of_body-size.ensures c.size_of_body.ensures c.saturating_sub-gained.ensures c.header_with.ensures (ap (λ (m : Memory). m.bytes) c.fill.ensures.after) c.write_rest.ensures.wrote (ap (λ (m : Memory). m.bytes) c.write.ensures.after) c.write.ensures.spelled)
+
+pub returns-clause-chunk : goal.returns-clause-chunk
+returns-clause-chunk c some =
+    resized_rest c.args.region.now.bytes c.write.new.region.bytes c.args.found c.args.count c.args.behind _ c.requires.accepted c.requires.behind
+    (resized_by c.args.region.now.bytes c.fill.new.self.bytes c.write_rest.new.region.bytes c.write.new.region.bytes c.args.found c.args.count c.args.behind c.size_of_body-size.result c.size_of_body.result c.saturating_sub-gained.result c.header_with.result c.requires.accepted c.requires.behind c.requires.fits
+    c.size_of_body-size.ensures c.size_of_body.ensures c.saturating_sub-gained.ensures c.header_with.ensures (ap (λ (m : Memory). m.bytes) c.fill.ensures.after) c.write_rest.ensures.wrote (ap (λ (m : Memory). m.bytes) c.write.ensures.after) c.write.ensures.spelled)
+    (let own = c.size_of_body.ensures in let size = c.size_of_body-size.ensures in omega arith) some

@@ -1,4 +1,4 @@
-use Rattle.std.proofs.Common.{ℕ, subst, arith}
+use Rattle.std.proofs.Common.{arith}
 use Rattle.heap_model.specs.Chunk.{need}
 use Rattle.laws_heap.proofs.Fits.{no_run_beyond}
 use Rattle.heap_place.proofs.room.room_for_body.Goals as goal

@@ -1,13 +1,17 @@
-use Rattle.std.proofs.Common.{ap, sym, subst, ◌∙◌, arith, replicate}
+use Rattle.std.proofs.Common.{ℕ, replicate, ap, sym, subst, ◌∙◌, arith}
+use Rattle.std.proofs.lemmas.List.{length-replicate}
 use Rattle.heap_model.specs.Memory.{Memory}
 use Rattle.heap_model.specs.Bytes.{u32_at}
-use Rattle.heap_model.specs.Chunk.{movable}
+use Rattle.heap_model.specs.Chunk.{movable, need}
 use Rattle.heap_model.specs.Slots.{IsSlot}
 use Rattle.heap_model.specs.Heap.{HeapAccepted}
 use Rattle.heap_model.specs.Reading.{chunks_of}
-use Rattle.heap_model.specs.Layout.{Exchanges, in_front}
-use Rattle.heap_place.proofs.CutLaws.{room_facts, exchanges_then}
-use Rattle.laws_heap.proofs.Becoming.{slot_kept, same_slots}
+use Rattle.laws_heap.proofs.Becoming.{same_slots, slot_kept}
+use Rattle.heap_model.specs.Layout.{Claims}
+use Rattle.heap_place.specs.Lists.{ButAt, CutsRoom}
+use Rattle.heap_place.proofs.CutLaws.{room_facts}
+use Rattle.heap_place.proofs.ListLaws.{lists_kept, lists_any}
+use Rattle.heap_place.proofs.SpotLaws.{taken_chunk, cut_claims, claims_same}
 use Rattle.heap_place.proofs.space.Space.claim.Goals as goal
 
 pub size_of_body-requires : goal.size_of_body-requires
@@ -15,17 +19,30 @@ size_of_body-requires c =
     let f = room_facts c.args.self.now.bytes c.args.room.at c.args.room.size c.requires.accepted c.requires.room in
     let inside = f.0 in let most = f.2 in let enough = c.requires.enough in omega arith
 
+pub claim_movable-requires-clause-free : goal.claim_movable-requires-clause-free
+claim_movable-requires-clause-free c = taken_chunk c.args.self.now c.self.inside.region c.take-kept.new.region.bytes c.args.room.at c.args.room.size c.size_of_body.result c.args.count c.self.view_is c.requires.room c.size_of_body.ensures c.take-kept.ensures.same c.take-kept.ensures.cut
+
+pub build-requires-clause-accepted : goal.build-requires-clause-accepted
+build-requires-clause-accepted c = (c.claim_movable.ensures.made (taken_chunk c.args.self.now c.self.inside.region c.take-kept.new.region.bytes c.args.room.at c.args.room.size c.size_of_body.result c.args.count c.self.view_is c.requires.room c.size_of_body.ensures c.take-kept.ensures.same c.take-kept.ensures.cut)).frame.accepted
+
+pub build-requires-clause-lists : goal.build-requires-clause-lists
+build-requires-clause-lists c =
+    lists_any (ButAt c.args.room.at) c.claim_movable.new.region.bytes c.take-kept.new.heads
+    (lists_kept (ButAt c.args.room.at) c.take-kept.new.region.bytes c.claim_movable.new.region.bytes c.take-kept.new.heads c.claim_movable.ensures.keeps c.take-kept.ensures.lists)
+
+pub returns-clause-made : goal.returns-clause-made
+returns-clause-made c =
+    subst (λ (m : Memory). Claims m.bytes c.build.new.region.bytes c.args.room.at c.args.room.size (movable (replicate {A = ℕ} c.args.count 0) 0 c.args.owner c.args.slot.0)) c.self.view_is
+    (claims_same c.self.inside.region.bytes c.claim_movable.new.region.bytes c.build.new.region.bytes c.args.room.at c.args.room.size (movable (replicate {A = ℕ} c.args.count 0) 0 c.args.owner c.args.slot.0)
+    (cut_claims c.self.inside.region.bytes c.take-kept.new.region.bytes c.claim_movable.new.region.bytes c.args.room.at c.args.room.size (need c.args.count) (movable (replicate {A = ℕ} c.args.count 0) 0 c.args.owner c.args.slot.0)
+    (ap need (length-replicate {A = ℕ} c.args.count 0)) c.take-kept.ensures.same (subst (λ (n : ℕ). CutsRoom c.self.inside.region.bytes c.take-kept.new.region.bytes c.args.room.at c.args.room.size n) c.size_of_body.ensures c.take-kept.ensures.cut) c.claim_movable.ensures.made) c.build.ensures.same)
+
 pub claim_movable-requires-clause-empty : goal.claim_movable-requires-clause-empty
 claim_movable-requires-clause-empty c =
-    same_slots c.self.inside.region.bytes c.cut.new.region.bytes c.args.slot.0 (subst (λ (m : Memory). HeapAccepted m.bytes) (sym c.self.view_is) c.requires.accepted) c.cut.ensures.same
+    same_slots c.self.inside.region.bytes c.take-kept.new.region.bytes c.args.slot.0 (subst (λ (m : Memory). HeapAccepted m.bytes) (sym c.self.view_is) c.requires.accepted) c.take-kept.ensures.same
     (subst (λ (m : Memory). IsSlot m.bytes c.args.slot.0) (sym c.self.view_is) c.requires.slot)
     ∙ ap (λ (m : Memory). u32_at m.bytes c.args.slot.0) c.self.view_is ∙ c.requires.empty
 
 pub claim_movable-requires-clause-slot : goal.claim_movable-requires-clause-slot
 claim_movable-requires-clause-slot c =
-    slot_kept c.self.inside.region.bytes c.cut.new.region.bytes (chunks_of c.self.inside.region.bytes) c.args.slot.0 c.cut.ensures.same (subst (λ (m : Memory). IsSlot m.bytes c.args.slot.0) (sym c.self.view_is) c.requires.slot)
-
-pub returns-clause-made : goal.returns-clause-made
-returns-clause-made c =
-    subst (λ (m : Memory). Exchanges m.bytes c.claim_movable.new.region.bytes c.args.room.at (in_front (movable (replicate c.args.count 0) 0 c.args.owner c.args.slot.0))) c.self.view_is
-    (exchanges_then c.self.inside.region.bytes c.cut.new.region.bytes c.claim_movable.new.region.bytes c.args.room.at (in_front (movable (replicate c.args.count 0) 0 c.args.owner c.args.slot.0)) c.cut.ensures.same c.claim_movable.ensures.made)
+    slot_kept c.self.inside.region.bytes c.take-kept.new.region.bytes (chunks_of c.self.inside.region.bytes) c.args.slot.0 c.take-kept.ensures.same (subst (λ (m : Memory). IsSlot m.bytes c.args.slot.0) (sym c.self.view_is) c.requires.slot)

@@ -5,10 +5,7 @@ use Rattle.heap_place.specs.Relocation.{RelocatesToRun}
 use Rattle.heap_place.proofs.RelocateLaws.{had_run}
 use Rattle.heap_place.proofs.space.Space.relocate.Goals as goal
 
-pub returns-clause-moved : goal.returns-clause-moved
-returns-clause-moved c = subst (λ (m : Memory). OnTrue c.relocate.result (RelocatesToRun m.bytes c.relocate.new.region.bytes c.args.found c.args.count)) c.self.view_is c.relocate.ensures.moved
-
-pub returns-clause-had_run : goal.returns-clause-had_run
-returns-clause-had_run c =
-    had_run c.args.self.now.bytes c.relocate.new.region.bytes c.args.found c.args.count c.relocate.result
-    (subst (λ (m : Memory). OnTrue c.relocate.result (RelocatesToRun m.bytes c.relocate.new.region.bytes c.args.found c.args.count)) c.self.view_is c.relocate.ensures.moved)
+pub returns-then-moved-clause-had_run : goal.returns-then-moved-clause-had_run
+returns-then-moved-clause-had_run c =
+    had_run c.args.self.now.bytes c.relocate-moved.new.region.bytes c.args.found c.args.count c.relocate-moved.result
+    (subst (λ (m : Memory). OnTrue c.relocate-moved.result (RelocatesToRun m.bytes c.relocate-moved.new.region.bytes c.args.found c.args.count)) c.self.view_is c.relocate-moved.ensures.moved)

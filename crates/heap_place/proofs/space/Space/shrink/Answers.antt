@@ -4,10 +4,10 @@ use Rattle.heap_place.specs.Resizes.{RunBehind, Resizes}
 use Rattle.heap_place.proofs.ResizeLaws.{none_behind, shrinks}
 use Rattle.heap_place.proofs.space.Space.shrink.Goals as goal
 
-pub resize_at-requires-clause-behind : goal.resize_at-requires-clause-behind
-resize_at-requires-clause-behind c = subst (λ (m : Memory). RunBehind m.bytes c.args.found 0) (sym c.self.view_is) (none_behind c.args.self.now.bytes c.args.found c.requires.found)
+pub resize_listed-kept-requires-clause-behind : goal.resize_listed-kept-requires-clause-behind
+resize_listed-kept-requires-clause-behind c = subst (λ (m : Memory). RunBehind m.bytes c.args.found 0) (sym c.self.view_is) (none_behind c.args.self.now.bytes c.args.found c.requires.found)
 
 pub returns-clause-made : goal.returns-clause-made
 returns-clause-made c =
-    shrinks c.args.self.now.bytes c.resize_at.new.region.bytes c.args.found c.args.count c.requires.accepted c.requires.found
-    (subst (λ (m : Memory). Resizes m.bytes c.resize_at.new.region.bytes c.args.found c.args.count 0) c.self.view_is c.resize_at.ensures.resized)
+    shrinks c.args.self.now.bytes c.resize_listed-kept.new.region.bytes c.args.found c.args.count c.requires.accepted c.requires.found
+    (subst (λ (m : Memory). Resizes m.bytes c.resize_listed-kept.new.region.bytes c.args.found c.args.count 0) c.self.view_is c.resize_listed-kept.ensures.resized)

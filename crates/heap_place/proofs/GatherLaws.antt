@@ -1,0 +1,118 @@
+-- The walk that joins free neighbours and puts each free chunk into its list.
+use Rattle.std.proofs.Common.{◌≡◌, ℕ, ◌+◌, ◌%◌, ◌<◌, ◌≤◌, List, [], ◌∷◌, ◌++◌, length, refl, sym, ap, subst, ◌∙◌, arith, inl, append_assoc}
+use Rattle.std.specs.Prelude.{slice_index}
+use Rattle.heap_model.specs.Chunk.{Chunk, free, size_of, total, Spelled, HasChunk}
+use Rattle.heap_model.specs.Slots.{area_start}
+use Rattle.heap_model.specs.Heap.{HeapAccepted}
+use Rattle.heap_model.specs.Reading.{chunks_of}
+use Rattle.heap_model.specs.Layout.{Becomes, WritesPlain, IsSpot}
+use Rattle.laws_heap.proofs.Chunks.{total-append, Spelled-size, SpelledAll-end, SpelledAll-split}
+use Rattle.laws_heap.proofs.Becoming.{frame_then, same_frame}
+use Rattle.laws_heap.proofs.Plain.{plain_same, plain_then}
+use Rattle.laws_heap.proofs.Resizings.{front_parts}
+use Rattle.chunk_format.specs.declared.header.Header.{Header}
+use Rattle.chunk_format.specs.Header.{HasHeader, size_by}
+use Rattle.chunk_format.proofs.HeaderLaws.{size_by-header_of}
+use Rattle.heap_place.specs.Lists.{class_count, AreLists, HasLists, Any, Outside, KeepsFree, IsFreeChunk, Pushes}
+use Rattle.heap_place.specs.Resizes.{IsBound, BeginsWithFree}
+use Rattle.heap_place.specs.Gathers.{Before, Gathering}
+use Rattle.heap_place.proofs.FoundLaws.{heap_in_parts}
+use Rattle.heap_place.proofs.ListLaws.{lists_kept, lists_weaker, push_lists, no_lists}
+use Rattle.heap_place.proofs.WithinLaws.{first_size}
+use Rattle.heap_place.proofs.CutLaws.{room_facts}
+use Rattle.heap_place.proofs.RunLaws.{from_bound, a_chunk_there}
+
+-- ---- where chunks begin
+
+pub bound_chunk : (image : List ℕ) (at : ℕ) → HeapAccepted image → IsBound image at → at < length image → HasChunk image at
+bound_chunk image at h b inside = a_chunk_there image at (from_bound image at h b) inside
+
+-- the free chunks with which those begin
+pub bound_spot : (image : List ℕ) (at size : ℕ) → IsBound image at → BeginsWithFree image at size → IsSpot image at size
+bound_spot image at size b begins =
+    let p = front_parts b.after in
+    let is = begins b.before b.after b.ends in
+    record { before = b.before; run = p.run; after = _; chunks = b.ends.chunks ∙ ap (λ (cs : List Chunk). b.before ++ cs) p.parts; all_free = p.all_free; there = b.ends.there; sums = is ∙ sym p.sums }
+
+pub spot_least : (image : List ℕ) (at size : ℕ) → HeapAccepted image → IsSpot image at size → 0 < size → (8 ≤ size) × (size % 8 ≡ 0)
+spot_least image at size h r some = let f = room_facts image at size h r in let whole = f.1 in (omega arith, f.1)
+
+total_one : (before : List Chunk) (c : Chunk) → total (before ++ c ∷ []) ≡ total before + size_of c
+total_one before c = let e = total-append before (c ∷ []) in omega arith
+
+bound_after : (image : List ℕ) (before : List Chunk) (c : Chunk) (after : List Chunk) (at size : ℕ) → chunks_of image ≡ before ++ c ∷ after → at ≡ area_start image + total before → size ≡ size_of c → IsBound image (at + size)
+bound_after image before c after at size e there is =
+    let sum = total_one before c in
+    record { before = before ++ c ∷ []; after = after; ends = record { chunks = e ∙ sym (append_assoc before (c ∷ []) after); there = omega arith } }
+
+-- behind a free chunk
+pub chunk_bound : (image : List ℕ) (at size : ℕ) → IsFreeChunk image at size → IsBound image (at + size)
+chunk_bound image at size f = bound_after image f.before (free size) f.after at size f.chunks f.there refl
+
+-- behind a chunk whose header is read
+pub header_bound : (image : List ℕ) (at : ℕ) (header : Header) → HeapAccepted image → IsBound image at → HasHeader image at header → IsBound image (at + size_by header) × (at + size_by header ≤ length image) × (8 ≤ size_by header)
+header_bound image at header h b found = by_after b.after b.ends.chunks where
+  size_is : size_by header ≡ size_of found.chunk
+  size_is = ap size_by found.header_is ∙ size_by-header_of found.chunk
+
+  within : (8 ≤ size_of found.chunk) × (at + size_of found.chunk ≤ length image)
+  within = let s = Spelled-size image at found.chunk found.spelled in (s.0, s.1)
+
+  by_after : (after : List Chunk) → chunks_of image ≡ b.before ++ after → IsBound image (at + size_by header) × (at + size_by header ≤ length image) × (8 ≤ size_by header)
+  by_after [] e =
+      let heap = heap_in_parts image (b.before ++ []) h e in
+      let all = SpelledAll-end image (area_start image) (b.before ++ []) (length image) heap.tiles.area in
+      let sum = total-append b.before [] in
+      let there = b.ends.there in
+      let least = within.0 in
+      let inside = within.1 in
+      absurd (omega arith)
+  by_after (c ∷ after) e =
+      let heap = heap_in_parts image (b.before ++ c ∷ after) h e in
+      let s = SpelledAll-split image (area_start image) b.before (c ∷ after) (length image) heap.tiles.area in
+      let spelled : Spelled image at c = subst (λ (n : ℕ). Spelled image n c) (sym b.ends.there) s.1.0 in
+      let same : size_by header ≡ size_of c = size_is ∙ first_size image at found.chunk found.spelled ∙ sym (first_size image at c spelled) in
+      let least = within.0 in
+      let inside = within.1 in
+      let sizes = size_is in
+      (bound_after image b.before c after at (size_by header) e b.ends.there same, omega arith, omega arith)
+
+-- ---- one step
+
+pub gathered_lists : (old mid new heads after : List ℕ) (at size : ℕ) → 8 ≤ size → length heads ≡ class_count → AreLists (Before at) old heads → KeepsFree (Outside at size) old mid → Pushes mid new heads after at → AreLists (Before (at + size)) new after
+gathered_lists old mid new heads after at size least len a keeps p =
+    push_lists (Before at) (Before (at + size)) mid new heads after at (lists_kept (Before at) old mid heads (λ x before b. keeps x (inl before) b) a) (λ x b before. (omega arith, λ e. omega arith)) (omega arith) len p
+
+pub passed_lists : (image heads : List ℕ) (at more : ℕ) → AreLists (Before at) image heads → AreLists (Before (at + more)) image heads
+passed_lists image heads at more a = lists_weaker (Before at) (Before (at + more)) image heads (λ x b before. omega arith) a
+
+-- ---- the walk
+
+pub becomes_same : (image : List ℕ) → HeapAccepted image → Becomes image image (chunks_of image)
+becomes_same image h = record { frame = same_frame image h; layout = refl }
+
+pub becomes_twice : (old mid new : List ℕ) (cs : List Chunk) → Becomes old mid cs → Becomes mid new (chunks_of mid) → Becomes old new cs
+becomes_twice old mid new cs a b = record { frame = frame_then old mid new a.frame b.frame; layout = b.layout ∙ a.layout }
+
+pub gathering_start : (image heads : List ℕ) (at : ℕ) → HeapAccepted image → at ≡ area_start image → ((class : ℕ) → class < class_count → slice_index heads class ≡ 0) → Gathering image image heads at
+gathering_start image heads at h is none =
+    let fits = h.1.tiles.head.a_chunk_fits in
+    record {
+      same = becomes_same image h;
+      bound = record { before = []; after = chunks_of image; ends = record { chunks = refl; there = let e : at ≡ area_start image + 0 = omega arith in e } };
+      inside = omega arith;
+      lists = no_lists (Before at) image heads none;
+      plain = plain_same image;
+    }
+
+pub gathering_more : (old mid new heads after : List ℕ) (at size : ℕ) → Gathering old mid heads at → Becomes mid new (chunks_of mid) → IsBound new (at + size) → at + size ≤ length new → AreLists (Before (at + size)) new after → WritesPlain mid new → Gathering old new after (at + size)
+gathering_more old mid new heads after at size g same bound inside lists plain = record {
+  same = becomes_twice old mid new (chunks_of old) g.same same;
+  bound = bound;
+  inside = inside;
+  lists = lists;
+  plain = plain_then old mid new g.plain plain;
+}
+
+pub gathered : (old new heads : List ℕ) (at : ℕ) → Gathering old new heads at → HasLists new heads
+gathered old new heads at g = lists_weaker (Before at) Any new heads (λ x b before. tt) g.lists

@@ -1,0 +1,167 @@
+-- Chains of free chunks: their length is determined, they visit no chunk twice, and what keeps them.
+use Rattle.std.proofs.Common.{◌≡◌, ◌≢◌, ℕ, zero, suc, ◌+◌, ◌^◌, ◌<◌, ◌≤◌, List, length, get_or, refl, sym, ap, subst, ◌∙◌, arith, inl, inr}
+use Rattle.std.specs.Prelude.{◌⊎◌, slice_index}
+use Rattle.std.proofs.Math.ListN.{set}
+use Rattle.std.proofs.Math.Nat.{pow-le-pow_right}
+use Rattle.std.proofs.lemmas.List.{get_or-set_same, get_or-set_other}
+use Rattle.heap_model.specs.Bytes.{u32_at}
+use Rattle.heap_model.specs.Reading.{size_field}
+use Rattle.heap_model.specs.Layout.{BeginsFree}
+use Rattle.heap_place.specs.Lists.{class_count, IsOfClass, IsFreeOf, second_of, Chain, OnChain, IsList, AreLists, Any, ButAt, HasLists, KeepsOne, KeepsFree, Pushes}
+
+-- ---- classes
+
+not_above : (k j n : ℕ) → IsOfClass k n → IsOfClass j n → k < j → ⊥
+not_above k j n a b less =
+    let steps : 2 ^ (k + 1) ≤ 2 ^ j = pow-le-pow_right (omega arith) (omega arith) in
+    let high = a.high in
+    let low = b.low in
+    omega arith
+
+-- a size is of one class
+pub one_class : (k j n : ℕ) → IsOfClass k n → IsOfClass j n → k ≢ j → ⊥
+one_class k j n a b apart = elim (sides k j apart) [ inl less ↦ not_above k j n a b less | inr more ↦ not_above j k n b a more ] where
+  sides : (k j : ℕ) → k ≢ j → (k < j) ⊎ (j < k)
+  sides k j apart = grind arith
+
+-- ---- chains
+
+pub one_length : (image : List ℕ) (class n m at : ℕ) → Chain image class n at → Chain image class m at → n ≡ m
+one_length image class zero zero at a b = refl
+one_length image class zero (suc m) at a b = absurd (let some = b.0.positive in omega arith)
+one_length image class (suc n) zero at a b = absurd (let some = a.0.positive in omega arith)
+one_length image class (suc n) (suc m) at a b = ap (λ (k : ℕ). suc k) (one_length image class n m (second_of image at) a.1 b.1)
+
+-- a shorter chain does not come to where a longer one begins
+pub chain_apart : (image : List ℕ) (class n m at here : ℕ) → Chain image class n at → Chain image class m here → n < m → OnChain (ButAt here) image n at
+chain_apart image class zero m at here a b less = tt
+chain_apart image class (suc n) m at here a b less = (
+  λ same. let e = one_length image class (suc n) m here (subst (λ (x : ℕ). Chain image class (suc n) x) same a) b in omega arith,
+  chain_apart image class n m (second_of image at) here a.1 b (omega arith),
+)
+
+-- each chunk of a chain is free, and of its class
+pub chain_each : (P : ℕ → Type 0) (image : List ℕ) (class n at : ℕ) → ((x : ℕ) → IsFreeOf image class x → P x) → Chain image class n at → OnChain P image n at
+chain_each P image class zero at each c = tt
+chain_each P image class (suc n) at each c = (each at c.0, chain_each P image class n (second_of image at) each c.1)
+
+pub weaker : (P Q : ℕ → Type 0) (image : List ℕ) (class n at : ℕ) → ((x : ℕ) → IsFreeOf image class x → P x → Q x) → Chain image class n at → OnChain P image n at → OnChain Q image n at
+weaker P Q image class zero at each c on = tt
+weaker P Q image class (suc n) at each c on = (each at c.0 on.0, weaker P Q image class n (second_of image at) each c.1 on.1)
+
+free_kept : (old new : List ℕ) (class at : ℕ) → IsFreeOf old class at → KeepsOne old new at → IsFreeOf new class at
+free_kept old new class at f k = record { begins = k.begins; of_class = subst (λ (word : ℕ). IsOfClass class (size_field word)) (sym k.first) f.of_class; positive = f.positive }
+
+pub chain_kept : (P : ℕ → Type 0) (old new : List ℕ) (class n at : ℕ) → KeepsFree P old new → Chain old class n at → OnChain P old n at → Chain new class n at
+chain_kept P old new class zero at keeps c on = c
+chain_kept P old new class (suc n) at keeps c on =
+    let k = keeps at on.0 c.0.begins in
+    (free_kept old new class at c.0 k, subst (λ (x : ℕ). Chain new class n x) (sym k.second) (chain_kept P old new class n (second_of old at) keeps c.1 on.1))
+
+pub each_kept : (P : ℕ → Type 0) (old new : List ℕ) (class n at : ℕ) → KeepsFree P old new → Chain old class n at → OnChain P old n at → OnChain P new n at
+each_kept P old new class zero at keeps c on = tt
+each_kept P old new class (suc n) at keeps c on =
+    let k = keeps at on.0 c.0.begins in
+    (on.0, subst (λ (x : ℕ). OnChain P new n x) (sym k.second) (each_kept P old new class n (second_of old at) keeps c.1 on.1))
+
+-- ---- lists
+
+-- what keeps the free chunks keeps the lists
+pub list_kept : (P : ℕ → Type 0) (old new : List ℕ) (class head : ℕ) → KeepsFree P old new → IsList P old class head → IsList P new class head
+list_kept P old new class head keeps l = record { count = l.count; chain = chain_kept P old new class l.count head keeps l.chain l.each; each = each_kept P old new class l.count head keeps l.chain l.each }
+
+pub lists_kept : (P : ℕ → Type 0) (old new heads : List ℕ) → KeepsFree P old new → AreLists P old heads → AreLists P new heads
+lists_kept P old new heads keeps a = record { lists = λ class below. list_kept P old new class (slice_index heads class) keeps (a.lists class below) }
+
+pub lists_weaker : (P Q : ℕ → Type 0) (image heads : List ℕ) → ((x : ℕ) → BeginsFree image x → P x → Q x) → AreLists P image heads → AreLists Q image heads
+lists_weaker P Q image heads each a = record {
+  lists = λ class below.
+      let l = a.lists class below in
+      record { count = l.count; chain = l.chain; each = weaker P Q image class l.count (slice_index heads class) (λ x f. each x f.begins) l.chain l.each };
+}
+
+pub lists_any : (P : ℕ → Type 0) (image heads : List ℕ) → AreLists P image heads → HasLists image heads
+lists_any P image heads a = lists_weaker P Any image heads (λ x b p. tt) a
+
+-- the empty lists
+pub no_lists : (P : ℕ → Type 0) (image heads : List ℕ) → ((class : ℕ) → class < class_count → slice_index heads class ≡ 0) → AreLists P image heads
+no_lists P image heads none = record { lists = λ class below. record { count = 0; chain = none class below; each = tt } }
+
+-- the head of a list, and the others
+pub record IsHead (image heads : List ℕ) (class at : ℕ) : Type 0 where
+  pub free : IsFreeOf image class at
+  pub count : ℕ
+  pub rest : Chain image class count (second_of image at)
+
+pub head_free : (image heads : List ℕ) (class : ℕ) → HasLists image heads → class < class_count → 0 < slice_index heads class → IsHead image heads class (slice_index heads class)
+head_free image heads class a below some = by_count (a.lists class below).count (a.lists class below).chain where
+  by_count : (n : ℕ) → Chain image class n (slice_index heads class) → IsHead image heads class (slice_index heads class)
+  by_count zero c = absurd (omega arith)
+  by_count (suc n) c = record { free = c.0; count = n; rest = c.1 }
+
+-- without its head a list is one of the others
+pub popped : (image heads : List ℕ) (class at : ℕ) → HasLists image heads → class < class_count → length heads ≡ class_count → at ≡ slice_index heads class → 0 < at → AreLists (ButAt at) image (set heads class (second_of image at))
+popped image heads class at a below len is some = record {
+  lists = λ k low. elim (same_or k class) [
+    | inl same ↦ subst (λ (j : ℕ). IsList (ButAt at) image j (get_or (set heads class (second_of image at)) j 0)) (sym same)
+        (subst (λ (x : ℕ). IsList (ButAt at) image class x) (sym (get_or-set_same heads class (second_of image at) 0 (omega arith))) rest)
+    | inr apart ↦ subst (λ (x : ℕ). IsList (ButAt at) image k x) (sym (get_or-set_other heads class k (second_of image at) 0 apart)) (other k low apart)
+  ];
+} where
+  same_or : (k j : ℕ) → (k ≡ j) ⊎ (k ≢ j)
+  same_or k j = grind arith
+
+  head : IsHead image heads class at
+  head = subst (λ (x : ℕ). IsHead image heads class x) (sym is) (head_free image heads class a below (subst (λ (x : ℕ). 0 < x) is some))
+
+  rest : IsList (ButAt at) image class (second_of image at)
+  rest = record { count = head.count; chain = head.rest; each = chain_apart image class head.count (suc head.count) (second_of image at) at head.rest (head.free, head.rest) (omega arith) }
+
+  other : (k : ℕ) → k < class_count → k ≢ class → IsList (ButAt at) image k (slice_index heads k)
+  other k low apart =
+      let l = a.lists k low in
+      record {
+        count = l.count;
+        chain = l.chain;
+        each = chain_each (ButAt at) image k l.count (slice_index heads k)
+            (λ x f e. one_class k class (size_field (u32_at image x)) f.of_class (subst (λ (y : ℕ). IsOfClass class (size_field (u32_at image y))) (sym e) head.free.of_class) apart) l.chain;
+      }
+
+-- a free chunk that is in none of the lists in front of one
+pub pushed : (P : ℕ → Type 0) (image heads : List ℕ) (class at : ℕ) → AreLists P image heads → class < class_count → length heads ≡ class_count → IsFreeOf image class at → P at → second_of image at ≡ slice_index heads class → AreLists P image (set heads class at)
+pushed P image heads class at a below len free holds next = record {
+  lists = λ k low. elim (same_or k class) [
+    | inl same ↦ subst (λ (j : ℕ). IsList P image j (get_or (set heads class at) j 0)) (sym same)
+        (subst (λ (x : ℕ). IsList P image class x) (sym (get_or-set_same heads class at 0 (omega arith))) longer)
+    | inr apart ↦ subst (λ (x : ℕ). IsList P image k x) (sym (get_or-set_other heads class k at 0 apart)) (a.lists k low)
+  ];
+} where
+  same_or : (k j : ℕ) → (k ≡ j) ⊎ (k ≢ j)
+  same_or k j = grind arith
+
+  longer : IsList P image class at
+  longer =
+      let l = a.lists class below in
+      record { count = suc l.count; chain = (free, subst (λ (x : ℕ). Chain image class l.count x) (sym next) l.chain); each = (holds, subst (λ (x : ℕ). OnChain P image l.count x) (sym next) l.each) }
+
+-- so after the push
+pub push_lists : (P Q : ℕ → Type 0) (old new heads after : List ℕ) (at : ℕ) → AreLists P old heads → ((x : ℕ) → BeginsFree old x → P x → Q x × (x ≢ at)) → Q at → length heads ≡ class_count → Pushes old new heads after at → AreLists Q new after
+push_lists P Q old new heads after at a each here len p =
+    let both : AreLists (λ x. Q x × (x ≢ at)) old heads = lists_weaker P (λ x. Q x × (x ≢ at)) old heads each a in
+    let kept : AreLists (λ x. Q x × (x ≢ at)) new heads = lists_kept (λ x. Q x × (x ≢ at)) old new heads (λ x q b. p.links.keeps x q.1 b) both in
+    let q : AreLists Q new heads = lists_weaker (λ x. Q x × (x ≢ at)) Q new heads (λ x b q. q.0) kept in
+    subst (λ (hs : List ℕ). AreLists Q new hs) (sym p.is_head) (pushed Q new heads p.class at q p.below len p.free here p.links.second)
+
+-- ---- relations
+
+pub keeps_then : (P Q : ℕ → Type 0) (old mid new : List ℕ) → KeepsFree P old mid → KeepsFree Q mid new → ((at : ℕ) → P at → Q at) → KeepsFree P old new
+keeps_then P Q old mid new one two same at p b =
+    let first = one at p b in
+    let second = two at (same at p) first.begins in
+    record { begins = second.begins; first = second.first ∙ first.first; second = second.second ∙ first.second }
+
+pub keeps_all : (P : ℕ → Type 0) (image : List ℕ) → KeepsFree P image image
+keeps_all P image at p b = record { begins = b; first = refl; second = refl }
+
+pub keeps_weaker : (P Q : ℕ → Type 0) (old new : List ℕ) → ((at : ℕ) → BeginsFree old at → P at → Q at) → KeepsFree Q old new → KeepsFree P old new
+keeps_weaker P Q old new each keeps at p b = keeps at (each at b p) b

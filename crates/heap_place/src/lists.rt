@@ -1,0 +1,125 @@
+//! The lists of free chunks, one for each class of sizes.
+
+ghost use Rattle.std.specs.Prelude.{◌≡◌, ◌≤◌, ◌<◌, ◌+◌, ◌%◌, ◌^◌, length, IfSome};
+ghost use Rattle.heap_model.specs.Bytes.{u32_at};
+ghost use Rattle.heap_model.specs.Heap.{HeapAccepted};
+ghost use Rattle.heap_model.specs.Reading.{size_field, chunks_of};
+ghost use Rattle.heap_model.specs.Layout.{Becomes, IsSpot, WritesPlain};
+ghost use Rattle.heap_place.specs.Lists.{class_count, IsOfClass, IsFreeChunk, Pushes, HasLists, AreLists, Outside, ButAt, CutsRoom};
+
+use crate::claim::cut;
+use crate::room::Room;
+use raw_region::Region;
+
+/// How many classes of sizes there are.
+pub(crate) const CLASSES: usize = 21;
+
+/// The class of a free chunk of `size` bytes.
+fn class_of(size: u32) -> usize
+    requires least { 8 ≤ size }
+    requires small { size < 2 ^ 24 }
+    ensures of_class { IsOfClass result size }
+    ensures below { result < class_count }
+{
+    (31 - (size / 8).leading_zeros()) as usize
+}
+
+/// Puts the free chunk at `at`, which is in none of the lists, in front of the list of its class.
+pub(crate) fn push(region: &mut Region, heads: &mut [u32; CLASSES], at: u32, size: u32)
+    requires accepted { HeapAccepted region.old.bytes }
+    requires free { IsFreeChunk region.old.bytes at size }
+    ensures pushed { Pushes region.old.bytes region.new.bytes heads.old heads.new at }
+    ensures rest { region.new ≡ record region.old { bytes = region.new.bytes } }
+{
+    let class = class_of(size);
+    region.put_u32(at as usize + 4, heads[class]);
+    heads[class] = at;
+}
+
+/// The size of a free chunk, by its first word.
+#[inline]
+fn size_at(region: &Region, at: u32) -> u32
+    requires { at + 4 ≤ length region.now.bytes }
+    ensures { result ≡ size_field (u32_at region.now.bytes at) }
+{
+    region.get_u32(at as usize) % 0x100_0000
+}
+
+/// Takes the free chunks of room from their lists, and answers whether the others are in theirs still. Where
+/// the room is not one chunk at the front of its list, all lists are dropped.
+fn unlink(region: &Region, heads: &mut [u32; CLASSES], room: Room) -> bool
+    requires accepted { HeapAccepted region.now.bytes }
+    requires room { IsSpot region.now.bytes room.at room.size }
+    requires some { 8 ≤ room.size }
+    requires lists { HasLists region.now.bytes heads.old }
+    ensures { AreLists (Outside room.at room.size) region.now.bytes heads.new }
+{
+    let size = size_at(region, room.at);
+    if size == room.size {
+        let class = class_of(size);
+        if heads[class] == room.at {
+            heads[class] = region.get_u32(room.at as usize + 4);
+            return true;
+        }
+    }
+    *heads = [0; CLASSES];
+    false
+}
+
+/// The same, where the room may have no bytes.
+pub(crate) fn unlink_run(region: &Region, heads: &mut [u32; CLASSES], room: Room) -> bool
+    requires accepted { HeapAccepted region.now.bytes }
+    requires room { IsSpot region.now.bytes room.at room.size }
+    requires lists { HasLists region.now.bytes heads.old }
+    ensures lists { AreLists (Outside room.at room.size) region.now.bytes heads.new }
+    ensures count { length heads.new ≡ class_count }
+{
+    if room.size == 0 {
+        return true;
+    }
+    unlink(region, heads, room)
+}
+
+/// Makes the front of room one free chunk of `size` bytes, which is in no list, and what is left another,
+/// which is. Answers whether all other free chunks are in the lists in which they were.
+pub(crate) fn take(region: &mut Region, heads: &mut [u32; CLASSES], room: Room, size: u32) -> bool
+    requires accepted { HeapAccepted region.old.bytes }
+    requires room { IsSpot region.old.bytes room.at room.size }
+    requires least { 8 ≤ size }
+    requires whole { size % 8 ≡ 0 }
+    requires within { size ≤ room.size }
+    requires lists { HasLists region.old.bytes heads.old }
+    ensures same { Becomes region.old.bytes region.new.bytes (chunks_of region.old.bytes) }
+    ensures cut { CutsRoom region.old.bytes region.new.bytes room.at room.size size }
+    ensures lists { AreLists (ButAt room.at) region.new.bytes heads.new }
+    ensures plain { WritesPlain region.old.bytes region.new.bytes }
+    ensures rest { region.new ≡ record region.old { bytes = region.new.bytes } }
+{
+    let kept = unlink(region, heads, room);
+    cut(region, room, size);
+    if size < room.size {
+        push(region, heads, room.at + size, room.size - size);
+    }
+    kept
+}
+
+/// The first chunk of a list that has `size` bytes, of the classes in which one may have them.
+pub(crate) fn find_listed(region: &Region, heads: &[u32; CLASSES], size: u32) -> Option<Room>
+    requires accepted { HeapAccepted region.now.bytes }
+    requires lists { HasLists region.now.bytes heads.now }
+    requires least { 8 ≤ size }
+    requires small { size < 2 ^ 24 }
+    ensures room { IfSome result (λ room. IsSpot region.now.bytes room.at room.size) }
+    ensures enough { IfSome result (λ room. size ≤ room.size) }
+{
+    for class in class_of(size)..CLASSES {
+        let at = heads[class];
+        if at != 0 {
+            let found = size_at(region, at);
+            if found >= size {
+                return Some(Room { at, size: found });
+            }
+        }
+    }
+    None
+}
