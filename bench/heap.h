@@ -22,8 +22,9 @@
 #include <stdlib.h>
 #include <string.h>
 
-/* The most bytes of an image, what the header of a chunk takes, and the owner of a database's data. */
-enum { MAX_SIZE = 16777208, HEADER = 8, DATABASE = 15 };
+/* The most bytes of an image, what the header of a chunk takes, the owner of a database's data, and what stands
+ * in the place of the locks of a fixed chunk. */
+enum { MAX_SIZE = 16777208, HEADER = 8, DATABASE = 15, FIXED = 15 };
 
 /* How many classes of sizes free chunks have. */
 enum { CLASSES = 21 };
@@ -47,6 +48,7 @@ enum refusal {
     NOT_RECORD_DATABASE,
     READ_ONLY = 13,
     INDEX_OUT_OF_RANGE,
+    RECORD_DELETED,
     TOO_MANY_ENTRIES = 17,
     INVALID_CATEGORY,
     UNIQUE_ID_NOT_FOUND = 20,

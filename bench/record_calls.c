@@ -30,8 +30,11 @@ enum {
 
 enum { MANAGER = 0, RESOURCES = 0x0001, ONLY_READ = 0x0002, MOST_ENTRIES = 65535 };
 
-/* The attributes of a new record, dirty and busy; the bits of a deleted one, and of the category. */
-enum { NEW_ATTRIBUTES = 0x60, DELETED = 0x80, CATEGORY = 0x0F };
+/* The attributes of a new record, dirty and busy; the bits of a dirty and of a deleted one, and of the category. */
+enum { NEW_ATTRIBUTES = 0x60, DIRTY = 0x40, DELETED = 0x80, CATEGORY = 0x0F };
+
+/* The bits that stay where attributes are set: those of a deleted and of a busy record. */
+enum { KEPT = 0xA0 };
 
 /* How many categories there are, and what stands for all of them where records are counted. */
 enum { CATEGORIES = 16, ALL_CATEGORIES = 0xFF };
@@ -150,6 +153,12 @@ static uint32_t fresh_id(const uint8_t *body)
     return id_behind(seed, steps);
 }
 
+/* Gives a chunk another owner. */
+static void set_owner(struct heap *heap, const struct found *found, uint32_t owner)
+{
+    heap->image[found->place - 4] = (uint8_t)((found->lock << 4) | owner);
+}
+
 /* Puts an entry in, for which the chunk of the database has grown already. */
 static void put_in(uint8_t *body, uint32_t at, const struct record *record)
 {
@@ -189,6 +198,79 @@ static enum refusal new_record(struct heap *heap, uint32_t db, uint32_t at, uint
     *index = at < count ? at : count;
     *name = record.slot;
     put_in(body_of(heap, &found), *index, &record);
+    return DONE;
+}
+
+/* Makes a caller's chunk the data of a new record. */
+static enum refusal attach(struct heap *heap, uint32_t db, uint32_t at, uint32_t name, uint32_t *index)
+{
+    struct found found, given;
+    enum refusal refusal = find_writable(heap, db, &found);
+    if (refusal != DONE)
+        return refusal;
+    if (!find_chunk(heap, name, &given) || given.owner == MANAGER)
+        return INVALID_HANDLE;
+    if (given.owner == DATABASE)
+        return OWNED_BY_DATABASE;
+    if (given.lock == FIXED)
+        return CHUNK_FIXED;
+    uint32_t count = entries_in(body_of(heap, &found));
+    if (count >= MOST_ENTRIES)
+        return TOO_MANY_ENTRIES;
+    struct record record = {
+        .attributes = DIRTY, .id = fresh_id(body_of(heap, &found)), .slot = name
+    };
+    refusal = resize_chunk(heap, db, &found, database_size(count + 1));
+    if (refusal != DONE)
+        return refusal;
+    if (!find_chunk(heap, db, &found) || !find_chunk(heap, name, &given))
+        return NO_SUCH_DATABASE;
+    *index = at < count ? at : count;
+    put_in(body_of(heap, &found), *index, &record);
+    set_owner(heap, &given, DATABASE);
+    return DONE;
+}
+
+/* Takes a record out, and hands its data over to an owner. */
+static enum refusal detach(struct heap *heap, uint32_t db, uint32_t index, uint32_t owner, uint32_t *name)
+{
+    struct found found, data;
+    enum refusal refusal = find_writable(heap, db, &found);
+    if (refusal != DONE)
+        return refusal;
+    uint8_t *body = body_of(heap, &found);
+    uint32_t count = entries_in(body);
+    if (index >= count)
+        return INDEX_OUT_OF_RANGE;
+    uint8_t *entry = entry_at(body, index);
+    if (entry[LABEL_AT] & DELETED)
+        return RECORD_DELETED;
+    if (owner == MANAGER || owner >= DATABASE)
+        return INVALID_OWNER;
+    *name = u32_at(entry, 0);
+    if (!find_chunk(heap, *name, &data))
+        return INVALID_HANDLE;
+    memmove(entry, entry + ENTRY_SIZE, ENTRY_SIZE * (count - index - 1));
+    resize_in_place(heap, &found, database_size(count - 1));
+    put_u16(body, ENTRY_COUNT_AT, count - 1);
+    set_owner(heap, &data, owner);
+    raise_modification(body);
+    return DONE;
+}
+
+/* Sets the attributes of a record, but the bits of a deleted and of a busy one. */
+static enum refusal set_record_info(struct heap *heap, uint32_t db, uint32_t index, uint32_t attributes)
+{
+    struct found found;
+    enum refusal refusal = find_writable(heap, db, &found);
+    if (refusal != DONE)
+        return refusal;
+    uint8_t *body = body_of(heap, &found);
+    if (index >= entries_in(body))
+        return INDEX_OUT_OF_RANGE;
+    uint8_t *entry = entry_at(body, index);
+    entry[LABEL_AT] = (uint8_t)((entry[LABEL_AT] & KEPT) | (attributes & ~KEPT));
+    raise_modification(body);
     return DONE;
 }
 
@@ -278,6 +360,35 @@ static enum refusal move_category(struct heap *heap, uint32_t db, uint32_t to, u
     return DONE;
 }
 
+/* Deletes each record of a category: its data is freed, and its entry stays. */
+static enum refusal delete_category(struct heap *heap, uint32_t db, uint32_t category)
+{
+    struct found found;
+    enum refusal refusal = find_writable(heap, db, &found);
+    if (refusal != DONE)
+        return refusal;
+    if (category >= CATEGORIES)
+        return INVALID_CATEGORY;
+    uint8_t *body = body_of(heap, &found);
+    uint32_t count = entries_in(body);
+    for (uint32_t index = 0; index < count; index++) {
+        uint8_t *entry = entry_at(body, index);
+        if (has_category(entry, category) && is_locked(heap, u32_at(entry, 0)))
+            return CHUNK_LOCKED;
+    }
+    for (uint32_t index = 0; index < count; index++) {
+        uint8_t *entry = entry_at(body, index);
+        if (!has_category(entry, category))
+            continue;
+        uint32_t slot = u32_at(entry, 0);
+        put_u32(entry, 0, 0);
+        entry[LABEL_AT] |= DELETED;
+        free_slot(heap, slot);
+    }
+    raise_modification(body);
+    return DONE;
+}
+
 static enum refusal remove_record(struct heap *heap, uint32_t db, uint32_t index)
 {
     struct found found;
@@ -345,6 +456,9 @@ static enum refusal create(struct heap *heap, const char *name, uint32_t *db)
     put_u32(body, CREATOR_AT, CREATOR);
     return DONE;
 }
+
+/* The owner that gets what is taken out of the database, and the category that is deleted. */
+enum { CALLER = 1, DELETED_CATEGORY = 2 };
 
 /* What a run does. */
 struct work {
@@ -479,6 +593,27 @@ static void move_all(struct load *load, uint32_t passes)
         add(load, move_category(&load->heap, load->db, (pass + 1) % 2, pass % 2));
 }
 
+/* Takes the last record out, and makes its data the last record's again. */
+static void detach_and_attach(struct load *load, uint32_t count)
+{
+    for (uint32_t i = 0; i < count; i++) {
+        uint32_t name, index;
+        uint32_t records = count_of(load);
+        enum refusal refusal = detach(&load->heap, load->db, records > 0 ? records - 1 : 0, CALLER, &name);
+        if (refusal == DONE)
+            refusal = attach(&load->heap, load->db, END, name, &index);
+        add(load, refusal == DONE ? index : (uint32_t)refusal);
+    }
+}
+
+/* Gives every second record the category that is deleted. */
+static void categorize(struct load *load)
+{
+    uint32_t records = count_of(load);
+    for (uint32_t index = 1; index < records; index += 2)
+        add(load, set_record_info(&load->heap, load->db, index, DELETED_CATEGORY));
+}
+
 enum call {
     NEW_AT_THE_END,
     REMOVE_THE_LAST,
@@ -490,13 +625,14 @@ enum call {
     FIND_THE_LAST,
     COUNT_CATEGORY,
     MOVE_CATEGORY,
+    DETACH_AND_ATTACH,
     CALLS
 };
 
 static const char *const CALL_NAMES[CALLS] = {
     "new_record_at_the_end", "remove_the_last", "remove_the_first", "move_to_the_end",
     "move_to_the_front",     "record_info",     "search_by_id",     "find_by_id_of_the_last",
-    "num_in_category",       "move_category",
+    "num_in_category",       "move_category",   "detach_and_attach",
 };
 
 /* How many calls of a kind `repeat` does. */
@@ -504,7 +640,7 @@ static uint64_t calls_of(const struct load *load, enum call call, const struct w
 {
     if (call == INFO)
         return (uint64_t)count_of(load) * work->passes;
-    return call >= SEARCH_BY_ID ? work->passes : work->calls;
+    return call >= SEARCH_BY_ID && call <= MOVE_CATEGORY ? work->passes : work->calls;
 }
 
 /* Does calls of a kind. */
@@ -523,6 +659,7 @@ static void repeat(struct load *load, enum call call, const struct work *work)
     case FIND_THE_LAST: find_last(load, work->passes); break;
     case COUNT_CATEGORY: count_category(load, work->passes); break;
     case MOVE_CATEGORY: move_all(load, work->passes); break;
+    case DETACH_AND_ATTACH: detach_and_attach(load, work->calls); break;
     default: search(load, work->passes); break;
     }
 }
@@ -558,6 +695,17 @@ static void time_calls(struct load *load, const struct work *work, uint64_t *tim
         if (work->prints_times)
             print_times(CALL_NAMES[call], calls_of(load, call, work), times, work->rounds);
     }
+}
+
+/* Deletes every second record by its category. */
+static void time_deletion(struct load *load, const struct work *work, uint64_t *times)
+{
+    categorize(load);
+    uint64_t start = nanoseconds();
+    add(load, delete_category(&load->heap, load->db, DELETED_CATEGORY));
+    times[0] = nanoseconds() - start;
+    if (work->prints_times)
+        print_times("delete_category", 1, times, 1);
 }
 
 static bool read_work(int argc, char **argv, struct work *work)
@@ -597,6 +745,7 @@ int main(int argc, char **argv)
         return 2;
     fill(&load, &work, times);
     time_calls(&load, &work, times);
+    time_deletion(&load, &work, times);
     printf("replies %u words %u\n", load.replies, words_of(&load.heap));
     return 0;
 }

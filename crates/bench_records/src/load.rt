@@ -5,8 +5,8 @@ use bench_times::{Sum, Sums};
 use heap_model::{Db, Refusal};
 use palm_store::Store;
 use record_db::{
-    find_by_id, move_category, move_record, new_record, num_in_category, num_records, record_info,
-    remove,
+    attach, delete_category, detach, find_by_id, move_category, move_record, new_record,
+    num_in_category, num_records, record_info, remove, set_record_info,
 };
 
 /// An index behind all records.
@@ -14,6 +14,12 @@ const END: u32 = 0xFFFF;
 
 /// The most bytes of a record.
 const MOST_BYTES: u32 = 64;
+
+/// The owner that gets what is taken out of the database.
+const CALLER: u8 = 1;
+
+/// The category that is deleted.
+const DELETED_CATEGORY: u8 = 2;
 
 /// A kind of call on records.
 #[derive(Clone, Copy)]
@@ -35,6 +41,8 @@ pub(crate) enum Call {
     CountCategory,
     /// All records are moved to another category and back.
     MoveCategory,
+    /// The last record is taken out, and its data made the last record's again.
+    DetachAndAttach,
 }
 
 /// A store with a database, and the sum of all replies to the calls so far.
@@ -102,6 +110,7 @@ impl Load {
             Call::FindTheLast => self.find_last(work.passes),
             Call::CountCategory => self.count_category(work.passes),
             Call::MoveCategory => self.move_all(work.passes),
+            Call::DetachAndAttach => self.detach_and_attach(work.calls),
         }
     }
 
@@ -210,6 +219,34 @@ impl Load {
             let done = move_category(&mut self.store, self.db, 1 - from, from, false);
             add_done(&mut self.replies, done);
         }
+    }
+
+    fn detach_and_attach(&mut self, count: u32) {
+        for _ in 0..count {
+            let last = self.count().saturating_sub(1);
+            let index = self.attach_again(last);
+            add_number(&mut self.replies, index);
+        }
+    }
+
+    /// Takes a record out, and makes its data the last record's.
+    fn attach_again(&mut self, index: u32) -> Result<u32, Refusal> {
+        let name = detach(&mut self.store, self.db, index, CALLER)?;
+        attach(&mut self.store, self.db, END, name)
+    }
+
+    /// Gives every second record the category that is deleted.
+    pub(crate) fn categorize(&mut self) {
+        for half in 0..self.count() / 2 {
+            let done = set_record_info(&mut self.store, self.db, 2 * half + 1, DELETED_CATEGORY, 0);
+            add_done(&mut self.replies, done);
+        }
+    }
+
+    /// Deletes every second record by its category.
+    pub(crate) fn delete_categorized(&mut self) {
+        let done = delete_category(&mut self.store, self.db, DELETED_CATEGORY);
+        add_done(&mut self.replies, done);
     }
 
     /// The sum of all replies, and that of the words of the image.

@@ -22,7 +22,7 @@ use std::rt::CpuClock;
 use work::Work;
 
 /// The kinds of call, by what is printed of them.
-const CALLS: [(&str, Call); 10] = [
+const CALLS: [(&str, Call); 11] = [
     ("new_record_at_the_end", Call::NewAtTheEnd),
     ("remove_the_last", Call::RemoveTheLast),
     ("remove_the_first", Call::RemoveTheFirst),
@@ -33,6 +33,7 @@ const CALLS: [(&str, Call); 10] = [
     ("find_by_id_of_the_last", Call::FindTheLast),
     ("num_in_category", Call::CountCategory),
     ("move_category", Call::MoveCategory),
+    ("detach_and_attach", Call::DetachAndAttach),
 ];
 
 /// The type of the database, `DATA`.
@@ -51,6 +52,7 @@ fn main(rt: HostRuntime) -> Result<()> {
     for (name, call) in CALLS {
         time_calls(&rt, &mut load, work, name, call)?;
     }
+    time_deletion(&rt, &mut load, work)?;
     let sums = load.into_sums();
     println!(rt; "replies {} words {}", sums.replies.0, sums.words.0)?;
     Ok(())
@@ -92,6 +94,20 @@ fn time_calls(
         load.even_out(call, work);
     }
     print_times(rt, work, name, load.calls(call, work), times)
+}
+
+/// Deletes every second record by its category.
+fn time_deletion(
+    rt: &(impl CpuClock + Print + AllocGlobal),
+    load: &mut Load,
+    work: Work,
+) -> Result<()> {
+    load.categorize();
+    let mut times = Times::new(rt.alloc());
+    let start = rt.thread_cpu_time()?;
+    load.delete_categorized();
+    times.add(since(rt, start)?)?;
+    print_times(rt, work, "delete_category", 1, times)
 }
 
 fn print_times(rt: &impl Print, work: Work, name: &str, calls: u128, times: Times) -> Result<()> {
