@@ -15,6 +15,12 @@ use raw_region::Region;
 /// How many classes of sizes there are.
 pub(crate) const CLASSES: usize = 21;
 
+/// Where in a free chunk the offset of the next one of its list stands: its second word.
+pub(crate) const LINK_AT: usize = 4;
+
+/// The first number that no size field holds.
+pub(crate) const ABOVE_SIZES: u32 = 0x100_0000;
+
 /// The class of a free chunk of `size` bytes.
 pub(crate) fn class_of(size: u32) -> usize
     requires least { 8 ≤ size }
@@ -33,7 +39,7 @@ pub(crate) fn push(region: &mut Region, heads: &mut [u32; CLASSES], at: u32, siz
     ensures rest { region.new ≡ record region.old { bytes = region.new.bytes } }
 {
     let class = class_of(size);
-    region.put_u32(at as usize + 4, heads[class]);
+    region.put_u32(at as usize + LINK_AT, heads[class]);
     heads[class] = at;
 }
 
@@ -43,7 +49,7 @@ fn size_at(region: &Region, at: u32) -> u32
     requires { at + 4 ≤ length region.now.bytes }
     ensures { result ≡ size_field (u32_at region.now.bytes at) }
 {
-    region.get_u32(at as usize) % 0x100_0000
+    region.get_u32(at as usize) % ABOVE_SIZES
 }
 
 /// Takes the free chunks of room from their lists, and answers whether the others are in theirs still. Where

@@ -5,7 +5,7 @@ ghost use Rattle.heap_model.specs.Heap.{HeapAccepted};
 ghost use Rattle.heap_place.specs.Lists.{class_count, IsFreeOf, IsFreeChunk, HasLists, AreLists, ButAt, SameChunks};
 ghost use Rattle.heap_place.specs.Splices.{LeadsTo};
 
-use crate::lists::{CLASSES, class_of};
+use crate::lists::{CLASSES, LINK_AT, class_of};
 use raw_region::Region;
 
 /// How many chunks of a list are looked at, at most, for one that is taken out of it.
@@ -24,7 +24,7 @@ pub(crate) fn take_out(region: &mut Region, heads: &mut [u32; CLASSES], at: u32,
 {
     let class = class_of(size);
     if heads[class] == at {
-        heads[class] = region.get_u32(at as usize + 4);
+        heads[class] = region.get_u32(at as usize + LINK_AT);
         return true;
     }
     match find_before(region, heads, class, at) {
@@ -53,7 +53,7 @@ fn find_before(region: &Region, heads: &[u32; CLASSES], class: usize, at: u32) -
         if here == 0 {
             return Some(0);
         }
-        let next = region.get_u32(here as usize + 4);
+        let next = region.get_u32(here as usize + LINK_AT);
         if next == at {
             return Some(here);
         }
@@ -74,7 +74,7 @@ fn link_past(region: &mut Region, heads: &[u32; CLASSES], class: usize, before: 
     ensures rest { region.new ≡ record region.old { bytes = region.new.bytes } }
 {
     if before != 0 {
-        let next = region.get_u32(at as usize + 4);
-        region.put_u32(before as usize + 4, next);
+        let next = region.get_u32(at as usize + LINK_AT);
+        region.put_u32(before as usize + LINK_AT, next);
     }
 }
