@@ -5,8 +5,9 @@
  * second word of each is the offset of the next. A new chunk goes to the front of the first chunk of a list
  * that has room; where no list begins with one, to the front of the first run of neighbouring free chunks
  * that has it, which is looked for from the first chunk on. One that is freed goes to the front of its list,
- * joined with none. A free chunk that is taken from anywhere but the front of its list leaves all lists
- * dropped, and they are built again, with all neighbours joined, when a chunk is made or freed. Where no
+ * joined with none. A free chunk that is taken is looked for among the first ones of its list; where it isn't
+ * one of them, or where more than one is taken, all lists are dropped, and they are built again, with all
+ * neighbours joined, when a chunk is made or freed. Where no
  * free run has the room for a new chunk, the first stretch that has it is packed, by one move for each chunk
  * that goes down over the free one in front of it; that drops the lists. A chunk that is to be larger than
  * it and the free chunks behind it goes to a free run that has the room, which is looked for from the first
@@ -28,6 +29,9 @@ enum { MAX_SIZE = 16777208, HEADER = 8, DATABASE = 15, FIXED = 15 };
 
 /* How many classes of sizes free chunks have. */
 enum { CLASSES = 21 };
+
+/* How many chunks of a list are looked at, at most, for one that is taken out of it. */
+enum { PROBES = 64 };
 
 static const uint32_t MAGIC = 0x50484931;
 static const uint32_t FREE_BIT = 0x80000000;
@@ -196,20 +200,37 @@ static bool find_listed(const struct heap *heap, uint32_t size, uint32_t *at, ui
     return false;
 }
 
-/* Takes free chunks from their lists. Where they are not one at the front of its list, the lists are
- * dropped. */
+/* Takes a free chunk out of its list. Where it isn't among the first ones, the lists are dropped. */
+static void take_out(struct heap *heap, uint32_t at, uint32_t size)
+{
+    uint32_t class = class_of(size);
+    if (heap->heads[class] == at) {
+        heap->heads[class] = u32_at(heap->image, at + 4);
+        return;
+    }
+    uint32_t here = heap->heads[class];
+    for (size_t i = 0; i < PROBES; i++) {
+        if (here == 0)
+            return;
+        uint32_t next = u32_at(heap->image, here + 4);
+        if (next == at) {
+            put_u32(heap->image, here + 4, u32_at(heap->image, at + 4));
+            return;
+        }
+        here = next;
+    }
+    drop_lists(heap);
+}
+
+/* Takes free chunks from their lists. Where they are more than one, the lists are dropped. */
 static void unlink_run(struct heap *heap, uint32_t at, uint32_t size)
 {
     if (size == 0)
         return;
-    if (size_of_chunk(heap, at) == size) {
-        uint32_t class = class_of(size);
-        if (heap->heads[class] == at) {
-            heap->heads[class] = u32_at(heap->image, at + 4);
-            return;
-        }
-    }
-    drop_lists(heap);
+    if (size_of_chunk(heap, at) == size)
+        take_out(heap, at, size);
+    else
+        drop_lists(heap);
 }
 
 /* The sizes together of the free chunks that stand at `at`. */

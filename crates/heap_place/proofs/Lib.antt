@@ -33,4 +33,5 @@ pub mod WithinLaws
 pub mod GatherLaws
 pub mod GivingLaws
 pub mod SpliceLaws
+pub mod AlikeLaws
 pub mod RegrownLaws

@@ -5,7 +5,7 @@ use Rattle.heap_model.specs.Chunk.{Chunk, free, total}
 use Rattle.heap_model.specs.Slots.{area_start}
 use Rattle.heap_model.specs.Reading.{size_field, chunks_of}
 use Rattle.heap_model.specs.Placing.{SameFrame}
-use Rattle.heap_model.specs.Layout.{BeginsFree, Becomes, gap, IsSpot}
+use Rattle.heap_model.specs.Layout.{BeginsFree, Becomes, gap, IsSpot, WritesPlain}
 
 -- so many classes there are
 abbrev pub class_count : ℕ
@@ -85,6 +85,12 @@ pub record Links (old new : List ℕ) (at word : ℕ) : Type 0 where
   pub firsts : (there : ℕ) → BeginsFree old there → u32_at new there ≡ u32_at old there
   pub keeps : KeepsFree (ButAt at) old new
   pub second : second_of new at ≡ word
+
+-- Of a heap second words of free chunks alone were written.
+pub record SameChunks (old new : List ℕ) : Type 0 where
+  pub frame : SameFrame old new
+  pub chunks : chunks_of new ≡ chunks_of old
+  pub plain : WritesPlain old new
 
 -- A free chunk was put in front of its list.
 pub record Pushes (old new heads after : List ℕ) (at : ℕ) : Type 0 where

@@ -5,17 +5,24 @@ ghost use Rattle.heap_model.specs.Bytes.{u32_at};
 ghost use Rattle.heap_model.specs.Heap.{HeapAccepted};
 ghost use Rattle.heap_model.specs.Reading.{size_field, chunks_of};
 ghost use Rattle.heap_model.specs.Layout.{Becomes, IsSpot, WritesPlain};
-ghost use Rattle.heap_place.specs.Lists.{class_count, IsOfClass, IsFreeChunk, Pushes, HasLists, AreLists, Outside, ButAt, CutsRoom};
+ghost use Rattle.heap_place.specs.Lists.{class_count, IsOfClass, IsFreeChunk, Pushes, HasLists, AreLists, Outside, ButAt, CutsRoom, SameChunks};
 
 use crate::claim::cut;
 use crate::room::Room;
+use crate::splice::take_out;
 use raw_region::Region;
 
 /// How many classes of sizes there are.
 pub(crate) const CLASSES: usize = 21;
 
+/// Where in a free chunk the offset of the next one of its list stands: its second word.
+pub(crate) const LINK_AT: usize = 4;
+
+/// The first number that no size field holds.
+pub(crate) const ABOVE_SIZES: u32 = 0x100_0000;
+
 /// The class of a free chunk of `size` bytes.
-fn class_of(size: u32) -> usize
+pub(crate) fn class_of(size: u32) -> usize
     requires least { 8 ≤ size }
     requires small { size < 2 ^ 24 }
     ensures of_class { IsOfClass result size }
@@ -32,7 +39,7 @@ pub(crate) fn push(region: &mut Region, heads: &mut [u32; CLASSES], at: u32, siz
     ensures rest { region.new ≡ record region.old { bytes = region.new.bytes } }
 {
     let class = class_of(size);
-    region.put_u32(at as usize + 4, heads[class]);
+    region.put_u32(at as usize + LINK_AT, heads[class]);
     heads[class] = at;
 }
 
@@ -42,37 +49,37 @@ fn size_at(region: &Region, at: u32) -> u32
     requires { at + 4 ≤ length region.now.bytes }
     ensures { result ≡ size_field (u32_at region.now.bytes at) }
 {
-    region.get_u32(at as usize) % 0x100_0000
+    region.get_u32(at as usize) % ABOVE_SIZES
 }
 
 /// Takes the free chunks of room from their lists, and answers whether the others are in theirs still. Where
-/// the room is not one chunk at the front of its list, all lists are dropped.
-fn unlink(region: &Region, heads: &mut [u32; CLASSES], room: Room) -> bool
-    requires accepted { HeapAccepted region.now.bytes }
-    requires room { IsSpot region.now.bytes room.at room.size }
+/// the room is not one chunk among the first ones of its list, all lists are dropped.
+fn unlink(region: &mut Region, heads: &mut [u32; CLASSES], room: Room) -> bool
+    requires accepted { HeapAccepted region.old.bytes }
+    requires room { IsSpot region.old.bytes room.at room.size }
     requires some { 8 ≤ room.size }
-    requires lists { HasLists region.now.bytes heads.old }
-    ensures { AreLists (Outside room.at room.size) region.now.bytes heads.new }
+    requires lists { HasLists region.old.bytes heads.old }
+    ensures same { SameChunks region.old.bytes region.new.bytes }
+    ensures lists { AreLists (Outside room.at room.size) region.new.bytes heads.new }
+    ensures count { length heads.new ≡ class_count }
+    ensures rest { region.new ≡ record region.old { bytes = region.new.bytes } }
 {
-    let size = size_at(region, room.at);
-    if size == room.size {
-        let class = class_of(size);
-        if heads[class] == room.at {
-            heads[class] = region.get_u32(room.at as usize + 4);
-            return true;
-        }
+    if size_at(region, room.at) == room.size {
+        return take_out(region, heads, room.at, room.size);
     }
     *heads = [0; CLASSES];
     false
 }
 
 /// The same, where the room may have no bytes.
-pub(crate) fn unlink_run(region: &Region, heads: &mut [u32; CLASSES], room: Room) -> bool
-    requires accepted { HeapAccepted region.now.bytes }
-    requires room { IsSpot region.now.bytes room.at room.size }
-    requires lists { HasLists region.now.bytes heads.old }
-    ensures lists { AreLists (Outside room.at room.size) region.now.bytes heads.new }
+pub(crate) fn unlink_run(region: &mut Region, heads: &mut [u32; CLASSES], room: Room) -> bool
+    requires accepted { HeapAccepted region.old.bytes }
+    requires room { IsSpot region.old.bytes room.at room.size }
+    requires lists { HasLists region.old.bytes heads.old }
+    ensures same { SameChunks region.old.bytes region.new.bytes }
+    ensures lists { AreLists (Outside room.at room.size) region.new.bytes heads.new }
     ensures count { length heads.new ≡ class_count }
+    ensures rest { region.new ≡ record region.old { bytes = region.new.bytes } }
 {
     if room.size == 0 {
         return true;

@@ -24,7 +24,7 @@ use crate::claim::{claim_fixed_at, claim_movable};
 use crate::directory::{directory_name, name_directory};
 use crate::found::Found;
 use crate::gather::build;
-use crate::lists::{CLASSES, find_listed, push, take};
+use crate::lists::{ABOVE_SIZES, CLASSES, find_listed, push, take};
 use crate::lookup::{find_named, find_placed};
 use crate::open::open_in;
 use crate::owned::release_owned;
@@ -167,7 +167,7 @@ impl Space {
         ensures enough { IfSome result (λ room. size ≤ room.size) }
         ensures none { IfNone result (NoRun (chunks_of self.now.bytes) size) }
     {
-        if size >= 8 && size < 0x100_0000 {
+        if size >= HEADER_SIZE && size < ABOVE_SIZES {
             if let Some(room) = find_listed(&self.region, &self.heads, size) {
                 return Some(room);
             }

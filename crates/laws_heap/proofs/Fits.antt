@@ -31,17 +31,13 @@ room_is_run image at room size r enough none =
     let sums = r.sums in
     omega arith
 
--- and then the image is not short of it
-pub room_not_short : (image : List ℕ) (at room size : ℕ) → 0 < size → IsRoom image at room → size ≤ room → Short image size → ⊥
-room_not_short image at room size some r enough short = room_is_run image at room size r enough (short_no_run (chunks_of image) size some short)
-
 free_stays_free : (run : List Chunk) (name : ℕ) → AllFree run → with_freed run name ≡ run
 free_stays_free [] name f = refl
 free_stays_free (free size ∷ run) name f = ap (λ (cs : List Chunk). free size ∷ cs) (free_stays_free run name f)
 free_stays_free (movable bytes lock owner slot ∷ run) name f = absurd f
 free_stays_free (fixed bytes owner ∷ run) name f = absurd f
 
--- nor short for any chunk
+-- and then the image is short of it for no chunk
 pub room_not_short_for : (image : List ℕ) (name at room size : ℕ) → 0 < size → IsRoom image at room → size ≤ room → ShortFor image name size → ⊥
 room_not_short_for image name at room size some r enough short =
     let parts : with_freed (chunks_of image) name ≡ with_freed r.before name ++ (r.run ++ with_freed r.after name) =

@@ -96,10 +96,10 @@ const CLAIMED_OF_ONES: Words = &[
     (48, 0x0000_FFFF),
     (52, ONES),
     (56, 0x8000_0048),
-    (60, ONES),
 ];
 
-/// What lay in the free chunk is gone from the body, and stays in the slack.
+/// What lay in the free chunk is gone from the body, and stays in the slack. What is left of it is the only
+/// one in its list.
 #[test]
 fn a_claimed_chunk_is_zeros(rt: HostRuntime) -> Result<(), Fail> {
     check(&rt, FREE_OF_ONES, MAKES_10, CLAIMED_OF_ONES)
@@ -139,20 +139,19 @@ fn chunks_are_made_one_behind_the_other(rt: HostRuntime) -> Result<(), Fail> {
 }
 
 const FROM_THE_BACK: &[Told] = &[
-    (Step::GiveBack(20), Some(72)),
-    (Step::GiveBack(16), Some(96)),
+    (Step::GiveBack(20), Some(40)),
+    (Step::GiveBack(16), Some(24)),
     (Step::GiveBack(16), None),
 ];
 
-/// The back chunk is joined with the free chunk behind it, and then the front one with both. Only
-/// first words and slots are written: the other words of headers stay.
+/// Each is a free chunk of its own. The second word of the back one is the offset of the free chunk behind
+/// it, which is of its class; that of the front one is 0, since it is the only one of its class.
 #[test]
-fn chunks_given_back_from_the_back_are_joined(rt: HostRuntime) -> Result<(), Fail> {
+fn chunks_given_back_are_put_in_their_lists(rt: HostRuntime) -> Result<(), Fail> {
     let after = [
-        (32, 0x8000_0060),
-        (36, 0x01FF_FFF8),
-        (56, 0x8000_0048),
-        (60, 0x02FF_FFEE),
+        (32, 0x8000_0018),
+        (56, 0x8000_0028),
+        (60, 96),
         (96, 0x8000_0020),
     ];
     check(&rt, TWO, FROM_THE_BACK, &after)
@@ -160,16 +159,22 @@ fn chunks_given_back_from_the_back_are_joined(rt: HostRuntime) -> Result<(), Fai
 
 const FROM_THE_FRONT: &[Told] = &[
     (Step::GiveBack(16), Some(24)),
-    (Step::GiveBack(20), Some(72)),
+    (Step::GiveBack(20), Some(40)),
     (Step::RoomAt(24), Some(32)),
     (Step::RoomSize(24), Some(24)),
-    (Step::RoomAt(32), Some(32)),
-    (Step::RoomSize(32), Some(96)),
+    (Step::RoomAt(32), Some(56)),
+    (Step::RoomSize(32), Some(40)),
+    (Step::RoomAt(48), Some(32)),
+    (Step::RoomSize(48), Some(64)),
+    (Step::RoomAt(72), Some(32)),
+    (Step::RoomSize(72), Some(96)),
+    (Step::RoomAt(104), None),
     (Step::FreeBytes, Some(96)),
 ];
 
 /// The front chunk is given back first: behind it stands a live chunk, and then a free one that isn't
-/// joined with it. They are one run all the same.
+/// joined with it. Room that one of the free chunks has is the first of a list, with a free chunk in front of
+/// it or not; and they are one run for room that none of them has.
 #[test]
 fn free_neighbours_are_found_as_one_run(rt: HostRuntime) -> Result<(), Fail> {
     let mut space = heap(rt.alloc(), TWO)?;
@@ -199,11 +204,11 @@ const FIXED: Words = &[
 const GIVES_FIXED_BACK: &[Told] = &[
     (Step::GiveBack(40), Some(24)),
     (Step::MakeFixed(10), Some(40)),
-    (Step::GiveBack(16), Some(72)),
-    (Step::GiveBack(40), Some(96)),
+    (Step::GiveBack(16), Some(24)),
+    (Step::GiveBack(40), Some(24)),
 ];
 
-/// A fixed chunk of 10 bytes with a movable one behind it, and then with a free one.
+/// A fixed chunk of 10 bytes with a movable one behind it, and then with a free one, which it isn't joined with.
 #[test]
 fn a_fixed_chunk_is_given_back(rt: HostRuntime) -> Result<(), Fail> {
     check(&rt, &[], MAKES_FIXED, FIXED)?;

@@ -24,10 +24,10 @@ const SMALL: &str = "06000018 01FFFFF8 FFFFFFFFFFFFFFFF FFFFFFFFFFFFFFFF \
 
 /// The same chunk with 24 bytes.
 const GROWN: &str =
-    "00000020 01FFFFF8 FFFFFFFFFFFFFFFF FFFF 00*14 80000010 FFFFFFFF FFFFFFFFFFFFFFFF";
+    "00000020 01FFFFF8 FFFFFFFFFFFFFFFF FFFF 00*14 80000010 00000000 FFFFFFFFFFFFFFFF";
 
 /// The same chunk with 3 bytes, in front of the free ones, which are as they were.
-const SHRUNK: &str = "05000010 01FFFFF8 FFFFFFFFFFFFFFFF 80000008 FFFFFFFF \
+const SHRUNK: &str = "05000010 01FFFFF8 FFFFFFFFFFFFFFFF 80000008 00000000 \
     80000008 FFFFFFFF FF000010 FFFFFFFF FFFFFFFFFFFFFFFF";
 
 /// One chunk of 40 bytes.
@@ -57,23 +57,23 @@ fn grown(
 const GROWTHS: [(u32, &str); 7] = [
     (
         0,
-        "00000008 01FFFFF8 80000028 FFFFFFFF FFFFFFFFFFFFFFFF \
+        "00000008 01FFFFF8 80000028 00000000 FFFFFFFFFFFFFFFF \
             80000008 FFFFFFFF FF000010 FFFFFFFF FFFFFFFFFFFFFFFF",
     ),
     (
         10,
         "06000018 01FFFFF8 FFFFFFFFFFFFFFFF FFFFFFFFFFFFFFFF \
-            80000018 FFFFFFFF FF000010 FFFFFFFF FFFFFFFFFFFFFFFF",
+            80000018 00000000 FF000010 FFFFFFFF FFFFFFFFFFFFFFFF",
     ),
     (
         16,
         "00000018 01FFFFF8 FFFFFFFFFFFFFFFF FFFF 00*6 \
-            80000018 FFFFFFFF FF000010 FFFFFFFF FFFFFFFFFFFFFFFF",
+            80000018 00000000 FF000010 FFFFFFFF FFFFFFFFFFFFFFFF",
     ),
     (
         17,
         "07000020 01FFFFF8 FFFFFFFFFFFFFFFF FFFF 00*7 000008 FFFFFFFF \
-            80000010 FFFFFFFF FFFFFFFFFFFFFFFF",
+            80000010 00000000 FFFFFFFFFFFFFFFF",
     ),
     (24, GROWN),
     (
@@ -84,7 +84,7 @@ const GROWTHS: [(u32, &str); 7] = [
 ];
 
 /// Bytes that it gains are zero, in its slack too, and what is left of the free chunks is one, with a
-/// plain first word. What no header needs stays.
+/// plain first word, the only one in its list. What else lay there stays.
 #[test]
 fn a_chunk_grows_in_its_place(rt: HostRuntime) -> Result<(), Fail> {
     for (count, after) in &GROWTHS {
@@ -124,18 +124,18 @@ fn shrunk(
 const SHRINKS: [(u32, &str); 5] = [
     (
         0,
-        "00000008 01FFFFF8 80000028 FFFFFFFF FFFFFFFFFFFFFFFF \
+        "00000008 01FFFFF8 80000028 00000000 FFFFFFFFFFFFFFFF \
             FFFFFFFFFFFFFFFF FFFFFFFFFFFFFFFF FFFFFFFFFFFFFFFF",
     ),
     (
         10,
         "06000018 01FFFFF8 FFFFFFFFFFFFFFFF FFFFFFFFFFFFFFFF \
-            80000018 FFFFFFFF FFFFFFFFFFFFFFFF FFFFFFFFFFFFFFFF",
+            80000018 00000000 FFFFFFFFFFFFFFFF FFFFFFFFFFFFFFFF",
     ),
     (
         32,
         "00000028 01FFFFF8 FFFFFFFFFFFFFFFF FFFFFFFFFFFFFFFF FFFFFFFFFFFFFFFF \
-            FFFFFFFFFFFFFFFF 80000008 FFFFFFFF",
+            FFFFFFFFFFFFFFFF 80000008 00000000",
     ),
     (
         33,
@@ -145,7 +145,8 @@ const SHRINKS: [(u32, &str); 5] = [
     (40, LARGE),
 ];
 
-/// What it takes no more is a free chunk with a plain first word; its bytes stay.
+/// What it takes no more is a free chunk with a plain first word, the only one in its list; its other bytes
+/// stay.
 #[test]
 fn a_chunk_shrinks_in_its_place(rt: HostRuntime) -> Result<(), Fail> {
     for (count, after) in &SHRINKS {

@@ -1,25 +1,23 @@
 use Rattle.std.proofs.Common.{◌≡◌, ℕ, sym, subst, ◌∙◌, arith}
-use Rattle.std.specs.Prelude.{slice_set}
 use Rattle.heap_model.specs.Bytes.{u32_at}
 use Rattle.heap_model.specs.Reading.{size_field}
-use Rattle.heap_place.specs.Lists.{IsFreeChunk, AreLists, Outside}
-use Rattle.heap_place.proofs.TakeLaws.{spot_front, chunk_inside, unlinked}
+use Rattle.heap_place.specs.Lists.{IsFreeChunk}
+use Rattle.heap_place.proofs.TakeLaws.{spot_front, chunk_inside}
+use Rattle.heap_place.proofs.AlikeLaws.{taken_outside}
 use Rattle.heap_place.proofs.lists.unlink.Goals as goal
 
-pub size_at-size-requires : goal.size_at-size-requires
-size_at-size-requires c =
+pub size_at-requires : goal.size_at-requires
+size_at-requires c =
     let s = chunk_inside c.args.region.now.bytes c.args.room.at _ c.requires.accepted (spot_front c.args.region.now.bytes c.args.room.at c.args.room.size c.requires.accepted c.requires.some c.requires.room) in
     let inside = s.0 in let least = s.1 in omega arith
 
-pub get_u32-requires : goal.get_u32-requires
-get_u32-requires c =
-    let s = chunk_inside c.args.region.now.bytes c.args.room.at _ c.requires.accepted (spot_front c.args.region.now.bytes c.args.room.at c.args.room.size c.requires.accepted c.requires.some c.requires.room) in
-    let inside = s.0 in let least = s.1 in omega arith
+pub take_out-requires-clause-free : goal.take_out-requires-clause-free
+take_out-requires-clause-free c =
+    let size : size_field (u32_at c.args.region.now.bytes c.args.room.at) ≡ c.args.room.size = sym c.size_at.ensures ∙ c.if-size_at-room.true in
+    subst (λ (n : ℕ). IsFreeChunk c.args.region.now.bytes c.args.room.at n) size (spot_front c.args.region.now.bytes c.args.room.at c.args.room.size c.requires.accepted c.requires.some c.requires.room)
 
-pub returns-then-heads-class : goal.returns-then-heads-class
-returns-then-heads-class c =
-    let f = spot_front c.args.region.now.bytes c.args.room.at c.args.room.size c.requires.accepted c.requires.some c.requires.room in
-    let size : size_field (u32_at c.args.region.now.bytes c.args.room.at) ≡ c.args.room.size = sym c.size_at-size.ensures ∙ c.if-size-room.true in
-    subst (λ (n : ℕ). AreLists (Outside c.args.room.at c.args.room.size) c.args.region.now.bytes (slice_set c.args.heads.now c.class_of-class.result n)) (sym c.get_u32.ensures)
-    (unlinked c.args.region.now.bytes c.args.heads.now c.args.room.at c.args.room.size c.class_of-class.result c.requires.accepted (subst (λ (n : ℕ). IsFreeChunk c.args.region.now.bytes c.args.room.at n) size f) c.requires.lists
-    c.class_of-class.ensures.below c.told-heads c.if-heads-class.true)
+pub returns-then-size_at-room-clause-lists : goal.returns-then-size_at-room-clause-lists
+returns-then-size_at-room-clause-lists c =
+    let size : size_field (u32_at c.args.region.now.bytes c.args.room.at) ≡ c.args.room.size = sym c.size_at.ensures ∙ c.if-size_at-room.true in
+    taken_outside c.args.region.now.bytes c.take_out.new.region.bytes c.take_out.new.heads c.args.room.at c.args.room.size c.take_out.ensures.same
+    (subst (λ (n : ℕ). IsFreeChunk c.args.region.now.bytes c.args.room.at n) size (spot_front c.args.region.now.bytes c.args.room.at c.args.room.size c.requires.accepted c.requires.some c.requires.room)) c.take_out.ensures.lists

@@ -5,6 +5,7 @@ use Rattle.heap_place.specs.Lists.{IsFreeChunk}
 use Rattle.heap_place.proofs.KeepLaws.{links_plain}
 use Rattle.heap_place.proofs.ResizeLaws.{run_facts}
 use Rattle.heap_place.proofs.RegrownLaws.{run_spot, resized_lists, regrown_lists, regrown_all, resizes_links}
+use Rattle.heap_place.proofs.AlikeLaws.{alike_behind, alike_resizes}
 use Rattle.heap_place.proofs.resize.resize_listed.Goals as goal
 
 pub size_of_body-requires : goal.size_of_body-requires
@@ -32,8 +33,11 @@ overflow_add-at c =
     let size = c.size_of_body-then-left-gt0.ensures in
     let inside = f.inside in let most = f.most in let fits = c.requires.fits in omega arith
 
+pub resize_at-left-requires-clause-behind : goal.resize_at-left-requires-clause-behind
+resize_at-left-requires-clause-behind c = (alike_behind c.args.region.now.bytes c.unlink_run-kept.new.region.bytes c.args.found c.args.behind c.unlink_run-kept.ensures.same c.requires.behind)
+
 pub push-requires-clause-accepted : goal.push-requires-clause-accepted
-push-requires-clause-accepted c = (c.resize_at-left.ensures.resized c.requires.behind).frame.accepted
+push-requires-clause-accepted c = (c.resize_at-left.ensures.resized (alike_behind c.args.region.now.bytes c.unlink_run-kept.new.region.bytes c.args.found c.args.behind c.unlink_run-kept.ensures.same c.requires.behind)).frame.accepted
 
 pub push-requires-clause-free : goal.push-requires-clause-free
 push-requires-clause-free c =
@@ -41,7 +45,12 @@ push-requires-clause-free c =
 
 pub returns-then-left-gt0-clause-resized : goal.returns-then-left-gt0-clause-resized
 returns-then-left-gt0-clause-resized c =
-    resizes_links c.args.region.now.bytes c.resize_at-left.new.region.bytes c.push.new.region.bytes c.args.found c.args.count c.args.behind _ _ c.resize_at-left.ensures.resized c.push.ensures.pushed.links
+    alike_resizes c.args.region.now.bytes c.unlink_run-kept.new.region.bytes c.push.new.region.bytes c.args.found c.args.count c.args.behind c.unlink_run-kept.ensures.same
+    (resizes_links c.unlink_run-kept.new.region.bytes c.resize_at-left.new.region.bytes c.push.new.region.bytes c.args.found c.args.count c.args.behind _ _ c.resize_at-left.ensures.resized c.push.ensures.pushed.links)
+
+pub returns-else-left-gt0-clause-resized : goal.returns-else-left-gt0-clause-resized
+returns-else-left-gt0-clause-resized c =
+    alike_resizes c.args.region.now.bytes c.unlink_run-kept.new.region.bytes c.resize_at-left.new.region.bytes c.args.found c.args.count c.args.behind c.unlink_run-kept.ensures.same c.resize_at-left.ensures.resized
 
 pub returns-then-left-gt0-clause-lists : goal.returns-then-left-gt0-clause-lists
 returns-then-left-gt0-clause-lists c =
@@ -49,15 +58,22 @@ returns-then-left-gt0-clause-lists c =
     let left = c.resize_at-left.ensures.left in
     let some = c.if-left-gt0.true in
     regrown_lists c.resize_at-left.new.region.bytes c.push.new.region.bytes c.unlink_run-kept.new.heads c.push.new.heads (c.args.found.place.0 - 8) (need c.args.found.length + c.args.behind) c.size_of_body-then-left-gt0.result (omega arith) (omega arith) c.unlink_run-kept.ensures.count
-    (resized_lists c.args.region.now.bytes c.resize_at-left.new.region.bytes c.unlink_run-kept.new.heads c.args.found c.size_of_body.result c.args.behind c.size_of_body.ensures c.requires.accepted c.requires.behind c.resize_at-left.ensures.keeps c.unlink_run-kept.ensures.lists)
+    (resized_lists c.unlink_run-kept.new.region.bytes c.resize_at-left.new.region.bytes c.unlink_run-kept.new.heads c.args.found c.size_of_body.result c.args.behind c.size_of_body.ensures c.unlink_run-kept.ensures.same.frame.accepted
+    (alike_behind c.args.region.now.bytes c.unlink_run-kept.new.region.bytes c.args.found c.args.behind c.unlink_run-kept.ensures.same c.requires.behind) c.resize_at-left.ensures.keeps c.unlink_run-kept.ensures.lists)
     c.push.ensures.pushed
-
-pub returns-then-left-gt0-clause-plain : goal.returns-then-left-gt0-clause-plain
-returns-then-left-gt0-clause-plain c =
-    plain_then c.args.region.now.bytes c.resize_at-left.new.region.bytes c.push.new.region.bytes c.resize_at-left.ensures.plain
-    (links_plain c.resize_at-left.new.region.bytes c.push.new.region.bytes _ _ c.push.ensures.pushed.links)
 
 pub returns-else-left-gt0-clause-lists : goal.returns-else-left-gt0-clause-lists
 returns-else-left-gt0-clause-lists c =
     regrown_all c.resize_at-left.new.region.bytes c.unlink_run-kept.new.heads (c.args.found.place.0 - 8) (need c.args.found.length + c.args.behind)
-    (resized_lists c.args.region.now.bytes c.resize_at-left.new.region.bytes c.unlink_run-kept.new.heads c.args.found c.size_of_body.result c.args.behind c.size_of_body.ensures c.requires.accepted c.requires.behind c.resize_at-left.ensures.keeps c.unlink_run-kept.ensures.lists)
+    (resized_lists c.unlink_run-kept.new.region.bytes c.resize_at-left.new.region.bytes c.unlink_run-kept.new.heads c.args.found c.size_of_body.result c.args.behind c.size_of_body.ensures c.unlink_run-kept.ensures.same.frame.accepted
+    (alike_behind c.args.region.now.bytes c.unlink_run-kept.new.region.bytes c.args.found c.args.behind c.unlink_run-kept.ensures.same c.requires.behind) c.resize_at-left.ensures.keeps c.unlink_run-kept.ensures.lists)
+
+pub returns-then-left-gt0-clause-plain : goal.returns-then-left-gt0-clause-plain
+returns-then-left-gt0-clause-plain c =
+    plain_then c.args.region.now.bytes c.unlink_run-kept.new.region.bytes c.push.new.region.bytes c.unlink_run-kept.ensures.same.plain
+    (plain_then c.unlink_run-kept.new.region.bytes c.resize_at-left.new.region.bytes c.push.new.region.bytes c.resize_at-left.ensures.plain
+    (links_plain c.resize_at-left.new.region.bytes c.push.new.region.bytes _ _ c.push.ensures.pushed.links))
+
+pub returns-else-left-gt0-clause-plain : goal.returns-else-left-gt0-clause-plain
+returns-else-left-gt0-clause-plain c =
+    plain_then c.args.region.now.bytes c.unlink_run-kept.new.region.bytes c.resize_at-left.new.region.bytes c.unlink_run-kept.ensures.same.plain c.resize_at-left.ensures.plain

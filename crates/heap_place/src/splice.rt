@@ -1,0 +1,80 @@
+//! A free chunk is taken out of its list, wherever it stands there.
+
+ghost use Rattle.std.specs.Prelude.{◌≡◌, ◌≢◌, ◌<◌, ◌+◌, length, slice_index, IfSome};
+ghost use Rattle.heap_model.specs.Heap.{HeapAccepted};
+ghost use Rattle.heap_place.specs.Lists.{class_count, IsFreeOf, IsFreeChunk, HasLists, AreLists, ButAt, SameChunks};
+ghost use Rattle.heap_place.specs.Splices.{LeadsTo};
+
+use crate::lists::{CLASSES, LINK_AT, class_of};
+use raw_region::Region;
+
+/// How many chunks of a list are looked at, at most, for one that is taken out of it.
+const PROBES: usize = 64;
+
+/// Takes a free chunk out of its list, and answers whether all others are in theirs still. Where it isn't
+/// among the first ones of its list, all lists are dropped.
+pub(crate) fn take_out(region: &mut Region, heads: &mut [u32; CLASSES], at: u32, size: u32) -> bool
+    requires accepted { HeapAccepted region.old.bytes }
+    requires free { IsFreeChunk region.old.bytes at size }
+    requires lists { HasLists region.old.bytes heads.old }
+    ensures same { SameChunks region.old.bytes region.new.bytes }
+    ensures lists { AreLists (ButAt at) region.new.bytes heads.new }
+    ensures count { length heads.new ≡ class_count }
+    ensures rest { region.new ≡ record region.old { bytes = region.new.bytes } }
+{
+    let class = class_of(size);
+    if heads[class] == at {
+        heads[class] = region.get_u32(at as usize + LINK_AT);
+        return true;
+    }
+    match find_before(region, heads, class, at) {
+        Some(before) => {
+            link_past(region, heads, class, before, at);
+            true
+        }
+        None => {
+            *heads = [0; CLASSES];
+            false
+        }
+    }
+}
+
+/// The chunk of a list in front of the one at `at`, which isn't its first: 0 where the list ends without it. None
+/// where the list goes on behind the first ones.
+fn find_before(region: &Region, heads: &[u32; CLASSES], class: usize, at: u32) -> Option<u32>
+    requires accepted { HeapAccepted region.now.bytes }
+    requires lists { HasLists region.now.bytes heads.now }
+    requires class { class < class_count }
+    requires other { slice_index heads.now class ≢ at }
+    ensures { IfSome result (λ before. LeadsTo region.now.bytes heads.now class before at) }
+{
+    let mut here = heads[class];
+    for _ in 0..PROBES {
+        if here == 0 {
+            return Some(0);
+        }
+        let next = region.get_u32(here as usize + LINK_AT);
+        if next == at {
+            return Some(here);
+        }
+        here = next;
+    }
+    None
+}
+
+/// Links the chunk in front of the one at `at` to the one behind it; with 0 in front it is in no list.
+fn link_past(region: &mut Region, heads: &[u32; CLASSES], class: usize, before: u32, at: u32)
+    requires accepted { HeapAccepted region.old.bytes }
+    requires lists { HasLists region.old.bytes heads.now }
+    requires class { class < class_count }
+    requires leads { LeadsTo region.old.bytes heads.now class before at }
+    requires free { IsFreeOf region.old.bytes class at }
+    ensures same { SameChunks region.old.bytes region.new.bytes }
+    ensures lists { AreLists (ButAt at) region.new.bytes heads.now }
+    ensures rest { region.new ≡ record region.old { bytes = region.new.bytes } }
+{
+    if before != 0 {
+        let next = region.get_u32(at as usize + LINK_AT);
+        region.put_u32(before as usize + LINK_AT, next);
+    }
+}
