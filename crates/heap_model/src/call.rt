@@ -82,13 +82,13 @@ pub enum DatabaseCall<C = Name, D = Db> {
     /// Of what is given the modification number, the seed and the number of entries are passed over, and
     /// the attribute that says whether there are resources.
     SetInfo(D, DbInfo),
-    /// A caller's chunk becomes the info block of a database that has none.
+    /// A caller's chunk becomes the info block of a database that doesn't have this one.
     SetInfoBlock {
         db: D,
         which: Which,
         name: C,
     },
-    /// The info block is handed over to an owner of 1 to 14, and the database has none then.
+    /// The info block is handed over to an owner of 1 to 14, and the database doesn't have it any more.
     TakeInfoBlock {
         db: D,
         which: Which,

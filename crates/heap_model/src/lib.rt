@@ -34,8 +34,9 @@
 //! | `Steps` | what a row says of a call, and the step that it makes, whatever the call acts on |
 //! | `MemorySteps` | the row of each call of the memory manager: what it refuses, answers and does |
 //! | `StoreWords` | words of the rows of calls on a store: its databases by number, and checks that rows share |
-//! | `DatabaseSteps` | the row of each call on databases as a whole |
 //! | `EntrySteps` | entries of a database of a store made, changed and dropped, and what a call leaves that does so |
+//! | `DatabaseSteps` | the row of each call on databases as a whole |
+//! | `Categories` | the category of a record, and what calls on a category do to a record |
 //! | `RecordSteps` | the row of each call on records |
 //! | `StoreSteps` | the row of each call on a store, the memory manager's calls among them, and its step |
 //! | `Counted` | what contracts see of a writer whose faults are counted |

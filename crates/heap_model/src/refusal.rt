@@ -45,7 +45,7 @@ pub enum Refusal {
     /// The database may only be read.
     #[error("ReadOnly")]
     ReadOnly,
-    /// There are not so many entries.
+    /// There are not so many entries; or none from an index on is of a category.
     #[error("IndexOutOfRange")]
     IndexOutOfRange,
     /// The record is deleted.
@@ -57,7 +57,7 @@ pub enum Refusal {
     /// There are as many databases, or entries of one, as there may be.
     #[error("TooManyEntries")]
     TooManyEntries,
-    /// The category isn't 0 to 15.
+    /// The category isn't 0 to 15, and not 0xFF either in the calls that count.
     #[error("InvalidCategory")]
     InvalidCategory,
     /// Another record has the unique ID.

@@ -27,7 +27,7 @@ use store_check::{StoreFault, StoreSummary, check_store_from};
 use thiserror::Error;
 
 /// A region that is an accepted image. Contracts see the region's value alone, and no method but those on
-/// entries and info blocks asks for anything of its caller: what a call can't do it refuses. Neither its region nor its
+/// entries asks for anything of its caller: what a call can't do it refuses. Neither its region nor its
 /// heap is lent, so no byte of it is written but by its calls.
 #[derive(Drop)]
 pub struct Store {

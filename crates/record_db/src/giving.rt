@@ -1,5 +1,6 @@
 //! Records whose data a caller's chunk becomes.
 
+ghost use Rattle.std.specs.Prelude.{◌≡◌, OnErr};
 ghost use Rattle.heap_model.specs.declared.call.RecordCall.{RecordCall};
 ghost use Rattle.palm_store.specs.Replies.{name_or_refused, number_or_refused};
 ghost use Rattle.record_db.specs.Checks.{DoesRecord};
@@ -16,10 +17,11 @@ use palm_store::{EntryInfo, NewEntry, Store, check_owner};
 ///
 /// Refused: `NoSuchDatabase`, `NotRecordDatabase`, `ReadOnly`; `InvalidHandle`, `OwnedByDatabase` and `ChunkFixed`,
 /// where the chunk can't be given; `TooManyEntries`, where there are 65,535 records; `NotEnoughSpace`, where room
-/// for one entry more can run out.
+/// for one entry more can run out. Then nothing has changed.
 pub fn attach(store: &mut Store, db: Db, at: u32, name: Name) -> Result<u32, Refusal>
-    ensures { DoesRecord store.old (RecordCall.Attach db at name)
+    ensures does { DoesRecord store.old (RecordCall.Attach db at name)
         (number_or_refused result) store.new }
+    ensures refused { OnErr result (store.new ≡ store.old) }
 {
     let count = count_records(store, db, Access::Write)?;
     store.check_given(name)?;

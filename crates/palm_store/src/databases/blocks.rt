@@ -90,8 +90,8 @@ fn put_block(heap: &mut Heap, db: Db, which: Which, slot: u32)
     heap.sys_write(Name(db.0), 0, &header.to_bytes());
 }
 
-/// Makes a movable chunk of a caller's an info block of a database that has none, and keeps its locks. The
-/// database counts the call.
+/// Makes a movable chunk of a caller's an info block of a database that doesn't have that one, and keeps its
+/// locks. The database counts the call.
 pub(crate) fn give_block(heap: &mut Heap, db: Db, which: Which, name: Name)
     requires accepted { Accepted heap.old.bytes }
     requires number { HasNumber heap.old.bytes db.0 }

@@ -10,7 +10,7 @@ use heap_model::{Db, Name, Refusal, Which};
 use mem_manager::check_owner;
 
 impl Store {
-    /// Makes a movable chunk of a caller's an info block of a database that has none: it becomes one for data,
+    /// Makes a movable chunk of a caller's an info block of a database that doesn't have that one: it becomes one for data,
     /// and keeps its locks.
     ///
     /// Refused: `NoSuchDatabase`, `ReadOnly`; `AlreadyExists`, where the database has the block; `InvalidHandle`,

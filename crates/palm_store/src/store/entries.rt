@@ -133,8 +133,7 @@ impl Store {
         ensures none_made { MakesNone self.old.bytes self.new.bytes }
         ensures could { OnOk result (NoneHolds (checks_of_attaching self.old.bytes db)) }
         ensures why { IfErr result (FirstBrings (checks_of_attaching self.old.bytes db)) }
-        ensures refused { OnErr result (LeavesChanged self.old self.new (λ store. store)) }
-        ensures as_before { OnErr result (StoreAsBefore self.old self.new) }
+        ensures refused { OnErr result (self.new ≡ self.old) }
         ensures rest { self.new ≡ record self.old { bytes = self.new.bytes; slid = self.new.slid } }
     {
         if count_entries(&self.heap, db) >= MOST_ENTRIES {

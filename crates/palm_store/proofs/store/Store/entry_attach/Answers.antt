@@ -8,8 +8,7 @@ use Rattle.palm_store.specs.Databases.{HasNumber}
 use Rattle.palm_store.specs.EntryInfos.{makes_resource}
 use Rattle.palm_store.specs.EntryCalls.{MayBeGiven, checks_of_attaching}
 use Rattle.palm_store.proofs.GivenData.{attach_steps}
-use Rattle.palm_store.proofs.NewEntries.{same_as_before}
-use Rattle.laws_heap.proofs.Results.{on_err, if_err}
+use Rattle.laws_heap.proofs.Results.{if_err}
 use Rattle.palm_store.proofs.store.Store.entry_attach.Goals as goal
 
 pub returns-in_err-take_in-clause-why : goal.returns-in_err-take_in-clause-why
@@ -19,9 +18,6 @@ returns-in_err-take_in-clause-why c =
     let e = c.from_residual.ensures in
     rw (← c.self.view_is) (if_err (FirstBrings (checks_of_attaching c.self.inside.heap.bytes c.args.db)) c.from_residual.result (e.0, e.1)
     (inr ((λ full. omega (arith, count, below, full)), inl (inr c.in_err-take_in.ensures.no_room, c.in_err-take_in.ensures.refusal))))
-
-pub returns-in_err-take_in-clause-as_before : goal.returns-in_err-take_in-clause-as_before
-returns-in_err-take_in-clause-as_before c = rw (← c.self.view_is) (on_err _ c.from_residual.result (same_as_before c.self.inside.heap c.take_in.new.heap c.in_err-take_in.ensures.refused))
 
 pub invariant_of-self-2 : goal.invariant_of-self-2
 invariant_of-self-2 c =
