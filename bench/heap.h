@@ -4,15 +4,16 @@
  * A movable chunk is found by its slot. Free chunks are linked in lists, one for each class of sizes: the
  * second word of each is the offset of the next. A new chunk goes to the front of the first chunk of a list
  * that has room; where no list begins with one, to the front of the first run of neighbouring free chunks
- * that has it, which is looked for from the first chunk on. One that is freed goes to the front of its list,
- * joined with none. A free chunk that is taken is looked for among the first ones of its list; where it isn't
- * one of them, or where more than one is taken, all lists are dropped, and they are built again, with all
- * neighbours joined, when a chunk is made or freed. Where no
- * free run has the room for a new chunk, the first stretch that has it is packed, by one move for each chunk
- * that goes down over the free one in front of it; that drops the lists. A chunk that is to be larger than
- * it and the free chunks behind it goes to a free run that has the room, which is looked for from the first
- * chunk on; else its stretch is packed, and what is behind it is lifted in one move; else another stretch is
- * packed. No chunk here is fixed, so that a name of no slot names nothing.
+ * that has it, which is looked for from the first chunk on. One that is freed goes to the front of its
+ * list, joined with none. A free chunk that is taken is looked for among the first ones of its list; where
+ * it isn't one of them, or where more than one is taken, all lists are dropped, and they are built again,
+ * with all neighbours joined, when a chunk is made or freed. Where no free run has the room for a new
+ * chunk, the first stretch that has it is packed, by one move for each chunk that goes down over the free
+ * one in front of it; that drops the lists, and they are not built with this chunk, so that no walk follows
+ * the packing. A chunk that is to be larger than it and the free chunks behind it goes to a free run that
+ * has the room, which is looked for from the first chunk on; else its stretch is packed, and what is behind
+ * it is lifted in one move; else another stretch is packed. No chunk here is fixed, so that a name of no
+ * slot names nothing.
  */
 #ifndef HEAP_H
 #define HEAP_H
@@ -59,13 +60,14 @@ enum refusal {
 };
 
 /* An image that is an accepted heap. The slots of all numbers below `lowest` are in use. A list begins at
- * each head that isn't 0; all free chunks were in their lists when they were `built`. */
+ * each head that isn't 0; all free chunks were in their lists when they were `built`. A stretch was `packed`
+ * for the next chunk that is made. */
 struct heap {
     uint8_t *image;
     uint32_t len;
     uint32_t lowest;
     uint32_t heads[CLASSES];
-    bool built;
+    bool built, packed;
 };
 
 static uint32_t u16_at(const uint8_t *image, size_t at)
@@ -346,6 +348,7 @@ static bool make_room(struct heap *heap, uint32_t size, uint32_t *run_at, uint32
     if (!find_stretch(heap, size, &start, &end))
         return false;
     pack(heap, start, end, &room);
+    heap->packed = true;
     return find_run(heap, size, run_at, run_size);
 }
 
@@ -371,7 +374,10 @@ static enum refusal make_chunk(struct heap *heap, uint32_t length, uint32_t owne
     put_u32(heap->image, at + 4, owner << 24 | h_offset);
     memset(heap->image + at + HEADER, 0, length);
     put_u32(heap->image, slot, at + HEADER);
-    build(heap);
+    if (heap->packed)
+        heap->packed = false;
+    else
+        build(heap);
     heap->lowest = number;
     *name = slot;
     return DONE;
@@ -457,6 +463,7 @@ static void relocate(struct heap *heap, uint32_t name, uint32_t length, uint32_t
     put_free(heap, from, freed);
     mend(heap, from, at);
     drop_lists(heap);
+    heap->packed = false;
 }
 
 /* Gives a chunk a length that it can't have in its place. */

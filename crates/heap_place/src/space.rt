@@ -47,8 +47,11 @@ pub struct Space {
     region: Region,
     /// Of each class the offset at which the first chunk of its list begins, or 0 where the list is empty.
     heads: [u32; CLASSES],
-    /// Whether the lists were built since they were last dropped. Where not, free chunks are missing in them.
+    /// Whether the lists were built since they were last dropped. Where not, free chunks may be missing in them.
     built: bool,
+    /// Whether a stretch was packed for the chunk that is made next. The lists aren't built with that one, so
+    /// that no walk over all chunks follows the packing.
+    packed: bool,
 }
 
 impl Model for Space {
@@ -71,6 +74,7 @@ impl Space {
             region,
             heads: [0; CLASSES],
             built: false,
+            packed: false,
         }
     }
 
@@ -190,8 +194,10 @@ impl Space {
     {
         let kept = take(&mut self.region, &mut self.heads, room, size_of_body(count));
         claim_movable(&mut self.region, room.at, slot, count, owner);
-        build(&mut self.region, &mut self.heads, self.built & kept);
-        self.built = true;
+        let skips = self.packed | (self.built & kept);
+        build(&mut self.region, &mut self.heads, skips);
+        self.built = !self.packed;
+        self.packed = false;
     }
 
     /// Makes the front of room a fixed chunk of `count` zeros, and answers its name.
@@ -209,8 +215,10 @@ impl Space {
     {
         let kept = take(&mut self.region, &mut self.heads, room, size_of_body(count));
         claim_fixed_at(&mut self.region, room.at, count, owner);
-        build(&mut self.region, &mut self.heads, self.built & kept);
-        self.built = true;
+        let skips = self.packed | (self.built & kept);
+        build(&mut self.region, &mut self.heads, skips);
+        self.built = !self.packed;
+        self.packed = false;
         Name(room.at + HEADER_SIZE)
     }
 
@@ -436,6 +444,7 @@ impl Space {
     {
         self.heads = [0; CLASSES];
         self.built = false;
+        self.packed = true;
         pack_stretch(&mut self.region, stretch)
     }
 
@@ -476,6 +485,7 @@ impl Space {
         if moved {
             self.heads = [0; CLASSES];
             self.built = false;
+            self.packed = false;
         }
         moved
     }
