@@ -1,9 +1,8 @@
 //! A call on a store, and the same on the plain model beside it.
 
 use crate::calls::do_call;
-use heap_model::{Call, Reply};
+use heap_model::{Call, Counted, Reply};
 use palm_store::Store;
-use palm_text::Counted;
 use raw_region::Region;
 use std::alloc::Global;
 use std::process::Abort;
