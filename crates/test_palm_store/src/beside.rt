@@ -1,9 +1,8 @@
 //! A call on a store, and the same on the plain model beside it.
 
 use crate::calls::do_call;
-use heap_model::{Call, Reply};
+use heap_model::{Call, Counted, Reply};
 use palm_store::Store;
-use palm_text::Counted;
 use raw_region::Region;
 use std::alloc::Global;
 use std::process::Abort;
@@ -34,8 +33,7 @@ impl Beside {
         self.call_on(rt, &mut store, spot, call)
     }
 
-    /// The same on a store that has the image, and may have had calls before. What it leaves must be one
-    /// that is taken as a store.
+    /// The same on a store that has the image, and may have had calls before.
     pub(crate) fn call_on(
         &mut self,
         rt: &(impl Abort + AllocGlobal),
@@ -50,7 +48,6 @@ impl Beside {
             return Err("no image")?;
         }
         let after = written.into_inner();
-        store_of(alloc, &after)?;
         check(rt, spot, &mut self.plain, call, &reply, &self.image, &after)?;
         self.image = after;
         Ok(reply)

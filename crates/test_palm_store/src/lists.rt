@@ -324,46 +324,31 @@ fn any_call(random: &mut Pcg32, alloc: Global, beside: &Beside) -> Result<Call, 
 }
 
 /// Does a list of calls that a seed gives, each on the image that the one before left, and counts what
-/// they answer: each on a store that is checked for it, and then a list on one store from end to end.
-/// Where a chunk is placed may differ between the two, so each call is held against the model alone.
+/// they answer. Each image must be taken as a store; a call is done on that one, if `anew`, and else on one
+/// store from end to end. Where a chunk is placed may differ between the two, so each call is held against
+/// the model alone.
 fn run_list(
     rt: &(impl Abort + AllocGlobal),
     counts: &mut Counts,
     image: Vec<u8>,
-    seed: u64,
-    count: u32,
-) -> Result<(), Fail> {
-    run_on_one(rt, counts, image.clone()?, seed, count)?;
-    let alloc = rt.alloc();
-    let mut random = Pcg32::new(seed, 1);
-    let mut beside = Beside::new(alloc, image)?;
-    for number in 0..count {
-        let call = any_call(&mut random, alloc, &beside)?;
-        let spot = format!(in alloc; "call {number} of list {seed}")?;
-        let reply = beside.call(rt, spot.as_str(), &call)?;
-        counts.add(&call, &reply)?;
-    }
-    Ok(())
-}
-
-/// Does a list of calls that a seed gives on one store from end to end.
-fn run_on_one(
-    rt: &(impl Abort + AllocGlobal),
-    counts: &mut Counts,
-    image: Vec<u8>,
-    seed: u64,
-    count: u32,
+    (seed, count): (u64, u32),
+    anew: bool,
 ) -> Result<(), Fail> {
     let alloc = rt.alloc();
     let mut random = Pcg32::new(seed, 1);
     let mut store = store_of(alloc, &image)?;
     let mut beside = Beside::new(alloc, image)?;
     for number in 0..count {
+        let taken = store_of(alloc, &beside.image)?;
+        if anew {
+            store = taken;
+        }
         let call = any_call(&mut random, alloc, &beside)?;
-        let spot = format!(in alloc; "call {number} of list {seed} on one store")?;
+        let spot = format!(in alloc; "call {number} of list {seed}")?;
         let reply = beside.call_on(rt, &mut store, spot.as_str(), &call)?;
         counts.add(&call, &reply)?;
     }
+    store_of(alloc, &beside.image)?;
     Ok(())
 }
 
@@ -372,13 +357,20 @@ fn run_on_one(
 fn lists_of_calls(rt: HostRuntime) -> Result<(), Fail> {
     let alloc = rt.alloc();
     let mut counts = Counts::new(alloc);
-    for seed in 1..33u64 {
-        run_list(&rt, &mut counts, blank_image(alloc, 256, 8)?, seed, 150)?;
-        run_list(&rt, &mut counts, blank_image(alloc, 512, 6)?, seed, 150)?;
-        run_list(&rt, &mut counts, blank_image(alloc, 4096, 40)?, seed, 300)?;
-        run_list(&rt, &mut counts, listed(alloc, DATABASE)?, seed, 100)?;
-        run_list(&rt, &mut counts, listed(alloc, TWO_DATABASES)?, seed, 100)?;
-        run_list(&rt, &mut counts, listed(alloc, MIXED)?, seed, 300)?;
+    for seed in 1..49u64 {
+        let anew = seed < 33;
+        let blank = blank_image(alloc, 256, 8)?;
+        run_list(&rt, &mut counts, blank, (seed, 150), anew)?;
+        let blank = blank_image(alloc, 512, 6)?;
+        run_list(&rt, &mut counts, blank, (seed, 150), anew)?;
+        let blank = blank_image(alloc, 4096, 40)?;
+        run_list(&rt, &mut counts, blank, (seed, 300), anew)?;
+        let image = listed(alloc, DATABASE)?;
+        run_list(&rt, &mut counts, image, (seed, 100), anew)?;
+        let image = listed(alloc, TWO_DATABASES)?;
+        run_list(&rt, &mut counts, image, (seed, 100), anew)?;
+        let image = listed(alloc, MIXED)?;
+        run_list(&rt, &mut counts, image, (seed, 300), anew)?;
     }
     counts.check(&rt, &OUTCOMES);
     Ok(())
