@@ -6,8 +6,10 @@
  * It does the same calls in the same order as crates/bench_records, on a database in an image of the same
  * format (docs/FORMAT.md) and by the same algorithm, and prints the same lines. Each call looks first whether
  * its database is there, holds records, and may be written where it is to be. Entries are moved by one memmove.
- * A new record gets the first ID behind the seed that no record has: one pass over the entries marks those
- * near the seed, and only where all of these are taken a second one has a bit for each record. The chunks are
+ * A new record gets the first ID behind the seed that no record has. How far the IDs are free from the one next
+ * to the seed on takes a pass over the entries, and is remembered; only where that one is taken, a second pass
+ * marks those near the seed, and where all of these are taken a third one has a bit for each record. No call here
+ * sets an ID, so nothing that is remembered has to be forgotten. The chunks are
  * those of heap.h.
  */
 #include "heap.h"
@@ -142,11 +144,36 @@ static uint32_t first_step(const uint8_t *body, uint32_t seed, uint8_t *taken, u
     return step;
 }
 
-/* The first ID behind the seed that no record has. */
-static uint32_t fresh_id(const uint8_t *body)
+/* IDs of a database that no record has: those from the first on, below the end. */
+static struct {
+    uint32_t db, first, end;
+} known;
+
+/* The least ID of a record that is not below this one, or the number behind the greatest ID. */
+static uint32_t end_of_free(const uint8_t *body, uint32_t first)
+{
+    uint32_t count = entries_in(body), end = GREATEST_ID + 1;
+    for (uint32_t index = 0; index < count; index++) {
+        uint32_t id = u32_at(body, ENTRIES_AT + ENTRY_SIZE * index + LABEL_AT) & GREATEST_ID;
+        if (first <= id && id < end)
+            end = id;
+    }
+    return end;
+}
+
+/* The first ID behind the seed that no record has. The caller's record gets it. */
+static uint32_t fresh_id(const uint8_t *body, uint32_t db)
 {
     uint8_t taken[MANY];
     uint32_t seed = u32_at(body, SEED_AT) & GREATEST_ID;
+    uint32_t next = id_behind(seed, 0);
+    if (known.db != db || next < known.first || next >= known.end) {
+        known.db = db;
+        known.end = end_of_free(body, next);
+    }
+    known.first = next + 1;
+    if (next < known.end)
+        return next;
     uint32_t steps = first_step(body, seed, taken, FEW);
     if (steps == 8 * FEW)
         steps = first_step(body, seed, taken, MANY);
@@ -182,7 +209,7 @@ static enum refusal new_record(struct heap *heap, uint32_t db, uint32_t at, uint
     uint32_t count = entries_in(body_of(heap, &found));
     if (count >= MOST_ENTRIES)
         return TOO_MANY_ENTRIES;
-    struct record record = {.attributes = NEW_ATTRIBUTES, .id = fresh_id(body_of(heap, &found))};
+    struct record record = {.attributes = NEW_ATTRIBUTES, .id = fresh_id(body_of(heap, &found), db)};
     refusal = make_chunk(heap, size, DATABASE, &record.slot);
     if (refusal != DONE)
         return refusal;
@@ -218,7 +245,7 @@ static enum refusal attach(struct heap *heap, uint32_t db, uint32_t at, uint32_t
     if (count >= MOST_ENTRIES)
         return TOO_MANY_ENTRIES;
     struct record record = {
-        .attributes = DIRTY, .id = fresh_id(body_of(heap, &found)), .slot = name
+        .attributes = DIRTY, .id = fresh_id(body_of(heap, &found), db), .slot = name
     };
     refusal = resize_chunk(heap, db, &found, database_size(count + 1));
     if (refusal != DONE)

@@ -122,12 +122,12 @@ On 3 and 4 the first line on standard error is 'fault read', 'fault write' or 'f
 the first two a second line names the file and says why.";
 
 const SCRIPTS: &str = "\
-A script is a text of lines. Each is a call of the memory manager, on databases or on their records,
-and prints 'ok' with what the call answers, or 'refused' with the number and the name of the refusal.
-A chunk goes by a label, which 'new', 'ptrnew' and 'bind' give it: a letter, then letters, digits or
-'_'; so do the data of a record, by 'recnew', 'recget', 'recquery', 'recdetach' and 'recreplace', and an
-info block, by 'info' and 'infotake'. A database goes by a label of its own, which 'create', 'find' and
-'nth' give it.
+A script is a text of lines. Each is a call of the memory manager, on databases, on their records or on
+their resources, and prints 'ok' with what the call answers, or 'refused' with the number and the name of
+the refusal. A chunk goes by a label, which 'new', 'ptrnew' and 'bind' give it: a letter, then letters,
+digits or '_'; so do the data of a record, by 'recnew', 'recget', 'recquery', 'recdetach' and 'recreplace',
+the data of a resource, by 'resnew', 'resinfo' and 'resdetach', and an info block, by 'info' and 'infotake'.
+A database goes by a label of its own, which 'create', 'find' and 'nth' give it.
 
   bind A NAME         new A SIZE OWNER    ptrnew A SIZE OWNER
   free A              resize A SIZE       setowner A OWNER
@@ -153,13 +153,20 @@ info block, by 'info' and 'infotake'. A database goes by a label of its own, whi
   catnext D FROM CATEGORY                 catpos D INDEX CATEGORY
   catmove D TO FROM DIRTY
 
+  resnew D \"TYPE\" ID SIZE A               resattach D \"TYPE\" ID A
+  resinfo D INDEX A   resremove D INDEX   resdetach D INDEX OWNER A
+  resresize D INDEX SIZE                  resset D INDEX \"TYPE\" ID
+  resfind D \"TYPE\" ID                     restype D \"TYPE\" NTH
+  rescount D
+
 'write', 'set' and 'strcopy' need a locked or a fixed chunk. OWNER is 1 to 14. RESOURCES is 1 where
 the entries are resources, and 0 where they are records. DIRTY is 1 where the record is to be dirty,
 and else 0. BLOCK is 'app' or 'sort'. 'recreplace' gives a record the data A, and its old data to OWNER
 as B. CATEGORY is 0 to 15, and 255 for all of them in 'catcount', 'catnext' and 'catpos'.
 'catmove' gives the records of category FROM the category TO. TYPE and CREATOR have four bytes.
-Records are counted from 0. Numbers are decimal, or hex behind '0x'. HEX is hex digits, or '-' for no
-byte. A line that is empty or starts with '#' is passed over.";
+The ID of a resource is below 65536. 'resfind' finds the first resource of a TYPE and an ID, 'restype'
+the NTH of a TYPE. Records, resources and those of a TYPE are counted from 0. Numbers are decimal, or hex
+behind '0x'. HEX is hex digits, or '-' for no byte. A line that is empty or starts with '#' is passed over.";
 
 /// What the words of a command line ask for. The first word is the program's own name.
 ///

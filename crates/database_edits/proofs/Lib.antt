@@ -9,3 +9,4 @@ pub mod Crossed
 pub mod Pieces
 pub mod HeadersHere
 pub mod Counting
+pub mod Recorded

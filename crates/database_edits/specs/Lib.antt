@@ -1,3 +1,4 @@
 pub mod Managers
 pub mod Edits
 pub mod Headings
+pub mod Recorded

@@ -6,6 +6,7 @@
 //! were. What the entries name isn't looked at.
 #![tactic(auto)]
 
+mod attributes;
 mod bodies;
 mod headers;
 mod insertion;
@@ -15,6 +16,7 @@ mod removal;
 mod replacement;
 mod writing;
 
+pub use attributes::change_attributes;
 pub use insertion::insert_entry;
 pub use raising::raise_modification;
 pub use removal::remove_entry;

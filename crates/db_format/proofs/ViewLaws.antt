@@ -1,5 +1,5 @@
 -- What is read off the bytes of a database, as the database says it.
-use Rattle.std.proofs.Common.{◌≡◌, ℕ, ◌+◌, ◌<◌, ◌≤◌, ◌^◌, Bool, false, length, Some, List, refl, sym, ap, subst, ◌∙◌, arith}
+use Rattle.std.proofs.Common.{◌≡◌, ℕ, ◌+◌, ◌<◌, ◌≤◌, ◌^◌, Bool, length, Some, List, refl, sym, ap, subst, ◌∙◌, arith}
 use Rattle.std.proofs.lemmas.List.FromFn.{length-map-range_with_len, get_or-map-range_with_len}
 use Rattle.std.proofs.lemmas.Option.{slice_get-get_or}
 use Rattle.std.specs.Prelude.{Option, slice_get}
@@ -25,20 +25,20 @@ entry_read body index below =
     slice_get-get_or (database_in body).entries index (entry_in body index) (omega arith)
     ∙ ap (λ (entry : Entry ℕ). Some entry) (get_or-map-range_with_len (entry_in body) 0 (entry_count_in body) index index (entry_in body index) below (omega arith))
 
--- ---- records
+-- ---- its entries
 
-pub records_read : (body : List ℕ) → has_resources (database_in body).header.attributes ≡ false → resources_in body ≡ false
-records_read body records = ap has_resources (sym (attributes_read body)) ∙ records
+pub kind_read : (body : List ℕ) (resources : Bool) → has_resources (database_in body).header.attributes ≡ resources → resources_in body ≡ resources
+kind_read body resources kind = ap has_resources (sym (attributes_read body)) ∙ kind
 
-pub record_inside : (body : List ℕ) (index : ℕ) → IsSpelled (database_in body) body → resources_in body ≡ false → index < length (database_in body).entries → entry_offset false (index + 1) ≤ length body
-record_inside body index spelled records below =
-    let ends : length body ≡ entry_offset false (entry_count_in body) = (spelled_shape (database_in body) body spelled).ends ∙ ap (λ (resources : Bool). entry_offset resources (entry_count_in body)) records in
+pub entry_inside : (body : List ℕ) (resources : Bool) (index : ℕ) → IsSpelled (database_in body) body → resources_in body ≡ resources → index < length (database_in body).entries → entry_offset resources (index + 1) ≤ length body
+entry_inside body resources index spelled kind below =
+    let ends : length body ≡ entry_offset resources (entry_count_in body) = (spelled_shape (database_in body) body spelled).ends ∙ ap (λ (resources : Bool). entry_offset resources (entry_count_in body)) kind in
     let count = length-read body in
-    let least = offset_below false index (entry_count_in body) (omega (arith, count, below)) in
+    let least = offset_below resources index (entry_count_in body) (omega (arith, count, below)) in
     omega (arith, ends, least)
 
-pub record_read : (body : List ℕ) (index : ℕ) (entry : Entry ℕ) → index < length (database_in body).entries → entry ≡ entry_in body index → slice_get (database_in body).entries index ≡ Some entry
-record_read body index entry below is =
+pub entry_there : (body : List ℕ) (index : ℕ) (entry : Entry ℕ) → index < length (database_in body).entries → entry ≡ entry_in body index → slice_get (database_in body).entries index ≡ Some entry
+entry_there body index entry below is =
     let count = length-read body in
     entry_read body index (omega (arith, count, below)) ∙ ap (λ (e : Entry ℕ). Some e) (sym is)
 

@@ -39,7 +39,7 @@ pub const ENTRY_COUNT_AT: usize = 76;
 pub const HEADER_SIZE: usize = 78;
 
 /// Where the fields of a record's entry stand, behind the slot of its data.
-pub(crate) const RECORD_ATTRIBUTES_AT: usize = 4;
+pub const RECORD_ATTRIBUTES_AT: usize = 4;
 
 pub(crate) const RECORD_ID_AT: usize = 5;
 

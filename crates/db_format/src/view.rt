@@ -1,13 +1,13 @@
 //! Databases, to be read.
 
-ghost use Rattle.std.specs.Prelude.{◌≡◌, ◌<◌, false, Some, length, slice_get};
+ghost use Rattle.std.specs.Prelude.{◌≡◌, ◌<◌, false, true, Some, length, slice_get};
 ghost use Rattle.heap_model.specs.Database.{has_resources, IsSpelled, database_in};
 ghost use Rattle.heap_model.specs.EntrySteps.{OfEntry, HasId};
-ghost use Rattle.db_format.specs.Entries.{record_of};
+ghost use Rattle.db_format.specs.Entries.{record_of, resource_of};
 
 use crate::body;
 use crate::database_attributes::DbAttrs;
-use crate::entries::{RecordEntry, record_id};
+use crate::entries::{RecordEntry, ResourceEntry, record_id};
 use std::marker::Model;
 
 /// A database, as some bytes spell it. Contracts see the database.
@@ -71,5 +71,15 @@ impl<'a> DatabaseView<'a> {
         ensures { OfEntry (slice_get self.now.entries index) (HasId result) }
     {
         record_id(self.bytes, index as u16)
+    }
+
+    /// The resource of an index.
+    #[inline]
+    pub fn resource(&self, index: u32) -> ResourceEntry
+        requires inside { index < length self.now.entries }
+        requires resources { has_resources self.now.header.attributes ≡ true }
+        ensures { slice_get self.now.entries index ≡ Some (resource_of result) }
+    {
+        ResourceEntry::read(self.bytes, index as u16)
     }
 }

@@ -26,7 +26,7 @@ steps_once seed one other most below less e =
     let b = id_behind_is seed other most in
     omega arith
 
-some_same : (one other : ℕ) → Some one ≡ Some other → one ≡ other
+pub some_same : (one other : ℕ) → Some one ≡ Some other → one ≡ other
 some_same one other e = cc
 
 -- ---- one record more

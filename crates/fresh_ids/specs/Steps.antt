@@ -1,9 +1,9 @@
 -- How far behind a seed the IDs of records are, and the first one that is free.
-use Rattle.std.specs.Prelude.{◌≡◌, ◌<◌, ◌*◌, ◌↔◌, ℕ, List, length, Some}
+use Rattle.std.specs.Prelude.{◌≡◌, ◌<◌, ◌*◌, ◌≤◌, ◌+◌, ◌⊎◌, ◌↔◌, ℕ, List, length, Some}
 use Rattle.heap_model.specs.Lists.{Least, times}
 use Rattle.heap_model.specs.Database.{entry_in, database_in}
 use Rattle.heap_model.specs.Store.{unique_id, unique_ids}
-use Rattle.heap_model.specs.UniqueIds.{id_behind}
+use Rattle.heap_model.specs.UniqueIds.{greatest_id, id_behind}
 use Rattle.bit_sets.specs.Sets.{HasNumber}
 
 -- one of the records in front of an index has the ID so many steps behind the seed
@@ -22,3 +22,9 @@ IsFree body seed steps = times (id_behind seed steps) (unique_ids (database_in b
 -- so many steps behind the seed is the first ID that no record has
 abbrev pub IsFirstFree : List ℕ → ℕ → ℕ → Type 0
 IsFirstFree body seed steps = Least (IsFree body seed) steps
+
+-- No record in front of an index has an ID from the first on, below the end; the end is the ID of one of
+-- them, or is behind the greatest.
+pub record IsEndBefore (body : List ℕ) (first index end : ℕ) : Type 0 where
+  pub free : (id earlier : ℕ) → first ≤ id → id < end → earlier < index → unique_id (entry_in body earlier) ≡ Some id → ⊥
+  pub ends : ((earlier : ℕ) × (earlier < index) × (unique_id (entry_in body earlier) ≡ Some end)) ⊎ (end ≡ greatest_id + 1)

@@ -8,7 +8,9 @@ ghost use Rattle.heap_model.specs.UniqueIds as ids;
 ghost use Rattle.bit_sets.specs.Sets.{HasNone};
 ghost use Rattle.db_format.specs.Headers.{IsWhole};
 ghost use Rattle.fresh_ids.specs.Steps.{HasTaken, IsFirstFree};
+ghost use Rattle.fresh_ids.specs.FreeIds.{AreFree, IsEndOfFree};
 
+use crate::stretch::FreeIds;
 use db_format::{GREATEST_ID, entry_count, record_id};
 
 /// How many bytes have the bits of the IDs that are looked at first, those near the seed.
@@ -104,7 +106,7 @@ fn first_free(body: &[u8], seed: u32) -> u32
 
 /// The ID for a new record of the database that these bytes spell: the first behind its seed that none of
 /// its records has. One pass over the entries, or two where those near the seed are all taken.
-pub fn fresh_id(body: &[u8]) -> u32
+fn fresh_id(body: &[u8]) -> u32
     requires spelled { IsSpelled (database_in body.now) body.now }
     requires records { resources_in body.now ≡ false }
     requires few { entry_count_in body.now < 65535 }
@@ -118,4 +120,55 @@ pub fn fresh_id(body: &[u8]) -> u32
         None => first_free(body, seed),
     };
     id_behind(seed, steps)
+}
+
+/// The least ID of a record that is not below this one, and the number behind the greatest ID where there is
+/// none. One pass over the entries.
+fn end_of_free(body: &[u8], first: u32) -> u32
+    requires whole { IsWhole body.now }
+    requires records { resources_in body.now ≡ false }
+    requires most { first ≤ greatest_id }
+    ensures { IsEndOfFree (unique_ids (database_in body.now)) first result }
+{
+    let mut end = GREATEST_ID + 1;
+    for index in 0..entry_count(body) {
+        let id = record_id(body, index);
+        if first <= id && id < end {
+            end = id;
+        }
+    }
+    end
+}
+
+/// Free IDs of the database that these bytes spell. The first of them is the one for a new record: the first
+/// behind the seed that none of its records has. Where the ID next to the seed is among the known ones, no
+/// entry is read. Else one pass over the entries finds how far the IDs are free from it on; and where it is
+/// taken, one more, or two, find the first that is free.
+pub fn free_ids(body: &[u8], known: FreeIds) -> FreeIds
+    requires spelled { IsSpelled (database_in body.now) body.now }
+    requires records { resources_in body.now ≡ false }
+    requires few { entry_count_in body.now < 65535 }
+    requires known { AreFree (unique_ids (database_in body.now)) known }
+    ensures fresh { IsFresh (unique_ids (database_in body.now)) (seed_in (database_in body.now).header.seed) result.first }
+    ensures free { AreFree (unique_ids (database_in body.now)) result }
+    ensures more { result.first < result.end }
+    ensures some { 0 < result.first }
+    ensures most { result.first ≤ greatest_id }
+{
+    let next = id_behind(db_format::seed(body) & GREATEST_ID, 0);
+    if known.has(next) {
+        return FreeIds {
+            first: next,
+            end: known.end,
+        };
+    }
+    let end = end_of_free(body, next);
+    if next < end {
+        return FreeIds { first: next, end };
+    }
+    let first = fresh_id(body);
+    FreeIds {
+        first,
+        end: first + 1,
+    }
 }

@@ -5,5 +5,7 @@
 #![tactic(auto)]
 
 mod fresh;
+mod stretch;
 
-pub use fresh::fresh_id;
+pub use fresh::free_ids;
+pub use stretch::{FreeIds, NO_IDS};

@@ -2,6 +2,7 @@
 -- what a call leaves that does such a change.
 use Rattle.std.specs.Prelude.{◌≡◌, ◌≢◌, ◌≤◌, ◌<◌, ◌+◌, nat_lt, if◌then◌else◌, bit_or, ℕ, Bool, false, List, [], ◌∷◌, length, slice_get, slice_set, Option, Some, None, IsSome}
 use Rattle.std.specs.List.{insert, remove}
+use Rattle.heap_model.specs.Memory.{Memory}
 use Rattle.heap_model.specs.Chunk.{fixed_lock}
 use Rattle.heap_model.specs.Slots.{slots_total}
 use Rattle.heap_model.specs.Heap.{directory_of}
@@ -9,13 +10,14 @@ use Rattle.heap_model.specs.Meaning.{LiveChunk, ChunkMap}
 use Rattle.heap_model.specs.Reading.{held}
 use Rattle.heap_model.specs.Maps.{made, gone, reowned}
 use Rattle.heap_model.specs.Space.{Still}
+use Rattle.heap_model.specs.Lists.{Least}
 use Rattle.heap_model.specs.DatabaseFields.{entry_size}
 use Rattle.heap_model.specs.Database.{DatabaseHeader, Entry, a_record, a_resource, Database, entry_data, entry_with, has_resources}
 use Rattle.heap_model.specs.UniqueIds.{IsFresh, seed_in, with_seed}
 use Rattle.heap_model.specs.Store.{StoredDatabase, Store, data_owner, bytes_under, unique_id, unique_ids, Accepted, store_of}
 use Rattle.heap_model.specs.Rooms.{Part, making, growth}
 use Rattle.heap_model.specs.Refusals.{Check, ◌brings◌}
-use Rattle.heap_model.specs.MemorySteps.{unknown, where_it}
+use Rattle.heap_model.specs.MemorySteps.{Of, IsLocked, unknown, where_it}
 use Rattle.heap_model.specs.StoreWords.{SameStore, with_changed, with_number, In, may_run_out, next_modification}
 use Rattle.heap_model.specs.declared.names.Db.{Db}
 use Rattle.heap_model.specs.declared.names.Name.{Name}
@@ -23,7 +25,9 @@ use Rattle.heap_model.specs.declared.entry.RecordInfo.{RecordInfo}
 use Rattle.heap_model.specs.declared.entry.ResourceInfo.{ResourceInfo}
 use Rattle.heap_model.specs.declared.entry.Entry as heard
 use Rattle.heap_model.specs.declared.entry.Entry.TheVariants as entries
-use Rattle.heap_model.specs.declared.refusal.Refusal.TheVariants.{OwnedByDatabase, ChunkFixed, TooManyEntries}
+use Rattle.heap_model.specs.declared.call.Reply.{Reply}
+use Rattle.heap_model.specs.declared.call.Reply.TheVariants as replies
+use Rattle.heap_model.specs.declared.refusal.Refusal.TheVariants.{OwnedByDatabase, ChunkLocked, ChunkFixed, IndexOutOfRange, TooManyEntries}
 
 -- ---- entries of a store
 
@@ -94,6 +98,27 @@ IsResourceInfoOf info (a_resource kind id slot) = (info.kind ≡ kind) × (info.
 abbrev pub Tells : heard.Entry → Entry ℕ → Type 0
 Tells (entries.Record info) entry = IsInfoOf info entry
 Tells (entries.Resource info) entry = IsResourceInfoOf info entry
+
+-- ---- which entries are such
+
+-- from an index on no entry is such
+abbrev pub NoneFrom : Store → Db → ℕ → (Entry ℕ → Type 0) → Type 0
+NoneFrom store db from P = (index : ℕ) → from ≤ index → OfEntry (entry_under store db index) P → ⊥
+
+-- this is the first index, from one on, whose entry is such
+abbrev pub IsFirstFrom : Store → Db → ℕ → (Entry ℕ → Type 0) → ℕ → Type 0
+IsFirstFrom store db from P index = Least (λ at. (from ≤ at) × OfEntry (entry_under store db at) P) index
+
+-- ---- an entry that is made
+
+abbrev pub made_at : (ℕ → Name → Type 0) → Reply → Memory → Type 0
+made_at P (replies.Made index name) new = P index name
+made_at P reply new = ⊥
+
+-- the store afterwards, where it needs the index and the name that are answered
+abbrev pub becomes_made : (ℕ → Name → Store → Store → Type 0) → Reply → Store → Store → Type 0
+becomes_made P (replies.Made index name) old new = P index name old new
+becomes_made P reply old new = ⊥
 
 -- ---- entries changed
 
@@ -196,6 +221,15 @@ abbrev pub raised : Store → Db → Store
 raised store db = record store {
   databases = with_changed store.databases db.0 (λ database. record database { header = raised_header database.header });
 }
+
+-- ---- checks of an entry
+
+abbrev pub no_entry : Store → Db → ℕ → Check
+no_entry store db index = (length (entries_in store db) ≤ index) brings IndexOutOfRange
+
+-- there is data, and it is locked
+abbrev pub locked_entry : Store → Db → ℕ → Check
+locked_entry store db index = Of (store.map (data_under store db index)) IsLocked brings ChunkLocked
 
 -- ---- room for an entry
 

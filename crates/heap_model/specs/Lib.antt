@@ -31,5 +31,6 @@ pub mod EntrySteps
 pub mod DatabaseSteps
 pub mod Categories
 pub mod RecordSteps
+pub mod ResourceSteps
 pub mod StoreSteps
 pub mod Counted

@@ -1,7 +1,7 @@
 -- The numbers and the names of refusals.
 use Rattle.std.specs.Prelude.{ℕ, List, codes}
 use Rattle.heap_model.specs.declared.refusal.Refusal.{Refusal}
-use Rattle.heap_model.specs.declared.refusal.Refusal.TheVariants.{InvalidHandle, OwnedByDatabase, ChunkLocked, ChunkNotLocked, LockOverflow, ChunkFixed, InvalidOwner, NotEnoughSpace, OutOfBounds, NoSuchDatabase, NotRecordDatabase, ReadOnly, IndexOutOfRange, RecordDeleted, RecordBusy, TooManyEntries, InvalidCategory, DuplicateId, UniqueIdNotFound, AlreadyExists, InvalidName, NoInfoBlock, OutOfMemory}
+use Rattle.heap_model.specs.declared.refusal.Refusal.TheVariants.{InvalidHandle, OwnedByDatabase, ChunkLocked, ChunkNotLocked, LockOverflow, ChunkFixed, InvalidOwner, NotEnoughSpace, OutOfBounds, NoSuchDatabase, NotRecordDatabase, NotResourceDatabase, ReadOnly, IndexOutOfRange, RecordDeleted, RecordBusy, TooManyEntries, InvalidCategory, DuplicateId, UniqueIdNotFound, AlreadyExists, InvalidName, ResourceNotFound, NoInfoBlock, OutOfMemory}
 
 abbrev pub number_of : Refusal → ℕ
 number_of InvalidHandle = 1
@@ -15,6 +15,7 @@ number_of NotEnoughSpace = 8
 number_of OutOfBounds = 9
 number_of NoSuchDatabase = 10
 number_of NotRecordDatabase = 11
+number_of NotResourceDatabase = 12
 number_of ReadOnly = 13
 number_of IndexOutOfRange = 14
 number_of RecordDeleted = 15
@@ -25,6 +26,7 @@ number_of DuplicateId = 19
 number_of UniqueIdNotFound = 20
 number_of AlreadyExists = 21
 number_of InvalidName = 22
+number_of ResourceNotFound = 23
 number_of NoInfoBlock = 24
 number_of OutOfMemory = 26
 
@@ -40,6 +42,7 @@ name_of NotEnoughSpace = codes "NotEnoughSpace"
 name_of OutOfBounds = codes "OutOfBounds"
 name_of NoSuchDatabase = codes "NoSuchDatabase"
 name_of NotRecordDatabase = codes "NotRecordDatabase"
+name_of NotResourceDatabase = codes "NotResourceDatabase"
 name_of ReadOnly = codes "ReadOnly"
 name_of IndexOutOfRange = codes "IndexOutOfRange"
 name_of RecordDeleted = codes "RecordDeleted"
@@ -50,5 +53,6 @@ name_of DuplicateId = codes "DuplicateId"
 name_of UniqueIdNotFound = codes "UniqueIdNotFound"
 name_of AlreadyExists = codes "AlreadyExists"
 name_of InvalidName = codes "InvalidName"
+name_of ResourceNotFound = codes "ResourceNotFound"
 name_of NoInfoBlock = codes "NoInfoBlock"
 name_of OutOfMemory = codes "OutOfMemory"

@@ -4,14 +4,14 @@ use Rattle.std.specs.Int.{bit_at}
 use Rattle.heap_model.specs.Memory.{Memory}
 use Rattle.heap_model.specs.Reading.{held}
 use Rattle.heap_model.specs.Maps.{sized}
-use Rattle.heap_model.specs.Lists.{moved, Least}
+use Rattle.heap_model.specs.Lists.{moved}
 use Rattle.heap_model.specs.Database.{Entry, a_record, a_resource, has_resources, is_deleted}
 use Rattle.heap_model.specs.Store.{Store}
 use Rattle.heap_model.specs.Refusals.{Check, ◌brings◌}
 use Rattle.heap_model.specs.Steps.{Row, done, number, named}
 use Rattle.heap_model.specs.MemorySteps.{Of, IsLocked, no_owner, growth_checks}
 use Rattle.heap_model.specs.StoreWords.{SameStore, all_gone, In, no_database, read_only, becomes, stays}
-use Rattle.heap_model.specs.EntrySteps.{entries_in, entry_under, OfEntry, data_under, IsFreshIn, HasId, HasOther, IsInfoOf, index_for, with_attributes, deleted_bit, with_entries, with_chunks, entry_made, entry_changed, data_freed, entry_attached, entry_dropped, entry_handed_over, entry_swapped, raised, making_checks, attaching_checks, giving_checks}
+use Rattle.heap_model.specs.EntrySteps.{entries_in, entry_under, OfEntry, data_under, IsFreshIn, HasId, HasOther, IsInfoOf, NoneFrom, IsFirstFrom, made_at, becomes_made, index_for, with_attributes, deleted_bit, with_entries, with_chunks, entry_made, entry_changed, data_freed, entry_attached, entry_dropped, entry_handed_over, entry_swapped, raised, no_entry, locked_entry, making_checks, attaching_checks, giving_checks}
 use Rattle.heap_model.specs.Categories.{categories, all_categories, is_of, IsOf, data_of_category, dirty_bit, moved_category, deleted_category}
 use Rattle.heap_model.specs.declared.names.Db.{Db}
 use Rattle.heap_model.specs.declared.names.Name.{Name}
@@ -101,18 +101,11 @@ HasAttributes test (a_resource kind id slot) = ⊥
 abbrev pub no_records : Store → Db → Check
 no_records store db = In store db (λ database. has_resources database.header.attributes ≡ true) brings NotRecordDatabase
 
-abbrev pub no_entry : Store → Db → ℕ → Check
-no_entry store db index = (length (entries_in store db) ≤ index) brings IndexOutOfRange
-
 abbrev pub deleted : Store → Db → ℕ → Check
 deleted store db index = OfEntry (entry_under store db index) (HasAttributes is_deleted) brings RecordDeleted
 
 abbrev pub busy : Store → Db → ℕ → Check
 busy store db index = OfEntry (entry_under store db index) (HasAttributes is_busy) brings RecordBusy
-
--- there is data, and it is locked
-abbrev pub locked_entry : Store → Db → ℕ → Check
-locked_entry store db index = Of (store.map (data_under store db index)) IsLocked brings ChunkLocked
 
 -- no category has this number; and, where calls count, it doesn't stand for all of them either
 abbrev pub no_category : ℕ → Check
@@ -121,10 +114,6 @@ no_category category = (categories ≤ category) brings InvalidCategory
 abbrev pub no_categories : ℕ → Check
 no_categories category = ((categories ≤ category) × (category ≢ all_categories)) brings InvalidCategory
 
--- from an index on no entry is such
-abbrev pub NoneFrom : Store → Db → ℕ → (Entry ℕ → Type 0) → Type 0
-NoneFrom store db from P = (index : ℕ) → from ≤ index → OfEntry (entry_under store db index) P → ⊥
-
 -- a record of the category has data that is locked
 abbrev pub HasLockedOf : Store → Db → ℕ → Type 0
 HasLockedOf store db category =
@@ -132,24 +121,11 @@ HasLockedOf store db category =
 
 -- ---- words of the answers
 
--- this is the first index, from one on, whose entry is such
-abbrev pub IsFirstFrom : Store → Db → ℕ → (Entry ℕ → Type 0) → ℕ → Type 0
-IsFirstFrom store db from P index = Least (λ at. (from ≤ at) × OfEntry (entry_under store db at) P) index
-
-abbrev pub made_at : (ℕ → Name → Type 0) → Reply → Memory → Type 0
-made_at P (replies.Made index name) new = P index name
-made_at P reply new = ⊥
-
 abbrev pub a_record_info : (RecordInfo → Type 0) → Reply → Memory → Type 0
 a_record_info P (replies.Record info) new = P info
 a_record_info P reply new = ⊥
 
 -- ---- words of the effects
-
--- the store afterwards, where it needs the index and the name that are answered
-abbrev pub becomes_made : (ℕ → Name → Store → Store → Type 0) → Reply → Store → Store → Type 0
-becomes_made P (replies.Made index name) old new = P index name old new
-becomes_made P reply old new = ⊥
 
 -- a store where the records of a category are deleted, and their data freed
 abbrev pub category_deleted : Store → Db → ℕ → Store

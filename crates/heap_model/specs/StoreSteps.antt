@@ -13,8 +13,10 @@ use Rattle.heap_model.specs.MemorySteps as memory
 use Rattle.heap_model.specs.StoreWords.{SameStore}
 use Rattle.heap_model.specs.DatabaseSteps.{database_call, database_row}
 use Rattle.heap_model.specs.RecordSteps.{record_call, record_row}
+use Rattle.heap_model.specs.ResourceSteps.{resource_call, resource_row}
 use Rattle.heap_model.specs.declared.call.DatabaseCall.TheVariants.{Create, Delete}
 use Rattle.heap_model.specs.declared.call.RecordCall.TheVariants as records
+use Rattle.heap_model.specs.declared.call.ResourceCall.TheVariants as resources
 use Rattle.heap_model.specs.declared.names.Name.{Name}
 use Rattle.heap_model.specs.declared.names.Db.{Db}
 use Rattle.heap_model.specs.declared.call.Call as given
@@ -33,6 +35,7 @@ abbrev pub call_by : {One Other ThisOne ThisOther : Type 0} → (One → Other) 
 call_by chunk number (calls.Memory call) = calls.Memory (memory.memory_call chunk call)
 call_by chunk number (calls.Database call) = calls.Database (database_call chunk number call)
 call_by chunk number (calls.Record call) = calls.Record (record_call chunk number call)
+call_by chunk number (calls.Resource call) = calls.Resource (resource_call chunk number call)
 
 -- ---- the rows
 
@@ -49,6 +52,7 @@ abbrev pub row : Memory → Store → Call → Row Store
 row old store (calls.Memory call) = lifted (memory.row old store.map call)
 row old store (calls.Database call) = database_row old store call
 row old store (calls.Record call) = record_row old store call
+row old store (calls.Resource call) = resource_row old store call
 
 -- ---- the step
 
@@ -84,6 +88,12 @@ may_slide (calls.Record (records.Resize db index size)) = true
 may_slide (calls.Record (records.Attach db at name)) = true
 may_slide (calls.Record (records.Detach db index owner)) = true
 may_slide (calls.Record call) = false
+may_slide (calls.Resource (resources.New db kind id size)) = true
+may_slide (calls.Resource (resources.Attach db kind id name)) = true
+may_slide (calls.Resource (resources.Detach db index owner)) = true
+may_slide (calls.Resource (resources.Remove db index)) = true
+may_slide (calls.Resource (resources.Resize db index size)) = true
+may_slide (calls.Resource call) = false
 
 -- From an accepted image the call does its step to an accepted image of the same size with as many slots,
 -- where nothing locked has moved; also where it is refused. The directory is the same chunk, but where a

@@ -2,7 +2,7 @@
 
 use crate::bytes::Bytes;
 use crate::database::{DbInfo, DbName};
-use crate::entry::RecordInfo;
+use crate::entry::{RecordInfo, ResourceInfo};
 use crate::names::{Db, Name, Place, Which};
 use crate::refusal::Refusal;
 
@@ -181,12 +181,67 @@ pub enum RecordCall<C = Name, D = Db> {
     DeleteCategory(D, u8),
 }
 
+/// A call on the resources of a database (Palm OS Programmer's API Reference, "Data Manager"), by how it
+/// gives its chunk and its database. Resources are counted from 0; a new one comes behind all others. Two may
+/// have the same type and id.
+#[derive(Drop, Debug, PartialEq, Eq)]
+pub enum ResourceCall<C = Name, D = Db> {
+    /// A resource of so many bytes.
+    New {
+        db: D,
+        /// The type, its four bytes as a number.
+        kind: u32,
+        id: u16,
+        size: u32,
+    },
+    /// A resource whose data is a caller's chunk.
+    Attach {
+        db: D,
+        kind: u32,
+        id: u16,
+        name: C,
+    },
+    /// The data is handed over to an owner of 1 to 14.
+    Detach {
+        db: D,
+        index: u32,
+        owner: u8,
+    },
+    Remove(D, u32),
+    Resize {
+        db: D,
+        index: u32,
+        size: u32,
+    },
+    Info(D, u32),
+    SetInfo {
+        db: D,
+        index: u32,
+        kind: u32,
+        id: u16,
+    },
+    /// The first resource of a type and an id.
+    Find {
+        db: D,
+        kind: u32,
+        id: u16,
+    },
+    /// The resource of a type in front of which so many others of the type stand.
+    FindType {
+        db: D,
+        kind: u32,
+        nth: u32,
+    },
+    Count(D),
+}
+
 /// A call of any manager.
 #[derive(Drop, Debug, PartialEq, Eq)]
 pub enum Call<C = Name, D = Db> {
     Memory(MemoryCall<C>),
     Database(DatabaseCall<C, D>),
     Record(RecordCall<C, D>),
+    Resource(ResourceCall<C, D>),
 }
 
 /// What a call answers: a refusal, or a value of its own.
@@ -203,4 +258,5 @@ pub enum Reply {
     /// The index and the name of what is new.
     Made { index: u32, name: Name },
     Record(RecordInfo),
+    Resource(ResourceInfo),
 }

@@ -38,6 +38,7 @@
 //! | `DatabaseSteps` | the row of each call on databases as a whole |
 //! | `Categories` | the category of a record, and what calls on a category do to a record |
 //! | `RecordSteps` | the row of each call on records |
+//! | `ResourceSteps` | the row of each call on resources |
 //! | `StoreSteps` | the row of each call on a store, the memory manager's calls among them, and its step |
 //! | `Counted` | what contracts see of a writer whose faults are counted |
 //!
@@ -59,7 +60,7 @@ mod tally;
 
 pub use allowance::Allowance;
 pub use bytes::Bytes;
-pub use call::{Call, DatabaseCall, MemoryCall, RecordCall, Reply};
+pub use call::{Call, DatabaseCall, MemoryCall, RecordCall, Reply, ResourceCall};
 pub use counted::Counted;
 pub use database::{DbInfo, DbName};
 pub use entry::{Entry, RecordInfo, ResourceInfo};

@@ -42,6 +42,9 @@ pub enum Refusal {
     /// The database holds resources.
     #[error("NotRecordDatabase")]
     NotRecordDatabase,
+    /// The database holds records.
+    #[error("NotResourceDatabase")]
+    NotResourceDatabase,
     /// The database may only be read.
     #[error("ReadOnly")]
     ReadOnly,
@@ -72,6 +75,9 @@ pub enum Refusal {
     /// The name of a database has 1 to 31 bytes, none of them zero.
     #[error("InvalidName")]
     InvalidName,
+    /// No resource has the type and the id, or not so many have the type.
+    #[error("ResourceNotFound")]
+    ResourceNotFound,
     /// The database has no such info block.
     #[error("NoInfoBlock")]
     NoInfoBlock,
@@ -112,6 +118,7 @@ impl Refusal {
             Refusal::OutOfBounds => (9, "OutOfBounds"),
             Refusal::NoSuchDatabase => (10, "NoSuchDatabase"),
             Refusal::NotRecordDatabase => (11, "NotRecordDatabase"),
+            Refusal::NotResourceDatabase => (12, "NotResourceDatabase"),
             Refusal::ReadOnly => (13, "ReadOnly"),
             Refusal::IndexOutOfRange => (14, "IndexOutOfRange"),
             Refusal::RecordDeleted => (15, "RecordDeleted"),
@@ -122,6 +129,7 @@ impl Refusal {
             Refusal::UniqueIdNotFound => (20, "UniqueIdNotFound"),
             Refusal::AlreadyExists => (21, "AlreadyExists"),
             Refusal::InvalidName => (22, "InvalidName"),
+            Refusal::ResourceNotFound => (23, "ResourceNotFound"),
             Refusal::NoInfoBlock => (24, "NoInfoBlock"),
             Refusal::OutOfMemory => (26, "OutOfMemory"),
         }

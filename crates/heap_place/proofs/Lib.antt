@@ -35,3 +35,4 @@ pub mod GivingLaws
 pub mod SpliceLaws
 pub mod AlikeLaws
 pub mod RegrownLaws
+pub mod ByteLaws

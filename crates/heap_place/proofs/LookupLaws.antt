@@ -2,12 +2,12 @@
 use Rattle.std.proofs.Common.{◌≡◌, ℕ, ◌+◌, ◌-◌, ◌<◌, ◌≤◌, List, [], ◌∷◌, ◌++◌, length, Option, Some, None, MatchOption, refl, sym, ap, subst, ◌∙◌, arith, inl, inr}
 use Rattle.std.proofs.lemmas.Bool.{cases_eq, eq-eqb}
 use Rattle.std.proofs.lemmas.Bool.Decides.{nat_tests}
-use Rattle.std.specs.Prelude.{◌==◌, IfNone}
+use Rattle.std.specs.Prelude.{◌==◌, IsSome, IfNone}
 use Rattle.std.specs.Option.{option_map}
 use Rattle.heap_model.specs.Chunk.{Chunk, free, movable, fixed, fixed_lock, total, HasChunk}
 use Rattle.heap_model.specs.Slots.{area_start}
 use Rattle.heap_model.specs.Heap.{BodyHere, IsHeap, HeapAccepted}
-use Rattle.heap_model.specs.Placed.{EveryPlaced}
+use Rattle.heap_model.specs.Placed.{EveryPlaced, AnyPlaced}
 use Rattle.heap_model.specs.Meaning.{LiveChunk, NamedHere}
 use Rattle.heap_model.specs.Reading.{chunk_at, chunks_of, held}
 use Rattle.heap_model.specs.Space.{place_of}
@@ -17,7 +17,7 @@ use Rattle.heap_model.specs.declared.names.Place.{Place}
 use Rattle.laws_heap.proofs.Deciding.{cond-true, cond-false}
 use Rattle.laws_heap.proofs.Placed.{EveryPlaced-push, EveryPlaced-split, AnyPlaced-mid}
 use Rattle.laws_heap.proofs.Slots.{heap_hold_none}
-use Rattle.laws_heap.proofs.FixedNames.{fixed_name, fixed_live, fixed_has_name, fixed_name_is, fixed_place, fixed_not, not_fixed_as}
+use Rattle.laws_heap.proofs.FixedNames.{fixed_name, fixed_live, fixed_live_is, fixed_has_name, fixed_name_is, fixed_place, fixed_not, not_fixed_as}
 use Rattle.laws_heap.proofs.Finding.{finds_spelled, InSlot, in_slot, finds_read, held_finds, none_held, read_heap}
 use Rattle.laws_heap.proofs.Shapes.{chunk_at-spelled}
 use Rattle.laws_heap.proofs.Lives.{live_placed}
@@ -27,7 +27,7 @@ use Rattle.chunk_format.specs.declared.header.Header.{Header}
 use Rattle.chunk_format.specs.declared.header.Header.TheVariants as headers
 use Rattle.chunk_format.specs.Header.{header_of, size_by, HasHeader}
 use Rattle.heap_place.specs.declared.found.Found.{Found}
-use Rattle.heap_place.specs.Found.{IsFound, IsOne, NothingAt, NoneFixedAs, NoSlotHolds, movable_by, fixed_by}
+use Rattle.heap_place.specs.Found.{IsFound, IsOne, IsFixed, NothingAt, NoneFixedAs, NoSlotHolds, movable_by, fixed_by}
 use Rattle.heap_place.specs.Search.{Passed}
 use Rattle.heap_place.proofs.WalkLaws.{passed_at, passed_more, passed_parts}
 
@@ -38,6 +38,9 @@ placed at = record { 0 = at }
 
 abbrev as_found : ℕ → Name → ℕ → ℕ → Found
 as_found at name count owner = record { name = name; place = placed (at + 8); length = count; lock = fixed_lock; owner = owner }
+
+abbrev pub as_found_at : Name → ℕ → ℕ → Found
+as_found_at name count owner = record { name = name; place = placed name.0; length = count; lock = fixed_lock; owner = owner }
 
 -- the chunk whose header is that of a fixed one of the name
 record FixedAs (at : ℕ) (name : Name) (c : Chunk) (found : Found) : Type 0 where
@@ -100,6 +103,58 @@ pub fixed_passed : (image : List ℕ) (at : ℕ) (name : Name) (header : Header)
 fixed_passed image at name header p has f = passed_more image (NoneFixedAs image name.0) (NoneFixedAs image name.0) at header p has
     (EveryPlaced-push (NotFixedAs name.0) (area_start image) p.front has.chunk at (passed_at image (NoneFixedAs image name.0) at p) p.holds
     (not_fixed at name has.chunk (subst (λ (h : Header). fixed_by h (placed (at + 8)) name ≡ None) has.header_is f)))
+
+-- ---- the chunk of a name that stands for one and isn't in a slot
+
+movable_holds : (image : List ℕ) (name : ℕ) (live : LiveChunk) (bytes : List ℕ) (lock owner slot at : ℕ) → HeapAccepted image → HoldsNothing image name → Finds image name live (movable bytes lock owner slot) at → ⊥
+movable_holds image name live bytes lock owner slot at h nothing f =
+    let there = f.there in
+    let body : BodyHere name (at + 8) (area_start image + total f.before) (movable bytes lock owner slot) = (f.named.0, omega arith) in
+    let here : AnyPlaced (BodyHere name (at + 8)) (area_start image) (chunks_of image) = subst (λ (cs : List Chunk). AnyPlaced (BodyHere name (at + 8)) (area_start image) cs) (sym f.chunks) (AnyPlaced-mid (BodyHere name (at + 8)) (area_start image) f.before (movable bytes lock owner slot) f.after body) in
+    let tied = ((read_heap image h).tied name (at + 8) (omega arith)).1 here in
+    let empty = nothing tied.0 in
+    let held = tied.1 in
+    absurd (omega arith)
+
+fixed_chunk : (image : List ℕ) (name : ℕ) (live : LiveChunk) (c : Chunk) (at : ℕ) → HeapAccepted image → HoldsNothing image name → Finds image name live c at → IsFixed image name
+fixed_chunk image name live (free size) at h nothing f = absurd f.named
+fixed_chunk image name live (movable bytes lock owner slot) at h nothing f = absurd (movable_holds image name live bytes lock owner slot at h nothing f)
+fixed_chunk image name live (fixed bytes owner) at h nothing f =
+    let is = fixed_name_is at bytes owner f.named in
+    let place = fixed_place at in
+    let there : at ≡ name - 8 = omega arith in
+    record { live = live; bytes = bytes; owner = owner; finds = subst (λ (n : ℕ). Finds image name live (fixed bytes owner) n) there f; behind_header = omega arith }
+
+pub is_fixed : (image : List ℕ) (name : ℕ) (x : Option LiveChunk) → HeapAccepted image → held image name ≡ x → IsSome x → HoldsNothing image name → IsFixed image name
+is_fixed image name None h e some nothing = absurd cc
+is_fixed image name (Some live) h e some nothing = let f = held_finds image name live h e in fixed_chunk image name live f.chunk f.at h nothing f.finds
+
+pub fixed_has_chunk : (image : List ℕ) (name : ℕ) → HeapAccepted image → (i : IsFixed image name) → HasChunk image (name - 8)
+fixed_has_chunk image name h i = record { chunk = fixed i.bytes i.owner; spelled = finds_spelled image name i.live (fixed i.bytes i.owner) (name - 8) h i.finds }
+
+-- what its header says
+pub fixed_header : (image : List ℕ) (name : Name) (header : Header) → HeapAccepted image → (i : IsFixed image name.0) → Some header ≡ option_map header_of (chunk_at image (name.0 - 8)) → fixed_by header (placed name.0) name ≡ Some (as_found_at name (length i.bytes) i.owner)
+fixed_header image name header h i read =
+    let is : header ≡ headers.Fixed (length i.bytes) i.owner = same (read ∙ ap (option_map header_of) (finds_read image name.0 i.live (fixed i.bytes i.owner) (name.0 - 8) h i.finds)) in
+    ap (λ (x : Header). fixed_by x (placed name.0) name) is ∙ cond-true (name.0 == name.0) _ _ (eq-eqb name.0 name.0 refl) where
+      same : {x y : Header} → Some x ≡ Some y → x ≡ y
+      same e = cc
+
+pub fixed_is_found : (image : List ℕ) (name : Name) (found : Found) → (i : IsFixed image name.0) → Some (as_found_at name (length i.bytes) i.owner) ≡ Some found → IsFound image name.0 found
+fixed_is_found image name found i e =
+    let live = fixed_live_is (name.0 - 8) i.bytes i.owner i.finds.named in
+    subst (λ (x : Found). IsFound image name.0 x) (same e) record {
+      live = i.live;
+      chunk = fixed i.bytes i.owner;
+      finds = i.finds;
+      behind_header = i.behind_header;
+      name_is = refl;
+      count = ap (λ (x : LiveChunk). length x.bytes) live;
+      lock_is = ap (λ (x : LiveChunk). x.lock) live;
+      owner_is = ap (λ (x : LiveChunk). x.owner) live;
+    } where
+      same : {x y : Found} → Some x ≡ Some y → x ≡ y
+      same e = cc
 
 -- ---- by a slot
 

@@ -1,6 +1,6 @@
 -- A live chunk, as it is found.
 use Rattle.std.specs.Prelude.{◌≡◌, ◌<◌, ◌≤◌, ◌+◌, ◌-◌, ◌==◌, if◌then◌else◌, ℕ, List, length, slice_range, Option, Some, None}
-use Rattle.heap_model.specs.Chunk.{Chunk, fixed_lock}
+use Rattle.heap_model.specs.Chunk.{Chunk, fixed, fixed_lock}
 use Rattle.heap_model.specs.Heap.{directory_of}
 use Rattle.heap_model.specs.Placed.{EveryPlaced}
 use Rattle.heap_model.specs.Slots.{area_start}
@@ -33,6 +33,14 @@ pub record IsFound (image : List ℕ) (name : ℕ) (found : Found) : Type 0 wher
 -- this is the chunk of its name
 abbrev pub IsOne : List ℕ → Found → Type 0
 IsOne image found = IsFound image found.name.0 found
+
+-- a name's chunk is a fixed one
+pub record IsFixed (image : List ℕ) (name : ℕ) : Type 0 where
+  pub live : LiveChunk
+  pub bytes : List ℕ
+  pub owner : ℕ
+  pub finds : Finds image name live (fixed bytes owner) (name - 8)
+  pub behind_header : 8 ≤ name
 
 -- no name has its chunk at this place
 abbrev pub NothingAt : List ℕ → ℕ → Type 0

@@ -1,13 +1,13 @@
 //! Live chunks by their names and by their places.
 
-ghost use Rattle.std.specs.Prelude.{◌≡◌, ◌≤◌, ◌-◌, ℕ, IfSome, IfNone, MatchOption, None};
+ghost use Rattle.std.specs.Prelude.{◌≡◌, ◌≤◌, ◌-◌, ℕ, IsSome, IfSome, IfNone, MatchOption, None};
 ghost use Rattle.heap_model.specs.Chunk.{HasChunk};
 ghost use Rattle.heap_model.specs.Heap.{HeapAccepted};
 ghost use Rattle.heap_model.specs.Reading.{held};
 ghost use Rattle.master_table.specs.Table.{HoldsPlace};
-ghost use Rattle.heap_place.specs.Found.{IsFound, IsOne, NothingAt, NoSlotHolds};
+ghost use Rattle.heap_place.specs.Found.{IsFound, IsOne, IsFixed, NothingAt, NoSlotHolds};
 
-use crate::found::{Found, as_movable};
+use crate::found::{Found, as_fixed, as_movable};
 use crate::walks::find_fixed;
 use chunk_format::{HEADER_SIZE, Header};
 use heap_model::{Name, Place};
@@ -25,6 +25,30 @@ pub(crate) fn find_named(region: &Region, name: Name) -> Option<Found>
         Some(place) => movable_at(region, place),
         None => find_fixed(region, name),
     }
+}
+
+/// The chunk of a name that stands for one, at the same cost however large the heap is: where no slot holds
+/// the name, it is a fixed chunk's, which says where that is.
+pub(crate) fn chunk_named(region: &Region, name: Name) -> Found
+    requires accepted { HeapAccepted region.now.bytes }
+    requires there { IsSome (held region.now.bytes name.0) }
+    ensures { IsFound region.now.bytes name.0 result }
+{
+    match resolve(region, name) {
+        Some(place) => movable_at(region, place).unwrap(),
+        None => fixed_at(region, name),
+    }
+}
+
+/// The fixed chunk of a name.
+#[inline]
+fn fixed_at(region: &Region, name: Name) -> Found
+    requires accepted { HeapAccepted region.now.bytes }
+    requires fixed { IsFixed region.now.bytes name.0 }
+    ensures { IsFound region.now.bytes name.0 result }
+{
+    let header = Header::at(region, name.0 - HEADER_SIZE);
+    as_fixed(header, Place(name.0), name).unwrap()
 }
 
 /// The movable chunk whose body is at a place, in front of which a chunk stands.

@@ -14,6 +14,7 @@ ghost use Rattle.heap_model.specs.Placing.{SameFrame};
 ghost use Rattle.heap_model.specs.Store.{managers_owner, owner_under};
 ghost use Rattle.heap_model.specs.Leaving.{NamesDirectory};
 ghost use Rattle.heap_model.specs.Layout.{Becomes, layout_of, owned_freed, Alters, freed, with_lock, with_owner, with_bytes, FreeUpTo, IsSpot, Claims, WritesPlain};
+ghost use Rattle.heap_place.specs.ByteChanges.{ChangesEvery};
 ghost use Rattle.heap_place.specs.Found.{IsFound, IsOne, NothingAt, CanGoTo, SlidesWithin, header_at};
 ghost use Rattle.heap_place.specs.Resizes.{TellsWhetherInPlace};
 ghost use Rattle.heap_place.specs.Relocation.{RelocatesToRun};
@@ -25,7 +26,7 @@ use crate::directory::{directory_name, name_directory};
 use crate::found::Found;
 use crate::gather::build;
 use crate::lists::{ABOVE_SIZES, CLASSES, find_listed, push, take};
-use crate::lookup::{find_named, find_placed};
+use crate::lookup::{chunk_named, find_named, find_placed};
 use crate::open::open_in;
 use crate::owned::release_owned;
 use crate::pack::{compact, pack_stretch};
@@ -37,7 +38,7 @@ use crate::stretch::{Stretch, largest_room, room_of_stretch, stretch_around, str
 use crate::walks::free_bytes;
 use chunk_format::{HEADER_SIZE, size_of_body};
 use heap_model::{Name, Place};
-use raw_region::Region;
+use raw_region::{ByteChange, Region};
 use std::marker::Model;
 
 /// A region whose chunks are found and changed. Contracts see the region's value alone; each call asks
@@ -104,14 +105,15 @@ impl Space {
         find_named(&self.region, name)
     }
 
-    /// The chunk of a name that stands for one, as `find` answers it.
+    /// The chunk of a name that stands for one, as `find` answers it. It costs the same however large the heap
+    /// is, also where the name is no slot's.
     #[inline]
     pub fn chunk(&self, name: Name) -> Found
         requires accepted { HeapAccepted self.now.bytes }
         requires there { IsSome (held self.now.bytes name.0) }
         ensures { IsFound self.now.bytes name.0 result }
     {
-        self.find(name).unwrap()
+        chunk_named(&self.region, name)
     }
 
     /// The live chunk whose body is at a place, whoever owns it. Bytes of a body that look like a header
@@ -345,6 +347,30 @@ impl Space {
         let body = found.place.0 as usize;
         self.region
             .slide(body + from as usize, body + to as usize, count as usize);
+    }
+
+    /// Of `count` bytes of a live chunk, from `at` within its body on, changes each that stands behind `skip`
+    /// others, or `step` further, or as often that much.
+    pub fn change_every<C: ByteChange>(
+        &mut self,
+        found: Found,
+        at: u32,
+        count: u32,
+        skip: u32,
+        step: u32,
+        change: C,
+    )
+        requires accepted { HeapAccepted self.old.bytes }
+        requires found { IsOne self.old.bytes found }
+        requires within { at + count ≤ found.length }
+        requires step { 0 < step }
+        ensures made { ChangesEvery self.old.bytes self.new.bytes found at count skip step
+            (C.made change) }
+        ensures plain { WritesPlain self.old.bytes self.new.bytes }
+        ensures rest { self.new ≡ record self.old { bytes = self.new.bytes } }
+    {
+        let start = found.place.0 as usize + at as usize;
+        self.region.change_every(start, count as usize, skip as usize, step as usize, change);
     }
 
     /// Gives a live chunk `count` bytes where it stands, where they fit into what it takes. Bytes that it

@@ -13,7 +13,7 @@ use Rattle.heap_model.specs.MemorySteps.{MemoryCall, Of, IsNoCaller, text_of, As
 use Rattle.heap_model.specs.Placing.{SameFrame}
 use Rattle.heap_model.specs.declared.call.MemoryCall.TheVariants.{HandleNew, PtrNew, Free, Lock, Unlock, Size, Owner, Locks, Read, Write, Set, StrCopy, Resize, SetOwner, Recover, FreeByOwner, FreeBytes, LargestStretch, Compact}
 use Rattle.heap_model.specs.declared.call.Reply.{Reply}
-use Rattle.heap_model.specs.declared.call.Reply.TheVariants.{Refused, Done, Number, Named, Locked, Data, Database, Info, Made, Record}
+use Rattle.heap_model.specs.declared.call.Reply.TheVariants.{Refused, Done, Number, Named, Locked, Data, Database, Info, Made, Record, Resource}
 use Rattle.heap_model.specs.Store.{StoredDatabase, owner_of, owner_under}
 use Rattle.heap_model.specs.Counts.{HasDatabases}
 use Rattle.laws_heap.proofs.Deciding.{cond-true, cond-false}
@@ -125,6 +125,7 @@ row_holds row before was (Database db) region now s = inr s
 row_holds row before was (Info info) region now s = inr s
 row_holds row before was (Made index name) region now s = inr s
 row_holds row before was (Record info) region now s = inr s
+row_holds row before was (Resource info) region now s = inr s
 
 Holds : Memory → Memory → MemoryCall → Reply → Type 0
 Holds old new call reply = NoneHolds (row_of old call).refusals × ((row_of old call).answers reply new × (row_of old call).effect reply (held old.bytes) (held new.bytes))
@@ -148,6 +149,7 @@ handle_new_keeps old new size owner (Database db) p = absurd p.1.0
 handle_new_keeps old new size owner (Info info) p = absurd p.1.0
 handle_new_keeps old new size owner (Made index name) p = absurd p.1.0
 handle_new_keeps old new size owner (Record info) p = absurd p.1.0
+handle_new_keeps old new size owner (Resource info) p = absurd p.1.0
 
 ptr_new_keeps : (old new : Memory) (size owner : ℕ) (reply : Reply) → Holds old new (PtrNew size owner) reply → Keeps old.bytes new.bytes
 unfolding Holds
@@ -161,6 +163,7 @@ ptr_new_keeps old new size owner (Database db) p = absurd p.1.0
 ptr_new_keeps old new size owner (Info info) p = absurd p.1.0
 ptr_new_keeps old new size owner (Made index name) p = absurd p.1.0
 ptr_new_keeps old new size owner (Record info) p = absurd p.1.0
+ptr_new_keeps old new size owner (Resource info) p = absurd p.1.0
 
 all_stay : (old new : List ℕ) → ((q : ℕ) → held new q ≡ held old q) → Keeps old new
 unfolding Keeps

@@ -15,7 +15,7 @@ use Rattle.heap_model.specs.MemorySteps.{MemoryCall, text_of, AsBefore, row_of, 
 use Rattle.heap_model.specs.declared.call.MemoryCall.TheVariants.{HandleNew, PtrNew, Free, Lock, Unlock, Size, Owner, Locks, Read, Write, Set, StrCopy, Resize, SetOwner, Recover, FreeByOwner, FreeBytes, LargestStretch, Compact}
 use Rattle.heap_model.specs.declared.call.Call.TheVariants as calls
 use Rattle.heap_model.specs.declared.call.Reply.{Reply}
-use Rattle.heap_model.specs.declared.call.Reply.TheVariants.{Refused, Done, Number, Named, Locked, Data, Database, Info, Made, Record}
+use Rattle.heap_model.specs.declared.call.Reply.TheVariants.{Refused, Done, Number, Named, Locked, Data, Database, Info, Made, Record, Resource}
 use Rattle.heap_model.specs.Store.{Store, owner_of, databases, Accepted, store_of}
 use Rattle.heap_model.specs.StoreSteps as store
 use Rattle.heap_model.specs.StoreSteps.{lifted, DoesInStore}
@@ -83,6 +83,7 @@ made_lifts old new size owner lock (Database db) own p = absurd p
 made_lifts old new size owner lock (Info info) own p = absurd p
 made_lifts old new size owner lock (Made index name) own p = absurd p
 made_lifts old new size owner lock (Record info) own p = absurd p
+made_lifts old new size owner lock (Resource info) own p = absurd p
 
 -- ---- the calls
 
@@ -124,6 +125,7 @@ step_lifts row one other was now before after (Database db) region same lifts s 
 step_lifts row one other was now before after (Info info) region same lifts s = (s.0, (s.1.0, lifts s.0 s.1.1))
 step_lifts row one other was now before after (Made index name) region same lifts s = (s.0, (s.1.0, lifts s.0 s.1.1))
 step_lifts row one other was now before after (Record info) region same lifts s = (s.0, (s.1.0, lifts s.0 s.1.1))
+step_lifts row one other was now before after (Resource info) region same lifts s = (s.0, (s.1.0, lifts s.0 s.1.1))
 
 pub memory_call_steps : (old new : Memory) (call : MemoryCall) (reply : Reply) → Accepted old.bytes → Does old call reply new → DoesInStore old (calls.Memory call) reply new
 unfolding store_of

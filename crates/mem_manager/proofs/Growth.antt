@@ -2,7 +2,7 @@
 use Rattle.std.proofs.Common.{◌≡◌, ◌≢◌, ℕ, ◌+◌, ◌-◌, ◌<◌, ◌≤◌, List, [], ◌∷◌, length, Bool, true, false, Option, Some, None, refl, sym, ap, subst, ◌∙◌, arith, inl, inr}
 use Rattle.std.proofs.lemmas.Bool.{cases_eq, eq-eqb, OnTrue_at}
 use Rattle.std.proofs.lemmas.Bool.Decides.{nat_tests}
-use Rattle.std.specs.Prelude.{◌==◌, ◌↔◌, if◌then◌else◌, IsTrue, Result, Ok, Err, OnOk, OnErr, IfErr}
+use Rattle.std.specs.Prelude.{◌==◌, ◌↔◌, if◌then◌else◌, IsSome, IsTrue, Result, Ok, Err, OnOk, OnErr, IfErr}
 use Rattle.std.specs.Bool.{OnTrue}
 use Rattle.heap_model.specs.Memory.{Memory}
 use Rattle.heap_model.specs.Bytes.{sized_to}
@@ -194,11 +194,12 @@ resize_replied old new name size found (Err refusal) h f positive other loose do
     subst (λ (m : Memory). Does old (Resize name size) (Refused refusal) m) (sym same) (resize_refused old name size found refusal h f positive other loose (subst (λ (n : ℕ). BringsOne old n size refusal) f.name_is why))
 
 -- the same slots are in use
-pub used_resized : (old new : List ℕ) (used name size : ℕ) → IsManaged old used → Resized old new name size → IsManaged new used
+pub used_resized : {names : List ℕ} (old new : List ℕ) (used name size : ℕ) → IsManaged old used names → Resized old new name size → IsManaged new used names
 used_resized old new used name size m r = record {
   accepted = r.frame.accepted;
   in_use = used_still old new used (frame_slots old new r.frame) (λ slot s some empty.
       some ((slot_unheld old slot m.accepted s).1 (was_none slot (sym (r.map slot) ∙ (slot_unheld new slot r.frame.accepted (slot_alike old new slot (frame_slots old new r.frame) s)).0 empty)))) m.in_use;
+  known = λ known is. subst IsSome (sym (r.map known)) (some_sized known (m.known known is));
 } where
   sized_one : LiveChunk → LiveChunk
   sized_one live = record live { bytes = sized_to live.bytes size }
@@ -213,6 +214,16 @@ used_resized old new used name size m r = record {
     | inr apart ↦ sym (cond-false (slot == name) _ _ (grind (arith, nat_tests))) ∙ e
   ]
 
-pub used_replied : {A : Type 0} (old new : Memory) (used name size : ℕ) (result : Result A Refusal) → IsManaged old.bytes used → OnOk result (Resized old.bytes new.bytes name size) → OnErr result (new ≡ old) → IsManaged new.bytes used
-used_replied old new used name size (Ok answer) m done same = used_resized old.bytes new.bytes used name size m done
-used_replied old new used name size (Err refusal) m done same = subst (λ (r : Memory). IsManaged r.bytes used) (sym same) m
+  some_changed : (x : Option LiveChunk) → IsSome x → IsSome (changed sized_one x)
+  some_changed None some = some
+  some_changed (Some live) some = refl
+
+  some_sized : (other : ℕ) → IsSome (held old other) → IsSome (if other == name then changed sized_one (held old name) else held old other)
+  some_sized other some = elim (cases_eq other name) [
+    | inl same ↦ subst IsSome (sym (cond-true (other == name) _ _ (eq-eqb other name same))) (some_changed (held old name) (subst (λ (n : ℕ). IsSome (held old n)) same some))
+    | inr apart ↦ subst IsSome (sym (cond-false (other == name) _ _ (grind (arith, nat_tests)))) some
+  ]
+
+pub used_replied : {A : Type 0} {names : List ℕ} (old new : Memory) (used name size : ℕ) (result : Result A Refusal) → IsManaged old.bytes used names → OnOk result (Resized old.bytes new.bytes name size) → OnErr result (new ≡ old) → IsManaged new.bytes used names
+used_replied {A} {names} old new used name size (Ok answer) m done same = used_resized old.bytes new.bytes used name size m done
+used_replied {A} {names} old new used name size (Err refusal) m done same = subst (λ (r : Memory). IsManaged r.bytes used names) (sym same) m

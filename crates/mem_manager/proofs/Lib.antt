@@ -1,3 +1,4 @@
+pub mod Knowing
 pub mod Stepping
 pub mod ChunkCalls
 pub mod NewChunks
@@ -6,3 +7,4 @@ pub mod Places
 pub mod SlidChunks
 pub mod StoreCalls
 pub mod Growth
+pub mod ByteCalls

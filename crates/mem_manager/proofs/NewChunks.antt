@@ -1,14 +1,16 @@
 -- The steps of calls that make chunks and free them.
 use Rattle.std.proofs.Common.{◌≡◌, ◌≢◌, ℕ, zero, suc, ◌+◌, ◌<◌, ◌≤◌, List, length, replicate, Option, Some, None, refl, sym, ap, subst, ◌∙◌, arith, inl, inr}
 use Rattle.std.proofs.lemmas.List.{length-replicate}
-use Rattle.std.specs.Prelude.{count_by, IfSome, Result, Ok, Err, IfOk, IfErr, OnOk, OnErr}
+use Rattle.std.proofs.lemmas.Bool.{cases_eq, eq-eqb}
+use Rattle.std.proofs.lemmas.Bool.Decides.{nat_tests}
+use Rattle.std.specs.Prelude.{◌↔◌, ◌==◌, count_by, IfSome, IsSome, Result, Ok, Err, IfOk, IfErr, OnOk, OnErr}
 use Rattle.master_table.specs.declared.table.EmptySlot.{EmptySlot}
 use Rattle.heap_model.specs.Memory.{Memory}
 use Rattle.heap_model.specs.Chunk.{movable, fixed, fixed_lock, need, is_owned_by}
 use Rattle.heap_model.specs.Heap.{HeapAccepted}
 use Rattle.heap_model.specs.Meaning.{LiveChunk}
 use Rattle.heap_model.specs.Reading.{chunks_of, held}
-use Rattle.heap_model.specs.Maps.{callers_map}
+use Rattle.heap_model.specs.Maps.{updated, callers_map}
 use Rattle.heap_model.specs.Space.{Short}
 use Rattle.heap_model.specs.Packing.{SlidesOneStretch}
 use Rattle.heap_model.specs.Layout.{layout_of, Becomes, owned_freed, IsSpot, Claims}
@@ -19,8 +21,9 @@ use Rattle.heap_model.specs.declared.call.MemoryCall.TheVariants.{HandleNew, Ptr
 use Rattle.heap_model.specs.declared.call.Reply.TheVariants.{Refused, Done, Named, Number}
 use Rattle.heap_model.specs.declared.refusal.Refusal.{Refusal}
 use Rattle.heap_model.specs.declared.refusal.Refusal.TheVariants.{OwnedByDatabase, ChunkLocked, NotEnoughSpace}
-use Rattle.master_table.specs.Table.{IsFirstEmpty, NotAmong}
+use Rattle.master_table.specs.Table.{IsFirstEmpty, NotAmong, UsedBefore}
 use Rattle.master_table.proofs.TableLaws.{used_fewer, used_apart, used_set}
+use Rattle.laws_heap.proofs.Deciding.{cond-true, cond-false}
 use Rattle.laws_heap.proofs.Meanings.{held-is, empty_unheld}
 use Rattle.laws_heap.proofs.Accepted.{heap_of_read}
 use Rattle.laws_heap.proofs.Exchanging.{ChangesName}
@@ -34,7 +37,9 @@ use Rattle.laws_heap.proofs.Compacting.{slides_alike}
 use Rattle.laws_heap.proofs.LoweredRoom.{claimed_lowers}
 use Rattle.mem_manager.specs.Lookup.{IsManaged, MakesNew, HasNoRoomFor}
 use Rattle.mem_manager.proofs.SlidChunks.{BytesAndSlid, rest_then, held_then, still_then, first_slid, used_slid}
-use Rattle.mem_manager.proofs.Stepping.{known, of_known, not_of_known, is_known, refused, OnlyBytes, still_others, used_altered}
+use Rattle.mem_manager.proofs.Stepping.{known, of_known, not_of_known, is_known, refused, OnlyBytes, still_others, used_altered, with_names}
+use Rattle.mem_manager.specs.Known.{IsKnown, Remembers}
+use Rattle.mem_manager.proofs.Knowing.{remembered_held}
 use Rattle.laws_heap.proofs.ChangedName.{held_updated}
 
 -- ---- free
@@ -67,10 +72,12 @@ freed old new name found h f positive other unlocked ch rest = record {
   locks lock e l = let some = l.0 in let below = l.1 in unlocked (omega arith) (omega arith)
 
 -- the first so many slots are in use still, where the name's is not one of them
-pub used_freed : (old new : List ℕ) (used fewer name : ℕ) → IsManaged old used → fewer ≤ used → NotAmong old fewer name → ChangesName old new name None None → IsManaged new fewer
-used_freed old new used fewer name m most apart ch = record {
+pub used_freed : {names : List ℕ} (old new : List ℕ) (used fewer name : ℕ) (left : List ℕ) → IsManaged old used names → fewer ≤ used → NotAmong old fewer name → ((other : ℕ) → (IsKnown left other ↔ (IsKnown names other × (other ≢ name)))) → ChangesName old new name None None
+    → IsManaged new fewer left
+used_freed old new used fewer name left m most apart forgets ch = record {
   accepted = ch.frame.accepted;
   in_use = used_apart old new fewer name (frame_slots old new ch.frame) ch.slots apart (used_fewer old used fewer most m.in_use);
+  known = λ other is. let was = (forgets other).0 is in subst IsSome (sym (ch.others other was.1)) (m.known other was.0);
 }
 
 -- ---- a new handle
@@ -119,8 +126,22 @@ slot_unheld image slot before h first =
     held-is image (chunks_of image) slot heap ∙ empty_unheld image (chunks_of image) slot heap first.is_slot first.empty
 
 -- the slots before it stay in use
-pub used_made : (old new : List ℕ) (slot before : ℕ) (now : Option LiveChunk) (there : Option ℕ) → IsFirstEmpty old slot before → ChangesName old new slot now there → IsManaged new before
-used_made old new slot before now there first ch = record { accepted = ch.frame.accepted; in_use = used_set old new slot before first (frame_slots old new ch.frame) ch.slots }
+pub used_made : (old new : List ℕ) (slot before : ℕ) (now : Option LiveChunk) (there : Option ℕ) → IsFirstEmpty old slot before → ChangesName old new slot now there → UsedBefore new before
+used_made old new slot before now there first ch = used_set old new slot before first (frame_slots old new ch.frame) ch.slots
+
+-- and what is remembered stands for a chunk still
+some_made : (old : List ℕ) (made : LiveChunk) (name other : ℕ) → IsSome (held old other) → IsSome (updated (held old) name (Some made) other)
+some_made old made name other some = elim (cases_eq other name) [
+  | inl same ↦ subst IsSome (sym (cond-true (other == name) _ _ (eq-eqb other name same))) refl
+  | inr apart ↦ subst IsSome (sym (cond-false (other == name) _ _ (grind (arith, nat_tests)))) some
+]
+
+pub managed_made : {names : List ℕ} (old new : List ℕ) (used before name size owner : ℕ) → IsManaged old used names → UsedBefore new before → MakesNew old new name size owner → IsManaged new before names
+managed_made old new used before name size owner m in_use made = record {
+  accepted = made.leaves.frame.accepted;
+  in_use = in_use;
+  known = λ other is. subst IsSome (sym (made.leaves.map other)) (some_made old _ name other (m.known other is));
+}
 
 -- ---- a new fixed chunk
 
@@ -191,6 +212,9 @@ ptr_claimed old mid new at room size owner name is caller s r fits x =
     subst (λ (n : ℕ). ChangesName mid new n (Some (zeros size fixed_lock owner)) (Some (at + 8))) (fixed_place at ∙ sym is) (ptr_changes mid new at room size owner s.becomes.frame.accepted caller r fits x)
 
 -- the same slots are in use
-pub used_ptr : (old mid new : List ℕ) (used at room size owner : ℕ) → IsManaged old used → (IsNoCaller owner → ⊥) → SlidesOneStretch old mid → IsSpot mid at room → need size ≤ room → Claims mid new at room (fixed (replicate size 0) owner) → IsManaged new used
-used_ptr old mid new used at room size owner m caller s r fits x =
-    used_altered mid new used (fixed_name at) _ _ (used_slid old mid used m s.becomes.frame (slides_alike old mid m.accepted s)) (ptr_changes mid new at room size owner s.becomes.frame.accepted caller r fits x)
+pub used_ptr : {names : List ℕ} (old mid new : List ℕ) (used at room size owner name : ℕ) (more : List ℕ) → IsManaged old used names → name ≡ at + 8 → Remembers names more name → (IsNoCaller owner → ⊥) → SlidesOneStretch old mid → IsSpot mid at room → need size ≤ room → Claims mid new at room (fixed (replicate size 0) owner) → IsManaged new used more
+used_ptr old mid new used at room size owner name more m is remembers caller s r fits x =
+    let ch = ptr_changes mid new at room size owner s.becomes.frame.accepted caller r fits x in
+    let now = used_altered mid new used (fixed_name at) _ _ (used_slid old mid used m s.becomes.frame (slides_alike old mid m.accepted s)) ch in
+    let here : IsSome (held new name) = subst IsSome (sym (ap (held new) (is ∙ sym (fixed_place at)) ∙ ch.here)) refl in
+    with_names new used more now (remembered_held new name now.known remembers here)

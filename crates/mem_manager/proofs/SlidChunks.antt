@@ -51,13 +51,14 @@ slots_slid old new slot h frame alike s =
     (λ e. is.1 (alike.holds slot ∙ was.0 e), λ e. was.1 (sym (alike.holds slot) ∙ is.0 e))
 
 -- the same slots are in use
-pub used_slid : (old new : List ℕ) (used : ℕ) → IsManaged old used → SameFrame old new → SlidAlike old new → IsManaged new used
+pub used_slid : {names : List ℕ} (old new : List ℕ) (used : ℕ) → IsManaged old used names → SameFrame old new → SlidAlike old new → IsManaged new used names
 used_slid old new used m frame alike = record {
   accepted = frame.accepted;
   in_use = used_still old new used (frame_slots old new frame) (λ slot s some empty. some ((slots_slid old new slot m.accepted frame alike s).1 empty)) m.in_use;
+  known = λ name is. subst IsSome (sym (alike.holds name)) (m.known name is);
 }
 
-pub used_compacted : (old new : List ℕ) (used : ℕ) → IsManaged old used → Becomes old new (packed (chunks_of old)) → IsManaged new used
+pub used_compacted : {names : List ℕ} (old new : List ℕ) (used : ℕ) → IsManaged old used names → Becomes old new (packed (chunks_of old)) → IsManaged new used names
 used_compacted old new used m b = used_slid old new used m b.frame (packed_alike old new m.accepted b)
 
 -- and the first empty one is the same

@@ -31,6 +31,7 @@ use Rattle.heap_place.proofs.RelocateLaws.{one_placed}
 use Rattle.heap_place.specs.declared.found.Found.{Found}
 use Rattle.heap_place.specs.Found.{IsFound, IsOne}
 use Rattle.mem_manager.specs.Lookup.{IsManaged}
+use Rattle.mem_manager.specs.Known.{KnowsHeld}
 
 -- ---- what callers may name
 
@@ -127,8 +128,19 @@ altered old new name found change h f ch rest = record {
 
 -- ---- the slots in use
 
+-- a name that stands for a chunk still does
+some_changed : (old new : List ℕ) (name : ℕ) (now : LiveChunk) (there : Option ℕ) → ChangesName old new name (Some now) there → (other : ℕ) → IsSome (held old other) → IsSome (held new other)
+some_changed old new name now there ch other some = elim (cases_eq other name) [
+  | inl same ↦ subst IsSome (sym (ap (held new) same ∙ ch.here)) refl
+  | inr apart ↦ subst IsSome (sym (ch.others other apart)) some
+]
+
+-- the same, where other names are remembered
+pub with_names : {names : List ℕ} (image : List ℕ) (used : ℕ) (more : List ℕ) → IsManaged image used names → KnowsHeld image more → IsManaged image used more
+with_names image used more m known = record { accepted = m.accepted; in_use = m.in_use; known = known }
+
 -- the slots that are in use stay so where a name stands for something afterwards
-pub used_altered : (old new : List ℕ) (used name : ℕ) (now : LiveChunk) (there : Option ℕ) → IsManaged old used → ChangesName old new name (Some now) there → IsManaged new used
+pub used_altered : {names : List ℕ} (old new : List ℕ) (used name : ℕ) (now : LiveChunk) (there : Option ℕ) → IsManaged old used names → ChangesName old new name (Some now) there → IsManaged new used names
 used_altered old new used name now there m ch = record {
   accepted = ch.frame.accepted;
   in_use = used_still old new used (frame_slots old new ch.frame) (λ slot s some empty. elim (cases_eq slot name) [
@@ -139,4 +151,5 @@ used_altered old new used name now there m ch = record {
         absurd cc
     | inr apart ↦ some (sym (ch.slots slot s apart) ∙ empty)
   ]) m.in_use;
+  known = λ known is. some_changed old new name now there ch known (m.known known is);
 }

@@ -122,8 +122,9 @@ slid_viewed region value new name found from to count same h f in_from in_to mad
     (leaves_slid region new name found from to count h f (subst (λ (m : Memory). from + count ≤ length (bytes_under m.bytes name)) (sym same) in_from) (subst (λ (m : Memory). to + count ≤ length (bytes_under m.bytes name)) (sym same) in_to) made)
 
 -- the same slots are in use where another directory is named
-pub used_named : (old new : List ℕ) (used word : ℕ) → IsManaged old used → NamesDirectory old new word → IsManaged new used
+pub used_named : {names : List ℕ} (old new : List ℕ) (used word : ℕ) → IsManaged old used names → NamesDirectory old new word → IsManaged new used names
 used_named old new used word m n = record {
   accepted = n.accepted;
   in_use = used_still old new used (named_slots old new word n) (λ slot s some empty. some ((slot_unheld old slot m.accepted s).1 (sym (n.map slot) ∙ (slot_unheld new slot n.accepted (slot_alike old new slot (named_slots old new word n) s)).0 empty))) m.in_use;
+  known = λ name is. subst IsSome (sym (n.map name)) (m.known name is);
 }

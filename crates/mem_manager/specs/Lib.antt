@@ -1,2 +1,3 @@
 pub mod Lookup
+pub mod Known
 pub mod Replies

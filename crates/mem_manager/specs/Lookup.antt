@@ -10,11 +10,13 @@ use Rattle.heap_model.specs.Leaving.{Leaves}
 use Rattle.heap_model.specs.Refusals.{Check}
 use Rattle.heap_model.specs.MemorySteps.{growth_checks}
 use Rattle.master_table.specs.Table.{UsedBefore}
+use Rattle.mem_manager.specs.Known.{KnowsHeld}
 
--- the heap is accepted, and the first so many slots are in use
-pub record IsManaged (image : List ℕ) (used : ℕ) : Type 0 where
+-- the heap is accepted, the first so many slots are in use, and the names that are remembered stand for chunks
+pub record IsManaged (image : List ℕ) (used : ℕ) (names : List ℕ) : Type 0 where
   pub accepted : HeapAccepted image
   pub in_use : UsedBefore image used
+  pub known : KnowsHeld image names
 
 -- a name's chunk is a caller's, and has its body at this place
 pub record IsThere (image : List ℕ) (place name : ℕ) : Type 0 where

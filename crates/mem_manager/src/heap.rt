@@ -12,6 +12,7 @@ mod making;
 mod managing;
 mod moving;
 
+use crate::known::KnownNames;
 use heap_check::{HeapFault, check_heap};
 use heap_model::Place;
 use heap_place::Space;
@@ -27,6 +28,8 @@ pub struct Heap {
     space: Space,
     /// The first so many slots are in use, so that no search for an empty one goes over them.
     used: u32,
+    /// Names of fixed chunks that were found, so that they aren't looked for again.
+    known: KnownNames,
 }
 
 impl Model for Heap {
@@ -37,7 +40,7 @@ impl Model for Heap {
 
     ghost view = { λ heap. heap.space };
 
-    ghost invariant = { λ heap. IsManaged heap.space.bytes heap.used };
+    ghost invariant = { λ heap. IsManaged heap.space.bytes heap.used heap.known.names };
 }
 
 /// Where the body of a chunk is that was locked, and its lock count now.
@@ -76,6 +79,7 @@ impl Heap {
             Ok(_) => Ok(Heap {
                 space: Space::new(region),
                 used: 0,
+                known: KnownNames::none(),
             }),
             Err(fault) => Err(NotAHeap { fault, region }),
         }

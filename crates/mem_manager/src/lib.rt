@@ -8,6 +8,7 @@
 
 mod bounds;
 mod heap;
+mod known;
 mod lookup;
 
 pub use bounds::check_owner;

@@ -1,44 +1,102 @@
 //! What a name stands for, and which refusals a chunk brings.
 
-ghost use Rattle.std.specs.Prelude.{◌≡◌, ◌≢◌, ◌≤◌, ℕ, IfOk, OnOk, IfErr, OnErr, None};
+ghost use Rattle.std.specs.Prelude.{◌≡◌, ◌≢◌, ◌≤◌, ℕ, IfSome, IfNone, IfOk, OnOk, IfErr, OnErr, None};
 ghost use Rattle.heap_model.specs.Chunk.{fixed_lock};
 ghost use Rattle.heap_model.specs.Heap.{HeapAccepted};
+ghost use Rattle.heap_model.specs.Reading.{held};
 ghost use Rattle.heap_model.specs.Maps.{callers_map};
 ghost use Rattle.heap_model.specs.Store.{data_owner};
 ghost use Rattle.heap_model.specs.MemorySteps.{IsNowhere};
-ghost use Rattle.heap_place.specs.Found.{IsFound};
+ghost use Rattle.heap_place.specs.Found.{IsFound, IsOne, NothingAt};
 ghost use Rattle.mem_manager.specs.Lookup.{IsThere};
+ghost use Rattle.mem_manager.specs.Known.{KnowsHeld};
 
+use crate::known::KnownNames;
 use chunk_format::{DATA_OWNER, FIXED_LOCK, MANAGERS_OWNER};
 use heap_model::{Name, Place, Refusal};
 use heap_place::{Found, Space};
 
+/// The chunk that a name stands for, whoever owns it. Where the name isn't remembered, one that is no slot's is
+/// looked for among all chunks.
+#[inline]
+pub(crate) fn named(space: &Space, known: &KnownNames, name: Name) -> Option<Found>
+    requires accepted { HeapAccepted space.now.bytes }
+    requires known { KnowsHeld space.now.bytes known.now.names }
+    ensures found { IfSome result (IsFound space.now.bytes name.0) }
+    ensures none { IfNone result (held space.now.bytes name.0 ≡ None) }
+{
+    if known.has(name) {
+        return Some(space.chunk(name));
+    }
+    space.find(name)
+}
+
 /// The caller's chunk that a name stands for. The manager's own are no caller's.
 #[inline]
-pub(crate) fn find(space: &Space, name: Name) -> Result<Found, Refusal>
+pub(crate) fn find(space: &Space, known: &KnownNames, name: Name) -> Result<Found, Refusal>
     requires accepted { HeapAccepted space.now.bytes }
+    requires known { KnowsHeld space.now.bytes known.now.names }
     ensures found { IfOk result (IsFound space.now.bytes name.0) }
     ensures callers { IfOk result (λ found. 1 ≤ found.owner) }
     ensures none { OnErr result (callers_map space.now.bytes name.0 ≡ None) }
     ensures refusal { IfErr result (λ refusal. refusal ≡ Refusal.InvalidHandle) }
 {
-    match space.find(name) {
+    match named(space, known, name) {
         Some(found) if found.owner != MANAGERS_OWNER => Ok(found),
         _ => Err(Refusal::InvalidHandle),
     }
 }
 
-/// The name of the caller's chunk whose body is at a place.
-pub(crate) fn name_at(space: &Space, place: Place) -> Result<Name, Refusal>
+/// The caller's chunk that a name stands for, which is remembered where it is fixed.
+pub(crate) fn find_again(
+    space: &Space,
+    known: &mut KnownNames,
+    name: Name,
+) -> Result<Found, Refusal>
     requires accepted { HeapAccepted space.now.bytes }
+    requires known { KnowsHeld space.now.bytes known.old.names }
+    ensures found { IfOk result (IsFound space.now.bytes name.0) }
+    ensures callers { IfOk result (λ found. 1 ≤ found.owner) }
+    ensures none { OnErr result (callers_map space.now.bytes name.0 ≡ None) }
+    ensures refusal { IfErr result (λ refusal. refusal ≡ Refusal.InvalidHandle) }
+    ensures remembered { KnowsHeld space.now.bytes known.new.names }
+{
+    let found = find(space, known, name)?;
+    if found.lock == FIXED_LOCK {
+        known.remember(name);
+    }
+    Ok(found)
+}
+
+/// The name of the caller's chunk whose body is at a place.
+pub(crate) fn name_at(space: &Space, known: &KnownNames, place: Place) -> Result<Name, Refusal>
+    requires accepted { HeapAccepted space.now.bytes }
+    requires known { KnowsHeld space.now.bytes known.now.names }
     ensures there { IfOk result (λ name. IsThere space.now.bytes place.0 name.0) }
     ensures none { OnErr result (IsNowhere space.now.bytes (callers_map space.now.bytes) place.0) }
     ensures refusal { IfErr result (λ refusal. refusal ≡ Refusal.InvalidHandle) }
 {
-    match space.find_at(place) {
+    match placed(space, known, place) {
         Some(found) if found.owner != MANAGERS_OWNER => Ok(found.name),
         _ => Err(Refusal::InvalidHandle),
     }
+}
+
+/// The chunk whose body is at a place, whoever owns it. The place of a fixed chunk is its name too.
+fn placed(space: &Space, known: &KnownNames, place: Place) -> Option<Found>
+    requires accepted { HeapAccepted space.now.bytes }
+    requires known { KnowsHeld space.now.bytes known.now.names }
+    ensures found { IfSome result (IsOne space.now.bytes) }
+    ensures there { IfSome result (λ found. found.place.0 ≡ place.0) }
+    ensures none { IfNone result (NothingAt space.now.bytes place.0) }
+{
+    if known.has(Name(place.0)) {
+        let found = space.chunk(Name(place.0));
+        if found.place.0 == place.0 {
+            return Some(found);
+        }
+    }
+    space.find_at(place)
 }
 
 /// Refuses a chunk of a database.

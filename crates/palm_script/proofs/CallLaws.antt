@@ -3,11 +3,13 @@ use Rattle.std.proofs.Common.{◌≡◌, refl, ap}
 use Rattle.heap_model.specs.MemorySteps.{MemoryCall, memory_call}
 use Rattle.heap_model.specs.DatabaseSteps.{DatabaseCall, database_call}
 use Rattle.heap_model.specs.RecordSteps.{RecordCall, record_call}
+use Rattle.heap_model.specs.ResourceSteps.{ResourceCall, resource_call}
 use Rattle.heap_model.specs.StoreSteps.{Call, call_by}
-use Rattle.heap_model.specs.declared.call.Call.TheVariants.{Memory, Database, Record}
+use Rattle.heap_model.specs.declared.call.Call.TheVariants.{Memory, Database, Record, Resource}
 use Rattle.heap_model.specs.declared.call.MemoryCall.TheVariants.{FreeBytes}
 use Rattle.heap_model.specs.declared.call.DatabaseCall.TheVariants as databases
 use Rattle.heap_model.specs.declared.call.RecordCall.TheVariants as records
+use Rattle.heap_model.specs.declared.call.ResourceCall.TheVariants as resources
 
 memory_call-same : (call : MemoryCall) → memory_call (λ name. name) call ≡ call
 memory_call-same FreeBytes = refl
@@ -21,8 +23,13 @@ record_call-same : (call : RecordCall) → record_call (λ name. name) (λ db. d
 record_call-same (records.Count db) = refl
 record_call-same call = refl
 
+resource_call-same : (call : ResourceCall) → resource_call (λ name. name) (λ db. db) call ≡ call
+resource_call-same (resources.Count db) = refl
+resource_call-same call = refl
+
 -- they are the same calls
 pub same_call : (call : Call) → call_by (λ name. name) (λ db. db) call ≡ call
 same_call (Memory call) = ap Memory (memory_call-same call)
 same_call (Database call) = ap Database (database_call-same call)
 same_call (Record call) = ap Record (record_call-same call)
+same_call (Resource call) = ap Resource (resource_call-same call)

@@ -13,10 +13,11 @@ use Rattle.heap_model.specs.declared.names.Name.{Name}
 use Rattle.heap_model.specs.declared.names.Db.{Db}
 use Rattle.heap_model.specs.declared.database.DbInfo.{DbInfo}
 use Rattle.heap_model.specs.declared.entry.RecordInfo.{RecordInfo}
+use Rattle.heap_model.specs.declared.entry.ResourceInfo.{ResourceInfo}
 use Rattle.heap_model.specs.declared.call.Call.TheVariants.{Memory}
 use Rattle.heap_model.specs.declared.call.MemoryCall.TheVariants as calls
 use Rattle.heap_model.specs.declared.call.Reply.{Reply}
-use Rattle.heap_model.specs.declared.call.Reply.TheVariants.{Refused, Done, Number, Named, Locked, Data, Database, Info, Made, Record}
+use Rattle.heap_model.specs.declared.call.Reply.TheVariants.{Refused, Done, Number, Named, Locked, Data, Database, Info, Made, Record, Resource}
 use Rattle.heap_model.specs.declared.refusal.Refusal.TheVariants.{OutOfMemory}
 use Rattle.script_lines.specs.Commands.{LineCall}
 use Rattle.script_lines.specs.declared.line.Line.{Line}
@@ -90,6 +91,7 @@ bound_to bound label (Database db) = bound
 bound_to bound label (Info info) = bound
 bound_to bound label (Made index name) = record bound { chunks = bind bound.chunks label name }
 bound_to bound label (Record info) = bound
+bound_to bound label (Resource info) = record bound { chunks = bind bound.chunks label info.data }
 
 -- a label of a database is bound to the number that was answered
 abbrev pub bound_to_database : Bindings → ℕ → Reply → Bindings
@@ -103,9 +105,10 @@ bound_to_database bound label (Database db) = record bound { databases = bind bo
 bound_to_database bound label (Info info) = bound
 bound_to_database bound label (Made index name) = bound
 bound_to_database bound label (Record info) = bound
+bound_to_database bound label (Resource info) = bound
 
 -- A line that is accepted binds its label: to the name given, or to that of the new chunk or of the data of
--- a record, or to the database. A refused one binds nothing.
+-- a record or a resource, or to the database. A refused one binds nothing.
 abbrev pub bound_after : Bindings → Line → Reply → Bindings
 bound_after bound (Bind label name) (Refused refusal) = bound
 bound_after bound (Bind label name) reply = record bound { chunks = bind bound.chunks label.0 (record { 0 = name }) }
@@ -147,6 +150,10 @@ data_word None = codes "none"
 abbrev pub record_words : RecordInfo → List (List ℕ)
 record_words info = encode_lower (info.attributes ∷ []) ∷ decimal info.id ∷ data_word info.data ∷ []
 
+-- what the entry of a resource says: the type and the ID
+abbrev pub resource_words : ResourceInfo → List (List ℕ)
+resource_words info = spelled (u32_bytes info.kind) ∷ decimal info.id ∷ []
+
 -- words with a space in front of each
 abbrev pub words_text : List (List ℕ) → List ℕ
 words_text words = flat_map (λ word. codes " " ++ word) words
@@ -160,6 +167,7 @@ values_text (Data bytes) = codes " " ++ hex_text bytes
 values_text (Info info) = words_text (info_words info)
 values_text (Made index name) = codes " " ++ decimal index
 values_text (Record info) = words_text (record_words info)
+values_text (Resource info) = words_text (resource_words info)
 values_text (Refused refusal) = []
 values_text Done = []
 values_text (Named name) = []

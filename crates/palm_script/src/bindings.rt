@@ -69,6 +69,9 @@ pub(crate) fn bind_line(names: &mut [Name], databases: &mut [Db], line: &Line, r
         (Line::BindChunk(label, _), Reply::Named(name) | Reply::Made { name, .. }) => {
             bind_chunk(names, *label, *name)
         }
+        (Line::BindChunk(label, _), Reply::Resource(info)) => {
+            bind_chunk(names, *label, info.data)
+        }
         (Line::BindDatabase(label, _), Reply::Database(db)) => {
             bind_database(databases, *label, *db)
         }

@@ -14,6 +14,7 @@ use crate::bindings::Given;
 use crate::calls::Outcome::{Reads, Replied};
 use crate::records::do_record_call;
 use crate::replies::{database, done, info, locked, named, number, small_number};
+use crate::resources::do_resource_call;
 use heap_model::{Allowance, Bytes, Call, DatabaseCall, Db, MemoryCall, Name, Refusal, Reply};
 use palm_store::Store;
 use std::alloc::{AllocError, Global};
@@ -80,6 +81,7 @@ pub(crate) fn do_given<C: Given<Name>, D: Given<Db>>(
         Call::Memory(call) => do_memory_call(store, names, call),
         Call::Database(call) => Replied(do_database_call(store, names, databases, call)),
         Call::Record(call) => Replied(do_record_call(store, names, databases, call)),
+        Call::Resource(call) => Replied(do_resource_call(store, names, databases, call)),
     }
 }
 

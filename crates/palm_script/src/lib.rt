@@ -8,6 +8,7 @@
 //! |---|---|
 //! | `calls` | one call of each kind |
 //! | `records` | one call on records |
+//! | `resources` | one call on resources |
 //! | `bindings` | what labels stand for, and how a call finds that |
 //! | `lines` | one line: its call, what it binds, its reply line |
 //! | `replies` | what a manager answers, as a reply; and reply lines |
@@ -19,6 +20,7 @@ mod calls;
 mod lines;
 mod records;
 mod replies;
+mod resources;
 mod runs;
 
 pub use calls::{do_call, do_call_from};

@@ -6,11 +6,12 @@ ghost use Rattle.heap_model.specs.MemorySteps.{reply_of};
 ghost use Rattle.heap_model.specs.Numbers.{number_of, name_of};
 ghost use Rattle.heap_model.specs.declared.call.Reply.{Reply};
 ghost use Rattle.palm_script.specs.Lines.{hex_text, info_words, is_silent, record_words};
-ghost use Rattle.palm_script.specs.Lines.{reply_line, reply_text, values_text, words_text};
+ghost use Rattle.palm_script.specs.Lines.{reply_line, reply_text, resource_words, values_text};
+ghost use Rattle.palm_script.specs.Lines.{words_text};
 ghost use Rattle.palm_script.specs.Lines as words;
-ghost use Rattle.record_db.specs.Checks.{made_reply};
+ghost use Rattle.palm_store.specs.Replies.{made_reply};
 
-use heap_model::{Counted, Db, DbInfo, Name, RecordInfo, Refusal, Reply};
+use heap_model::{Counted, Db, DbInfo, Name, RecordInfo, Refusal, Reply, ResourceInfo};
 use palm_store::Locked;
 use palm_text::{Piece, WriteFault, put_pieces};
 use script_lines::Line;
@@ -99,6 +100,15 @@ pub(crate) fn record(answer: Result<RecordInfo, Refusal>) -> Reply
     }
 }
 
+pub(crate) fn resource(answer: Result<ResourceInfo, Refusal>) -> Reply
+    ensures { result ≡ reply_of (λ info. Reply.Resource info) answer }
+{
+    match answer {
+        Ok(info) => Reply::Resource(info),
+        Err(refusal) => Reply::Refused(refusal),
+    }
+}
+
 // ---- reply lines
 
 /// Prints the reply line of a line.
@@ -169,6 +179,7 @@ fn put_values<W: Write>(out: &mut Counted<W>, reply: &Reply) -> Result<(), Write
         Reply::Info(info) => put_info(out, info),
         Reply::Made { index, .. } => put_number(out, *index),
         Reply::Record(info) => put_record(out, info),
+        Reply::Resource(info) => put_resource(out, info),
         Reply::Refused(_) | Reply::Done | Reply::Named(_) | Reply::Database(_) => {
             put_pieces(out, &[Piece::Text(b"ok\n")])
         }
@@ -252,6 +263,23 @@ fn put_record<W: Write>(out: &mut Counted<W>, info: &RecordInfo) -> Result<(), W
             Piece::Number(info.id),
             Piece::Text(b" "),
             Piece::Text(data_word(info.data)),
+            Piece::Text(b"\n"),
+        ],
+    )
+}
+
+/// Prints `ok` and the type and the ID of a resource.
+fn put_resource<W: Write>(out: &mut Counted<W>, info: &ResourceInfo) -> Result<(), WriteFault>
+    ensures { Writes W.contents out.old out.new
+        (codes "ok" ++ words_text (resource_words info.now) ++ codes "\n") (is_ok result) }
+{
+    put_pieces(
+        out,
+        &[
+            Piece::Text(b"ok "),
+            Piece::FourBytes(info.kind),
+            Piece::Text(b" "),
+            Piece::Number(u32::from(info.id)),
             Piece::Text(b"\n"),
         ],
     )

@@ -179,11 +179,12 @@ no_room_to_take image db resources kind s short =
     (one_grown image db.0 count head.live s.heap head.there head.loose).1
     (subst (λ (k : Bool). ShortFor image db.0 (need (length (bytes_under image db.0) + entry_size k))) kind short)
 
-pub attach_steps : (old new : List ℕ) (db : Db) (at : ℕ) (entry : NewEntry) (one : Entry ℕ) (kind : Bool) (name : ℕ) → Accepted old → HasNumber old db.0 → IsMadeOf (store_of old) db entry 0 one → MayBeGiven old name
+-- the entry that comes names the chunk
+pub attach_leaves : (old new : List ℕ) (db : Db) (at : ℕ) (entry : NewEntry) (one : Entry ℕ) (kind : Bool) (name : ℕ) → Accepted old → HasNumber old db.0 → IsMadeOf (store_of old) db entry 0 one → MayBeGiven old name
     → TakesIn old new db.0 at (entry_with (λ none. name) one) name → kind ≡ resources_under (store_of old) db → EntryFits kind (entry_with (λ none. name) one) → at ≤ length (entries_in (store_of old) db) → length (entries_in (store_of old) db) < 65535
-    → (made : Entry ℕ) × IsMadeOf (store_of old) db entry name made × LeavesStore old new (raised (entry_attached (store_of old) db at made) db)
+    → LeavesStore old new (raised (entry_attached (store_of old) db at (entry_with (λ none. name) one)) db)
 unfolding store_of
-attach_steps old new db at entry one kind name a has is may takes same_kind fits inside few =
+attach_leaves old new db at entry one kind name a has is may takes same_kind fits inside few =
     let d : Database ℕ = database_here old db.0 in
     let one_made : Entry ℕ = entry_with (λ none. name) one in
     let slot_is = named_so name one in
@@ -193,12 +194,18 @@ attach_steps old new db at entry one kind name a has is may takes same_kind fits
     let put_in : Database ℕ → Database ℕ = with_entry_at at one_made in
     let sound = inserted_sound d at one_made (accepted_sound old db.0 a has) (subst (λ (k : Bool). EntryFits k one_made) (same_kind ∙ kind_here old db has) fits) (names_some name one (given_some old name a.heap g)) (new_id old db entry name one_made has made_is) (omega arith) (omega arith) in
     let store = given_steps old new db (entry_inserted at one_made) name a has g takes (raised_sound (put_in d) sound) (seeded_name one_made d.header)
-    (λ q some. (let names = inserted_names q d at one_made in let slot = ap (λ (n : ℕ). same n q) slot_is in omega arith)) in (
-      one_made,
-      made_is,
-      subst (λ (n : ℕ). LeavesStore old new (raised (record { map = reowned (callers_map old) n data_owner; databases = with_changed (databases old) db.0 put_in }) db)) (sym slot_is)
-          (then_raised old new db put_in (record { map = reowned (callers_map old) name data_owner; databases = databases old }) store),
-    )
+    (λ q some. (let names = inserted_names q d at one_made in let slot = ap (λ (n : ℕ). same n q) slot_is in omega arith)) in
+    subst (λ (n : ℕ). LeavesStore old new (raised (record { map = reowned (callers_map old) n data_owner; databases = with_changed (databases old) db.0 put_in }) db)) (sym slot_is)
+    (then_raised old new db put_in (record { map = reowned (callers_map old) name data_owner; databases = databases old }) store)
+
+pub attach_steps : (old new : List ℕ) (db : Db) (at : ℕ) (entry : NewEntry) (one : Entry ℕ) (kind : Bool) (name : ℕ) → Accepted old → HasNumber old db.0 → IsMadeOf (store_of old) db entry 0 one → MayBeGiven old name
+    → TakesIn old new db.0 at (entry_with (λ none. name) one) name → kind ≡ resources_under (store_of old) db → EntryFits kind (entry_with (λ none. name) one) → at ≤ length (entries_in (store_of old) db) → length (entries_in (store_of old) db) < 65535
+    → (made : Entry ℕ) × IsMadeOf (store_of old) db entry name made × LeavesStore old new (raised (entry_attached (store_of old) db at made) db)
+attach_steps old new db at entry one kind name a has is may takes same_kind fits inside few = (
+  entry_with (λ none. name) one,
+  made_of old db entry name one is,
+  attach_leaves old new db at entry one kind name a has is may takes same_kind fits inside few,
+)
 
 -- ---- an entry that has other data
 

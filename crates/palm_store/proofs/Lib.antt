@@ -20,3 +20,5 @@ pub mod GivenData
 pub mod Giving
 pub mod InfoBlocks
 pub mod BlockCalls
+pub mod KnownIds
+pub mod AttributeChanges

@@ -166,11 +166,12 @@ put_some old after db at entry slot size puts =
     let here = updated_here (rewritten (held old) db (spelled (entry_inserted at entry (database_here old db)))) slot (chunk_made size) slot refl in
     owned_some after slot 15 puts.leaves.frame.accepted (ap owner_of (puts.leaves.map slot ∙ here)) (omega arith)
 
-pub new_steps : (old after : List ℕ) (db : Db) (at : ℕ) (entry : NewEntry) (one : Entry ℕ) (kind : Bool) (slot size : ℕ) → Accepted old → HasNumber old db.0 → IsMadeOf (store_of old) db entry 0 one → PutsIn old after db.0 at (entry_with (λ none. slot) one) slot size
+-- the entry that comes names its data
+pub new_leaves : (old after : List ℕ) (db : Db) (at : ℕ) (entry : NewEntry) (one : Entry ℕ) (kind : Bool) (slot size : ℕ) → Accepted old → HasNumber old db.0 → IsMadeOf (store_of old) db entry 0 one → PutsIn old after db.0 at (entry_with (λ none. slot) one) slot size
     → kind ≡ resources_under (store_of old) db → EntryFits kind (entry_with (λ none. slot) one) → at ≤ length (entries_in (store_of old) db) → length (entries_in (store_of old) db) < 65535
-    → (made : Entry ℕ) × IsMadeOf (store_of old) db entry slot made × LeavesStore old after (raised (entry_made (store_of old) db at made size) db)
+    → LeavesStore old after (raised (entry_made (store_of old) db at (entry_with (λ none. slot) one) size) db)
 unfolding store_of chunk_made
-new_steps old after db at entry one kind slot size a has is puts same_kind fits inside few =
+new_leaves old after db at entry one kind slot size a has is puts same_kind fits inside few =
     let d : Database ℕ = database_here old db.0 in
     let some = put_some old after db.0 at (entry_with (λ none. slot) one) slot size puts in
     let one_made : Entry ℕ = entry_with (λ none. slot) one in
@@ -180,12 +181,18 @@ new_steps old after db at entry one kind slot size a has is puts same_kind fits 
     let put_in : Database ℕ → Database ℕ = with_entry_at at one_made in
     let sound = inserted_sound d at one_made (accepted_sound old db.0 a has) (subst (λ (k : Bool). EntryFits k one_made) (same_kind ∙ kind_here old db has) fits) (names_some slot one some) (new_id old db entry slot one_made has made_is) (omega arith) (omega arith) in
     let leaves = subst (λ (n : ℕ). Leaves old after (made (rewritten (held old) db.0 (spelled (entry_inserted at one_made d))) n size data_owner 0)) (sym name) puts.leaves in
-    let edit = made_edit old after db.0 (entry_inserted at one_made d) (entry_data one_made) size leaves (ap (held old) name ∙ puts.fresh) (raised_sound (put_in d) sound) (seeded_name one_made d.header) (λ q. inserted_names q d at one_made) in (
-      one_made,
-      made_is,
-      then_raised old after db put_in (record { map = made (callers_map old) (entry_data one_made) size data_owner 0; databases = databases old })
-          (edit_steps old after db (entry_inserted at one_made) (one_change (entry_data one_made) (chunk_made size)) a has edit),
-    )
+    let edit = made_edit old after db.0 (entry_inserted at one_made d) (entry_data one_made) size leaves (ap (held old) name ∙ puts.fresh) (raised_sound (put_in d) sound) (seeded_name one_made d.header) (λ q. inserted_names q d at one_made) in
+    then_raised old after db put_in (record { map = made (callers_map old) (entry_data one_made) size data_owner 0; databases = databases old })
+    (edit_steps old after db (entry_inserted at one_made) (one_change (entry_data one_made) (chunk_made size)) a has edit)
+
+pub new_steps : (old after : List ℕ) (db : Db) (at : ℕ) (entry : NewEntry) (one : Entry ℕ) (kind : Bool) (slot size : ℕ) → Accepted old → HasNumber old db.0 → IsMadeOf (store_of old) db entry 0 one → PutsIn old after db.0 at (entry_with (λ none. slot) one) slot size
+    → kind ≡ resources_under (store_of old) db → EntryFits kind (entry_with (λ none. slot) one) → at ≤ length (entries_in (store_of old) db) → length (entries_in (store_of old) db) < 65535
+    → (made : Entry ℕ) × IsMadeOf (store_of old) db entry slot made × LeavesStore old after (raised (entry_made (store_of old) db at made size) db)
+new_steps old after db at entry one kind slot size a has is puts same_kind fits inside few = (
+  entry_with (λ none. slot) one,
+  made_of old db entry slot one is,
+  new_leaves old after db at entry one kind slot size a has is puts same_kind fits inside few,
+)
 
 -- ---- a new record
 
@@ -204,6 +211,3 @@ left_as_before old new a l =
     let same = same_steps old.bytes new.bytes a l in
     let free = as_before old.bytes new.bytes a.heap l.frame l.map in
     record { store = same.same; free = free.0; slots = free.1 }
-
-pub same_as_before : (old new : Memory) → new ≡ old → StoreAsBefore old new
-same_as_before old new same = subst (λ (memory : Memory). StoreAsBefore old memory) (sym same) (record { store = record { map = λ name. refl; databases = refl }; free = refl; slots = refl })

@@ -6,3 +6,5 @@ pub mod NewEntries
 pub mod EntryCalls
 pub mod InfoBlocks
 pub mod Replies
+pub mod KnownIds
+pub mod AttributeChanges

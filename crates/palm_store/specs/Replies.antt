@@ -29,5 +29,9 @@ number_or_refused result = reply_of (λ number. replies.Number number) result
 abbrev pub name_or_refused : Result Name Refusal → Reply
 name_or_refused result = reply_of (λ name. replies.Named name) result
 
+-- what the call that makes an entry answers, as a reply
+abbrev pub made_reply : ℕ × Name → Reply
+made_reply made = replies.Made made.0 made.1
+
 abbrev pub database_or_refused : Result Db Refusal → Reply
 database_or_refused result = reply_of (λ db. replies.Database db) result

@@ -1,11 +1,13 @@
 //! What the calls on the entries of databases are made of, for records and resources alike.
 
 mod infos;
+mod known;
 mod making;
 mod reading;
 mod shapes;
 
 pub use infos::{EntryInfo, FoundEntry, NewEntry};
+pub(crate) use known::{KnownIds, NOTHING_KNOWN};
 pub(crate) use making::{new_entry, put_in, take_in};
 pub(crate) use reading::{count_entries, entry_at, read_entry};
 pub(crate) use shapes::{emptied, entry_with, with_slot};

@@ -8,12 +8,14 @@ ghost use Rattle.heap_model.specs.Counted.{Writes};
 ghost use Rattle.store_check.specs.Checks.{IsAnswered, Summarizes};
 
 mod asking;
+mod attributes;
 mod blocks;
 mod changing;
 mod databases;
 mod entries;
 mod making;
 
+use crate::entries::{KnownIds, NOTHING_KNOWN};
 use crate::lookup::count_databases;
 use heap_model::{Allowance, Counted};
 use mem_manager::Heap;
@@ -32,17 +34,20 @@ use thiserror::Error;
 #[derive(Drop)]
 pub struct Store {
     heap: Heap,
+    /// The IDs that a pass over the entries of a database has shown to be free. A call that may give a
+    /// record another ID forgets them.
+    known: KnownIds,
 }
 
 impl Model for Store {
     ghost use Rattle.heap_model.specs.Memory.{Memory};
-    ghost use Rattle.heap_model.specs.Store.{Accepted};
+    ghost use Rattle.palm_store.specs.KnownIds.{IsStore};
 
     ghost Value = { Memory };
 
     ghost view = { λ store. store.heap };
 
-    ghost invariant = { λ store. Accepted store.heap.bytes };
+    ghost invariant = { λ store. IsStore store.heap.bytes store.known };
 }
 
 /// A region that is no accepted image, or for whose check memory was refused: unchanged, and what is
@@ -88,6 +93,7 @@ impl Store {
         match check_store_from(memory, &region) {
             Ok(_) => Ok(Store {
                 heap: Heap::of_accepted(region),
+                known: NOTHING_KNOWN,
             }),
             Err(fault) => Err(NotAStore { fault, region }),
         }

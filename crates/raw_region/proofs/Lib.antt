@@ -1,4 +1,5 @@
 mod Bytes
+pub mod ChangeLaws
 mod Fields
 mod Loans
 mod PartLaws

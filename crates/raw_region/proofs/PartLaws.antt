@@ -2,6 +2,8 @@
 use Rattle.std.proofs.Common.{◌≡◌, ℕ, zero, suc, ◌+◌, ◌-◌, ◌<◌, ◌≤◌, List, ◌++◌, length, take, drop, replicate, slice_range, refl, sym, ap, ◌∙◌, append_assoc, arith, length-take, length-drop, take-add}
 use Rattle.std.proofs.lemmas.List.{drop-drop, drop-take, take-take, take-append-drop, drop_all, append-nil, get_or-drop, get_or-take, length-replicate}
 use Rattle.heap_model.specs.Bytes.{u16_at, u32_at, u16_bytes, u32_bytes, overwritten}
+use Rattle.raw_region.specs.ByteChanges.{changed_every}
+use Rattle.raw_region.proofs.ChangeLaws.{length-changed_every}
 use Rattle.byteorder.specs.Endian.{big_number, big_from, big_bytes}
 
 -- a number within the k bytes at an offset is the number there
@@ -79,6 +81,14 @@ pub overwritten_by_fill : (old new : List ℕ) (at n byte : ℕ) → at + n ≤ 
 overwritten_by_fill old new at n byte within is =
     let filled : new ≡ replicate n byte = rw (length-part old at n within) at is in
     overwritten_by_part old at _ new _ filled (omega (arith, length-replicate n byte))
+
+pub overwritten_by_change : (old new : List ℕ) (at n skip step : ℕ) (change : ℕ → ℕ) → at + n ≤ length old
+    → new ≡ changed_every change step skip (take (at + n - at) (drop at old))
+    → take at old ++ (new ++ drop (at + n - at) (drop at old))
+    ≡ overwritten old at (changed_every change step skip (slice_range old at (at + n)))
+overwritten_by_change old new at n skip step change within is =
+    let part = take (at + n - at) (drop at old) in
+    overwritten_by_part old at _ new (changed_every change step skip part) is (omega (arith, length-changed_every change step skip part, length-part old at n within))
 
 -- a list whose n bytes at an offset are now those that were at another
 pub overwritten_by_slide : (old new : List ℕ) (from to n : ℕ) → from + n ≤ length old

@@ -3,7 +3,9 @@
 ghost use Rattle.std.specs.Prelude.{◌≡◌, ◌+◌, ◌<◌, ◌^◌, length, slice_range, replicate, IfOk};
 ghost use Rattle.heap_model.specs.Memory.{IsWithin};
 ghost use Rattle.heap_model.specs.Bytes.{AreBytes, u16_at, u32_at, u16_bytes, u32_bytes, overwritten};
+ghost use Rattle.raw_region.specs.ByteChanges.{changed_every};
 
+use crate::byte_change::ByteChange;
 use crate::room::{Lease, Room};
 use crate::run::Run;
 use crate::words;
@@ -166,6 +168,28 @@ impl Region {
         ensures len { length self.new.bytes ≡ length self.old.bytes }
     {
         words::fill(self.run.as_mut_slice(), at, n, byte);
+    }
+
+    /// Of the `n` bytes at `at`, changes each that stands behind `skip` others, or `step` further, or as often
+    /// that much.
+    pub fn change_every<C: ByteChange>(
+        &mut self,
+        at: usize,
+        n: usize,
+        skip: usize,
+        step: usize,
+        change: C,
+    )
+        requires within { IsWithin self.old at n }
+        requires skip { skip < 2 ^ 63 }
+        requires step { (0 < step) × (step < 2 ^ 63) }
+        ensures after { self.new ≡ record self.old {
+          bytes = overwritten self.old.bytes at
+              (changed_every (C.made change) step skip (slice_range self.old.bytes at (at + n)));
+        } }
+        ensures len { length self.new.bytes ≡ length self.old.bytes }
+    {
+        words::change_every(self.run.as_mut_slice(), at, n, skip, step, change);
     }
 
     /// Copies the `n` bytes at `from` to `to`, as they were before, also where the two parts overlap.

@@ -19,9 +19,9 @@ use Rattle.heap_model.specs.declared.names.Db.{Db}
 use Rattle.laws_heap.proofs.Deciding.{cond-true, cond-false}
 use Rattle.palm_store.specs.EntryCalls.{HasLockedData}
 use Rattle.record_db.specs.Categories.{listed_if, one_deleted}
-use Rattle.record_db.proofs.Entries.{Here}
-use Rattle.record_db.proofs.EntriesChanged.{with_list, changed_alike, changed_behind, changed_nothing, found_changed}
-use Rattle.record_db.proofs.Raising.{left_after, left_as, itself, raised_after}
+use Rattle.database_access.proofs.Entries.{Here}
+use Rattle.database_access.proofs.EntriesChanged.{with_list, changed_alike, changed_behind, changed_nothing, found_changed}
+use Rattle.database_access.proofs.Raising.{left_after, left_as, itself, raised_after}
 use Rattle.record_db.proofs.Turns.{first_changed, none_changed, all_changed, next_kept, next_changed}
 
 -- ---- the database in between
@@ -33,26 +33,7 @@ number_mid old mid db change left h same is =
     ap (λ (stored : List StoredDatabase). find (λ other. other.db == db.0) stored) (same.databases ∙ is)
     ∙ found_changed db.0 (with_list change) (store_of old).databases h.one h.found
 
--- ---- moved to another category
-
--- so many entries were changed, and no chunk
-abbrev pub HasChanged : List ℕ → List ℕ → Db → (Entry ℕ → Entry ℕ) → ℕ → Type 0
-HasChanged old mid db change count = LeavesStore old mid (with_entries (store_of old) db (first_changed change count))
-
-pub changed_turn : (old mid new : List ℕ) (db : Db) (change : Entry ℕ → Entry ℕ) (count : ℕ) (h : Here old db.0) → Accepted old → count < length h.one.database.entries
-    → HasChanged old mid db change count → LeavesStore mid new (entry_changed (store_of mid) db count change) → MakesNone mid new → HasChanged old new db change (count + 1)
-changed_turn old mid new db change count h a below one two none = subst (HasChanged old new db change) (let more : suc count ≡ count + 1 = omega arith in more)
-    (left_after old mid new (with_entries (store_of old) db (first_changed change count)) (entry_changed (store_of mid) db count change) (with_entries (store_of old) db (first_changed change (suc count))) one two
-    (record {
-      map = one.same.map;
-      databases = ap (λ (stored : List StoredDatabase). with_changed stored db.0 (with_list (λ entries. replaced entries count change))) one.same.databases
-          ∙ changed_behind old db.0 (first_changed change count) (λ entries. replaced entries count change) (first_changed change (suc count)) h a (next_changed change count h.one.database.entries below);
-    }) none)
-
--- none of them yet
-pub changed_none : (image : List ℕ) (db : Db) (change : Entry ℕ → Entry ℕ) (h : Here image db.0) → Accepted image → HasChanged image image db change 0
-changed_none image db change h a = itself image (with_entries (store_of image) db (first_changed change 0)) a
-    (record { map = λ name. refl; databases = sym (changed_nothing image db.0 (first_changed change 0) h a (none_changed change h.one.database.entries)) })
+-- ---- all of them changed
 
 -- all that were changed are all that there are
 all_alike : (image : List ℕ) (db : Db) (change : Entry ℕ → Entry ℕ) (count : ℕ) (h : Here image db.0) → Accepted image → length h.one.database.entries ≤ count
@@ -163,13 +144,6 @@ next_unlocked old mid db category count h some none of locked =
     none (count, subst (λ (x : Option (Entry ℕ)). OfEntry x (IsOf category)) same of, some_left (times slot (data_of_category category (take count h.one.database.entries)) == 0) ((store_of old).map slot) left)
 
 -- ---- all of them
-
-pub changed_all : (old mid new : List ℕ) (db : Db) (change : Entry ℕ → Entry ℕ) (count : ℕ) (h : Here old db.0) → Accepted old → length h.one.database.entries ≤ count
-    → HasChanged old mid db change count → LeavesStore mid new (raised (store_of mid) db) → MakesNone mid new → LeavesStore old new (raised (with_entries (store_of old) db (map change)) db)
-changed_all old mid new db change count h a all one two none =
-    raised_after old mid new db (with_entries (store_of old) db (map change))
-    (left_as old mid (with_entries (store_of old) db (first_changed change count)) (with_entries (store_of old) db (map change)) one (record { map = λ name. refl; databases = all_alike old db change count h a all }))
-    two none
 
 pub deleted_all : (old mid new : List ℕ) (db : Db) (category count : ℕ) (h : Here old db.0) → Accepted old → length h.one.database.entries ≤ count
     → HasDeletedSome old mid db category count → LeavesStore mid new (raised (store_of mid) db) → MakesNone mid new → LeavesStore old new (raised (category_deleted (store_of old) db category) db)

@@ -1,10 +1,8 @@
 mod Bits
 mod Entries
-mod EntriesChanged
-mod Opening
-mod SearchLaws
+mod LockedData
 mod SetAttributes
-mod Raising
 mod Turns
 mod CategoryTurns
 mod OneRecord
+mod Moved

@@ -16,9 +16,8 @@ use Rattle.laws_store.proofs.Listing.{same-yes, same-no, times-cons}
 use Rattle.palm_store.specs.EntryInfos.{with_info}
 use Rattle.palm_store.specs.declared.entries.infos.EntryInfo.TheVariants as infos
 use Rattle.record_db.specs.Categories.{listed_if, one_deleted}
-use Rattle.record_db.proofs.EntriesChanged.{entry_alike, entry_kept}
-use Rattle.record_db.proofs.Raising.{left_as, itself}
-use Rattle.record_db.proofs.SetAttributes.{set_as}
+use Rattle.database_access.proofs.EntriesChanged.{entry_alike, set_as, entry_kept}
+use Rattle.database_access.proofs.Raising.{left_as, itself}
 
 -- a record that is of a category isn't deleted
 pub alive : (category attributes : ℕ) → has_category category attributes ≡ true → is_deleted attributes ≡ false
@@ -26,24 +25,6 @@ alive category attributes of = by (is_deleted attributes) ((category == 255) || 
   by : (deleted other : Bool) → not deleted && other ≡ true → deleted ≡ false
   by true other e = absurd cc
   by false other e = refl
-
--- ---- moved to another category
-
-pub moved_one : (image new : List ℕ) (db : Db) (index attributes id slot now to from : ℕ) (dirty : Bool) → Accepted image → IsSome (with_number (store_of image) db.0) → entry_under (store_of image) db index ≡ Some (a_record attributes id slot)
-    → has_category from attributes ≡ true → now ≡ recategorized to dirty attributes → LeavesStore image new (entry_changed (store_of image) db index (with_info (infos.Record now id)))
-    → LeavesStore image new (entry_changed (store_of image) db index (moved_category to from dirty))
-moved_one image new db index attributes id slot now to from dirty a has e of is leaves =
-    set_as false image new db index (a_record attributes id slot) (with_info (infos.Record now id)) (moved_category to from dirty) a has e
-    (ap (λ (x : ℕ). a_record x id slot) is ∙ sym (cond-true (has_category from attributes) (a_record (recategorized to dirty attributes) id slot) (a_record attributes id slot) of)) leaves
-
-pub none_moved : (image : List ℕ) (db : Db) (index to from : ℕ) (dirty : Bool) (entry : Entry ℕ) → Accepted image → IsSome (with_number (store_of image) db.0) → entry_under (store_of image) db index ≡ Some entry → is_of from entry ≡ false
-    → LeavesStore image image (entry_changed (store_of image) db index (moved_category to from dirty))
-none_moved image db index to from dirty entry a has e other =
-    let change : Entry ℕ → Entry ℕ = moved_category to from dirty in
-    itself image (entry_changed (store_of image) db index change) a
-    (record { map = λ name. refl; databases = entry_kept image db index entry change a has e (kept from entry _ other) }) where
-      kept : (from : ℕ) (entry other : Entry ℕ) → is_of from entry ≡ false → (if is_of from entry then other else entry) ≡ entry
-      kept from entry other e = cond-false (is_of from entry) other entry e
 
 -- ---- deleted
 

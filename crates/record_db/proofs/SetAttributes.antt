@@ -15,10 +15,11 @@ use Rattle.laws_heap.proofs.Deciding.{cond-true, cond-false, same_some, none_som
 use Rattle.laws_store.proofs.Listing.{same-yes, times-cons, all-times, distinct-times}
 use Rattle.palm_store.specs.EntryInfos.{with_info, CanHave}
 use Rattle.palm_store.specs.EntryCalls.{raised_if}
-use Rattle.record_db.specs.Search.{SomeHas}
+use Rattle.database_access.specs.Search.{SomeHas}
 use Rattle.palm_store.specs.declared.entries.infos.EntryInfo.TheVariants as infos
-use Rattle.record_db.proofs.Entries.{here, entry_is, fits, no_data}
-use Rattle.record_db.proofs.EntriesChanged.{entry_alike}
+use Rattle.database_access.proofs.Entries.{here, entry_is, fits}
+use Rattle.database_access.proofs.EntriesChanged.{entry_alike, set_as}
+use Rattle.record_db.proofs.Entries.{no_data}
 
 -- ---- IDs
 
@@ -75,7 +76,7 @@ may_have image db index attributes id slot now a has records e deleted =
     let some = has_one h.one.database.entries index id own in
     let positive : id ≢ 0 = all-times (λ (x : ℕ). x ≢ 0) (unique_ids h.one.database) h.whole.ids.none_zero id some in
     let once = distinct-times (unique_ids h.one.database) h.whole.ids.distinct id in
-    let small = (fits image db index entry a has records e).1 in
+    let small = (fits image db false index entry a has records e).1 in
     let alone : HasOther (store_of image) db index id → ⊥ = λ other.
     (let same : OfEntry (slice_get h.one.database.entries other.0) (Has id) = subst (λ (x : Option StoredDatabase). OfEntry (slice_get (entries_of x) other.0) (Has id)) h.found other.2 in
     let two = has_two h.one.database.entries index other.0 id other.1 own same in
@@ -125,12 +126,6 @@ no_other image db index attributes id slot number a has records e which both =
     ]
 
 -- ---- what it changes
-
--- an entry that is set is changed, by any change that makes the same of it
-pub set_as : (counts : Bool) (image new : List ℕ) (db : Db) (index : ℕ) (entry : Entry ℕ) (info change : Entry ℕ → Entry ℕ) → Accepted image → IsSome (with_number (store_of image) db.0) → entry_under (store_of image) db index ≡ Some entry → info entry ≡ change entry
-    → LeavesStore image new (raised_if counts (entry_changed (store_of image) db index info) db) → LeavesStore image new (raised_if counts (entry_changed (store_of image) db index change) db)
-set_as counts image new db index entry info change a has e same leaves =
-    subst (λ (stored : List StoredDatabase). LeavesStore image new (raised_if counts (record (store_of image) { databases = stored }) db)) (entry_alike image db index entry info change a has e same) leaves
 
 -- where it is said with the record's ID, its attributes change alone
 pub attributes_set : (counts : Bool) (image new : List ℕ) (db : Db) (index attributes id slot now : ℕ) (change : ℕ → ℕ) → Accepted image → IsSome (with_number (store_of image) db.0) → entry_under (store_of image) db index ≡ Some (a_record attributes id slot) → now ≡ change attributes

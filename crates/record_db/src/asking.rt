@@ -6,9 +6,9 @@ ghost use Rattle.heap_model.specs.declared.call.Reply.{Reply};
 ghost use Rattle.palm_store.specs.Replies.{number_or_refused, name_or_refused};
 ghost use Rattle.record_db.specs.Checks.{DoesRecord};
 
-use crate::checks::{Access, count_records, open_records};
 use crate::records::{find_live, find_record};
 use crate::search::find_id;
+use database_access::{Access, EntryKind, count_entries, open_database};
 use heap_model::{Db, Name, RecordInfo, Refusal};
 use palm_store::Store;
 
@@ -18,7 +18,7 @@ use palm_store::Store;
 pub fn num_records(store: &Store, db: Db) -> Result<u32, Refusal>
     ensures { DoesRecord store.now (RecordCall.Count db) (number_or_refused result) store.now }
 {
-    count_records(store, db, Access::Read)
+    count_entries(store, db, EntryKind::Records, Access::Read)
 }
 
 /// The name of a record's data. The record isn't marked as busy by it, and may be busy already.
@@ -46,6 +46,6 @@ pub fn record_info(store: &Store, db: Db, index: u32) -> Result<RecordInfo, Refu
 pub fn find_by_id(store: &Store, db: Db, id: u32) -> Result<u32, Refusal>
     ensures { DoesRecord store.now (RecordCall.FindById db id) (number_or_refused result) store.now }
 {
-    let records = open_records(store, db, Access::Read)?;
+    let records = open_database(store, db, EntryKind::Records, Access::Read)?;
     find_id(&records, id).ok_or(Refusal::UniqueIdNotFound)
 }

@@ -6,12 +6,39 @@ ghost use Rattle.heap_model.specs.EntrySteps.{deleted_bit};
 ghost use Rattle.heap_model.specs.RecordSteps.{busy_bit, new_attributes};
 ghost use Rattle.heap_model.specs.Categories as categories;
 ghost use Rattle.heap_model.specs.RecordSteps as steps;
+ghost use Rattle.record_db.specs.Categories.{moved_attributes};
 
 use bitflags::Flags;
 use db_format::RecordAttrs;
+use raw_region::ByteChange;
 
 /// What stands for all categories, in the calls that count.
 pub(crate) const ALL_CATEGORIES: u8 = 0xFF;
+
+/// What a move of the records of one category to another does to the attributes of a record.
+#[derive(Clone, Copy)]
+pub(crate) struct Moving {
+    pub(crate) to: u8,
+    pub(crate) from: u8,
+    /// Whether records that move are dirty then.
+    pub(crate) dirty: bool,
+    ghost fits: { to < categories.categories },
+}
+
+impl ByteChange for Moving {
+    ghost made = { λ moving attributes.
+        moved_attributes moving.to moving.from moving.dirty attributes };
+
+    #[inline]
+    fn of(self, attributes: u8) -> u8 {
+        let record = RecordAttrs::from_bits_retain(attributes);
+        if has_category(record, self.from) {
+            recategorized(record, self.to, self.dirty)
+        } else {
+            attributes
+        }
+    }
+}
 
 /// Whether a record is deleted.
 pub(crate) fn is_deleted(attributes: u8) -> bool

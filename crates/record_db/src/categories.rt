@@ -3,8 +3,8 @@
 ghost use Rattle.std.specs.Prelude.{◌≡◌, ◌<◌, false, [], ◌∷◌, length, OnOk, IfErr};
 ghost use Rattle.heap_model.specs.Store.{store_of};
 ghost use Rattle.heap_model.specs.Refusals.{NoneHolds, FirstBrings};
-ghost use Rattle.heap_model.specs.EntrySteps.{entry_under, OfEntry, entry_changed, MakesNone};
-ghost use Rattle.heap_model.specs.Categories.{categories, IsOf, moved_category};
+ghost use Rattle.heap_model.specs.EntrySteps.{entry_under, OfEntry, MakesNone};
+ghost use Rattle.heap_model.specs.Categories.{IsOf};
 ghost use Rattle.heap_model.specs.RecordSteps.{no_category, no_categories};
 ghost use Rattle.heap_model.specs.declared.call.RecordCall.{RecordCall};
 ghost use Rattle.palm_store.specs.Databases.{HasNumber};
@@ -13,13 +13,13 @@ ghost use Rattle.palm_store.specs.Replies.{done_or_refused, number_or_refused};
 ghost use Rattle.record_db.specs.Checks.{DoesRecord};
 ghost use Rattle.record_db.specs.Categories.{one_deleted};
 
-use crate::attributes::{ALL_CATEGORIES, has_category, recategorized};
-use crate::checks::{Access, count_records, open_records};
+use crate::attributes::{ALL_CATEGORIES, Moving, has_category};
 use crate::records::has_locked_of;
 use crate::search::{count_of, first_of};
+use database_access::{Access, EntryKind, count_entries, open_database};
 use db_format::CATEGORIES;
 use heap_model::{Db, Refusal};
-use palm_store::{EntryInfo, Store};
+use palm_store::Store;
 
 /// How many records are of a category, 0 to 15, or of any, for 0xFF. Deleted ones are passed over.
 ///
@@ -28,7 +28,7 @@ pub fn num_in_category(store: &Store, db: Db, category: u8) -> Result<u32, Refus
     ensures { DoesRecord store.now (RecordCall.CountInCategory db category)
         (number_or_refused result) store.now }
 {
-    let records = open_records(store, db, Access::Read)?;
+    let records = open_database(store, db, EntryKind::Records, Access::Read)?;
     check_counted(category)?;
     Ok(count_of(&records, category, records.entry_count()))
 }
@@ -41,7 +41,7 @@ pub fn next_in_category(store: &Store, db: Db, from: u32, category: u8) -> Resul
     ensures { DoesRecord store.now (RecordCall.NextInCategory db from category)
         (number_or_refused result) store.now }
 {
-    let records = open_records(store, db, Access::Read)?;
+    let records = open_database(store, db, EntryKind::Records, Access::Read)?;
     check_counted(category)?;
     first_of(&records, from, category).ok_or(Refusal::IndexOutOfRange)
 }
@@ -54,7 +54,7 @@ pub fn position_in_category(store: &Store, db: Db, index: u32, category: u8) -> 
     ensures { DoesRecord store.now (RecordCall.PositionInCategory db index category)
         (number_or_refused result) store.now }
 {
-    let records = open_records(store, db, Access::Read)?;
+    let records = open_database(store, db, EntryKind::Records, Access::Read)?;
     check_counted(category)?;
     if index >= records.entry_count() {
         return Err(Refusal::IndexOutOfRange);
@@ -76,12 +76,10 @@ pub fn move_category(
     ensures { DoesRecord store.old (RecordCall.MoveCategory db to from dirty)
         (done_or_refused result) store.new }
 {
-    let count = count_records(store, db, Access::Write)?;
+    count_entries(store, db, EntryKind::Records, Access::Write)?;
     check_category(to)?;
     check_category(from)?;
-    for index in 0..count {
-        move_one(store, db, index, to, from, dirty);
-    }
+    store.change_attributes(db, Moving { to, from, dirty });
     store.raise(db);
     Ok(())
 }
@@ -94,7 +92,7 @@ pub fn delete_category(store: &mut Store, db: Db, category: u8) -> Result<(), Re
     ensures { DoesRecord store.old (RecordCall.DeleteCategory db category)
         (done_or_refused result) store.new }
 {
-    let count = count_records(store, db, Access::Write)?;
+    let count = count_entries(store, db, EntryKind::Records, Access::Write)?;
     check_category(category)?;
     if has_locked_of(store, db, category) {
         return Err(Refusal::ChunkLocked);
@@ -126,27 +124,6 @@ fn check_counted(category: u8) -> Result<(), Refusal>
         return Err(Refusal::InvalidCategory);
     }
     Ok(())
-}
-
-/// Gives the record of an index another category, if it is of one and not deleted.
-fn move_one(store: &mut Store, db: Db, index: u32, to: u8, from: u8, dirty: bool)
-    requires known { HasNumber store.old.bytes db.0 }
-    requires records { resources_of_image store.old.bytes db ≡ false }
-    requires inside { index < length (entries_of_image store.old.bytes db) }
-    requires category { to < categories }
-    ensures moved { LeavesChanged store.old store.new
-        (λ before. entry_changed before db index (moved_category to from dirty)) }
-    ensures none_made { MakesNone store.old.bytes store.new.bytes }
-    ensures rest { store.new ≡ record store.old { bytes = store.new.bytes } }
-{
-    let record = store.database(db).record(index);
-    if has_category(record.attributes, from) {
-        let moved = EntryInfo::Record {
-            attributes: recategorized(record.attributes, to, dirty),
-            id: record.id,
-        };
-        store.entry_set(db, index, moved, false);
-    }
 }
 
 /// Deletes the record of an index, if it is of a category and not deleted.

@@ -1,14 +1,14 @@
 //! Records changed, moved and taken out.
 
-ghost use Rattle.std.specs.Prelude.{◌≡◌};
+ghost use Rattle.std.specs.Prelude.{◌≡◌, OnErr};
 ghost use Rattle.heap_model.specs.RecordSteps.{id_set};
 ghost use Rattle.heap_model.specs.declared.call.RecordCall.{RecordCall};
 ghost use Rattle.palm_store.specs.Replies.{done_or_refused, name_or_refused};
 ghost use Rattle.record_db.specs.Checks.{DoesRecord};
 
 use crate::attributes::{is_busy, marked_busy, marked_deleted, released, with_given};
-use crate::checks::{Access, count_records};
-use crate::records::{find_live, find_record, has_id, has_locked, is_locked};
+use crate::records::{find_live, find_record, has_id, has_locked};
+use database_access::{Access, EntryKind, count_entries, is_locked};
 use db_format::GREATEST_ID;
 use heap_model::{Db, Name, Refusal};
 use palm_store::{EntryInfo, Store, check_owner};
@@ -18,7 +18,8 @@ use palm_store::{EntryInfo, Store, check_owner};
 /// Refused: `NoSuchDatabase`, `NotRecordDatabase`, `ReadOnly`, `IndexOutOfRange`, `RecordDeleted`; `ChunkLocked`,
 /// where the data is locked.
 pub fn delete(store: &mut Store, db: Db, index: u32) -> Result<(), Refusal>
-    ensures { DoesRecord store.old (RecordCall.Delete db index) (done_or_refused result) store.new }
+    ensures does { DoesRecord store.old (RecordCall.Delete db index) (done_or_refused result) store.new }
+    ensures refused { OnErr result (store.new ≡ store.old) }
 {
     let live = find_live(store, db, index, Access::Write)?;
     if is_locked(store, live.data) {
@@ -32,8 +33,9 @@ pub fn delete(store: &mut Store, db: Db, index: u32) -> Result<(), Refusal>
 ///
 /// Refused: `NoSuchDatabase`, `NotRecordDatabase`, `ReadOnly`, `IndexOutOfRange`, `RecordDeleted`.
 pub fn archive(store: &mut Store, db: Db, index: u32) -> Result<(), Refusal>
-    ensures { DoesRecord store.old (RecordCall.Archive db index)
+    ensures does { DoesRecord store.old (RecordCall.Archive db index)
         (done_or_refused result) store.new }
+    ensures refused { OnErr result (store.new ≡ store.old) }
 {
     let live = find_live(store, db, index, Access::Write)?;
     let archived = EntryInfo::Record {
@@ -49,7 +51,8 @@ pub fn archive(store: &mut Store, db: Db, index: u32) -> Result<(), Refusal>
 /// Refused: `NoSuchDatabase`, `NotRecordDatabase`, `ReadOnly`, `IndexOutOfRange`; `ChunkLocked`, where the data is
 /// locked.
 pub fn remove(store: &mut Store, db: Db, index: u32) -> Result<(), Refusal>
-    ensures { DoesRecord store.old (RecordCall.Remove db index) (done_or_refused result) store.new }
+    ensures does { DoesRecord store.old (RecordCall.Remove db index) (done_or_refused result) store.new }
+    ensures refused { OnErr result (store.new ≡ store.old) }
 {
     let info = find_record(store, db, index, Access::Write)?;
     if has_locked(store, info.data) {
@@ -64,9 +67,10 @@ pub fn remove(store: &mut Store, db: Db, index: u32) -> Result<(), Refusal>
 ///
 /// Refused: `NoSuchDatabase`, `NotRecordDatabase`, `ReadOnly`, `IndexOutOfRange`.
 pub fn move_record(store: &mut Store, db: Db, from: u32, to: u32) -> Result<(), Refusal>
-    ensures { DoesRecord store.old (RecordCall.Move db from to) (done_or_refused result) store.new }
+    ensures does { DoesRecord store.old (RecordCall.Move db from to) (done_or_refused result) store.new }
+    ensures refused { OnErr result (store.new ≡ store.old) }
 {
-    let count = count_records(store, db, Access::Write)?;
+    let count = count_entries(store, db, EntryKind::Records, Access::Write)?;
     if from >= count || to > count {
         return Err(Refusal::IndexOutOfRange);
     }
@@ -78,7 +82,8 @@ pub fn move_record(store: &mut Store, db: Db, from: u32, to: u32) -> Result<(), 
 ///
 /// Refused: `NoSuchDatabase`, `NotRecordDatabase`, `IndexOutOfRange`, `RecordDeleted`, `RecordBusy`.
 pub fn get(store: &mut Store, db: Db, index: u32) -> Result<Name, Refusal>
-    ensures { DoesRecord store.old (RecordCall.Get db index) (name_or_refused result) store.new }
+    ensures does { DoesRecord store.old (RecordCall.Get db index) (name_or_refused result) store.new }
+    ensures refused { OnErr result (store.new ≡ store.old) }
 {
     let live = find_live(store, db, index, Access::Read)?;
     if is_busy(live.attributes) {
@@ -96,8 +101,9 @@ pub fn get(store: &mut Store, db: Db, index: u32) -> Result<Name, Refusal>
 ///
 /// Refused: `NoSuchDatabase`, `NotRecordDatabase`, `IndexOutOfRange`.
 pub fn release(store: &mut Store, db: Db, index: u32, dirty: bool) -> Result<(), Refusal>
-    ensures { DoesRecord store.old (RecordCall.Release db index dirty)
+    ensures does { DoesRecord store.old (RecordCall.Release db index dirty)
         (done_or_refused result) store.new }
+    ensures refused { OnErr result (store.new ≡ store.old) }
 {
     let info = find_record(store, db, index, Access::Read)?;
     let left = EntryInfo::Record {
@@ -113,8 +119,9 @@ pub fn release(store: &mut Store, db: Db, index: u32, dirty: bool) -> Result<(),
 ///
 /// Refused: `NoSuchDatabase`, `NotRecordDatabase`, `ReadOnly`, `IndexOutOfRange`, `RecordDeleted`, `InvalidOwner`.
 pub fn detach(store: &mut Store, db: Db, index: u32, owner: u8) -> Result<Name, Refusal>
-    ensures { DoesRecord store.old (RecordCall.Detach db index owner)
+    ensures does { DoesRecord store.old (RecordCall.Detach db index owner)
         (name_or_refused result) store.new }
+    ensures refused { OnErr result (store.new ≡ store.old) }
 {
     let live = find_live(store, db, index, Access::Write)?;
     check_owner(owner)?;
@@ -134,8 +141,9 @@ pub fn set_record_info(
     attributes: u8,
     id: u32,
 ) -> Result<(), Refusal>
-    ensures { DoesRecord store.old (RecordCall.SetInfo db index attributes id)
+    ensures does { DoesRecord store.old (RecordCall.SetInfo db index attributes id)
         (done_or_refused result) store.new }
+    ensures refused { OnErr result (store.new ≡ store.old) }
 {
     let info = find_record(store, db, index, Access::Write)?;
     let id = id_or(id, info.id);

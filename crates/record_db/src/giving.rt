@@ -6,8 +6,8 @@ ghost use Rattle.palm_store.specs.Replies.{name_or_refused, number_or_refused};
 ghost use Rattle.record_db.specs.Checks.{DoesRecord};
 
 use crate::attributes::{marked_dirty, of_attached_record};
-use crate::checks::{Access, count_records};
 use crate::records::find_live;
+use database_access::{Access, EntryKind, count_entries};
 use heap_model::{Db, Name, Refusal};
 use palm_store::{EntryInfo, NewEntry, Store, check_owner};
 
@@ -23,7 +23,7 @@ pub fn attach(store: &mut Store, db: Db, at: u32, name: Name) -> Result<u32, Ref
         (number_or_refused result) store.new }
     ensures refused { OnErr result (store.new ≡ store.old) }
 {
-    let count = count_records(store, db, Access::Write)?;
+    let count = count_entries(store, db, EntryKind::Records, Access::Write)?;
     store.check_given(name)?;
     let index = at.min(count);
     let entry = NewEntry::Record {
@@ -45,8 +45,9 @@ pub fn attach_replacing(
     name: Name,
     owner: u8,
 ) -> Result<Name, Refusal>
-    ensures { DoesRecord store.old (RecordCall.AttachReplacing db index name owner)
+    ensures does { DoesRecord store.old (RecordCall.AttachReplacing db index name owner)
         (name_or_refused result) store.new }
+    ensures refused { OnErr result (store.new ≡ store.old) }
 {
     let live = find_live(store, db, index, Access::Write)?;
     store.check_given(name)?;

@@ -9,7 +9,6 @@ mod asking;
 mod attributes;
 mod categories;
 mod changing;
-mod checks;
 mod giving;
 mod making;
 mod records;

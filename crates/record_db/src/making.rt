@@ -6,12 +6,12 @@ ghost use Rattle.heap_model.specs.Space.{FitsInPlace, MovesNothing, MovesOneStre
 ghost use Rattle.heap_model.specs.MemorySteps.{reply_of};
 ghost use Rattle.heap_model.specs.declared.call.RecordCall.{RecordCall};
 ghost use Rattle.palm_store.specs.EntryCalls.{data_of_image};
-ghost use Rattle.palm_store.specs.Replies.{done_or_refused};
-ghost use Rattle.record_db.specs.Checks.{DoesRecord, made_reply};
+ghost use Rattle.palm_store.specs.Replies.{made_reply, done_or_refused};
+ghost use Rattle.record_db.specs.Checks.{DoesRecord};
 
 use crate::attributes::of_new_record;
-use crate::checks::{Access, count_records};
 use crate::records::find_live;
+use database_access::{Access, EntryKind, count_entries};
 use heap_model::{Db, Name, Refusal};
 use palm_store::{NewEntry, Store};
 
@@ -24,7 +24,7 @@ pub fn new_record(store: &mut Store, db: Db, at: u32, size: u32) -> Result<(u32,
     ensures { DoesRecord store.old (RecordCall.New db at size)
         (reply_of made_reply result) store.new }
 {
-    let count = count_records(store, db, Access::Write)?;
+    let count = count_entries(store, db, EntryKind::Records, Access::Write)?;
     let index = at.min(count);
     let entry = NewEntry::Record {
         attributes: of_new_record(),

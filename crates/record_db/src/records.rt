@@ -8,14 +8,15 @@ ghost use Rattle.heap_model.specs.EntrySteps.{entry_under, HasId};
 ghost use Rattle.heap_model.specs.RecordSteps.{HasLockedOf};
 ghost use Rattle.palm_store.specs.Databases.{HasNumber};
 ghost use Rattle.palm_store.specs.EntryCalls.{entries_of_image, resources_of_image};
-ghost use Rattle.record_db.specs.Search.{SomeHas};
-ghost use Rattle.record_db.specs.Checks.{IsTold, IsLockedChunk, finding_checks, living_checks};
+ghost use Rattle.database_access.specs.Search.{SomeHas};
+ghost use Rattle.database_access.specs.Checks.{IsLockedChunk, finding_checks};
+ghost use Rattle.record_db.specs.Checks.{IsRecordTold, living_checks};
 
 use crate::attributes::{has_category, is_deleted};
-use crate::checks::{Access, check_attributes};
 use crate::search::find_id;
+use database_access::{Access, EntryKind, find_entry, is_locked};
 use heap_model::{Db, Entry, Name, RecordInfo, Refusal};
-use palm_store::{FIXED_LOCK, Store};
+use palm_store::Store;
 
 /// A record that is not deleted, and so has data.
 #[derive(Clone, Copy, Debug, PartialEq, Eq)]
@@ -26,6 +27,7 @@ pub(crate) struct LiveRecord {
 }
 
 /// The record of an index, deleted or not, of a database that may be used so.
+#[inline]
 pub(crate) fn find_record(
     store: &Store,
     db: Db,
@@ -36,17 +38,12 @@ pub(crate) fn find_record(
     ensures known { OnOk result (HasNumber store.now.bytes db.0) }
     ensures records { OnOk result (resources_of_image store.now.bytes db ≡ false) }
     ensures inside { OnOk result (index < length (entries_of_image store.now.bytes db)) }
-    ensures is { IfOk result (IsTold store.now.bytes db index) }
-    ensures passes { OnOk result (NoneHolds (finding_checks store.now.bytes db index access)) }
+    ensures is { IfOk result (IsRecordTold store.now.bytes db index) }
+    ensures passes { OnOk result (NoneHolds (finding_checks store.now.bytes db index EntryKind.Records access)) }
     ensures refused { IfErr result
-        (FirstBrings (finding_checks store.now.bytes db index access)) }
+        (FirstBrings (finding_checks store.now.bytes db index EntryKind.Records access)) }
 {
-    let found = store.find_entry(db, index)?;
-    check_attributes(found.attributes, access)?;
-    let Some(entry) = found.entry else {
-        return Err(Refusal::IndexOutOfRange);
-    };
-    match entry {
+    match find_entry(store, db, index, EntryKind::Records, access)? {
         Entry::Record(info) => Ok(info),
         Entry::Resource(_) => unreachable!(),
     }
@@ -83,16 +80,6 @@ pub(crate) fn find_live(
         id: info.id,
         data,
     })
-}
-
-/// Whether a chunk is locked: a fixed one is not.
-pub(crate) fn is_locked(store: &Store, name: Name) -> bool
-    ensures { IsTrue result ↔ IsLockedChunk store.now.bytes name.0 }
-{
-    match store.locks(name) {
-        Ok(count) => 0 < count && count < FIXED_LOCK,
-        Err(_) => false,
-    }
 }
 
 /// Whether a record has data, and it is locked.

@@ -8,18 +8,20 @@ use Rattle.script_lines.specs.declared.line.ChunkLabel.{ChunkLabel}
 use Rattle.script_lines.specs.declared.line.DatabaseLabel.{DatabaseLabel}
 use Rattle.script_lines.specs.declared.line.Line.{Line}
 use Rattle.script_lines.specs.declared.command.Command.{Command}
-use Rattle.script_lines.specs.declared.command.Command.TheVariants.{Memory, Database as OfDatabases, Record as OfRecords}
+use Rattle.script_lines.specs.declared.command.Command.TheVariants.{Memory, Database as OfDatabases, Record as OfRecords, Resource as OfResources}
 use Rattle.script_lines.specs.declared.memory_command.MemoryCommand.{MemoryCommand}
 use Rattle.script_lines.specs.declared.memory_command.MemoryCommand.TheVariants.{Bind}
 use Rattle.script_lines.specs.declared.database_command.DatabaseCommand.{DatabaseCommand}
 use Rattle.script_lines.specs.declared.database_command.DatabaseCommand.TheVariants.{Create}
 use Rattle.script_lines.specs.declared.record_command.RecordCommand.{RecordCommand}
 use Rattle.script_lines.specs.declared.record_command.RecordCommand.TheVariants as records
+use Rattle.script_lines.specs.declared.resource_command.ResourceCommand.{ResourceCommand}
+use Rattle.script_lines.specs.declared.resource_command.ResourceCommand.TheVariants as resources
 use Rattle.script_lines.specs.declared.value.Kind.{Kind}
 use Rattle.script_lines.specs.declared.value.Kind.TheVariants.{Chunk, Database, Byte, Short, Number, Flag, Which, FourBytes, Bytes, Text}
 use Rattle.script_lines.specs.declared.value.Value.{Value}
 use Rattle.script_lines.specs.declared.value.Value.TheVariants.{Chunk as ChunkValue, Database as DatabaseValue, Byte as ByteValue, Short as ShortValue, Number as NumberValue, Flag as FlagValue, Which as WhichValue, FourBytes as FourBytesValue}
-use Rattle.script_lines.specs.Commands.{Makes, memory_row, database_row, record_row, row_of, kinds_of, line_by, line_of}
+use Rattle.script_lines.specs.Commands.{Makes, memory_row, database_row, record_row, resource_row, row_of, kinds_of, line_by, line_of}
 use Rattle.script_lines.specs.Kinds.{WordsRead, read_word, read_words, with_bytes, with_chunk, with_database, with_value}
 use Rattle.script_lines.specs.Numbering.{Numberings, label_number}
 use Rattle.script_lines.specs.Reading.{none_read}
@@ -70,6 +72,11 @@ row-line (OfRecords command) = record_row-line command
     record_row-line : (command : RecordCommand) → (record_row command).line ≡ line_by (record_row command).of (record_row command).make
     record_row-line records.New = refl
     record_row-line command = refl
+row-line (OfResources command) = resource_row-line command
+  where
+    resource_row-line : (command : ResourceCommand) → (resource_row command).line ≡ line_by (resource_row command).of (resource_row command).make
+    resource_row-line resources.New = refl
+    resource_row-line command = refl
 
 pub makes_line : (command : Command) (values : List Value) (bytes : List ℕ) → AreOfKinds (kinds_of command) values → (line : Line) × (line_of command values bytes ≡ Some line)
 makes_line command values bytes fit = rw (row-line command) (line_made (row_of command).of (row_of command).make values bytes fit)

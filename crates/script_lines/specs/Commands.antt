@@ -12,19 +12,23 @@ use Rattle.heap_model.specs.declared.call.DatabaseCall.{DatabaseCall}
 use Rattle.heap_model.specs.declared.call.DatabaseCall.TheVariants as database
 use Rattle.heap_model.specs.declared.call.RecordCall.{RecordCall}
 use Rattle.heap_model.specs.declared.call.RecordCall.TheVariants as record_calls
+use Rattle.heap_model.specs.declared.call.ResourceCall.{ResourceCall}
+use Rattle.heap_model.specs.declared.call.ResourceCall.TheVariants as resource_calls
 use Rattle.script_lines.specs.declared.line.ChunkLabel.{ChunkLabel}
 use Rattle.script_lines.specs.declared.line.DatabaseLabel.{DatabaseLabel}
 use Rattle.script_lines.specs.declared.line.Line.{Line}
 use Rattle.script_lines.specs.declared.line.Line.TheVariants.{Print, Silent, BindChunk, BindDatabase}
 use Rattle.script_lines.specs.declared.line.Line.TheVariants as lines
 use Rattle.script_lines.specs.declared.command.Command.{Command}
-use Rattle.script_lines.specs.declared.command.Command.TheVariants.{Memory, Database, Record}
+use Rattle.script_lines.specs.declared.command.Command.TheVariants.{Memory, Database, Record, Resource}
 use Rattle.script_lines.specs.declared.memory_command.MemoryCommand.{MemoryCommand}
 use Rattle.script_lines.specs.declared.memory_command.MemoryCommand.TheVariants.{Bind, New, PtrNew, Free, Resize, SetOwner, Lock, Unlock, Size, Owner, Locks, Read, Write, Set, StrCopy, FreeByOwner, FreeBytes, Largest, Compact}
 use Rattle.script_lines.specs.declared.database_command.DatabaseCommand.{DatabaseCommand}
 use Rattle.script_lines.specs.declared.database_command.DatabaseCommand.TheVariants.{Create, Find, Nth, Count, Delete, Info, SetInfo, SetInfoBlock, TakeInfoBlock, InfoBlock}
 use Rattle.script_lines.specs.declared.record_command.RecordCommand.{RecordCommand}
 use Rattle.script_lines.specs.declared.record_command.RecordCommand.TheVariants as records
+use Rattle.script_lines.specs.declared.resource_command.ResourceCommand.{ResourceCommand}
+use Rattle.script_lines.specs.declared.resource_command.ResourceCommand.TheVariants as resources
 use Rattle.script_lines.specs.declared.value.Kind.{Kind}
 use Rattle.script_lines.specs.declared.value.Kind.TheVariants as kinds
 use Rattle.script_lines.specs.declared.value.Value.{Value}
@@ -83,6 +87,9 @@ on_databases call = calls.Database call
 
 abbrev pub on_records : RecordCall ChunkLabel DatabaseLabel → LineCall
 on_records call = calls.Record call
+
+abbrev pub on_resources : ResourceCall ChunkLabel DatabaseLabel → LineCall
+on_resources call = calls.Resource call
 
 abbrev pub memory_row : MemoryCommand → CommandRow
 memory_row Bind = row (codes "bind") (kinds.Chunk ∷ kinds.Number ∷ []) (λ label name. lines.Bind label name)
@@ -174,10 +181,23 @@ record_row records.PositionInCategory = row (codes "catpos") (kinds.Database ∷
 record_row records.MoveCategory = row (codes "catmove") (kinds.Database ∷ kinds.Byte ∷ kinds.Byte ∷ kinds.Flag ∷ []) (λ db to from dirty. Print (on_records (record_calls.MoveCategory db to from dirty)))
 record_row records.DeleteCategory = row (codes "catdelete") (kinds.Database ∷ kinds.Byte ∷ []) (λ db category. Print (on_records (record_calls.DeleteCategory db category)))
 
+abbrev pub resource_row : ResourceCommand → CommandRow
+resource_row resources.New = row (codes "resnew") (kinds.Database ∷ kinds.FourBytes ∷ kinds.Short ∷ kinds.Number ∷ kinds.Chunk ∷ []) (λ db kind id size label. BindChunk label (on_resources (resource_calls.New db kind id size)))
+resource_row resources.Attach = row (codes "resattach") (kinds.Database ∷ kinds.FourBytes ∷ kinds.Short ∷ kinds.Chunk ∷ []) (λ db kind id name. Print (on_resources (resource_calls.Attach db kind id name)))
+resource_row resources.Detach = row (codes "resdetach") (kinds.Database ∷ kinds.Number ∷ kinds.Byte ∷ kinds.Chunk ∷ []) (λ db index owner label. BindChunk label (on_resources (resource_calls.Detach db index owner)))
+resource_row resources.Remove = row (codes "resremove") (kinds.Database ∷ kinds.Number ∷ []) (λ db index. Print (on_resources (resource_calls.Remove db index)))
+resource_row resources.Resize = row (codes "resresize") (kinds.Database ∷ kinds.Number ∷ kinds.Number ∷ []) (λ db index size. Print (on_resources (resource_calls.Resize db index size)))
+resource_row resources.Info = row (codes "resinfo") (kinds.Database ∷ kinds.Number ∷ kinds.Chunk ∷ []) (λ db index label. BindChunk label (on_resources (resource_calls.Info db index)))
+resource_row resources.SetInfo = row (codes "resset") (kinds.Database ∷ kinds.Number ∷ kinds.FourBytes ∷ kinds.Short ∷ []) (λ db index kind id. Print (on_resources (resource_calls.SetInfo db index kind id)))
+resource_row resources.Find = row (codes "resfind") (kinds.Database ∷ kinds.FourBytes ∷ kinds.Short ∷ []) (λ db kind id. Print (on_resources (resource_calls.Find db kind id)))
+resource_row resources.FindType = row (codes "restype") (kinds.Database ∷ kinds.FourBytes ∷ kinds.Number ∷ []) (λ db kind nth. Print (on_resources (resource_calls.FindType db kind nth)))
+resource_row resources.Count = row (codes "rescount") (kinds.Database ∷ []) (λ db. Print (on_resources (resource_calls.Count db)))
+
 abbrev pub row_of : Command → CommandRow
 row_of (Memory command) = memory_row command
 row_of (Database command) = database_row command
 row_of (Record command) = record_row command
+row_of (Resource command) = resource_row command
 
 abbrev pub word_of : Command → List ℕ
 word_of command = (row_of command).word
@@ -199,8 +219,11 @@ database_commands = Create ∷ Find ∷ Nth ∷ Count ∷ Delete ∷ Info ∷ Se
 abbrev pub record_commands : List RecordCommand
 record_commands = records.New ∷ records.Delete ∷ records.Archive ∷ records.Remove ∷ records.Move ∷ records.Get ∷ records.Query ∷ records.Release ∷ records.Info ∷ records.Resize ∷ records.Count ∷ records.Attach ∷ records.AttachReplacing ∷ records.Detach ∷ records.SetInfo ∷ records.Find ∷ records.CountInCategory ∷ records.NextInCategory ∷ records.PositionInCategory ∷ records.MoveCategory ∷ records.DeleteCategory ∷ []
 
+abbrev pub resource_commands : List ResourceCommand
+resource_commands = resources.New ∷ resources.Attach ∷ resources.Detach ∷ resources.Remove ∷ resources.Resize ∷ resources.Info ∷ resources.SetInfo ∷ resources.Find ∷ resources.FindType ∷ resources.Count ∷ []
+
 abbrev pub commands : List Command
-commands = map Memory memory_commands ++ map Database database_commands ++ map Record record_commands
+commands = map Memory memory_commands ++ map Database database_commands ++ map Record record_commands ++ map Resource resource_commands
 
 -- the command of a word
 abbrev pub command_of : List ℕ → Option Command

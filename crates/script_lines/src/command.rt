@@ -13,15 +13,19 @@ use crate::database_command::{
 use crate::line::Line;
 use crate::memory_command::{MEMORY_COMMANDS, MemoryCommand, make_memory_line, memory_row};
 use crate::record_command::{RECORD_COMMANDS, RecordCommand, make_record_line, record_row};
+use crate::resource_command::{
+    RESOURCE_COMMANDS, ResourceCommand, make_resource_line, resource_row,
+};
 use crate::value::{Kind, Value};
 use heap_model::Bytes;
 
-/// A command, of the memory manager, of databases or of records.
+/// A command, of the memory manager, of databases, of records or of resources.
 #[derive(Clone, Copy)]
 pub(crate) enum Command {
     Memory(MemoryCommand),
     Database(DatabaseCommand),
     Record(RecordCommand),
+    Resource(ResourceCommand),
 }
 
 /// A command's row: its word, which no other command has, and the kinds of the words behind it.
@@ -49,6 +53,7 @@ pub(crate) fn row_of(command: Command) -> CommandRow
         Command::Memory(command) => memory_row(command),
         Command::Database(command) => database_row(command),
         Command::Record(command) => record_row(command),
+        Command::Resource(command) => resource_row(command),
     }
 }
 
@@ -74,7 +79,10 @@ pub(crate) fn find_command(word: &[u8]) -> Option<Command>
     if let Some(command) = find_in(&DATABASE_COMMANDS, word) {
         return Some(command);
     }
-    find_in(&RECORD_COMMANDS, word)
+    if let Some(command) = find_in(&RECORD_COMMANDS, word) {
+        return Some(command);
+    }
+    find_in(&RESOURCE_COMMANDS, word)
 }
 
 /// A line, if some values are of a shape.
@@ -97,5 +105,6 @@ pub(crate) fn make_line(command: Command, values: &[Value], bytes: Bytes) -> Opt
         Command::Memory(command) => make_memory_line(command, values, bytes),
         Command::Database(command) => make_database_line(command, values, bytes.as_slice()),
         Command::Record(command) => make_record_line(command, values),
+        Command::Resource(command) => make_resource_line(command, values),
     }
 }

@@ -18,6 +18,7 @@ mod line;
 mod memory_command;
 mod reading;
 mod record_command;
+mod resource_command;
 mod spelling;
 mod text;
 mod value;

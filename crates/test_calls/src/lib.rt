@@ -6,7 +6,9 @@
 mod database;
 mod memory;
 mod record;
+mod resource;
 
 pub use database::database_call;
 pub use memory::memory_call;
 pub use record::record_call;
+pub use resource::resource_call;

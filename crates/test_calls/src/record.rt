@@ -9,7 +9,7 @@ use rand_pcg::Pcg32;
 use test_model::{Database, Entries, Image};
 
 /// An index: most often one below a count, else the count, one above it, or a very large one.
-fn any_index(random: &mut Pcg32, count: u32) -> u32 {
+pub(crate) fn any_index(random: &mut Pcg32, count: u32) -> u32 {
     match random.random_range(0u32..16) {
         0 => count,
         1 => count.saturating_add(1),
@@ -19,7 +19,7 @@ fn any_index(random: &mut Pcg32, count: u32) -> u32 {
 }
 
 /// How many entries a database has, 0 where there is none of this number.
-fn entries_of(databases: &[Database], db: Db) -> u32 {
+pub(crate) fn entries_of(databases: &[Database], db: Db) -> u32 {
     for database in databases {
         if database.db == db {
             return u32::try_from(database.entry_count()).unwrap_or(u32::MAX);

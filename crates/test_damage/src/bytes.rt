@@ -9,10 +9,10 @@ use std::process::Abort;
 use std::test::Fail;
 use test_images::{DATABASE, bytes_of};
 
-/// Calls on chunks, databases and records, each with its reply on the image as it is. They ask of the
-/// database, its records and their data, change them and delete it, and then make another, with chunks of
-/// callers beside it.
-const CALLS: [(&str, &str); 68] = [
+/// Calls on chunks, databases, records and resources, each with its reply on the image as it is. They ask of the
+/// database, its records and their data, change them and delete it, and then make another, of
+/// resources, with chunks of callers beside it.
+const CALLS: [(&str, &str); 80] = [
     ("find d \"R\"", "ok"),
     ("nth d 0", "ok"),
     ("dbcount", "ok 1"),
@@ -63,6 +63,18 @@ const CALLS: [(&str, &str); 68] = [
     ("new a 3 1", "ok"),
     ("create e \"T\" \"DATA\" \"Test\" 1 5", "ok"),
     ("freebytes", "ok 40"),
+    ("resnew e \"code\" 7 2 c", "ok 0"),
+    ("resinfo e 0 u", "ok \"code\" 7"),
+    ("resfind e \"code\" 7", "ok 0"),
+    ("resset e 0 \"data\" 8", "ok"),
+    ("restype e \"data\" 0", "ok 0"),
+    ("resresize e 0 9", "ok"),
+    ("resdetach e 0 4 v", "ok"),
+    ("owner v", "ok 4"),
+    ("resattach e \"code\" 9 v", "ok 0"),
+    ("rescount e", "ok 1"),
+    ("resremove e 0", "ok"),
+    ("freebytes", "ok 40"),
     ("new b 10 2", "ok"),
     ("free a", "ok"),
     ("compact", "ok"),
@@ -85,7 +97,7 @@ const CALLS: [(&str, &str); 68] = [
     ("find x \"T\"", "ok"),
     (
         "dbinfo x",
-        "ok \"T\" 0001 0 5 5 0 0 \"DATA\" \"Test\" 00000000 0",
+        "ok \"T\" 0001 0 5 5 0 6 \"DATA\" \"Test\" 00000000 0",
     ),
     ("dbcount", "ok 1"),
     ("freebytes", "ok 56"),
@@ -93,19 +105,19 @@ const CALLS: [(&str, &str); 68] = [
     ("dbdelete x", "ok"),
 ];
 
-/// The calls as a script.
-fn calls(alloc: Global) -> Result<Script, Fail> {
+/// Calls as a script.
+fn script_of(alloc: Global, calls: &[(&str, &str)]) -> Result<Script, Fail> {
     let mut text = String::new(alloc);
-    for (line, _) in &CALLS {
+    for (line, _) in calls {
         writeln!(text, "{line}")?;
     }
     Ok(parse(alloc, text.as_str().as_bytes())?)
 }
 
 /// The lines of their replies.
-fn replies(alloc: Global) -> Result<String, Fail> {
+fn replies(alloc: Global, calls: &[(&str, &str)]) -> Result<String, Fail> {
     let mut text = String::new(alloc);
-    for (_, reply) in &CALLS {
+    for (_, reply) in calls {
         writeln!(text, "{reply}")?;
     }
     Ok(text)
@@ -131,17 +143,26 @@ fn takes(alloc: Global, image: &[u8], calls: &Script) -> Result<bool, Fail> {
     }
 }
 
-#[test]
-fn calls_are_answered_on_the_image_as_it_is(rt: HostRuntime) -> Result<(), Fail> {
-    let calls = calls(rt.alloc())?;
-    let image = bytes_of(rt.alloc(), DATABASE)?;
+/// Runs calls on an image as it is.
+pub(crate) fn check_replies(
+    rt: &(impl Abort + AllocGlobal),
+    listing: &str,
+    calls: &[(&str, &str)],
+) -> Result<(), Fail> {
+    let script = script_of(rt.alloc(), calls)?;
+    let image = bytes_of(rt.alloc(), listing)?;
     let store = Store::check(
         rt.alloc(),
         Region::from_bytes(rt.alloc(), image.as_slice())?,
     )?;
-    let said = String::from_utf8(run_on(rt.alloc(), store, &calls)?)?;
-    assert_eq!(rt; said.as_str(), replies(rt.alloc())?.as_str());
+    let said = String::from_utf8(run_on(rt.alloc(), store, &script)?)?;
+    assert_eq!(rt; said.as_str(), replies(rt.alloc(), calls)?.as_str());
     Ok(())
+}
+
+#[test]
+fn calls_are_answered_on_the_image_as_it_is(rt: HostRuntime) -> Result<(), Fail> {
+    check_replies(&rt, DATABASE, &CALLS)
 }
 
 /// Ranges of bytes, and with how many values of each byte of a range the image is accepted, by what
@@ -181,9 +202,9 @@ const VALUES: [(usize, usize, usize); 22] = [
     (204, 208, 256),
 ];
 
-/// With how many values of this byte the image is to be accepted.
-fn wanted_at(at: usize) -> usize {
-    for (from, to, count) in &VALUES {
+/// With how many values of this byte an image is to be accepted.
+fn wanted_at(values: &[(usize, usize, usize)], at: usize) -> usize {
+    for (from, to, count) in values {
         if *from <= at && at < *to {
             return *count;
         }
@@ -213,18 +234,23 @@ fn taken_at(alloc: Global, image: &[u8], at: usize, calls: &Script) -> Result<Ve
     Ok(taken)
 }
 
-/// Sets some bytes of the image to each value.
-fn check_bytes(rt: &(impl Abort + AllocGlobal), from: usize, to: usize) -> Result<(), Fail> {
-    let image = bytes_of(rt.alloc(), DATABASE)?;
-    let calls = calls(rt.alloc())?;
-    for at in from..to {
-        let taken = taken_at(rt.alloc(), image.as_slice(), at, &calls)?;
-        assert_eq!(rt; taken.len(), wanted_at(at), "byte {at}: {taken:?}");
+/// Sets each byte of an image to each value, and runs calls where it is accepted.
+pub(crate) fn check_bytes(
+    rt: &(impl Abort + AllocGlobal),
+    listing: &str,
+    calls: &[(&str, &str)],
+    values: &[(usize, usize, usize)],
+) -> Result<(), Fail> {
+    let image = bytes_of(rt.alloc(), listing)?;
+    let script = script_of(rt.alloc(), calls)?;
+    for at in 0..image.len() {
+        let taken = taken_at(rt.alloc(), image.as_slice(), at, &script)?;
+        assert_eq!(rt; taken.len(), wanted_at(values, at), "byte {at}: {taken:?}");
     }
     Ok(())
 }
 
 #[test]
 fn every_byte_has_every_value(rt: HostRuntime) -> Result<(), Fail> {
-    check_bytes(&rt, 0, 208)
+    check_bytes(&rt, DATABASE, &CALLS, &VALUES)
 }

@@ -6,3 +6,5 @@
 
 #[cfg(test)]
 mod bytes;
+#[cfg(test)]
+mod resources;

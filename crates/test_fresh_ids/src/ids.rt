@@ -1,7 +1,7 @@
 //! Fresh IDs of databases with some seeds and IDs.
 
 use db_format::{entry_count, has_name, has_resources, is_whole};
-use fresh_ids::fresh_id;
+use fresh_ids::{FreeIds, NO_IDS, free_ids};
 use std::alloc::{AllocError, Global};
 use std::test::*;
 
@@ -20,15 +20,25 @@ fn database(alloc: Global, seed: u32, ids: &[u32]) -> Result<Vec<u8>, AllocError
     Ok(bytes)
 }
 
-/// The fresh ID of a database, if the bytes are one that a record can be put into.
-fn fresh_of(bytes: &[u8]) -> Option<u32> {
+/// Free IDs of a database, the fresh one first, if the bytes are one that a record can be put into, and they
+/// are the same once they are known.
+fn free_of(bytes: &[u8]) -> Option<FreeIds> {
     if !is_whole(bytes) || !has_name(bytes) {
         return None;
     }
     if has_resources(bytes) || entry_count(bytes) == 65535 {
         return None;
     }
-    Some(fresh_id(bytes))
+    let free = free_ids(bytes, NO_IDS);
+    if free_ids(bytes, free) != free {
+        return None;
+    }
+    Some(free)
+}
+
+/// The fresh ID of such a database.
+fn fresh_of(bytes: &[u8]) -> Option<u32> {
+    free_of(bytes).map(|free| free.first)
 }
 
 /// So many IDs behind a seed, the last one first.
@@ -81,6 +91,35 @@ fn runs_behind_the_seed_are_passed(rt: HostRuntime) -> Result<(), Fail> {
                 "{seed}: {count}"
             );
         }
+    }
+    Ok(())
+}
+
+#[test]
+fn the_ids_behind_are_free_up_to_the_next_record(rt: HostRuntime) -> Result<(), Fail> {
+    for (seed, ids, first, end) in [
+        (0, [].as_slice(), 1, 0x0100_0000),
+        (5, &[1, 2, 9, 7], 6, 7),
+        (5, &[5, 12, 9], 6, 9),
+        (5, &[6, 7, 20], 8, 9),
+        (0x00FF_FFFF, &[4], 1, 4),
+        (0x00FF_FFFE, &[3], 0x00FF_FFFF, 0x0100_0000),
+    ] {
+        let bytes = database(rt.alloc(), seed, ids)?;
+        assert_eq!(rt;
+            free_of(&bytes),
+            Some(FreeIds { first, end }),
+            "{seed}: {ids:?}"
+        );
+    }
+    Ok(())
+}
+
+#[test]
+fn one_id_is_taken(rt: HostRuntime) -> Result<(), Fail> {
+    let free = FreeIds { first: 6, end: 10 };
+    for (id, first) in [(5, 6), (6, 7), (8, 9), (9, 10), (10, 6)] {
+        assert_eq!(rt; free.without(id), FreeIds { first, end: 10 }, "{id}");
     }
     Ok(())
 }

@@ -1,4 +1,4 @@
-//! Tests of `fresh_id`, on databases that are made here.
+//! Tests of `free_ids`, on databases that are made here.
 //!
 //! This crate has no code but its tests.
 #![tactic(auto)]

@@ -7,7 +7,7 @@ use std::process::Abort;
 use std::test::*;
 
 /// Does calls on one heap; each line has a call and its reply, with `=` between.
-fn check_on_one(
+pub(crate) fn check_on_one(
     rt: &(impl Abort + AllocGlobal),
     image: Vec<u8>,
     lines: &[String],
@@ -22,6 +22,20 @@ fn check_on_one(
         assert_eq!(rt; said.as_str(), right, "{line}");
     }
     Ok(())
+}
+
+/// The same, of the lines of a text.
+pub(crate) fn check_text(
+    rt: &(impl Abort + AllocGlobal),
+    image: Vec<u8>,
+    text: &str,
+) -> Result<(), Fail> {
+    let alloc = rt.alloc();
+    let mut lines = Vec::new(alloc);
+    for line in text.lines() {
+        lines.push(format!(in alloc; "{line}")?)?;
+    }
+    check_on_one(rt, image, &lines)
 }
 
 /// The name of the chunk that is made as the first of this number, 0 the first.

@@ -13,6 +13,10 @@ mod classes;
 #[cfg(test)]
 mod examples;
 #[cfg(test)]
+mod fixed;
+#[cfg(test)]
+mod hostile;
+#[cfg(test)]
 mod images;
 #[cfg(test)]
 mod lists;

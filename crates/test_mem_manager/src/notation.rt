@@ -114,6 +114,7 @@ pub(crate) fn text_of(alloc: Global, reply: &Reply) -> Result<String, AllocError
             name: Name(name),
         } => format!(in alloc; "made {index} named {name}"),
         Reply::Record(info) => format!(in alloc; "{info:?}"),
+        Reply::Resource(info) => format!(in alloc; "{info:?}"),
     }
 }
 

@@ -2,16 +2,13 @@
 //! those that ask for an info block or hand it back.
 
 use crate::database::Database;
+use crate::entry_calls::DATA_OWNER;
 use crate::image::{Image, Kind};
 use crate::memory_calls::{check_owner, number};
-use crate::parts::{Part, can_run_out};
-use crate::record_calls::{DIRTY, MOST_ENTRIES, RECORD_LENGTH};
+use crate::record_calls::{DIRTY, RECORD_LENGTH};
 use crate::store::PlainStore;
 use heap_model::{Db, Name, Refusal, Reply, Which};
 use std::alloc::Global;
-
-/// The owner of what a database names.
-const DATA_OWNER: u8 = 15;
 
 impl PlainStore {
     /// A chunk becomes the data of a new record, at an index or at the end: dirty, and not in use.
@@ -25,16 +22,7 @@ impl PlainStore {
         reply: &Reply,
     ) -> Result<Reply, Refusal> {
         self.check_written(db)?;
-        self.check_given(name)?;
-        if self.records(db)?.len() >= MOST_ENTRIES {
-            return Err(Refusal::TooManyEntries);
-        }
-        let entry = [Part::growth(before, Name(db.0), RECORD_LENGTH)];
-        let may_lack_room = can_run_out(alloc, before, &entry).map_err(|_| Refusal::OutOfMemory)?;
-        if may_lack_room && *reply == Reply::Refused(Refusal::NotEnoughSpace) {
-            return Err(Refusal::NotEnoughSpace);
-        }
-        self.heap.chunk_mut(name)?.owner = DATA_OWNER;
+        self.take_in(alloc, db, RECORD_LENGTH, name, before, reply)?;
         let index = self.list_record(db, at, name, DIRTY)?;
         self.count_change(db)?;
         Ok(number(index))
@@ -94,7 +82,7 @@ impl PlainStore {
     }
 
     /// Refuses a name of no chunk, of one that a database has, and of a fixed one.
-    fn check_given(&self, name: Name) -> Result<(), Refusal> {
+    pub(crate) fn check_given(&self, name: Name) -> Result<(), Refusal> {
         let chunk = self.heap.chunk(name)?;
         if chunk.owner == DATA_OWNER {
             return Err(Refusal::OwnedByDatabase);

@@ -16,12 +16,14 @@ mod accepted;
 mod category_calls;
 mod database;
 mod database_calls;
+mod entry_calls;
 mod giving_calls;
 mod heap;
 mod image;
 mod memory_calls;
 mod parts;
 mod record_calls;
+mod resource_calls;
 mod rules;
 mod store;
 

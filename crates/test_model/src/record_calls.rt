@@ -2,21 +2,15 @@
 //! answers.
 
 use crate::database::{DELETED, Entries, Record};
+use crate::entry_calls::DATA_OWNER;
 use crate::image::{Image, Kind};
 use crate::memory_calls::{check_owner, number};
-use crate::parts::{Part, can_run_out};
 use crate::store::PlainStore;
 use heap_model::{Db, Name, RecordCall, RecordInfo, Refusal, Reply};
 use std::alloc::Global;
 
-/// The most entries of a database.
-pub(crate) const MOST_ENTRIES: usize = 65_535;
-
 /// What the entry of a record takes, in bytes.
 pub(crate) const RECORD_LENGTH: u32 = 8;
-
-/// The bit of a database's attributes that says that it may only be read.
-const READ_ONLY: u16 = 0x0002;
 
 /// The bits of a record's attributes that say that it was changed, and that it is in use.
 pub(crate) const DIRTY: u8 = 0x40;
@@ -97,37 +91,9 @@ impl PlainStore {
         before: &Image,
         reply: &Reply,
     ) -> Result<Reply, Refusal> {
-        let name = self.room_for_record(alloc, db, size, before, reply)?;
-        self.insert_record(alloc, db, at, name, size)
-    }
-
-    /// The name for the data of a new record, a free slot. The data may find no room, or the header none for
-    /// one entry more.
-    fn room_for_record(
-        &self,
-        alloc: Global,
-        db: Db,
-        size: u32,
-        before: &Image,
-        reply: &Reply,
-    ) -> Result<Name, Refusal> {
         self.check_written(db)?;
-        if self.records(db)?.len() >= MOST_ENTRIES {
-            return Err(Refusal::TooManyEntries);
-        }
-        let first = before.first_free_slot().ok_or(Refusal::NotEnoughSpace)?;
-        let parts = [
-            Part::making(size),
-            Part::growth(before, Name(db.0), RECORD_LENGTH),
-        ];
-        let may_lack_room = can_run_out(alloc, before, &parts).map_err(|_| Refusal::OutOfMemory)?;
-        match reply {
-            Reply::Refused(Refusal::NotEnoughSpace) if may_lack_room => {
-                Err(Refusal::NotEnoughSpace)
-            }
-            Reply::Made { name, .. } if before.is_free_slot(*name) => Ok(*name),
-            _ => Ok(first),
-        }
+        let name = self.name_for_data(alloc, db, RECORD_LENGTH, size, before, reply)?;
+        self.insert_record(alloc, db, at, name, size)
     }
 
     /// A record whose data is zeros, at an index or at the end: dirty and busy.
@@ -140,7 +106,7 @@ impl PlainStore {
         size: u32,
     ) -> Result<Reply, Refusal> {
         self.heap
-            .make(alloc, name, Kind::Movable { locks: 0 }, size, 15)?;
+            .make(alloc, name, Kind::Movable { locks: 0 }, size, DATA_OWNER)?;
         let index = self.list_record(db, at, name, DIRTY | BUSY)?;
         self.count_change(db)?;
         Ok(Reply::Made {
@@ -332,14 +298,6 @@ impl PlainStore {
         self.check_writable(db)
     }
 
-    /// Refuses a database that may only be read.
-    pub(crate) fn check_writable(&self, db: Db) -> Result<(), Refusal> {
-        if self.database(db)?.header.attributes & READ_ONLY != 0 {
-            return Err(Refusal::ReadOnly);
-        }
-        Ok(())
-    }
-
     /// The record of an index.
     fn record(&self, db: Db, index: u32) -> Result<Record, Refusal> {
         match self.records(db)?.get(index as usize) {
@@ -369,13 +327,6 @@ impl PlainStore {
             self.heap.free_all(&[name])?;
         }
         Ok(())
-    }
-
-    /// The modification number of a database rises.
-    pub(crate) fn count_change(&mut self, db: Db) -> Result<Reply, Refusal> {
-        let header = &mut self.database_mut(db)?.header;
-        header.modification_number = header.modification_number.wrapping_add(1);
-        Ok(Reply::Done)
     }
 }
 

@@ -2,7 +2,7 @@
 
 use crate::image::{Image, Piece, u32_at};
 use crate::memory_calls::need;
-use heap_model::{Call, DatabaseCall, MemoryCall, Name, RecordCall, Refusal, Reply};
+use heap_model::{Call, DatabaseCall, MemoryCall, Name, RecordCall, Refusal, Reply, ResourceCall};
 
 /// What a call did that it may not do.
 #[derive(Clone, Copy, Debug, PartialEq, Eq)]
@@ -38,8 +38,8 @@ pub fn broken_rule(
     broken_in_area(asks(call), movable_by(call, before), reply, before, after)
 }
 
-/// The first rule that a call on a store broke. One on databases or records may move all chunks that it
-/// may move at all, and the first database that is made makes the directory.
+/// The first rule that a call on a store broke. One on databases, records or resources may move all chunks
+/// that it may move at all, and the first database that is made makes the directory.
 pub fn broken_store_rule(
     call: &Call,
     reply: &Reply,
@@ -64,7 +64,7 @@ fn is_created(call: &Call, reply: &Reply) -> bool {
         && matches!(reply, Reply::Database(_))
 }
 
-/// Whether a call on databases or records only asks.
+/// Whether a call on databases, records or resources only asks.
 fn asks_in_store(call: &Call) -> bool {
     matches!(
         call,
@@ -82,6 +82,11 @@ fn asks_in_store(call: &Call) -> bool {
                 | RecordCall::CountInCategory(..)
                 | RecordCall::NextInCategory { .. }
                 | RecordCall::PositionInCategory { .. }
+        ) | Call::Resource(
+            ResourceCall::Info(..)
+                | ResourceCall::Find { .. }
+                | ResourceCall::FindType { .. }
+                | ResourceCall::Count(_)
         )
     )
 }

@@ -76,6 +76,9 @@ impl PlainStore {
             Call::Record(call) => self
                 .record_call(alloc, call, before, reply)
                 .unwrap_or_else(Reply::Refused),
+            Call::Resource(call) => self
+                .resource_call(alloc, call, before, reply)
+                .unwrap_or_else(Reply::Refused),
         }
     }
 

@@ -1,11 +1,17 @@
 //! Calls done on a store.
 
-use heap_model::{Bytes, Call, DatabaseCall, MemoryCall, Name, RecordCall, Refusal, Reply};
+use heap_model::{
+    Bytes, Call, DatabaseCall, MemoryCall, Name, RecordCall, Refusal, Reply, ResourceCall,
+};
 use palm_store::{Locked, Store};
 use record_db::{
     archive, attach, attach_replacing, delete, delete_category, detach, find_by_id, get,
     move_category, move_record, new_record, next_in_category, num_in_category, num_records,
     position_in_category, query, record_info, release, remove, resize_record, set_record_info,
+};
+use resource_db::{
+    attach_resource, detach_resource, find_resource, find_type, new_resource, num_resources,
+    remove_resource, resize_resource, resource_info, set_resource_info,
 };
 use std::alloc::Global;
 
@@ -15,6 +21,7 @@ pub(crate) fn do_call(alloc: Global, store: &mut Store, call: &Call) -> Reply {
         Call::Memory(call) => memory_call(alloc, store, call),
         Call::Database(call) => database_call(store, call),
         Call::Record(call) => record_call(store, call),
+        Call::Resource(call) => resource_call(store, call),
     };
     answer.unwrap_or_else(Reply::Refused)
 }
@@ -100,6 +107,38 @@ fn record_call(store: &mut Store, call: &RecordCall) -> Result<Reply, Refusal> {
         RecordCall::DeleteCategory(db, category) => {
             delete_category(store, *db, *category).map(done)
         }
+    }
+}
+
+fn resource_call(store: &mut Store, call: &ResourceCall) -> Result<Reply, Refusal> {
+    match call {
+        ResourceCall::New { db, kind, id, size } => {
+            new_resource(store, *db, *kind, *id, *size).map(made)
+        }
+        ResourceCall::Attach { db, kind, id, name } => {
+            attach_resource(store, *db, *kind, *id, *name).map(Reply::Number)
+        }
+        ResourceCall::Detach { db, index, owner } => {
+            detach_resource(store, *db, *index, *owner).map(Reply::Named)
+        }
+        ResourceCall::Remove(db, index) => remove_resource(store, *db, *index).map(done),
+        ResourceCall::Resize { db, index, size } => {
+            resize_resource(store, *db, *index, *size).map(done)
+        }
+        ResourceCall::Info(db, index) => resource_info(store, *db, *index).map(Reply::Resource),
+        ResourceCall::SetInfo {
+            db,
+            index,
+            kind,
+            id,
+        } => set_resource_info(store, *db, *index, *kind, *id).map(done),
+        ResourceCall::Find { db, kind, id } => {
+            find_resource(store, *db, *kind, *id).map(Reply::Number)
+        }
+        ResourceCall::FindType { db, kind, nth } => {
+            find_type(store, *db, *kind, *nth).map(Reply::Number)
+        }
+        ResourceCall::Count(db) => num_resources(store, *db).map(Reply::Number),
     }
 }
 

@@ -1,6 +1,6 @@
 //! How often each call was accepted, and refused for which reason.
 
-use heap_model::{Call, DatabaseCall, MemoryCall, RecordCall, Refusal, Reply};
+use heap_model::{Call, DatabaseCall, MemoryCall, RecordCall, Refusal, Reply, ResourceCall};
 use std::alloc::Global;
 use std::process::Abort;
 use std::test::*;
@@ -83,6 +83,7 @@ fn name_of(call: &Call) -> &'static str {
         Call::Memory(call) => memory_name(call),
         Call::Database(call) => database_name(call),
         Call::Record(call) => record_name(call),
+        Call::Resource(call) => resource_name(call),
     }
 }
 
@@ -124,6 +125,21 @@ fn record_name(call: &RecordCall) -> &'static str {
         RecordCall::PositionInCategory { .. } => "position_in_category",
         RecordCall::MoveCategory { .. } => "move_category",
         RecordCall::DeleteCategory(..) => "delete_category",
+    }
+}
+
+fn resource_name(call: &ResourceCall) -> &'static str {
+    match call {
+        ResourceCall::New { .. } => "new_resource",
+        ResourceCall::Attach { .. } => "attach_resource",
+        ResourceCall::Detach { .. } => "detach_resource",
+        ResourceCall::Remove(..) => "remove_resource",
+        ResourceCall::Resize { .. } => "resize_resource",
+        ResourceCall::Info(..) => "resource_info",
+        ResourceCall::SetInfo { .. } => "set_resource_info",
+        ResourceCall::Find { .. } => "find_resource",
+        ResourceCall::FindType { .. } => "find_type",
+        ResourceCall::Count(_) => "num_resources",
     }
 }
 

@@ -1,8 +1,11 @@
-//! As many databases as there may be, and as many records.
+//! As many databases as there may be, as many records, and as many resources as there are slots for.
 
 use crate::beside::{Beside, bytes_of, store_of};
-use crate::images::{blank_image, full_database};
-use heap_model::{Call, DatabaseCall, Db, DbName, MemoryCall, RecordCall, Refusal, Reply};
+use crate::calls::do_call;
+use crate::images::{blank_image, crowded_program, full_database};
+use heap_model::{
+    Call, DatabaseCall, Db, DbName, MemoryCall, Name, RecordCall, Refusal, Reply, ResourceCall,
+};
 use std::alloc::Global;
 use std::process::Abort;
 use std::test::*;
@@ -128,5 +131,85 @@ fn the_last_of_65535_records_is_found(rt: HostRuntime) -> Result<(), Fail> {
     });
     let duplicate = Reply::Refused(Refusal::DuplicateId);
     assert_eq!(rt; beside.call(&rt, "full", &set)?, duplicate);
+    Ok(())
+}
+
+/// The type `code`.
+const CODE: u32 = 0x636F_6465;
+
+/// Calls on a database of 65,532 resources where one slot is left, each with its reply. The directory, the header
+/// and the data of each resource take a slot, of which a heap has 65,535: so there are 65,533 resources at most.
+const CROWDED: [(ResourceCall, Reply); 9] = [
+    (
+        ResourceCall::Find {
+            db: Db(20),
+            kind: CODE,
+            id: 65_531,
+        },
+        Reply::Number(65_531),
+    ),
+    (
+        ResourceCall::New {
+            db: Db(20),
+            kind: CODE,
+            id: 65_532,
+            size: 0,
+        },
+        Reply::Made {
+            index: 65_532,
+            name: Name(262_152),
+        },
+    ),
+    (
+        ResourceCall::New {
+            db: Db(20),
+            kind: CODE,
+            id: 65_533,
+            size: 0,
+        },
+        Reply::Refused(Refusal::NotEnoughSpace),
+    ),
+    (ResourceCall::Count(Db(20)), Reply::Number(65_533)),
+    (
+        ResourceCall::FindType {
+            db: Db(20),
+            kind: CODE,
+            nth: 65_532,
+        },
+        Reply::Number(65_532),
+    ),
+    (
+        ResourceCall::FindType {
+            db: Db(20),
+            kind: CODE,
+            nth: 65_533,
+        },
+        Reply::Refused(Refusal::ResourceNotFound),
+    ),
+    (ResourceCall::Remove(Db(20), 0), Reply::Done),
+    (
+        ResourceCall::Find {
+            db: Db(20),
+            kind: CODE,
+            id: 65_532,
+        },
+        Reply::Number(65_531),
+    ),
+    (
+        ResourceCall::Info(Db(20), 65_532),
+        Reply::Refused(Refusal::IndexOutOfRange),
+    ),
+];
+
+/// The calls in their order. What they leave is a store.
+#[test]
+fn every_slot_is_a_resource(rt: HostRuntime) -> Result<(), Fail> {
+    let alloc = rt.alloc();
+    let mut store = store_of(alloc, &crowded_program(alloc)?)?;
+    for (call, reply) in CROWDED {
+        let said = do_call(alloc, &mut store, &Call::Resource(call));
+        assert_eq!(rt; said, reply);
+    }
+    store_of(alloc, bytes_of(&store.into_region()))?;
     Ok(())
 }

@@ -47,6 +47,33 @@ pub(crate) fn blank_image(alloc: Global, size: u32, slots: u16) -> Result<Vec<u8
     Ok(Vec::from_slice(alloc, bytes_of(&region))?)
 }
 
+/// A database with the number 20 and 65,532 resources of the type `code`, whose IDs are their indexes and whose
+/// data has no byte. One slot is left, and 32 bytes are free.
+pub(crate) fn crowded_program(alloc: Global) -> Result<Vec<u8>, Fail> {
+    let mut bytes = listed(
+        alloc,
+        "50484931 00160050 FFFF 0000 00000010 00040018 00040028",
+    )?;
+    for index in 0..65_532u32 {
+        bytes.extend_from_slice(&(917_592 + 8 * index).to_be_bytes())?;
+    }
+    let header = "00*8 04000010 00FE0000 00000014 00*4 020A0030 00FDFFFA \
+        50 00*31 0001 0000 00*24 6170706C 54657374 00*8 FFFC";
+    bytes.extend_from_slice(listed(alloc, header)?.as_slice())?;
+    for index in 0..65_532u16 {
+        bytes.extend_from_slice(b"code")?;
+        bytes.extend_from_slice(&index.to_be_bytes())?;
+        bytes.extend_from_slice(&(24 + 4 * u32::from(index)).to_be_bytes())?;
+    }
+    bytes.extend_from_slice(&[0, 0])?;
+    for index in 0..65_532u32 {
+        bytes.extend_from_slice(&[0, 0, 0, 8])?;
+        bytes.extend_from_slice(&(0x1000_0000 - 458_780 - 2 * index).to_be_bytes())?;
+    }
+    bytes.extend_from_slice(listed(alloc, "80000020 00*28")?.as_slice())?;
+    Ok(bytes)
+}
+
 /// A database with the number 20 and as many records as it may have, all of them deleted and without data,
 /// with the IDs from 1 on. Its seed is the last ID but one.
 pub(crate) fn full_database(alloc: Global) -> Result<Vec<u8>, Fail> {

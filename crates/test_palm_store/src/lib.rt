@@ -17,6 +17,8 @@ mod full;
 #[cfg(test)]
 mod images;
 #[cfg(test)]
+mod known;
+#[cfg(test)]
 mod lists;
 #[cfg(test)]
 mod taken;

@@ -9,13 +9,13 @@ use rand_pcg::Pcg32;
 use std::alloc::Global;
 use std::process::Abort;
 use std::test::*;
-use test_calls::{database_call, memory_call, record_call};
+use test_calls::{database_call, memory_call, record_call, resource_call};
 use test_images::{DATABASE, TWO_DATABASES, bytes_of as listed};
 use test_model::Image;
 
 /// Each call with the refusals that it must have met, beside being accepted. That there are too many
-/// databases or records has tests of its own.
-const OUTCOMES: [(&str, &[Refusal]); 50] = [
+/// databases or records has tests of its own; a heap has too few slots for too many resources.
+const OUTCOMES: [(&str, &[Refusal]); 60] = [
     (
         "handle_new",
         &[Refusal::InvalidOwner, Refusal::NotEnoughSpace],
@@ -290,6 +290,87 @@ const OUTCOMES: [(&str, &[Refusal]); 50] = [
             Refusal::ChunkLocked,
         ],
     ),
+    (
+        "new_resource",
+        &[
+            Refusal::NoSuchDatabase,
+            Refusal::NotResourceDatabase,
+            Refusal::ReadOnly,
+            Refusal::NotEnoughSpace,
+        ],
+    ),
+    (
+        "attach_resource",
+        &[
+            Refusal::NoSuchDatabase,
+            Refusal::NotResourceDatabase,
+            Refusal::ReadOnly,
+            Refusal::InvalidHandle,
+            Refusal::OwnedByDatabase,
+            Refusal::ChunkFixed,
+            Refusal::NotEnoughSpace,
+        ],
+    ),
+    (
+        "detach_resource",
+        &[
+            Refusal::NoSuchDatabase,
+            Refusal::NotResourceDatabase,
+            Refusal::ReadOnly,
+            Refusal::IndexOutOfRange,
+            Refusal::InvalidOwner,
+        ],
+    ),
+    (
+        "remove_resource",
+        &[
+            Refusal::NoSuchDatabase,
+            Refusal::NotResourceDatabase,
+            Refusal::ReadOnly,
+            Refusal::IndexOutOfRange,
+            Refusal::ChunkLocked,
+        ],
+    ),
+    (
+        "resize_resource",
+        &[
+            Refusal::NoSuchDatabase,
+            Refusal::NotResourceDatabase,
+            Refusal::ReadOnly,
+            Refusal::IndexOutOfRange,
+            Refusal::ChunkLocked,
+            Refusal::NotEnoughSpace,
+        ],
+    ),
+    (
+        "resource_info",
+        &[
+            Refusal::NoSuchDatabase,
+            Refusal::NotResourceDatabase,
+            Refusal::IndexOutOfRange,
+        ],
+    ),
+    (
+        "set_resource_info",
+        &[
+            Refusal::NoSuchDatabase,
+            Refusal::NotResourceDatabase,
+            Refusal::ReadOnly,
+            Refusal::IndexOutOfRange,
+        ],
+    ),
+    ("find_resource", &SEARCHED),
+    ("find_type", &SEARCHED),
+    (
+        "num_resources",
+        &[Refusal::NoSuchDatabase, Refusal::NotResourceDatabase],
+    ),
+];
+
+const SEARCHED: [Refusal; 3] = [
+    Refusal::NoSuchDatabase,
+    Refusal::NotResourceDatabase,
+    Refusal::ResourceNotFound,
 ];
 
 const COUNTED: [Refusal; 4] = [
@@ -315,10 +396,11 @@ const WRITES: [Refusal; 3] = [
 fn any_call(random: &mut Pcg32, alloc: Global, beside: &Beside) -> Result<Call, Fail> {
     let image = Image::decode(alloc, &beside.image)?;
     let databases = beside.plain.databases();
-    let call = match random.random_range(0u32..10) {
+    let call = match random.random_range(0u32..13) {
         0..=2 => Call::Memory(memory_call(random, alloc, &image)?),
         3..=5 => Call::Database(database_call(random, &image, databases)),
-        _ => Call::Record(record_call(random, &image, databases)),
+        6..=9 => Call::Record(record_call(random, &image, databases)),
+        _ => Call::Resource(resource_call(random, &image, databases)),
     };
     Ok(call)
 }

@@ -220,6 +220,7 @@ pub(crate) fn put_reply(text: &mut String, reply: &Reply) -> Result<(), AllocErr
             info.id,
             info.data.is_some()
         ),
+        Reply::Resource(info) => write!(text, "{}, {}, name {}; ", info.kind, info.id, info.data.0),
     }
 }
 

@@ -31,6 +31,10 @@ mod records;
 #[cfg(test)]
 mod reports;
 #[cfg(test)]
+mod resources;
+#[cfg(test)]
 mod runs;
+#[cfg(test)]
+mod shown;
 #[cfg(test)]
 mod words;

@@ -18,7 +18,7 @@ impl Heap {
     pub fn size(&self, name: Name) -> Result<u32, Refusal>
         ensures { Does self.now (MemoryCall.Size name) (number_or_refused result) self.now }
     {
-        let found = find(&self.space, name)?;
+        let found = find(&self.space, &self.known, name)?;
         Ok(found.length)
     }
 
@@ -28,7 +28,7 @@ impl Heap {
     pub fn owner(&self, name: Name) -> Result<u8, Refusal>
         ensures { Does self.now (MemoryCall.Owner name) (number_or_refused result) self.now }
     {
-        let found = find(&self.space, name)?;
+        let found = find(&self.space, &self.known, name)?;
         Ok(found.owner)
     }
 
@@ -38,7 +38,7 @@ impl Heap {
     pub fn locks(&self, name: Name) -> Result<u8, Refusal>
         ensures { Does self.now (MemoryCall.Locks name) (number_or_refused result) self.now }
     {
-        let found = find(&self.space, name)?;
+        let found = find(&self.space, &self.known, name)?;
         Ok(found.lock)
     }
 
@@ -50,7 +50,7 @@ impl Heap {
             (reply_of (λ bytes. Reply.Data bytes.now) result) self.now }
         ensures takes_no_memory { result ≢ Err Refusal.OutOfMemory }
     {
-        let found = find(&self.space, name)?;
+        let found = find(&self.space, &self.known, name)?;
         check_range(at, count as usize, found.length)?;
         let start = found.place.0 as usize + at as usize;
         Ok(self.space.region().slice(start, count as usize))
@@ -63,7 +63,7 @@ impl Heap {
     pub fn recover(&self, place: Place) -> Result<Name, Refusal>
         ensures { Does self.now (MemoryCall.Recover place) (name_or_refused result) self.now }
     {
-        name_at(&self.space, place)
+        name_at(&self.space, &self.known, place)
     }
 
     /// The sizes of the free chunks together, in bytes.

@@ -7,7 +7,7 @@ ghost use Rattle.mem_manager.specs.Replies.{done_or_refused, number_or_refused, 
 
 use crate::bounds::{before_zero, check_ended_range, check_owner, check_range};
 use crate::heap::{Heap, Locked};
-use crate::lookup::{check_callers, check_locked, check_movable, find};
+use crate::lookup::{check_callers, check_locked, check_movable, find, find_again};
 use heap_model::{Name, Refusal};
 
 /// The most locks that a movable chunk can have.
@@ -21,7 +21,7 @@ impl Heap {
     pub fn lock(&mut self, name: Name) -> Result<Locked, Refusal>
         ensures { Does self.old (MemoryCall.Lock name) (lock_or_refused result) self.new }
     {
-        let found = find(&self.space, name)?;
+        let found = find(&self.space, &self.known, name)?;
         check_movable(found)?;
         if found.lock == MOST_LOCKS {
             return Err(Refusal::LockOverflow);
@@ -40,7 +40,7 @@ impl Heap {
     pub fn unlock(&mut self, name: Name) -> Result<u8, Refusal>
         ensures { Does self.old (MemoryCall.Unlock name) (number_or_refused result) self.new }
     {
-        let found = find(&self.space, name)?;
+        let found = find(&self.space, &self.known, name)?;
         check_movable(found)?;
         check_locked(found)?;
         let count = found.lock - 1;
@@ -55,7 +55,7 @@ impl Heap {
         ensures { Does self.old (MemoryCall.Write name at bytes.now)
             (done_or_refused result) self.new }
     {
-        let found = find(&self.space, name)?;
+        let found = find_again(&self.space, &mut self.known, name)?;
         check_locked(found)?;
         check_range(at, bytes.len(), found.length)?;
         self.space.write(found, at, bytes);
@@ -69,7 +69,7 @@ impl Heap {
         ensures { Does self.old (MemoryCall.Set name at count byte)
             (done_or_refused result) self.new }
     {
-        let found = find(&self.space, name)?;
+        let found = find_again(&self.space, &mut self.known, name)?;
         check_locked(found)?;
         check_range(at, count as usize, found.length)?;
         self.space.fill(found, at, count, byte);
@@ -84,7 +84,7 @@ impl Heap {
         ensures { Does self.old (MemoryCall.StrCopy name at text.now)
             (done_or_refused result) self.new }
     {
-        let found = find(&self.space, name)?;
+        let found = find_again(&self.space, &mut self.known, name)?;
         check_locked(found)?;
         let part = before_zero(text);
         check_ended_range(at, part.len(), found.length)?;
@@ -98,7 +98,7 @@ impl Heap {
     pub fn set_owner(&mut self, name: Name, owner: u8) -> Result<(), Refusal>
         ensures { Does self.old (MemoryCall.SetOwner name owner) (done_or_refused result) self.new }
     {
-        let found = find(&self.space, name)?;
+        let found = find_again(&self.space, &mut self.known, name)?;
         check_callers(found)?;
         check_owner(owner)?;
         self.space.reown(found, owner);

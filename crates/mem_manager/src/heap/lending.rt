@@ -9,6 +9,8 @@ ghost use Rattle.heap_check.specs.Summary.{Summarizes};
 ghost use Rattle.heap_place.specs.Found.{IsOne};
 
 use crate::heap::Heap;
+use crate::known::KnownNames;
+use crate::lookup::named;
 use heap_check::{Summary, check_heap};
 use heap_model::Name;
 use heap_place::{Found, Space};
@@ -23,6 +25,7 @@ impl Heap {
         Heap {
             space: Space::new(region),
             used: 0,
+            known: KnownNames::none(),
         }
     }
 
@@ -49,7 +52,7 @@ impl Heap {
         ensures there { IfSome result (λ chunk. IsSome (held self.now.bytes name.0)) }
         ensures none { IfNone result (held self.now.bytes name.0 ≡ None) }
     {
-        let found = self.space.find(name)?;
+        let found = named(&self.space, &self.known, name)?;
         Some((found.owner, self.body_of(found)))
     }
 

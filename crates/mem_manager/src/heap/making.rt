@@ -12,11 +12,12 @@ ghost use Rattle.heap_model.specs.MemorySteps.{Does};
 ghost use Rattle.heap_model.specs.declared.call.MemoryCall.{MemoryCall};
 ghost use Rattle.mem_manager.specs.Replies.{done_or_refused, number_or_refused, name_or_refused};
 ghost use Rattle.heap_model.specs.Frame.{HasFrame};
-ghost use Rattle.master_table.specs.Table.{NotAmong};
-ghost use Rattle.mem_manager.specs.Lookup.{IsManaged, MakesNew, HasNoRoomFor, MovesOnlyForRoom};
+ghost use Rattle.master_table.specs.Table.{NotAmong, UsedBefore};
+ghost use Rattle.mem_manager.specs.Lookup.{MakesNew, HasNoRoomFor, MovesOnlyForRoom};
 
 use crate::bounds::check_owner;
 use crate::heap::Heap;
+use crate::known::KnownNames;
 use crate::lookup::{check_callers, find};
 use chunk_format::{FIXED_LOCK, chunk_size};
 use heap_compact::make_room;
@@ -63,7 +64,9 @@ impl Heap {
         let space = &mut self.space;
         check_owner(owner)?;
         let room = room_for(space, size)?;
-        Ok(space.claim_fixed(room, size, owner))
+        let name = space.claim_fixed(room, size, owner);
+        self.known.remember(name);
+        Ok(name)
     }
 
     /// Frees a chunk that is a caller's and has no lock; a fixed one may be freed.
@@ -72,12 +75,13 @@ impl Heap {
     pub fn free(&mut self, name: Name) -> Result<(), Refusal>
         ensures { Does self.old (MemoryCall.Free name) (done_or_refused result) self.new }
     {
-        let found = find(&self.space, name)?;
+        let found = find(&self.space, &self.known, name)?;
         check_callers(found)?;
         if found.lock > 0 && found.lock < FIXED_LOCK {
             return Err(Refusal::ChunkLocked);
         }
         self.used = used_without(self.space.region(), self.used, name);
+        self.known.forget(name);
         self.space.give_back(found);
         Ok(())
     }
@@ -92,6 +96,7 @@ impl Heap {
         check_owner(owner)?;
         let count = space.give_back_owned(owner);
         self.used = 0;
+        self.known = KnownNames::none();
         Ok(count)
     }
 }
@@ -104,11 +109,12 @@ pub(crate) fn make_movable(
     size: u32,
     owner: u8,
 ) -> Result<EmptySlot, Refusal>
-    requires managed { IsManaged space.old.bytes used }
+    requires accepted { HeapAccepted space.old.bytes }
+    requires in_use { UsedBefore space.old.bytes used }
     requires owner { owner < 16 }
     ensures made { IfOk result
         (λ slot. MakesNew space.old.bytes space.new.bytes slot.name.0 size owner) }
-    ensures in_use { IfOk result (λ slot. IsManaged space.new.bytes slot.before) }
+    ensures in_use { IfOk result (λ slot. UsedBefore space.new.bytes slot.before) }
     ensures had_room { OnOk result (HasNoRoomFor space.old.bytes size → ⊥) }
     ensures no_room { OnErr result (HasNoRoomFor space.old.bytes size) }
     ensures refusal { IfErr result (λ refusal. refusal ≡ Refusal.NotEnoughSpace) }

@@ -12,12 +12,14 @@ ghost use Rattle.heap_model.specs.Maps.{gone, put, sized, reowned};
 ghost use Rattle.heap_model.specs.Store.{managers_owner, bytes_under, owner_under};
 ghost use Rattle.heap_model.specs.Leaving.{Leaves, NamesDirectory};
 ghost use Rattle.heap_model.specs.Refusals.{NoneHolds, FirstBrings};
+ghost use Rattle.raw_region.specs.ByteChanges.{changed_every};
 ghost use Rattle.mem_manager.specs.Lookup.{IsMovable, MakesNew, HasNoRoomFor, MovesOnlyForRoom, MovesOnlyToGrow, checks_of_growth};
 
 use crate::heap::Heap;
 use crate::heap::making::{make_movable, used_without};
 use crate::heap::moving::resize_found;
 use heap_model::{Name, Refusal};
+use raw_region::ByteChange;
 
 impl Heap {
     /// Makes a movable chunk of `size` zeros, without a lock, for any owner. Its name is the offset of a slot
@@ -63,6 +65,31 @@ impl Heap {
     {
         let found = self.space.chunk(name);
         self.space.write(found, at, bytes);
+    }
+
+    /// Of `count` bytes of any chunk, from `at` within it on, changes each that stands behind `skip` others, or
+    /// `step` further, or as often that much.
+    pub fn sys_change_every<C: ByteChange>(
+        &mut self,
+        name: Name,
+        at: u32,
+        count: u32,
+        skip: u32,
+        step: u32,
+        change: C,
+    )
+        requires there { IsSome (held self.old.bytes name.0) }
+        requires within { at + count ≤ length (bytes_under self.old.bytes name.0) }
+        requires step { 0 < step }
+        ensures leaves { Leaves self.old.bytes self.new.bytes (put (held self.old.bytes) name.0 at
+            (changed_every (C.made change) step skip
+            (slice_range (bytes_under self.old.bytes name.0) at (at + count)))) }
+        ensures unmoved { MovesNothing self.old.bytes self.new.bytes }
+        ensures rest { self.new ≡ record self.old { bytes = self.new.bytes } }
+    {
+        let found = self.space.chunk(name);
+        self.space
+            .change_every(found, at, count, skip, step, change);
     }
 
     /// Copies `count` bytes of a chunk's body from `from` within it to `to` within it; the ranges may overlap.
@@ -123,6 +150,7 @@ impl Heap {
     {
         let found = self.space.chunk(name);
         self.used = used_without(self.space.region(), self.used, name);
+        self.known.forget(name);
         self.space.give_back(found);
     }
 

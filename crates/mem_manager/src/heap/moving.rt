@@ -46,7 +46,7 @@ impl Heap {
         ensures one_stretch { MovesOneStretchAnd self.old.bytes self.new.bytes name.0 }
         ensures refused { OnErr result (self.new ≡ self.old) }
     {
-        let found = find(&self.space, name)?;
+        let found = find(&self.space, &self.known, name)?;
         check_callers(found)?;
         check_movable(found)?;
         resize_found(&mut self.space, found, size)

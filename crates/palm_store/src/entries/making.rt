@@ -14,14 +14,16 @@ ghost use Rattle.palm_store.specs.Databases.{HasNumber};
 ghost use Rattle.palm_store.specs.EntryInfos.{makes_resource, IsMadeOf};
 ghost use Rattle.palm_store.specs.EntryCalls.{MayBeGiven};
 ghost use Rattle.palm_store.specs.NewEntries.{PutsIn, TakesIn};
+ghost use Rattle.palm_store.specs.KnownIds.{StandFree, StandFreeBeside};
 
 use crate::entries::infos::NewEntry;
+use crate::entries::known::KnownIds;
 use crate::entries::shapes::with_slot;
 use crate::lookup::header_of;
 use bitflags::Flags;
 use database_edits::insert_entry;
 use db_format::{DbEntry, RecordAttrs, RecordEntry, ResourceEntry};
-use fresh_ids::fresh_id;
+use fresh_ids::free_ids;
 use heap_model::{Db, Name, Refusal};
 use mem_manager::{DATA_OWNER, Heap};
 
@@ -93,23 +95,44 @@ pub(crate) fn take_in(
     Ok(())
 }
 
-/// The new entry, without data yet: a record gets a fresh ID.
-pub(crate) fn new_entry(heap: &Heap, db: Db, entry: NewEntry) -> DbEntry
+/// A new entry, without data yet, and what is known to be free beside its ID.
+#[derive(Clone, Copy)]
+pub(crate) struct MadeEntry {
+    pub(crate) entry: DbEntry,
+    pub(crate) known: KnownIds,
+}
+
+/// The new entry: a record gets a fresh ID, the next one where that is known to be free.
+pub(crate) fn new_entry(heap: &Heap, db: Db, entry: NewEntry, known: KnownIds) -> MadeEntry
     requires accepted { Accepted heap.now.bytes }
     requires number { HasNumber heap.now.bytes db.0 }
     requires kind { makes_resource entry ≡ resources_under (store_of heap.now.bytes) db }
     requires few { length (entries_in (store_of heap.now.bytes) db) < 65535 }
-    ensures is { IsMadeOf (store_of heap.now.bytes) db entry 0 (entry_of result) }
-    ensures kind { is_resource result ≡ makes_resource entry }
-    ensures id { HasFittingId result }
-    ensures fits { EntryFits (is_resource result) (entry_of result) }
+    requires known { StandFree (store_of heap.now.bytes) known }
+    ensures is { IsMadeOf (store_of heap.now.bytes) db entry 0 (entry_of result.entry) }
+    ensures kind { is_resource result.entry ≡ makes_resource entry }
+    ensures id { HasFittingId result.entry }
+    ensures fits { EntryFits (is_resource result.entry) (entry_of result.entry) }
+    ensures known { StandFreeBeside (store_of heap.now.bytes) (entry_of result.entry) result.known }
 {
     match entry {
-        NewEntry::Record { attributes } => DbEntry::Record(RecordEntry {
-            attributes: RecordAttrs::from_bits_retain(attributes),
-            id: fresh_id(header_of(heap, db)),
-            slot: 0,
-        }),
-        NewEntry::Resource { kind, id } => DbEntry::Resource(ResourceEntry { kind, id, slot: 0 }),
+        NewEntry::Record { attributes } => {
+            let free = free_ids(header_of(heap, db), known.of(db));
+            MadeEntry {
+                entry: DbEntry::Record(RecordEntry {
+                    attributes: RecordAttrs::from_bits_retain(attributes),
+                    id: free.first,
+                    slot: 0,
+                }),
+                known: KnownIds {
+                    db,
+                    ids: free.without(free.first),
+                },
+            }
+        }
+        NewEntry::Resource { kind, id } => MadeEntry {
+            entry: DbEntry::Resource(ResourceEntry { kind, id, slot: 0 }),
+            known,
+        },
     }
 }

@@ -6,6 +6,7 @@ ghost use Rattle.heap_model.specs.declared.call.Reply.{Reply};
 ghost use Rattle.palm_store.specs.Replies.{DoesDatabase, done_or_refused, database_or_refused};
 
 use crate::databases::{empty_header, free_data, has_locked, list_new, unlist, with_info};
+use crate::entries::NOTHING_KNOWN;
 use crate::lookup::{
     SLOT_SIZE, count_databases, directory_bytes, find_header, find_named, has_other_name, index_of,
     info_in, listed_in,
@@ -44,6 +45,7 @@ impl Store {
             return Err(Refusal::TooManyEntries);
         }
         let header = empty_header(field, kind, creator, resources, date);
+        self.known = NOTHING_KNOWN;
         let slot = list_new(&mut self.heap)?;
         self.heap.sys_write(slot, 0, &header.to_bytes());
         Ok(Db(slot.0))
@@ -63,6 +65,7 @@ impl Store {
         free_data(&mut self.heap, db);
         self.heap.sys_free(Name(db.0));
         unlist(&mut self.heap, index);
+        self.known = NOTHING_KNOWN;
         Ok(())
     }
 
@@ -124,6 +127,7 @@ impl Store {
         }
         let header = with_info(DbHeader::read(header), name, info);
         self.heap.sys_write(Name(db.0), 0, &header.to_bytes());
+        self.known = NOTHING_KNOWN;
         Ok(())
     }
 }

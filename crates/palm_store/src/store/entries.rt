@@ -16,8 +16,8 @@ ghost use Rattle.palm_store.specs.EntryCalls.{entries_of_image, resources_of_ima
 
 use crate::chunks::{check_taken, free_chunk_of};
 use crate::entries::{
-    EntryInfo, FoundEntry, NewEntry, count_entries, emptied, entry_at, entry_with, new_entry,
-    put_in, read_entry, take_in, with_slot,
+    EntryInfo, FoundEntry, NOTHING_KNOWN, NewEntry, count_entries, emptied, entry_at, entry_with,
+    new_entry, put_in, read_entry, take_in, with_slot,
 };
 use crate::lookup::{find_header, header_of};
 use crate::store::Store;
@@ -97,8 +97,9 @@ impl Store {
         if count_entries(&self.heap, db) >= MOST_ENTRIES {
             return Err(Refusal::TooManyEntries);
         }
-        let made = new_entry(&self.heap, db, entry);
-        let name = put_in(&mut self.heap, db, at, made, size)?;
+        let made = new_entry(&self.heap, db, entry, self.known);
+        let name = put_in(&mut self.heap, db, at, made.entry, size)?;
+        self.known = made.known;
         Ok(name)
     }
 
@@ -139,8 +140,9 @@ impl Store {
         if count_entries(&self.heap, db) >= MOST_ENTRIES {
             return Err(Refusal::TooManyEntries);
         }
-        let made = new_entry(&self.heap, db, entry);
-        take_in(&mut self.heap, db, at, made, name)?;
+        let made = new_entry(&self.heap, db, entry, self.known);
+        take_in(&mut self.heap, db, at, made.entry, name)?;
+        self.known = made.known;
         Ok(())
     }
 
@@ -177,6 +179,7 @@ impl Store {
     {
         let entry = entry_with(read_entry(&self.heap, db, index), info);
         write_entry(&mut self.heap, db, index as u16, entry, counts);
+        self.known = NOTHING_KNOWN;
     }
 
     /// Gives an entry a movable chunk of a caller's for its data, and sets what it says. The chunk becomes one for
@@ -199,6 +202,7 @@ impl Store {
         write_entry(&mut self.heap, db, index as u16, entry, true);
         self.heap.sys_set_owner(Name(was.slot()), owner);
         self.heap.sys_set_owner(name, DATA_OWNER);
+        self.known = NOTHING_KNOWN;
     }
 
     /// Moves the entry at an index in front of the one that stands at another, or behind the last: `to` counts
@@ -213,6 +217,7 @@ impl Store {
         ensures rest { self.new ≡ record self.old { bytes = self.new.bytes; slid = self.new.slid } }
     {
         move_entry(&mut self.heap, db, from as u16, to as u16);
+        self.known = NOTHING_KNOWN;
     }
 
     /// Frees the data of a record, if it has any. The record is deleted then, and keeps its ID and its other
@@ -230,6 +235,7 @@ impl Store {
         let entry = read_entry(&self.heap, db, index);
         write_entry(&mut self.heap, db, index as u16, emptied(entry), counts);
         free_chunk_of(&mut self.heap, Name(entry.slot()));
+        self.known = NOTHING_KNOWN;
     }
 
     /// Drops an entry: its data, if it has any, is freed, or handed over to an owner. The database counts the

@@ -7,8 +7,8 @@ use Rattle.heap_model.specs.declared.call.RecordCall.TheVariants.{DeleteCategory
 use Rattle.heap_model.specs.declared.call.Reply.TheVariants.{Done}
 use Rattle.laws_store.proofs.Doing.{changes, kept_then}
 use Rattle.record_db.proofs.CategoryTurns.{number_mid, deleted_so_far, deleted_none, deleted_turn, deleted_all, next_unlocked}
-use Rattle.record_db.proofs.Entries.{here}
-use Rattle.record_db.proofs.SearchLaws.{number_read, kind_read, entries_read}
+use Rattle.database_access.proofs.Entries.{here}
+use Rattle.database_access.proofs.SearchLaws.{number_read, kind_read, entries_read}
 use Rattle.record_db.proofs.Turns.{first_changed, length-changed}
 use Rattle.record_db.proofs.categories.delete_category.Goals as goal
 
@@ -27,7 +27,7 @@ pub delete_one-requires-clause-records : goal.delete_one-requires-clause-records
 delete_one-requires-clause-records c =
     let h = here c.args.store.now.bytes c.args.db.0 c.in_ok-count.ensures.accepted c.in_ok-count.ensures.known in
     let m = number_mid c.args.store.now.bytes c.loop-index.store.bytes c.args.db (first_changed (deleted_category c.args.category) c.loop-index.index) (deleted_so_far (store_of c.args.store.now.bytes) c.args.db (entries_in (store_of c.args.store.now.bytes) c.args.db) c.args.category c.loop-index.index) h c.loop-index.invariant.0.same refl in
-    kind_read c.loop-index.store.bytes c.args.db _ m ∙ sym (ap kind_of h.found) ∙ c.in_ok-count.ensures.records
+    kind_read c.loop-index.store.bytes c.args.db _ m ∙ sym (ap kind_of h.found) ∙ c.in_ok-count.ensures.kind
 
 pub delete_one-requires-clause-inside : goal.delete_one-requires-clause-inside
 delete_one-requires-clause-inside c =

@@ -5,7 +5,7 @@ use Rattle.heap_model.specs.Store.{store_of}
 use Rattle.heap_model.specs.EntrySteps.{entry_under}
 use Rattle.db_format.specs.Entries.{record_of}
 use Rattle.record_db.proofs.OneRecord.{deleted_one, none_deleted}
-use Rattle.record_db.proofs.SearchLaws.{entries_read}
+use Rattle.database_access.proofs.SearchLaws.{entries_read}
 use Rattle.record_db.proofs.categories.delete_one.Goals as goal
 
 pub returns-then-has_category-clause-deleted : goal.returns-then-has_category-clause-deleted

@@ -13,8 +13,8 @@ entry_set-requires-clause-info c =
     let some = found.some in
     may_have c.args.store.now.bytes c.args.db c.args.index c.in_ok-live.live.attributes c.in_ok-live.live.id c.in_ok-live.live.«data».0 c.marked_deleted.result found.accepted found.known found.records found.is (λ none. absurd (omega (arith, none, some)))
 
-pub returns : goal.returns
-returns c =
+pub returns-clause-does : goal.returns-clause-does
+returns-clause-does c =
     let found = c.in_ok-live.ensures in
     let leaves = attributes_set true c.args.store.now.bytes c.entry_set.new.self.bytes c.args.db c.args.index c.in_ok-live.live.attributes c.in_ok-live.live.id c.in_ok-live.live.«data».0 c.marked_deleted.result (λ (attributes : ℕ). bit_or attributes deleted_bit)
     found.accepted found.known found.is c.marked_deleted.ensures c.entry_set.ensures.set in

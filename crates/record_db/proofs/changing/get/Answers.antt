@@ -11,8 +11,8 @@ use Rattle.laws_store.proofs.Doing.{refused, changes}
 use Rattle.record_db.proofs.SetAttributes.{may_have, attributes_set}
 use Rattle.record_db.proofs.changing.get.Goals as goal
 
-pub returns-then-is_busy : goal.returns-then-is_busy
-returns-then-is_busy c =
+pub returns-then-is_busy-clause-does : goal.returns-then-is_busy-clause-does
+returns-then-is_busy-clause-does c =
     let found = c.in_ok-live.ensures in
     let none = found.passes in
     let busy = subst (λ (x : Option (Entry ℕ)). OfEntry x (HasAttributes is_busy)) (sym found.is) (sym c.is_busy.ensures ∙ c.if-is_busy.true) in
@@ -24,8 +24,8 @@ entry_set-requires-clause-info c =
     let some = found.some in
     may_have c.args.store.now.bytes c.args.db c.args.index c.in_ok-live.live.attributes c.in_ok-live.live.id c.in_ok-live.live.«data».0 c.marked_busy.result found.accepted found.known found.records found.is (λ none. absurd (omega (arith, none, some)))
 
-pub returns : goal.returns
-returns c =
+pub returns-clause-does : goal.returns-clause-does
+returns-clause-does c =
     let found = c.in_ok-live.ensures in
     let none = found.passes in
     let is = found.is in

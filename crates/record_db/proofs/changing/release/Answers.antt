@@ -22,8 +22,8 @@ entry_set-requires-clause-info c =
     ∙ released_deleted c.args.dirty c.in_ok-info.info.attributes
     (no_data c.args.store.now.bytes c.args.db c.args.index c.in_ok-info.info.attributes c.in_ok-info.info.id is.0 found.accepted found.known is.1 none))
 
-pub returns : goal.returns
-returns c =
+pub returns-clause-does : goal.returns-clause-does
+returns-clause-does c =
     let found = c.in_ok-info.ensures in
     let is = info_is (entry_under (store_of c.args.store.now.bytes) c.args.db c.args.index) c.in_ok-info.info found.is in
     let leaves = attributes_set false c.args.store.now.bytes c.entry_set.new.self.bytes c.args.db c.args.index c.in_ok-info.info.attributes c.in_ok-info.info.id is.0 c.released.result (released c.args.dirty)

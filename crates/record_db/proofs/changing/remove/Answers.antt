@@ -7,8 +7,8 @@ use Rattle.laws_store.proofs.Doing.{refused, changes}
 use Rattle.record_db.proofs.Entries.{locked_data}
 use Rattle.record_db.proofs.changing.remove.Goals as goal
 
-pub returns-then-has_locked : goal.returns-then-has_locked
-returns-then-has_locked c =
+pub returns-then-has_locked-clause-does : goal.returns-then-has_locked-clause-does
+returns-then-has_locked-clause-does c =
     let found = c.in_ok-info.ensures in
     let none = found.passes in
     let locked = locked_data c.args.store.now.bytes c.args.db c.args.index c.in_ok-info.info found.accepted found.is in
@@ -21,8 +21,8 @@ entry_drop-requires-clause-unlocked c =
     let locked = locked_data c.args.store.now.bytes c.args.db c.args.index c.in_ok-info.info found.accepted found.is in
     λ is. (let yes = c.has_locked.ensures.1 (locked.0 is) in let no = c.if-has_locked.false in absurd cc)
 
-pub returns : goal.returns
-returns c =
+pub returns-clause-does : goal.returns-clause-does
+returns-clause-does c =
     let found = c.in_ok-info.ensures in
     let none = found.passes in
     let locked = locked_data c.args.store.now.bytes c.args.db c.args.index c.in_ok-info.info found.accepted found.is in

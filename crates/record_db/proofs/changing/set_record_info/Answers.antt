@@ -10,10 +10,11 @@ use Rattle.heap_model.specs.declared.call.Reply.TheVariants.{Done}
 use Rattle.laws_store.proofs.Doing.{changes}
 use Rattle.palm_store.specs.EntryInfos.{with_info, CanHave}
 use Rattle.palm_store.specs.declared.entries.infos.EntryInfo.TheVariants as infos
-use Rattle.record_db.specs.Search.{SomeHas}
+use Rattle.database_access.specs.Search.{SomeHas}
 use Rattle.record_db.proofs.Bits.{set_deleted}
 use Rattle.record_db.proofs.Entries.{info_is, no_data}
-use Rattle.record_db.proofs.SetAttributes.{may_have_id, no_other, set_as}
+use Rattle.database_access.proofs.EntriesChanged.{set_as}
+use Rattle.record_db.proofs.SetAttributes.{may_have_id, no_other}
 use Rattle.record_db.proofs.changing.set_record_info.Goals as goal
 use Rattle.record_db.proofs.changing.set_record_info.Goals.{else-id-info-via-then-id-info+else-has_id, else-id-info-via-else-id-info}
 
@@ -35,8 +36,8 @@ entry_set-requires-clause-info c =
     (no_data c.args.store.now.bytes c.args.db c.args.index c.in_ok-info.info.attributes c.in_ok-info.info.id is.0 found.accepted found.known is.1 none))
     which)
 
-pub returns : goal.returns
-returns c =
+pub returns-clause-does : goal.returns-clause-does
+returns-clause-does c =
     let found = c.in_ok-info.ensures in
     let none = found.passes in
     let is = info_is (entry_under (store_of c.args.store.now.bytes) c.args.db c.args.index) c.in_ok-info.info found.is in

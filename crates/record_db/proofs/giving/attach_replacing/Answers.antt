@@ -14,8 +14,8 @@ entry_swap-requires-clause-info c =
     let some = found.some in
     may_have c.args.store.now.bytes c.args.db c.args.index c.in_ok-live.live.attributes c.in_ok-live.live.id c.in_ok-live.live.«data».0 c.marked_dirty.result found.accepted found.known found.records found.is (λ none. absurd (omega (arith, none, some)))
 
-pub returns : goal.returns
-returns c =
+pub returns-clause-does : goal.returns-clause-does
+returns-clause-does c =
     let found = c.in_ok-live.ensures in
     let passes = found.passes in
     let given = c.in_ok-check_given.ensures.could in

@@ -1,7 +1,7 @@
 use Rattle.std.proofs.Common.{◌≡◌, ◌<◌, false, length, arith}
 use Rattle.heap_model.specs.Database.{database_in, resources_in}
 use Rattle.db_format.specs.Entries.{record_of}
-use Rattle.db_format.proofs.ViewLaws.{records_read, record_inside, record_read}
+use Rattle.db_format.proofs.ViewLaws.{kind_read, entry_inside, entry_there}
 use Rattle.db_format.proofs.view.DatabaseView.record.Goals as goal
 
 pub overflow_cast-index : goal.overflow_cast-index
@@ -12,14 +12,14 @@ overflow_cast-index c =
 
 pub read-requires-clause-inside : goal.read-requires-clause-inside
 read-requires-clause-inside c =
-    let records : resources_in c.self.inside.bytes.now ≡ false = records_read c.self.inside.bytes.now (rw c.self.view_is c.requires.records) in
+    let records : resources_in c.self.inside.bytes.now ≡ false = kind_read c.self.inside.bytes.now false (rw c.self.view_is c.requires.records) in
     let inside : c.args.index < length (database_in c.self.inside.bytes.now).entries = rw c.self.view_is c.requires.inside in
-    record_inside c.self.inside.bytes.now c.args.index c.self.invariant records inside
+    entry_inside c.self.inside.bytes.now false c.args.index c.self.invariant records inside
 
 pub read-requires-clause-records : goal.read-requires-clause-records
-read-requires-clause-records c = records_read c.self.inside.bytes.now (rw c.self.view_is c.requires.records)
+read-requires-clause-records c = kind_read c.self.inside.bytes.now false (rw c.self.view_is c.requires.records)
 
 pub returns : goal.returns
 returns c =
     let inside : c.args.index < length (database_in c.self.inside.bytes.now).entries = rw c.self.view_is c.requires.inside in
-    rw (← c.self.view_is) (record_read c.self.inside.bytes.now c.args.index (record_of c.read.result) inside c.read.ensures.is)
+    rw (← c.self.view_is) (entry_there c.self.inside.bytes.now c.args.index (record_of c.read.result) inside c.read.ensures.is)

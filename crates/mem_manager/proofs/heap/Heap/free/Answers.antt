@@ -31,8 +31,8 @@ give_back-requires-clause-no_directory c = not_the_directory c.self.inside.space
 pub invariant_of-self : goal.invariant_of-self
 invariant_of-self c =
     let f = c.in_ok-found.ensures.found in
-    used_freed c.self.inside.space.bytes c.give_back.new.self.bytes c.self.inside.used c.used_without-self-inside.result c.args.name.0 c.self.invariant c.used_without-self-inside.ensures.fewer
-    (subst (λ (m : Memory). NotAmong m.bytes c.used_without-self-inside.result c.args.name.0) c.region.ensures c.used_without-self-inside.ensures.apart)
+    used_freed c.self.inside.space.bytes c.give_back.new.self.bytes c.self.inside.used c.used_without-self-inside.result c.args.name.0 c.forget.new.self.names c.self.invariant c.used_without-self-inside.ensures.fewer
+    (subst (λ (m : Memory). NotAmong m.bytes c.used_without-self-inside.result c.args.name.0) c.region.ensures c.used_without-self-inside.ensures.apart) c.forget.ensures
     (freed_changes c.self.inside.space.bytes c.give_back.new.self.bytes c.args.name.0 (c.in_ok-found.found.place.0 - 8) f.live f.chunk c.self.invariant.accepted f.finds c.give_back.ensures.gone)
 
 pub returns : goal.returns

@@ -7,8 +7,9 @@ use Rattle.heap_model.specs.declared.call.MemoryCall.TheVariants.{HandleNew}
 use Rattle.heap_model.specs.declared.call.Reply.{Reply}
 use Rattle.heap_model.specs.declared.refusal.Refusal.{Refusal}
 use Rattle.mem_manager.proofs.Stepping.{answered, refused}
-use Rattle.mem_manager.proofs.NewChunks.{new_step}
+use Rattle.mem_manager.proofs.NewChunks.{new_step, managed_made}
 use Rattle.mem_manager.proofs.SlidChunks.{nothing_slides, itself_one}
+use Rattle.mem_manager.specs.Lookup.{MovesOnlyForRoom}
 use Rattle.mem_manager.proofs.heap.Heap.handle_new.Goals as goal
 
 pub returns-in_err-check_owner-clause-does : goal.returns-in_err-check_owner-clause-does
@@ -27,3 +28,9 @@ pub returns-clause-does : goal.returns-clause-does
 returns-clause-does c =
     subst (λ (m : Memory). Does m (HandleNew c.args.size c.args.owner) (Reply.Named c.in_ok-slot.slot.name) c.make_movable.new.space) c.self.view_is
     (new_step c.self.inside.space c.make_movable.new.space c.args.size c.args.owner (Ok c.in_ok-slot.slot.name) c.self.invariant.accepted c.in_ok-check_owner.ensures.ok c.in_ok-slot.ensures.made c.in_ok-slot.ensures.had_room tt tt tt c.make_movable.ensures.rest)
+
+pub invariant_of-self-2 : goal.invariant_of-self-2
+invariant_of-self-2 c = managed_made c.self.inside.space.bytes c.make_movable.new.space.bytes c.self.inside.used c.in_ok-slot.slot.before c.in_ok-slot.slot.name.0 c.args.size c.args.owner c.self.invariant c.in_ok-slot.ensures.in_use c.in_ok-slot.ensures.made
+
+pub returns-clause-unmoved : goal.returns-clause-unmoved
+returns-clause-unmoved c = subst (λ (m : Memory). MovesOnlyForRoom m.bytes c.make_movable.new.space.bytes c.args.size) c.self.view_is c.make_movable.ensures.unmoved

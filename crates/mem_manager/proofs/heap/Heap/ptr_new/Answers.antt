@@ -29,38 +29,38 @@ returns-in_err-room-clause-does c =
 
 pub invariant_of-self-2 : goal.invariant_of-self-2
 invariant_of-self-2 c =
-    used_ptr c.self.inside.space.bytes c.room_for.new.space.bytes c.claim_fixed.new.self.bytes c.self.inside.used c.in_ok-room.room.at c.in_ok-room.room.size c.args.size c.args.owner c.self.invariant c.in_ok-check_owner.ensures.ok c.room_for.ensures.slides c.in_ok-room.ensures.room c.in_ok-room.ensures.enough c.claim_fixed.ensures.made
+    used_ptr c.self.inside.space.bytes c.room_for.new.space.bytes c.claim_fixed-name.new.self.bytes c.self.inside.used c.in_ok-room.room.at c.in_ok-room.room.size c.args.size c.args.owner c.claim_fixed-name.result.0 c.remember.new.self.names c.self.invariant c.claim_fixed-name.ensures.name c.remember.ensures c.in_ok-check_owner.ensures.ok c.room_for.ensures.slides c.in_ok-room.ensures.room c.in_ok-room.ensures.enough c.claim_fixed-name.ensures.made
 
 pub returns-clause-does : goal.returns-clause-does
 returns-clause-does c =
-    subst (λ (m : Memory). Does m (PtrNew c.args.size c.args.owner) (Reply.Named c.claim_fixed.result) c.claim_fixed.new.self) c.self.view_is
-    (ptr_made c.self.inside.space c.room_for.new.space c.claim_fixed.new.self c.args.size c.args.owner c.claim_fixed.result (Some (c.in_ok-room.room.at + 8)) c.self.invariant.accepted c.in_ok-check_owner.ensures.ok c.in_ok-room.ensures.not_short
-    (ap (held c.room_for.new.space.bytes) c.claim_fixed.ensures.name ∙ ptr_unheld c.self.inside.space.bytes c.room_for.new.space.bytes c.in_ok-room.room.at c.in_ok-room.room.size c.args.size c.room_for.ensures.slides c.in_ok-room.ensures.room c.in_ok-room.ensures.enough)
+    subst (λ (m : Memory). Does m (PtrNew c.args.size c.args.owner) (Reply.Named c.claim_fixed-name.result) c.claim_fixed-name.new.self) c.self.view_is
+    (ptr_made c.self.inside.space c.room_for.new.space c.claim_fixed-name.new.self c.args.size c.args.owner c.claim_fixed-name.result (Some (c.in_ok-room.room.at + 8)) c.self.invariant.accepted c.in_ok-check_owner.ensures.ok c.in_ok-room.ensures.not_short
+    (ap (held c.room_for.new.space.bytes) c.claim_fixed-name.ensures.name ∙ ptr_unheld c.self.inside.space.bytes c.room_for.new.space.bytes c.in_ok-room.room.at c.in_ok-room.room.size c.args.size c.room_for.ensures.slides c.in_ok-room.ensures.room c.in_ok-room.ensures.enough)
     c.room_for.ensures.slides c.room_for.ensures.rest
-    (ptr_claimed c.self.inside.space.bytes c.room_for.new.space.bytes c.claim_fixed.new.self.bytes c.in_ok-room.room.at c.in_ok-room.room.size c.args.size c.args.owner c.claim_fixed.result.0 c.claim_fixed.ensures.name c.in_ok-check_owner.ensures.ok c.room_for.ensures.slides c.in_ok-room.ensures.room c.in_ok-room.ensures.enough c.claim_fixed.ensures.made)
-    c.claim_fixed.ensures.rest)
+    (ptr_claimed c.self.inside.space.bytes c.room_for.new.space.bytes c.claim_fixed-name.new.self.bytes c.in_ok-room.room.at c.in_ok-room.room.size c.args.size c.args.owner c.claim_fixed-name.result.0 c.claim_fixed-name.ensures.name c.in_ok-check_owner.ensures.ok c.room_for.ensures.slides c.in_ok-room.ensures.room c.in_ok-room.ensures.enough c.claim_fixed-name.ensures.made)
+    c.claim_fixed-name.ensures.rest)
 
 pub returns-clause-unmoved : goal.returns-clause-unmoved
 returns-clause-unmoved c =
-    subst (λ (m : Memory). (NoRun (chunks_of m.bytes) (need c.args.size) → ⊥) → MovesNothing m.bytes c.claim_fixed.new.self.bytes) c.self.view_is
-    (λ run. nothing_then c.self.inside.space c.room_for.new.space c.claim_fixed.new.self (c.room_for.ensures.unmoved run)
-    (made_moves_nothing c.room_for.new.space.bytes c.claim_fixed.new.self.bytes (c.in_ok-room.room.at + 8) _ _ (ptr_unheld c.self.inside.space.bytes c.room_for.new.space.bytes c.in_ok-room.room.at c.in_ok-room.room.size c.args.size c.room_for.ensures.slides c.in_ok-room.ensures.room c.in_ok-room.ensures.enough)
-    (ptr_claimed c.self.inside.space.bytes c.room_for.new.space.bytes c.claim_fixed.new.self.bytes c.in_ok-room.room.at c.in_ok-room.room.size c.args.size c.args.owner (c.in_ok-room.room.at + 8) refl c.in_ok-check_owner.ensures.ok c.room_for.ensures.slides c.in_ok-room.ensures.room c.in_ok-room.ensures.enough c.claim_fixed.ensures.made)))
+    subst (λ (m : Memory). (NoRun (chunks_of m.bytes) (need c.args.size) → ⊥) → MovesNothing m.bytes c.claim_fixed-name.new.self.bytes) c.self.view_is
+    (λ run. nothing_then c.self.inside.space c.room_for.new.space c.claim_fixed-name.new.self (c.room_for.ensures.unmoved run)
+    (made_moves_nothing c.room_for.new.space.bytes c.claim_fixed-name.new.self.bytes (c.in_ok-room.room.at + 8) _ _ (ptr_unheld c.self.inside.space.bytes c.room_for.new.space.bytes c.in_ok-room.room.at c.in_ok-room.room.size c.args.size c.room_for.ensures.slides c.in_ok-room.ensures.room c.in_ok-room.ensures.enough)
+    (ptr_claimed c.self.inside.space.bytes c.room_for.new.space.bytes c.claim_fixed-name.new.self.bytes c.in_ok-room.room.at c.in_ok-room.room.size c.args.size c.args.owner (c.in_ok-room.room.at + 8) refl c.in_ok-check_owner.ensures.ok c.room_for.ensures.slides c.in_ok-room.ensures.room c.in_ok-room.ensures.enough c.claim_fixed-name.ensures.made)))
 
 pub returns-clause-one_stretch : goal.returns-clause-one_stretch
 returns-clause-one_stretch c =
-    subst (λ (m : Memory). MovesOneStretch m.bytes c.claim_fixed.new.self.bytes) c.self.view_is
-    (one_stretch_then c.self.inside.space.bytes c.room_for.new.space.bytes c.claim_fixed.new.self.bytes c.self.invariant.accepted c.room_for.ensures.slides
-    (made_moves_nothing c.room_for.new.space.bytes c.claim_fixed.new.self.bytes (c.in_ok-room.room.at + 8) _ _ (ptr_unheld c.self.inside.space.bytes c.room_for.new.space.bytes c.in_ok-room.room.at c.in_ok-room.room.size c.args.size c.room_for.ensures.slides c.in_ok-room.ensures.room c.in_ok-room.ensures.enough)
-    (ptr_claimed c.self.inside.space.bytes c.room_for.new.space.bytes c.claim_fixed.new.self.bytes c.in_ok-room.room.at c.in_ok-room.room.size c.args.size c.args.owner (c.in_ok-room.room.at + 8) refl c.in_ok-check_owner.ensures.ok c.room_for.ensures.slides c.in_ok-room.ensures.room c.in_ok-room.ensures.enough c.claim_fixed.ensures.made)))
+    subst (λ (m : Memory). MovesOneStretch m.bytes c.claim_fixed-name.new.self.bytes) c.self.view_is
+    (one_stretch_then c.self.inside.space.bytes c.room_for.new.space.bytes c.claim_fixed-name.new.self.bytes c.self.invariant.accepted c.room_for.ensures.slides
+    (made_moves_nothing c.room_for.new.space.bytes c.claim_fixed-name.new.self.bytes (c.in_ok-room.room.at + 8) _ _ (ptr_unheld c.self.inside.space.bytes c.room_for.new.space.bytes c.in_ok-room.room.at c.in_ok-room.room.size c.args.size c.room_for.ensures.slides c.in_ok-room.ensures.room c.in_ok-room.ensures.enough)
+    (ptr_claimed c.self.inside.space.bytes c.room_for.new.space.bytes c.claim_fixed-name.new.self.bytes c.in_ok-room.room.at c.in_ok-room.room.size c.args.size c.args.owner (c.in_ok-room.room.at + 8) refl c.in_ok-check_owner.ensures.ok c.room_for.ensures.slides c.in_ok-room.ensures.room c.in_ok-room.ensures.enough c.claim_fixed-name.ensures.made)))
 
 pub returns-in_err-check_owner-clause-once : goal.returns-in_err-check_owner-clause-once
 returns-in_err-check_owner-clause-once c = subst (λ (m : Memory). c.self.inside.space.slid ≡ m.slid + moved_bytes m.bytes c.self.inside.space.bytes) c.self.view_is (nothing_slides c.self.inside.space c.self.invariant.accepted)
 
 pub returns-clause-once : goal.returns-clause-once
 returns-clause-once c =
-    subst (λ (m : Memory). c.claim_fixed.new.self.slid ≡ m.slid + moved_bytes m.bytes c.claim_fixed.new.self.bytes) c.self.view_is
-    (once_then c.self.inside.space c.room_for.new.space c.claim_fixed.new.self (c.in_ok-room.room.at + 8) _ _ c.self.invariant.accepted c.room_for.ensures.slides
+    subst (λ (m : Memory). c.claim_fixed-name.new.self.slid ≡ m.slid + moved_bytes m.bytes c.claim_fixed-name.new.self.bytes) c.self.view_is
+    (once_then c.self.inside.space c.room_for.new.space c.claim_fixed-name.new.self (c.in_ok-room.room.at + 8) _ _ c.self.invariant.accepted c.room_for.ensures.slides
     (ptr_unheld c.self.inside.space.bytes c.room_for.new.space.bytes c.in_ok-room.room.at c.in_ok-room.room.size c.args.size c.room_for.ensures.slides c.in_ok-room.ensures.room c.in_ok-room.ensures.enough)
-    (ptr_claimed c.self.inside.space.bytes c.room_for.new.space.bytes c.claim_fixed.new.self.bytes c.in_ok-room.room.at c.in_ok-room.room.size c.args.size c.args.owner (c.in_ok-room.room.at + 8) refl c.in_ok-check_owner.ensures.ok c.room_for.ensures.slides c.in_ok-room.ensures.room c.in_ok-room.ensures.enough c.claim_fixed.ensures.made)
-    c.claim_fixed.ensures.rest c.room_for.ensures.once)
+    (ptr_claimed c.self.inside.space.bytes c.room_for.new.space.bytes c.claim_fixed-name.new.self.bytes c.in_ok-room.room.at c.in_ok-room.room.size c.args.size c.args.owner (c.in_ok-room.room.at + 8) refl c.in_ok-check_owner.ensures.ok c.room_for.ensures.slides c.in_ok-room.ensures.room c.in_ok-room.ensures.enough c.claim_fixed-name.ensures.made)
+    c.claim_fixed-name.ensures.rest c.room_for.ensures.once)

@@ -1,22 +1,31 @@
-use Rattle.std.proofs.Common.{ℕ, replicate, subst, arith}
+use Rattle.std.proofs.Common.{ℕ, replicate, subst, arith, refl, inl}
 use Rattle.std.proofs.lemmas.List.{length-replicate}
 use Rattle.heap_model.specs.Memory.{Memory}
 use Rattle.heap_model.specs.MemorySteps.{Does}
 use Rattle.heap_model.specs.declared.call.MemoryCall.TheVariants.{Set}
 use Rattle.heap_model.specs.declared.call.Reply.{Reply}
 use Rattle.heap_model.specs.declared.refusal.Refusal.{Refusal}
-use Rattle.mem_manager.proofs.Stepping.{handed_on, refused, used_altered, one_of}
+use Rattle.mem_manager.proofs.Stepping.{refused, used_altered, with_names, one_of}
+use Rattle.mem_manager.proofs.Knowing.{handed_back}
 use Rattle.mem_manager.proofs.ChunkCalls.{unlocked_write, write_beyond, write_changes, filled}
 use Rattle.mem_manager.proofs.heap.Heap.set.Goals as goal
 
+pub returns-in_err-found : goal.returns-in_err-found
+returns-in_err-found c =
+    handed_back (λ done. Reply.Done) c.from_residual.result c.self.view_is (let e = c.from_residual.ensures in (e.0, e.1)) c.in_err-found.ensures.refusal
+    (refused c.self.inside.space (Set c.args.name c.args.at c.args.count c.args.byte) Refusal.InvalidHandle c.self.invariant.accepted (inl (c.in_err-found.ensures.none, refl)))
+
+pub invariant_of-self : goal.invariant_of-self
+invariant_of-self c = with_names c.self.inside.space.bytes c.self.inside.used c.find_again.new.known.names c.self.invariant c.find_again.ensures.remembered
+
 pub returns-in_err-check_locked : goal.returns-in_err-check_locked
 returns-in_err-check_locked c =
-    handed_on (λ done. Reply.Done) c.from_residual-in_err-check_locked.result c.self.view_is (let e = c.from_residual-in_err-check_locked.ensures in (e.0, e.1)) c.in_err-check_locked.ensures.refusal
+    handed_back (λ done. Reply.Done) c.from_residual-in_err-check_locked.result c.self.view_is (let e = c.from_residual-in_err-check_locked.ensures in (e.0, e.1)) c.in_err-check_locked.ensures.refusal
     (refused c.self.inside.space (Set c.args.name c.args.at c.args.count c.args.byte) Refusal.ChunkNotLocked c.self.invariant.accepted (unlocked_write c.self.inside.space.bytes c.args.name c.in_ok-found.found c.args.at c.args.count c.self.invariant.accepted c.in_ok-found.ensures.found c.in_ok-found.ensures.callers c.in_err-check_locked.ensures.err))
 
 pub returns-in_err-check_range : goal.returns-in_err-check_range
 returns-in_err-check_range c =
-    handed_on (λ done. Reply.Done) c.from_residual-in_err-check_range.result c.self.view_is (let e = c.from_residual-in_err-check_range.ensures in (e.0, e.1)) c.in_err-check_range.ensures.refusal
+    handed_back (λ done. Reply.Done) c.from_residual-in_err-check_range.result c.self.view_is (let e = c.from_residual-in_err-check_range.ensures in (e.0, e.1)) c.in_err-check_range.ensures.refusal
     (refused c.self.inside.space (Set c.args.name c.args.at c.args.count c.args.byte) Refusal.OutOfBounds c.self.invariant.accepted (write_beyond c.self.inside.space.bytes c.args.name c.in_ok-found.found c.args.at c.args.count c.self.invariant.accepted c.in_ok-found.ensures.found c.in_ok-found.ensures.callers c.in_ok-check_locked.ensures.ok c.in_err-check_range.ensures.err))
 
 pub fill-requires-clause-found : goal.fill-requires-clause-found
@@ -25,10 +34,10 @@ fill-requires-clause-found c = one_of c.in_ok-found.ensures.found
 pub fill-requires-clause-within : goal.fill-requires-clause-within
 fill-requires-clause-within c = let inside = c.in_ok-check_range.ensures.ok in omega arith
 
-pub invariant_of-self : goal.invariant_of-self
-invariant_of-self c =
+pub invariant_of-self-2 : goal.invariant_of-self-2
+invariant_of-self-2 c =
     let f = c.in_ok-found.ensures.found in
-    used_altered c.self.inside.space.bytes c.fill.new.self.bytes c.self.inside.used c.args.name.0 _ _ c.self.invariant (write_changes c.self.inside.space.bytes c.fill.new.self.bytes c.args.name.0 c.in_ok-found.found c.args.at (replicate {A = ℕ} c.args.count c.args.byte) c.self.invariant.accepted f (let inside = c.in_ok-check_range.ensures.ok in let many = length-replicate {A = ℕ} c.args.count c.args.byte in omega arith) c.fill.ensures.made)
+    used_altered c.self.inside.space.bytes c.fill.new.self.bytes c.self.inside.used c.args.name.0 _ _ (with_names c.self.inside.space.bytes c.self.inside.used c.find_again.new.known.names c.self.invariant c.find_again.ensures.remembered) (write_changes c.self.inside.space.bytes c.fill.new.self.bytes c.args.name.0 c.in_ok-found.found c.args.at (replicate {A = ℕ} c.args.count c.args.byte) c.self.invariant.accepted f (let inside = c.in_ok-check_range.ensures.ok in let many = length-replicate {A = ℕ} c.args.count c.args.byte in omega arith) c.fill.ensures.made)
 
 pub returns : goal.returns
 returns c =

@@ -1,16 +1,25 @@
-use Rattle.std.proofs.Common.{◌≡◌, ◌+◌, ◌++◌, [], ◌∷◌, length, ap, subst, arith, length-append}
+use Rattle.std.proofs.Common.{◌≡◌, ◌+◌, ◌++◌, [], ◌∷◌, length, ap, subst, arith, length-append, refl, inl}
 use Rattle.heap_model.specs.Memory.{Memory}
 use Rattle.heap_model.specs.MemorySteps.{Does, text_of}
 use Rattle.heap_model.specs.declared.call.MemoryCall.TheVariants.{StrCopy}
 use Rattle.heap_model.specs.declared.call.Reply.{Reply}
 use Rattle.heap_model.specs.declared.refusal.Refusal.{Refusal}
-use Rattle.mem_manager.proofs.Stepping.{handed_on, refused, used_altered, one_of}
+use Rattle.mem_manager.proofs.Stepping.{refused, used_altered, with_names, one_of}
+use Rattle.mem_manager.proofs.Knowing.{handed_back}
 use Rattle.mem_manager.proofs.ChunkCalls.{unlocked_write, write_beyond, write_changes, text_copied}
 use Rattle.mem_manager.proofs.heap.Heap.str_copy.Goals as goal
 
+pub returns-in_err-found : goal.returns-in_err-found
+returns-in_err-found c =
+    handed_back (λ done. Reply.Done) c.from_residual.result c.self.view_is (let e = c.from_residual.ensures in (e.0, e.1)) c.in_err-found.ensures.refusal
+    (refused c.self.inside.space (StrCopy c.args.name c.args.at c.args.text.now) Refusal.InvalidHandle c.self.invariant.accepted (inl (c.in_err-found.ensures.none, refl)))
+
+pub invariant_of-self : goal.invariant_of-self
+invariant_of-self c = with_names c.self.inside.space.bytes c.self.inside.used c.find_again.new.known.names c.self.invariant c.find_again.ensures.remembered
+
 pub returns-in_err-check_locked : goal.returns-in_err-check_locked
 returns-in_err-check_locked c =
-    handed_on (λ done. Reply.Done) c.from_residual-in_err-check_locked.result c.self.view_is (let e = c.from_residual-in_err-check_locked.ensures in (e.0, e.1)) c.in_err-check_locked.ensures.refusal
+    handed_back (λ done. Reply.Done) c.from_residual-in_err-check_locked.result c.self.view_is (let e = c.from_residual-in_err-check_locked.ensures in (e.0, e.1)) c.in_err-check_locked.ensures.refusal
     (refused c.self.inside.space (StrCopy c.args.name c.args.at c.args.text.now) Refusal.ChunkNotLocked c.self.invariant.accepted (unlocked_write c.self.inside.space.bytes c.args.name c.in_ok-found.found c.args.at (length (text_of c.args.text.now)) c.self.invariant.accepted c.in_ok-found.ensures.found c.in_ok-found.ensures.callers c.in_err-check_locked.ensures.err))
 
 pub returns-in_err-check_ended_range : goal.returns-in_err-check_ended_range
@@ -19,7 +28,7 @@ returns-in_err-check_ended_range c =
     let more : length (c.before_zero-part.result.now ++ 0 ∷ []) ≡ length c.before_zero-part.result.now + 1 = length-append c.before_zero-part.result.now (0 ∷ []) in
     let all : length (c.before_zero-part.result.now ++ 0 ∷ []) ≡ length (text_of c.args.text.now) = ap length is in
     let beyond = c.in_err-check_ended_range.ensures.err in
-    handed_on (λ done. Reply.Done) c.from_residual-in_err-check_ended_range.result c.self.view_is (let e = c.from_residual-in_err-check_ended_range.ensures in (e.0, e.1)) c.in_err-check_ended_range.ensures.refusal
+    handed_back (λ done. Reply.Done) c.from_residual-in_err-check_ended_range.result c.self.view_is (let e = c.from_residual-in_err-check_ended_range.ensures in (e.0, e.1)) c.in_err-check_ended_range.ensures.refusal
     (refused c.self.inside.space (StrCopy c.args.name c.args.at c.args.text.now) Refusal.OutOfBounds c.self.invariant.accepted (write_beyond c.self.inside.space.bytes c.args.name c.in_ok-found.found c.args.at (length (text_of c.args.text.now)) c.self.invariant.accepted c.in_ok-found.ensures.found c.in_ok-found.ensures.callers c.in_ok-check_locked.ensures.ok (omega arith)))
 
 pub write_ended-requires-clause-found : goal.write_ended-requires-clause-found
@@ -28,10 +37,10 @@ write_ended-requires-clause-found c = one_of c.in_ok-found.ensures.found
 pub write_ended-requires-clause-within : goal.write_ended-requires-clause-within
 write_ended-requires-clause-within c = let inside = c.in_ok-check_ended_range.ensures.ok in omega arith
 
-pub invariant_of-self : goal.invariant_of-self
-invariant_of-self c =
+pub invariant_of-self-2 : goal.invariant_of-self-2
+invariant_of-self-2 c =
     let f = c.in_ok-found.ensures.found in
-    used_altered c.self.inside.space.bytes c.write_ended.new.self.bytes c.self.inside.used c.args.name.0 _ _ c.self.invariant (write_changes c.self.inside.space.bytes c.write_ended.new.self.bytes c.args.name.0 c.in_ok-found.found c.args.at (c.before_zero-part.result.now ++ 0 ∷ []) c.self.invariant.accepted f (let inside = c.in_ok-check_ended_range.ensures.ok in let some = length-append c.before_zero-part.result.now (0 ∷ []) in omega arith) c.write_ended.ensures.made)
+    used_altered c.self.inside.space.bytes c.write_ended.new.self.bytes c.self.inside.used c.args.name.0 _ _ (with_names c.self.inside.space.bytes c.self.inside.used c.find_again.new.known.names c.self.invariant c.find_again.ensures.remembered) (write_changes c.self.inside.space.bytes c.write_ended.new.self.bytes c.args.name.0 c.in_ok-found.found c.args.at (c.before_zero-part.result.now ++ 0 ∷ []) c.self.invariant.accepted f (let inside = c.in_ok-check_ended_range.ensures.ok in let some = length-append c.before_zero-part.result.now (0 ∷ []) in omega arith) c.write_ended.ensures.made)
 
 pub returns : goal.returns
 returns c =

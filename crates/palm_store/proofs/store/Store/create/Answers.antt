@@ -16,18 +16,19 @@ use Rattle.palm_store.proofs.Maps.{bytes_held}
 use Rattle.palm_store.proofs.ListedSlots.{chunk_of}
 use Rattle.palm_store.proofs.Creation.{not_named, name_taken, too_many, header_put, created, not_created, empty_fits, header_spells, then_written}
 use Rattle.palm_store.proofs.Forwarding.{viewed, ask_viewed}
+use Rattle.palm_store.proofs.KnownIds.{nothing_known}
 use Rattle.palm_store.proofs.store.Store.create.Goals as goal
 
 pub returns-in_default : goal.returns-in_default
 returns-in_default c =
     ask_viewed c.self.inside.heap c.args.self.now _ _ c.self.view_is
-    (not_named c.self.inside.heap c.args.name.now c.args.kind c.args.creator c.args.resources c.args.date c.self.invariant (subst (λ (name : List ℕ). IsDatabaseName name → ⊥) c.as_slice.ensures.is c.in_default.ensures))
+    (not_named c.self.inside.heap c.args.name.now c.args.kind c.args.creator c.args.resources c.args.date c.self.invariant.accepted (subst (λ (name : List ℕ). IsDatabaseName name → ⊥) c.as_slice.ensures.is c.in_default.ensures))
 
 pub returns-then-has_other_name : goal.returns-then-has_other_name
 returns-then-has_other_name c =
     let named : IsDatabaseName c.args.name.now = subst (λ (name : List ℕ). IsDatabaseName name) c.as_slice.ensures.is c.in-Some.ensures.0 in
     ask_viewed c.self.inside.heap c.args.self.now _ _ c.self.view_is
-    (name_taken c.self.inside.heap c.args.name.now c.args.kind c.args.creator c.args.resources c.args.date c.self.invariant named
+    (name_taken c.self.inside.heap c.args.name.now c.args.kind c.args.creator c.args.resources c.args.date c.self.invariant.accepted named
     (subst (λ (name : List ℕ). IsTaken (store_of c.self.inside.heap.bytes) 0 name) c.as_slice-2.ensures.is (c.has_other_name.ensures.0 c.if-has_other_name.true)))
 
 pub returns-then-count_databases-ge-MOST_DATABASES : goal.returns-then-count_databases-ge-MOST_DATABASES
@@ -37,7 +38,7 @@ returns-then-count_databases-ge-MOST_DATABASES c =
     let count = c.count_databases.ensures in
     let most = c.if-count_databases-ge-MOST_DATABASES.true in
     let many : most_databases ≤ length (listed c.self.inside.heap.bytes) = omega (arith, count, most) in
-    ask_viewed c.self.inside.heap c.args.self.now _ _ c.self.view_is (too_many c.self.inside.heap c.args.name.now c.args.kind c.args.creator c.args.resources c.args.date c.self.invariant named free many)
+    ask_viewed c.self.inside.heap c.args.self.now _ _ c.self.view_is (too_many c.self.inside.heap c.args.name.now c.args.kind c.args.creator c.args.resources c.args.date c.self.invariant.accepted named free many)
 
 pub invariant_of-self : goal.invariant_of-self
 invariant_of-self c =
@@ -47,8 +48,8 @@ invariant_of-self c =
     let count = c.count_databases.ensures in
     let below = c.if-count_databases-ge-MOST_DATABASES.false in
     let few : length (listed image) < most_databases = omega (arith, count, below) in
-    let does = not_created c.self.inside.heap c.list_new.new.heap c.args.name.now c.args.kind c.args.creator c.args.resources c.args.date c.in_err-slot.field-0.0 c.self.invariant named few free c.in_err-slot.ensures.no_room c.in_err-slot.ensures.refusal c.in_err-slot.ensures.refused c.list_new.ensures.rest in
-    does.accepted
+    let does = not_created c.self.inside.heap c.list_new.new.heap c.args.name.now c.args.kind c.args.creator c.args.resources c.args.date c.in_err-slot.field-0.0 c.self.invariant.accepted named few free c.in_err-slot.ensures.no_room c.in_err-slot.ensures.refusal c.in_err-slot.ensures.refused c.list_new.ensures.rest in
+    nothing_known _ does.accepted
 
 pub returns-in_err-slot : goal.returns-in_err-slot
 returns-in_err-slot c =
@@ -60,7 +61,7 @@ returns-in_err-slot c =
     let few : length (listed image) < most_databases = omega (arith, count, below) in
     viewed c.self.inside.heap c.args.self.now c.list_new.new.heap _ _ c.self.view_is
     (handed_on (λ db. replies.Database db) (calls.Database (Create c.args.name.now c.args.kind c.args.creator c.args.resources c.args.date)) c.from_residual.result (let e = c.from_residual.ensures in (e.0, e.1))
-    (not_created c.self.inside.heap c.list_new.new.heap c.args.name.now c.args.kind c.args.creator c.args.resources c.args.date c.in_err-slot.field-0.0 c.self.invariant named few free c.in_err-slot.ensures.no_room c.in_err-slot.ensures.refusal c.in_err-slot.ensures.refused c.list_new.ensures.rest))
+    (not_created c.self.inside.heap c.list_new.new.heap c.args.name.now c.args.kind c.args.creator c.args.resources c.args.date c.in_err-slot.field-0.0 c.self.invariant.accepted named few free c.in_err-slot.ensures.no_room c.in_err-slot.ensures.refusal c.in_err-slot.ensures.refused c.list_new.ensures.rest))
 
 pub sys_write-requires-clause-within : goal.sys_write-requires-clause-within
 sys_write-requires-clause-within c =
@@ -90,11 +91,11 @@ invariant_of-self-2 c =
     c.to_bytes.ensures.is (empty_database c.in-Some.field c.args.kind c.args.creator c.args.resources c.args.date) c.empty_header-header.ensures
     ∙ ap (λ (name : List ℕ). header_bytes (empty_database name c.args.kind c.args.creator c.args.resources c.args.date)) (c.in-Some.ensures.1 ∙ c.as_slice.ensures.is) in
     let written : ListsNew image c.sys_write.new.self.bytes c.in_ok-slot.slot.0 c.to_bytes.result =
-    header_put image mid c.sys_write.new.self.bytes c.in_ok-slot.slot.0 c.to_bytes.result c.self.invariant.heap c.in_ok-slot.ensures.lists c.sys_write.ensures.leaves (ap length bytes ∙ length-header_bytes database named) in
+    header_put image mid c.sys_write.new.self.bytes c.in_ok-slot.slot.0 c.to_bytes.result c.self.invariant.accepted.heap c.in_ok-slot.ensures.lists c.sys_write.ensures.leaves (ap length bytes ∙ length-header_bytes database named) in
     let lists : ListsNew image c.sys_write.new.self.bytes c.in_ok-slot.slot.0 (spelled database) = subst (λ (xs : List ℕ). ListsNew image c.sys_write.new.self.bytes c.in_ok-slot.slot.0 xs) (bytes ∙ sym (header_spells database refl)) written in
-    let does = created c.self.inside.heap c.sys_write.new.self (record { 0 = c.in_ok-slot.slot.0 }) c.args.name.now c.args.kind c.args.creator c.args.resources c.args.date c.self.invariant lists fits few free
+    let does = created c.self.inside.heap c.sys_write.new.self (record { 0 = c.in_ok-slot.slot.0 }) c.args.name.now c.args.kind c.args.creator c.args.resources c.args.date c.self.invariant.accepted lists fits few free
     (then_written c.self.inside.heap c.list_new.new.heap c.sys_write.new.self c.list_new.ensures.rest c.sys_write.ensures.rest) in
-    does.accepted
+    nothing_known _ does.accepted
 
 pub returns : goal.returns
 returns c =
@@ -114,8 +115,8 @@ returns c =
     c.to_bytes.ensures.is (empty_database c.in-Some.field c.args.kind c.args.creator c.args.resources c.args.date) c.empty_header-header.ensures
     ∙ ap (λ (name : List ℕ). header_bytes (empty_database name c.args.kind c.args.creator c.args.resources c.args.date)) (c.in-Some.ensures.1 ∙ c.as_slice.ensures.is) in
     let written : ListsNew image c.sys_write.new.self.bytes c.in_ok-slot.slot.0 c.to_bytes.result =
-    header_put image mid c.sys_write.new.self.bytes c.in_ok-slot.slot.0 c.to_bytes.result c.self.invariant.heap c.in_ok-slot.ensures.lists c.sys_write.ensures.leaves (ap length bytes ∙ length-header_bytes database named) in
+    header_put image mid c.sys_write.new.self.bytes c.in_ok-slot.slot.0 c.to_bytes.result c.self.invariant.accepted.heap c.in_ok-slot.ensures.lists c.sys_write.ensures.leaves (ap length bytes ∙ length-header_bytes database named) in
     let lists : ListsNew image c.sys_write.new.self.bytes c.in_ok-slot.slot.0 (spelled database) = subst (λ (xs : List ℕ). ListsNew image c.sys_write.new.self.bytes c.in_ok-slot.slot.0 xs) (bytes ∙ sym (header_spells database refl)) written in
     viewed c.self.inside.heap c.args.self.now c.sys_write.new.self _ _ c.self.view_is
-    (created c.self.inside.heap c.sys_write.new.self (record { 0 = c.in_ok-slot.slot.0 }) c.args.name.now c.args.kind c.args.creator c.args.resources c.args.date c.self.invariant lists fits few free
+    (created c.self.inside.heap c.sys_write.new.self (record { 0 = c.in_ok-slot.slot.0 }) c.args.name.now c.args.kind c.args.creator c.args.resources c.args.date c.self.invariant.accepted lists fits few free
     (then_written c.self.inside.heap c.list_new.new.heap c.sys_write.new.self c.list_new.ensures.rest c.sys_write.ensures.rest))

@@ -4,10 +4,13 @@ use Rattle.heap_model.specs.EntrySteps.{entries_in, resources_under}
 use Rattle.heap_model.specs.Store.{store_of}
 use Rattle.heap_model.specs.Refusals.{FirstBrings}
 use Rattle.db_format.specs.EitherEntry.{entry_of}
+use Rattle.heap_model.specs.Database.{Entry, entry_with}
 use Rattle.palm_store.specs.Databases.{HasNumber}
+use Rattle.palm_store.specs.declared.entries.known.KnownIds.{KnownIds}
+use Rattle.palm_store.proofs.KnownIds.{come_free, beside_named}
 use Rattle.palm_store.specs.EntryInfos.{makes_resource}
 use Rattle.palm_store.specs.EntryCalls.{MayBeGiven, checks_of_attaching}
-use Rattle.palm_store.proofs.GivenData.{attach_steps}
+use Rattle.palm_store.proofs.GivenData.{attach_leaves, attach_steps}
 use Rattle.laws_heap.proofs.Results.{if_err}
 use Rattle.palm_store.proofs.store.Store.entry_attach.Goals as goal
 
@@ -29,9 +32,12 @@ invariant_of-self-2 c =
     let count = c.count_entries.ensures in
     let below = c.if-count_entries-ge-MOST_ENTRIES.false in
     let few : length (entries_in (store_of image) c.args.db) < 65535 = omega (arith, count, below) in
-    let left = (attach_steps image c.take_in.new.heap.bytes c.args.db c.args.at c.args.entry (entry_of c.new_entry-made.result) _ c.args.name.0 c.self.invariant number c.new_entry-made.ensures.is may c.in_ok-take_in.ensures.takes
-    (c.new_entry-made.ensures.kind ∙ kind) (c.in_ok-take_in.ensures.name_fits c.new_entry-made.ensures.fits) inside few).2 in
-    left.accepted
+    let left = (attach_leaves image c.take_in.new.heap.bytes c.args.db c.args.at c.args.entry (entry_of c.new_entry-made.result.entry) _ c.args.name.0 c.self.invariant.accepted number c.new_entry-made.ensures.is may c.in_ok-take_in.ensures.takes
+    (c.new_entry-made.ensures.kind ∙ kind) (c.in_ok-take_in.ensures.name_fits c.new_entry-made.ensures.fits) inside few) in
+    let made : Entry ℕ = entry_with (λ none. c.args.name.0) (entry_of c.new_entry-made.result.entry) in
+    let known : KnownIds = c.new_entry-made.result.known in
+    let beside = beside_named (store_of image) (entry_of c.new_entry-made.result.entry) c.args.name.0 known c.new_entry-made.ensures.known in
+    record { accepted = left.accepted; free = come_free (store_of image) (store_of c.take_in.new.heap.bytes) c.args.db.0 c.args.at made known left.same.databases beside }
 
 pub returns-clause-attached : goal.returns-clause-attached
 returns-clause-attached c =
@@ -43,5 +49,5 @@ returns-clause-attached c =
     let count = c.count_entries.ensures in
     let below = c.if-count_entries-ge-MOST_ENTRIES.false in
     let few : length (entries_in (store_of image) c.args.db) < 65535 = omega (arith, count, below) in
-    attach_steps image c.take_in.new.heap.bytes c.args.db c.args.at c.args.entry (entry_of c.new_entry-made.result) _ c.args.name.0 c.self.invariant number c.new_entry-made.ensures.is may c.in_ok-take_in.ensures.takes
+    attach_steps image c.take_in.new.heap.bytes c.args.db c.args.at c.args.entry (entry_of c.new_entry-made.result.entry) _ c.args.name.0 c.self.invariant.accepted number c.new_entry-made.ensures.is may c.in_ok-take_in.ensures.takes
     (c.new_entry-made.ensures.kind ∙ kind) (c.in_ok-take_in.ensures.name_fits c.new_entry-made.ensures.fits) inside few)

@@ -11,20 +11,21 @@ use Rattle.palm_store.specs.EntryInfos.{MayOwn, dropped_to}
 use Rattle.palm_store.proofs.EntriesHere.{count_fits, index_below}
 use Rattle.palm_store.proofs.EntryChanges.{drop_steps, hand_over_steps, slot_there, slot_no_directory, slot_movable, slot_some}
 use Rattle.palm_store.specs.Databases.{HasNumber}
+use Rattle.palm_store.proofs.KnownIds.{go_free}
 use Rattle.palm_store.proofs.store.Store.entry_drop.Goals as goal
 
 pub overflow_cast-index : goal.overflow_cast-index
 overflow_cast-index c =
     let number : HasNumber c.self.inside.heap.bytes c.args.db.0 = rw c.self.view_is c.requires.number in
     let inside : c.args.index < length (entries_in (store_of c.self.inside.heap.bytes) c.args.db) = rw c.self.view_is c.requires.inside in
-    let few = count_fits c.self.inside.heap.bytes c.args.db c.self.invariant number in
+    let few = count_fits c.self.inside.heap.bytes c.args.db c.self.invariant.accepted number in
     let below = inside in
     omega (arith, few, below)
 
 pub remove_entry-requires-clause-spells : goal.remove_entry-requires-clause-spells
 remove_entry-requires-clause-spells c =
     let number : HasNumber c.self.inside.heap.bytes c.args.db.0 = rw c.self.view_is c.requires.number in
-    accepted_spells c.self.inside.heap.bytes c.args.db.0 c.self.invariant number
+    accepted_spells c.self.inside.heap.bytes c.args.db.0 c.self.invariant.accepted number
 
 pub remove_entry-requires-clause-inside : goal.remove_entry-requires-clause-inside
 remove_entry-requires-clause-inside c =
@@ -35,19 +36,19 @@ remove_entry-requires-clause-inside c =
 pub free_chunk_of-requires-clause-there : goal.free_chunk_of-requires-clause-there
 free_chunk_of-requires-clause-there c =
     let number : HasNumber c.self.inside.heap.bytes c.args.db.0 = rw c.self.view_is c.requires.number in
-    slot_there c.self.inside.heap.bytes c.remove_entry.new.heap.bytes c.args.db c.args.index c.slot.result _ _ c.self.invariant number c.read_entry.ensures.is c.slot.ensures c.remove_entry.ensures.removed
+    slot_there c.self.inside.heap.bytes c.remove_entry.new.heap.bytes c.args.db c.args.index c.slot.result _ _ c.self.invariant.accepted number c.read_entry.ensures.is c.slot.ensures c.remove_entry.ensures.removed
 
 pub free_chunk_of-requires-clause-no_directory : goal.free_chunk_of-requires-clause-no_directory
 free_chunk_of-requires-clause-no_directory c =
     let number : HasNumber c.self.inside.heap.bytes c.args.db.0 = rw c.self.view_is c.requires.number in
-    slot_no_directory c.self.inside.heap.bytes c.remove_entry.new.heap.bytes c.args.db c.args.index c.slot.result _ _ c.self.invariant number c.read_entry.ensures.is c.slot.ensures c.remove_entry.ensures.removed
+    slot_no_directory c.self.inside.heap.bytes c.remove_entry.new.heap.bytes c.args.db c.args.index c.slot.result _ _ c.self.invariant.accepted number c.read_entry.ensures.is c.slot.ensures c.remove_entry.ensures.removed
 
 pub sys_set_owner-requires-clause-movable : goal.sys_set_owner-requires-clause-movable
 sys_set_owner-requires-clause-movable c =
     let number : HasNumber c.self.inside.heap.bytes c.args.db.0 = rw c.self.view_is c.requires.number in
     let there_is : IfSome c.args.owner (λ owner. 0 < data_under (store_of c.self.inside.heap.bytes) c.args.db c.args.index) = rw c.self.view_is c.requires.there in
     let there = subst (λ (owner : Option ℕ). IfSome owner (λ o. 0 < data_under (store_of c.self.inside.heap.bytes) c.args.db c.args.index)) c.in-Some.is there_is in
-    slot_movable c.self.inside.heap.bytes c.remove_entry.new.heap.bytes c.args.db c.args.index c.slot.result _ _ c.self.invariant number c.read_entry.ensures.is c.slot.ensures c.remove_entry.ensures.removed
+    slot_movable c.self.inside.heap.bytes c.remove_entry.new.heap.bytes c.args.db c.args.index c.slot.result _ _ c.self.invariant.accepted number c.read_entry.ensures.is c.slot.ensures c.remove_entry.ensures.removed
     (slot_some c.self.inside.heap.bytes c.args.db c.args.index c.slot.result _ number c.read_entry.ensures.is c.slot.ensures there)
 
 pub sys_set_owner-requires-clause-no_directory : goal.sys_set_owner-requires-clause-no_directory
@@ -55,7 +56,7 @@ sys_set_owner-requires-clause-no_directory c =
     let number : HasNumber c.self.inside.heap.bytes c.args.db.0 = rw c.self.view_is c.requires.number in
     let there_is : IfSome c.args.owner (λ owner. 0 < data_under (store_of c.self.inside.heap.bytes) c.args.db c.args.index) = rw c.self.view_is c.requires.there in
     let there = subst (λ (owner : Option ℕ). IfSome owner (λ o. 0 < data_under (store_of c.self.inside.heap.bytes) c.args.db c.args.index)) c.in-Some.is there_is in
-    slot_no_directory c.self.inside.heap.bytes c.remove_entry.new.heap.bytes c.args.db c.args.index c.slot.result _ _ c.self.invariant number c.read_entry.ensures.is c.slot.ensures c.remove_entry.ensures.removed
+    slot_no_directory c.self.inside.heap.bytes c.remove_entry.new.heap.bytes c.args.db c.args.index c.slot.result _ _ c.self.invariant.accepted number c.read_entry.ensures.is c.slot.ensures c.remove_entry.ensures.removed
     (slot_some c.self.inside.heap.bytes c.args.db c.args.index c.slot.result _ number c.read_entry.ensures.is c.slot.ensures there)
 
 pub returns-in-None-clause-dropped : goal.returns-in-None-clause-dropped
@@ -66,7 +67,7 @@ returns-in-None-clause-dropped c =
     let mid : List ℕ = c.remove_entry.new.heap.bytes in
     let new : List ℕ = c.free_chunk_of.new.heap.bytes in
     subst (λ (owner : Option ℕ). LeavesStore image new (raised (dropped_to (store_of image) c.args.db c.args.index owner) c.args.db)) (sym c.in-None.is)
-    (drop_steps image mid new c.args.db c.args.index (entry_of c.read_entry.result) c.self.invariant number c.read_entry.ensures.is (index_below image c.args.db c.args.index number inside) c.remove_entry.ensures.removed
+    (drop_steps image mid new c.args.db c.args.index (entry_of c.read_entry.result) c.self.invariant.accepted number c.read_entry.ensures.is (index_below image c.args.db c.args.index number inside) c.remove_entry.ensures.removed
     (subst (λ (slot : ℕ). Leaves mid new (gone (held mid) slot)) c.slot.ensures c.free_chunk_of.ensures.leaves)).0)
 
 pub invariant_of-self : goal.invariant_of-self
@@ -76,9 +77,9 @@ invariant_of-self c =
     let image : List ℕ = c.self.inside.heap.bytes in
     let mid : List ℕ = c.remove_entry.new.heap.bytes in
     let new : List ℕ = c.free_chunk_of.new.heap.bytes in
-    let left = (drop_steps image mid new c.args.db c.args.index (entry_of c.read_entry.result) c.self.invariant number c.read_entry.ensures.is (index_below image c.args.db c.args.index number inside) c.remove_entry.ensures.removed
+    let left = (drop_steps image mid new c.args.db c.args.index (entry_of c.read_entry.result) c.self.invariant.accepted number c.read_entry.ensures.is (index_below image c.args.db c.args.index number inside) c.remove_entry.ensures.removed
     (subst (λ (slot : ℕ). Leaves mid new (gone (held mid) slot)) c.slot.ensures c.free_chunk_of.ensures.leaves)).0 in
-    left.accepted
+    record { accepted = left.accepted; free = go_free (store_of image) (store_of new) c.args.db.0 c.args.index c.self.inside.known left.same.databases c.self.invariant.free }
 
 pub returns-in-None-clause-none_made : goal.returns-in-None-clause-none_made
 returns-in-None-clause-none_made c =
@@ -87,7 +88,7 @@ returns-in-None-clause-none_made c =
     rw (← c.self.view_is) (let image : List ℕ = c.self.inside.heap.bytes in
     let mid : List ℕ = c.remove_entry.new.heap.bytes in
     let new : List ℕ = c.free_chunk_of.new.heap.bytes in
-    (drop_steps image mid new c.args.db c.args.index (entry_of c.read_entry.result) c.self.invariant number c.read_entry.ensures.is (index_below image c.args.db c.args.index number inside) c.remove_entry.ensures.removed
+    (drop_steps image mid new c.args.db c.args.index (entry_of c.read_entry.result) c.self.invariant.accepted number c.read_entry.ensures.is (index_below image c.args.db c.args.index number inside) c.remove_entry.ensures.removed
     (subst (λ (slot : ℕ). Leaves mid new (gone (held mid) slot)) c.slot.ensures c.free_chunk_of.ensures.leaves)).1)
 
 pub returns-in-Some-clause-dropped : goal.returns-in-Some-clause-dropped
@@ -101,7 +102,7 @@ returns-in-Some-clause-dropped c =
     let may : MayOwn c.in-Some.owner = subst (λ (owner : Option ℕ). IfSome owner MayOwn) c.in-Some.is c.requires.owner in
     let there = subst (λ (owner : Option ℕ). IfSome owner (λ o. 0 < data_under (store_of image) c.args.db c.args.index)) c.in-Some.is there_is in
     subst (λ (owner : Option ℕ). LeavesStore image new (raised (dropped_to (store_of image) c.args.db c.args.index owner) c.args.db)) (sym c.in-Some.is)
-    (hand_over_steps image mid new c.args.db c.args.index c.in-Some.owner c.slot.result (entry_of c.read_entry.result) c.self.invariant number c.read_entry.ensures.is c.slot.ensures (index_below image c.args.db c.args.index number inside) there may.0 may.1
+    (hand_over_steps image mid new c.args.db c.args.index c.in-Some.owner c.slot.result (entry_of c.read_entry.result) c.self.invariant.accepted number c.read_entry.ensures.is c.slot.ensures (index_below image c.args.db c.args.index number inside) there may.0 may.1
     c.remove_entry.ensures.removed c.sys_set_owner.ensures.leaves).0)
 
 pub invariant_of-self-in-Some : goal.invariant_of-self-in-Some
@@ -114,9 +115,9 @@ invariant_of-self-in-Some c =
     let new : List ℕ = c.sys_set_owner.new.self.bytes in
     let may : MayOwn c.in-Some.owner = subst (λ (owner : Option ℕ). IfSome owner MayOwn) c.in-Some.is c.requires.owner in
     let there = subst (λ (owner : Option ℕ). IfSome owner (λ o. 0 < data_under (store_of image) c.args.db c.args.index)) c.in-Some.is there_is in
-    let left = (hand_over_steps image mid new c.args.db c.args.index c.in-Some.owner c.slot.result (entry_of c.read_entry.result) c.self.invariant number c.read_entry.ensures.is c.slot.ensures (index_below image c.args.db c.args.index number inside) there may.0 may.1
+    let left = (hand_over_steps image mid new c.args.db c.args.index c.in-Some.owner c.slot.result (entry_of c.read_entry.result) c.self.invariant.accepted number c.read_entry.ensures.is c.slot.ensures (index_below image c.args.db c.args.index number inside) there may.0 may.1
     c.remove_entry.ensures.removed c.sys_set_owner.ensures.leaves).0 in
-    left.accepted
+    record { accepted = left.accepted; free = go_free (store_of image) (store_of new) c.args.db.0 c.args.index c.self.inside.known left.same.databases c.self.invariant.free }
 
 pub returns-in-Some-clause-none_made : goal.returns-in-Some-clause-none_made
 returns-in-Some-clause-none_made c =
@@ -128,5 +129,5 @@ returns-in-Some-clause-none_made c =
     let new : List ℕ = c.sys_set_owner.new.self.bytes in
     let may : MayOwn c.in-Some.owner = subst (λ (owner : Option ℕ). IfSome owner MayOwn) c.in-Some.is c.requires.owner in
     let there = subst (λ (owner : Option ℕ). IfSome owner (λ o. 0 < data_under (store_of image) c.args.db c.args.index)) c.in-Some.is there_is in
-    (hand_over_steps image mid new c.args.db c.args.index c.in-Some.owner c.slot.result (entry_of c.read_entry.result) c.self.invariant number c.read_entry.ensures.is c.slot.ensures (index_below image c.args.db c.args.index number inside) there may.0 may.1
+    (hand_over_steps image mid new c.args.db c.args.index c.in-Some.owner c.slot.result (entry_of c.read_entry.result) c.self.invariant.accepted number c.read_entry.ensures.is c.slot.ensures (index_below image c.args.db c.args.index number inside) there may.0 may.1
     c.remove_entry.ensures.removed c.sys_set_owner.ensures.leaves).1)

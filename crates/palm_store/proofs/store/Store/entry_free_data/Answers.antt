@@ -11,20 +11,21 @@ use Rattle.palm_store.proofs.EntryChanges.{free_steps, slot_there, slot_no_direc
 use Rattle.palm_store.proofs.EntryInfos.{emptied_names, emptied_id, emptied_data}
 use Rattle.heap_model.specs.Store.{store_of}
 use Rattle.palm_store.specs.Databases.{HasNumber}
+use Rattle.palm_store.proofs.KnownIds.{nothing_known}
 use Rattle.palm_store.proofs.store.Store.entry_free_data.Goals as goal
 
 pub overflow_cast-index : goal.overflow_cast-index
 overflow_cast-index c =
     let number : HasNumber c.self.inside.heap.bytes c.args.db.0 = rw c.self.view_is c.requires.number in
     let inside : c.args.index < length (entries_in (store_of c.self.inside.heap.bytes) c.args.db) = rw c.self.view_is c.requires.inside in
-    let few = count_fits c.self.inside.heap.bytes c.args.db c.self.invariant number in
+    let few = count_fits c.self.inside.heap.bytes c.args.db c.self.invariant.accepted number in
     let below = inside in
     omega (arith, few, below)
 
 pub write_entry-requires-clause-spells : goal.write_entry-requires-clause-spells
 write_entry-requires-clause-spells c =
     let number : HasNumber c.self.inside.heap.bytes c.args.db.0 = rw c.self.view_is c.requires.number in
-    accepted_spells c.self.inside.heap.bytes c.args.db.0 c.self.invariant number
+    accepted_spells c.self.inside.heap.bytes c.args.db.0 c.self.invariant.accepted number
 
 pub write_entry-requires-clause-inside : goal.write_entry-requires-clause-inside
 write_entry-requires-clause-inside c =
@@ -39,12 +40,12 @@ write_entry-requires-clause-kind c =
 pub free_chunk_of-requires-clause-there : goal.free_chunk_of-requires-clause-there
 free_chunk_of-requires-clause-there c =
     let number : HasNumber c.self.inside.heap.bytes c.args.db.0 = rw c.self.view_is c.requires.number in
-    slot_there c.self.inside.heap.bytes c.write_entry.new.heap.bytes c.args.db c.args.index c.slot.result _ _ c.self.invariant number c.read_entry-entry.ensures.is c.slot.ensures c.write_entry.ensures.written
+    slot_there c.self.inside.heap.bytes c.write_entry.new.heap.bytes c.args.db c.args.index c.slot.result _ _ c.self.invariant.accepted number c.read_entry-entry.ensures.is c.slot.ensures c.write_entry.ensures.written
 
 pub free_chunk_of-requires-clause-no_directory : goal.free_chunk_of-requires-clause-no_directory
 free_chunk_of-requires-clause-no_directory c =
     let number : HasNumber c.self.inside.heap.bytes c.args.db.0 = rw c.self.view_is c.requires.number in
-    slot_no_directory c.self.inside.heap.bytes c.write_entry.new.heap.bytes c.args.db c.args.index c.slot.result _ _ c.self.invariant number c.read_entry-entry.ensures.is c.slot.ensures c.write_entry.ensures.written
+    slot_no_directory c.self.inside.heap.bytes c.write_entry.new.heap.bytes c.args.db c.args.index c.slot.result _ _ c.self.invariant.accepted number c.read_entry-entry.ensures.is c.slot.ensures c.write_entry.ensures.written
 
 pub invariant_of-self : goal.invariant_of-self
 invariant_of-self c =
@@ -53,11 +54,11 @@ invariant_of-self c =
     let image : List ℕ = c.self.inside.heap.bytes in
     let mid : List ℕ = c.write_entry.new.heap.bytes in
     let entry : Entry ℕ = entry_of c.read_entry-entry.result in
-    let left = (free_steps c.args.counts image mid c.free_chunk_of.new.heap.bytes c.args.db c.args.index entry (entry_of c.emptied.result) c.self.invariant number c.read_entry-entry.ensures.is c.emptied.ensures.is c.write_entry.ensures.written
+    let left = (free_steps c.args.counts image mid c.free_chunk_of.new.heap.bytes c.args.db c.args.index entry (entry_of c.emptied.result) c.self.invariant.accepted number c.read_entry-entry.ensures.is c.emptied.ensures.is c.write_entry.ensures.written
     (subst (λ (slot : ℕ). Leaves mid c.free_chunk_of.new.heap.bytes (gone (held mid) slot)) c.slot.ensures c.free_chunk_of.ensures.leaves)
     (fits_here (without_data entry) _ _ _ (c.emptied.ensures.kind ∙ c.read_entry-entry.ensures.kind) c.emptied.ensures.is c.emptied.ensures.fits)
-    (emptied_names image c.args.db c.args.index entry c.self.invariant number c.read_entry-entry.ensures.is records) (emptied_id entry) (emptied_data entry)).0 in
-    left.accepted
+    (emptied_names image c.args.db c.args.index entry c.self.invariant.accepted number c.read_entry-entry.ensures.is records) (emptied_id entry) (emptied_data entry)).0 in
+    nothing_known _ left.accepted
 
 pub returns-clause-freed : goal.returns-clause-freed
 returns-clause-freed c =
@@ -66,10 +67,10 @@ returns-clause-freed c =
     rw (← c.self.view_is) (let image : List ℕ = c.self.inside.heap.bytes in
     let mid : List ℕ = c.write_entry.new.heap.bytes in
     let entry : Entry ℕ = entry_of c.read_entry-entry.result in
-    (free_steps c.args.counts image mid c.free_chunk_of.new.heap.bytes c.args.db c.args.index entry (entry_of c.emptied.result) c.self.invariant number c.read_entry-entry.ensures.is c.emptied.ensures.is c.write_entry.ensures.written
+    (free_steps c.args.counts image mid c.free_chunk_of.new.heap.bytes c.args.db c.args.index entry (entry_of c.emptied.result) c.self.invariant.accepted number c.read_entry-entry.ensures.is c.emptied.ensures.is c.write_entry.ensures.written
     (subst (λ (slot : ℕ). Leaves mid c.free_chunk_of.new.heap.bytes (gone (held mid) slot)) c.slot.ensures c.free_chunk_of.ensures.leaves)
     (fits_here (without_data entry) _ _ _ (c.emptied.ensures.kind ∙ c.read_entry-entry.ensures.kind) c.emptied.ensures.is c.emptied.ensures.fits)
-    (emptied_names image c.args.db c.args.index entry c.self.invariant number c.read_entry-entry.ensures.is records) (emptied_id entry) (emptied_data entry)).0)
+    (emptied_names image c.args.db c.args.index entry c.self.invariant.accepted number c.read_entry-entry.ensures.is records) (emptied_id entry) (emptied_data entry)).0)
 
 pub returns-clause-none_made : goal.returns-clause-none_made
 returns-clause-none_made c =
@@ -78,7 +79,7 @@ returns-clause-none_made c =
     rw (← c.self.view_is) (let image : List ℕ = c.self.inside.heap.bytes in
     let mid : List ℕ = c.write_entry.new.heap.bytes in
     let entry : Entry ℕ = entry_of c.read_entry-entry.result in
-    (free_steps c.args.counts image mid c.free_chunk_of.new.heap.bytes c.args.db c.args.index entry (entry_of c.emptied.result) c.self.invariant number c.read_entry-entry.ensures.is c.emptied.ensures.is c.write_entry.ensures.written
+    (free_steps c.args.counts image mid c.free_chunk_of.new.heap.bytes c.args.db c.args.index entry (entry_of c.emptied.result) c.self.invariant.accepted number c.read_entry-entry.ensures.is c.emptied.ensures.is c.write_entry.ensures.written
     (subst (λ (slot : ℕ). Leaves mid c.free_chunk_of.new.heap.bytes (gone (held mid) slot)) c.slot.ensures c.free_chunk_of.ensures.leaves)
     (fits_here (without_data entry) _ _ _ (c.emptied.ensures.kind ∙ c.read_entry-entry.ensures.kind) c.emptied.ensures.is c.emptied.ensures.fits)
-    (emptied_names image c.args.db c.args.index entry c.self.invariant number c.read_entry-entry.ensures.is records) (emptied_id entry) (emptied_data entry)).1)
+    (emptied_names image c.args.db c.args.index entry c.self.invariant.accepted number c.read_entry-entry.ensures.is records) (emptied_id entry) (emptied_data entry)).1)

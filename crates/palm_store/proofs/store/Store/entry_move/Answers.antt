@@ -5,13 +5,14 @@ use Rattle.palm_store.proofs.EntryChanges.{move_steps, respelled_none}
 use Rattle.heap_model.specs.Store.{store_of}
 use Rattle.heap_model.specs.EntrySteps.{entries_in}
 use Rattle.palm_store.specs.Databases.{HasNumber}
+use Rattle.palm_store.proofs.KnownIds.{nothing_known}
 use Rattle.palm_store.proofs.store.Store.entry_move.Goals as goal
 
 pub overflow_cast-from : goal.overflow_cast-from
 overflow_cast-from c =
     let number : HasNumber c.self.inside.heap.bytes c.args.db.0 = rw c.self.view_is c.requires.number in
     let from_inside : c.args.from < length (entries_in (store_of c.self.inside.heap.bytes) c.args.db) = rw c.self.view_is c.requires.from_inside in
-    let few = count_fits c.self.inside.heap.bytes c.args.db c.self.invariant number in
+    let few = count_fits c.self.inside.heap.bytes c.args.db c.self.invariant.accepted number in
     let below = from_inside in
     omega (arith, few, below)
 
@@ -19,14 +20,14 @@ pub overflow_cast-to : goal.overflow_cast-to
 overflow_cast-to c =
     let number : HasNumber c.self.inside.heap.bytes c.args.db.0 = rw c.self.view_is c.requires.number in
     let to_inside : c.args.to ≤ length (entries_in (store_of c.self.inside.heap.bytes) c.args.db) = rw c.self.view_is c.requires.to_inside in
-    let few = count_fits c.self.inside.heap.bytes c.args.db c.self.invariant number in
+    let few = count_fits c.self.inside.heap.bytes c.args.db c.self.invariant.accepted number in
     let below = to_inside in
     omega (arith, few, below)
 
 pub move_entry-requires-clause-spells : goal.move_entry-requires-clause-spells
 move_entry-requires-clause-spells c =
     let number : HasNumber c.self.inside.heap.bytes c.args.db.0 = rw c.self.view_is c.requires.number in
-    accepted_spells c.self.inside.heap.bytes c.args.db.0 c.self.invariant number
+    accepted_spells c.self.inside.heap.bytes c.args.db.0 c.self.invariant.accepted number
 
 pub move_entry-requires-clause-from_inside : goal.move_entry-requires-clause-from_inside
 move_entry-requires-clause-from_inside c =
@@ -45,19 +46,19 @@ invariant_of-self c =
     let number : HasNumber c.self.inside.heap.bytes c.args.db.0 = rw c.self.view_is c.requires.number in
     let from_inside : c.args.from < length (entries_in (store_of c.self.inside.heap.bytes) c.args.db) = rw c.self.view_is c.requires.from_inside in
     let to_inside : c.args.to ≤ length (entries_in (store_of c.self.inside.heap.bytes) c.args.db) = rw c.self.view_is c.requires.to_inside in
-    let left = move_steps c.self.inside.heap.bytes c.move_entry.new.heap.bytes c.args.db c.args.from c.args.to c.self.invariant number (index_below c.self.inside.heap.bytes c.args.db c.args.from number from_inside) (index_most c.self.inside.heap.bytes c.args.db c.args.to number to_inside)
+    let left = move_steps c.self.inside.heap.bytes c.move_entry.new.heap.bytes c.args.db c.args.from c.args.to c.self.invariant.accepted number (index_below c.self.inside.heap.bytes c.args.db c.args.from number from_inside) (index_most c.self.inside.heap.bytes c.args.db c.args.to number to_inside)
     c.move_entry.ensures.moved in
-    left.accepted
+    nothing_known _ left.accepted
 
 pub returns-clause-moved : goal.returns-clause-moved
 returns-clause-moved c =
     let number : HasNumber c.self.inside.heap.bytes c.args.db.0 = rw c.self.view_is c.requires.number in
     let from_inside : c.args.from < length (entries_in (store_of c.self.inside.heap.bytes) c.args.db) = rw c.self.view_is c.requires.from_inside in
     let to_inside : c.args.to ≤ length (entries_in (store_of c.self.inside.heap.bytes) c.args.db) = rw c.self.view_is c.requires.to_inside in
-    rw (← c.self.view_is) (move_steps c.self.inside.heap.bytes c.move_entry.new.heap.bytes c.args.db c.args.from c.args.to c.self.invariant number (index_below c.self.inside.heap.bytes c.args.db c.args.from number from_inside) (index_most c.self.inside.heap.bytes c.args.db c.args.to number to_inside)
+    rw (← c.self.view_is) (move_steps c.self.inside.heap.bytes c.move_entry.new.heap.bytes c.args.db c.args.from c.args.to c.self.invariant.accepted number (index_below c.self.inside.heap.bytes c.args.db c.args.from number from_inside) (index_most c.self.inside.heap.bytes c.args.db c.args.to number to_inside)
     c.move_entry.ensures.moved)
 
 pub returns-clause-none_made : goal.returns-clause-none_made
 returns-clause-none_made c =
     let number : HasNumber c.self.inside.heap.bytes c.args.db.0 = rw c.self.view_is c.requires.number in
-    rw (← c.self.view_is) (respelled_none c.self.inside.heap.bytes c.move_entry.new.heap.bytes c.args.db.0 _ c.self.invariant number c.move_entry.ensures.moved)
+    rw (← c.self.view_is) (respelled_none c.self.inside.heap.bytes c.move_entry.new.heap.bytes c.args.db.0 _ c.self.invariant.accepted number c.move_entry.ensures.moved)

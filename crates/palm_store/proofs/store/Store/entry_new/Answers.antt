@@ -4,16 +4,21 @@ use Rattle.heap_model.specs.EntrySteps.{entries_in, resources_under}
 use Rattle.heap_model.specs.Store.{store_of}
 use Rattle.db_format.specs.EitherEntry.{entry_of}
 use Rattle.laws_store.proofs.Editing.{same_steps}
-use Rattle.palm_store.proofs.NewEntries.{new_steps, left_as_before}
+use Rattle.palm_store.proofs.NewEntries.{new_leaves, new_steps, left_as_before}
 use Rattle.laws_heap.proofs.Results.{on_err, if_err}
 use Rattle.heap_model.specs.Refusals.{FirstBrings}
 use Rattle.palm_store.specs.EntryCalls.{checks_of_making}
 use Rattle.palm_store.specs.EntryInfos.{makes_resource}
+use Rattle.heap_model.specs.Database.{Entry, entry_with}
 use Rattle.palm_store.specs.Databases.{HasNumber}
+use Rattle.palm_store.specs.declared.entries.known.KnownIds.{KnownIds}
+use Rattle.palm_store.proofs.KnownIds.{stand_still, come_free, beside_named}
 use Rattle.palm_store.proofs.store.Store.entry_new.Goals as goal
 
 pub invariant_of-self : goal.invariant_of-self
-invariant_of-self c = (let left = same_steps c.self.inside.heap.bytes c.put_in.new.heap.bytes c.self.invariant c.in_err-name.ensures.refused in left.accepted)
+invariant_of-self c =
+    let left = same_steps c.self.inside.heap.bytes c.put_in.new.heap.bytes c.self.invariant.accepted c.in_err-name.ensures.refused in
+    record { accepted = left.accepted; free = stand_still (store_of c.self.inside.heap.bytes) (store_of c.put_in.new.heap.bytes) c.self.inside.known left.same.databases c.self.invariant.free }
 
 pub returns-in_err-name-clause-why : goal.returns-in_err-name-clause-why
 returns-in_err-name-clause-why c =
@@ -25,11 +30,11 @@ returns-in_err-name-clause-why c =
 
 pub returns-in_err-name-clause-refused : goal.returns-in_err-name-clause-refused
 returns-in_err-name-clause-refused c =
-    rw (← c.self.view_is) (on_err _ c.from_residual.result (same_steps c.self.inside.heap.bytes c.put_in.new.heap.bytes c.self.invariant c.in_err-name.ensures.refused))
+    rw (← c.self.view_is) (on_err _ c.from_residual.result (same_steps c.self.inside.heap.bytes c.put_in.new.heap.bytes c.self.invariant.accepted c.in_err-name.ensures.refused))
 
 pub returns-in_err-name-clause-as_before : goal.returns-in_err-name-clause-as_before
 returns-in_err-name-clause-as_before c =
-    rw (← c.self.view_is) (on_err _ c.from_residual.result (left_as_before c.self.inside.heap c.put_in.new.heap c.self.invariant c.in_err-name.ensures.refused))
+    rw (← c.self.view_is) (on_err _ c.from_residual.result (left_as_before c.self.inside.heap c.put_in.new.heap c.self.invariant.accepted c.in_err-name.ensures.refused))
 
 pub invariant_of-self-2 : goal.invariant_of-self-2
 invariant_of-self-2 c =
@@ -40,9 +45,12 @@ invariant_of-self-2 c =
     let count = c.count_entries.ensures in
     let below = c.if-count_entries-ge-MOST_ENTRIES.false in
     let few : length (entries_in (store_of image) c.args.db) < 65535 = omega (arith, count, below) in
-    let left = (new_steps image c.put_in.new.heap.bytes c.args.db c.args.at c.args.entry (entry_of c.new_entry-made.result) _ c.in_ok-name.name.0 c.args.size c.self.invariant number c.new_entry-made.ensures.is c.in_ok-name.ensures.puts
-    (c.new_entry-made.ensures.kind ∙ kind) (c.in_ok-name.ensures.name_fits c.new_entry-made.ensures.fits) inside few).2 in
-    left.accepted
+    let left = (new_leaves image c.put_in.new.heap.bytes c.args.db c.args.at c.args.entry (entry_of c.new_entry-made.result.entry) _ c.in_ok-name.name.0 c.args.size c.self.invariant.accepted number c.new_entry-made.ensures.is c.in_ok-name.ensures.puts
+    (c.new_entry-made.ensures.kind ∙ kind) (c.in_ok-name.ensures.name_fits c.new_entry-made.ensures.fits) inside few) in
+    let made : Entry ℕ = entry_with (λ none. c.in_ok-name.name.0) (entry_of c.new_entry-made.result.entry) in
+    let known : KnownIds = c.new_entry-made.result.known in
+    let beside = beside_named (store_of image) (entry_of c.new_entry-made.result.entry) c.in_ok-name.name.0 known c.new_entry-made.ensures.known in
+    record { accepted = left.accepted; free = come_free (store_of image) (store_of c.put_in.new.heap.bytes) c.args.db.0 c.args.at made known left.same.databases beside }
 
 pub returns-clause-made : goal.returns-clause-made
 returns-clause-made c =
@@ -53,5 +61,5 @@ returns-clause-made c =
     let count = c.count_entries.ensures in
     let below = c.if-count_entries-ge-MOST_ENTRIES.false in
     let few : length (entries_in (store_of image) c.args.db) < 65535 = omega (arith, count, below) in
-    new_steps image c.put_in.new.heap.bytes c.args.db c.args.at c.args.entry (entry_of c.new_entry-made.result) _ c.in_ok-name.name.0 c.args.size c.self.invariant number c.new_entry-made.ensures.is c.in_ok-name.ensures.puts
+    new_steps image c.put_in.new.heap.bytes c.args.db c.args.at c.args.entry (entry_of c.new_entry-made.result.entry) _ c.in_ok-name.name.0 c.args.size c.self.invariant.accepted number c.new_entry-made.ensures.is c.in_ok-name.ensures.puts
     (c.new_entry-made.ensures.kind ∙ kind) (c.in_ok-name.ensures.name_fits c.new_entry-made.ensures.fits) inside few)

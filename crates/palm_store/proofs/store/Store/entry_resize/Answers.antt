@@ -5,34 +5,36 @@ use Rattle.palm_store.specs.EntryCalls.{IsEntryData, checks_of_growth}
 use Rattle.palm_store.proofs.DataChunks.{for_data, data_movable}
 use Rattle.palm_store.proofs.EntryChanges.{named_owner}
 use Rattle.palm_store.proofs.DataGrowth.{none_for_callers, first_for_callers, sized_steps}
+use Rattle.heap_model.specs.Store.{store_of}
+use Rattle.palm_store.proofs.KnownIds.{stand_still}
 use Rattle.palm_store.proofs.store.Store.entry_resize.Goals as goal
 
 pub sys_resize-requires : goal.sys_resize-requires
 sys_resize-requires c =
     let own : IsEntryData c.self.inside.heap.bytes c.args.name.0 = rw c.self.view_is c.requires.own in
-    record { movable = data_movable c.self.inside.heap.bytes c.args.name.0 c.self.invariant.heap (for_data c.self.inside.heap.bytes c.args.name.0 (named_owner c.self.inside.heap.bytes c.args.name.0 c.self.invariant own)) }
+    record { movable = data_movable c.self.inside.heap.bytes c.args.name.0 c.self.invariant.accepted.heap (for_data c.self.inside.heap.bytes c.args.name.0 (named_owner c.self.inside.heap.bytes c.args.name.0 c.self.invariant.accepted own)) }
 
 pub invariant_of-self-2 : goal.invariant_of-self-2
 invariant_of-self-2 c =
     let own : IsEntryData c.self.inside.heap.bytes c.args.name.0 = rw c.self.view_is c.requires.own in
     let left = sized_steps c.self.inside.heap.bytes c.sys_resize.new.self.bytes c.args.name.0 c.args.size
-    (resize_steps c.self.inside.heap.bytes c.sys_resize.new.self.bytes c.args.name.0 c.args.size c.self.invariant c.in_ok-sys_resize.ensures.done (named_owner c.self.inside.heap.bytes c.args.name.0 c.self.invariant own)) in
-    left.accepted
+    (resize_steps c.self.inside.heap.bytes c.sys_resize.new.self.bytes c.args.name.0 c.args.size c.self.invariant.accepted c.in_ok-sys_resize.ensures.done (named_owner c.self.inside.heap.bytes c.args.name.0 c.self.invariant.accepted own)) in
+    record { accepted = left.accepted; free = stand_still (store_of c.self.inside.heap.bytes) (store_of c.sys_resize.new.self.bytes) c.self.inside.known left.same.databases c.self.invariant.free }
 
 pub returns-clause-done : goal.returns-clause-done
 returns-clause-done c =
     let own : IsEntryData c.self.inside.heap.bytes c.args.name.0 = rw c.self.view_is c.requires.own in
     rw (← c.self.view_is) (sized_steps c.self.inside.heap.bytes c.sys_resize.new.self.bytes c.args.name.0 c.args.size
-    (resize_steps c.self.inside.heap.bytes c.sys_resize.new.self.bytes c.args.name.0 c.args.size c.self.invariant c.in_ok-sys_resize.ensures.done (named_owner c.self.inside.heap.bytes c.args.name.0 c.self.invariant own)))
+    (resize_steps c.self.inside.heap.bytes c.sys_resize.new.self.bytes c.args.name.0 c.args.size c.self.invariant.accepted c.in_ok-sys_resize.ensures.done (named_owner c.self.inside.heap.bytes c.args.name.0 c.self.invariant.accepted own)))
 
 pub returns-clause-could : goal.returns-clause-could
 returns-clause-could c =
     let own : IsEntryData c.self.inside.heap.bytes c.args.name.0 = rw c.self.view_is c.requires.own in
-    rw (← c.self.view_is) (none_for_callers c.self.inside.heap.bytes c.args.name.0 c.args.size (named_owner c.self.inside.heap.bytes c.args.name.0 c.self.invariant own) c.in_ok-sys_resize.ensures.could)
+    rw (← c.self.view_is) (none_for_callers c.self.inside.heap.bytes c.args.name.0 c.args.size (named_owner c.self.inside.heap.bytes c.args.name.0 c.self.invariant.accepted own) c.in_ok-sys_resize.ensures.could)
 
 pub returns-in_err-sys_resize-clause-why : goal.returns-in_err-sys_resize-clause-why
 returns-in_err-sys_resize-clause-why c =
     let own : IsEntryData c.self.inside.heap.bytes c.args.name.0 = rw c.self.view_is c.requires.own in
     let e = c.from_residual.ensures in
     rw (← c.self.view_is) (if_err (FirstBrings (checks_of_growth c.self.inside.heap.bytes c.args.name.0 c.args.size)) c.from_residual.result (e.0, e.1)
-    (first_for_callers c.self.inside.heap.bytes c.args.name.0 c.args.size c.in_err-sys_resize.field-0.0 (named_owner c.self.inside.heap.bytes c.args.name.0 c.self.invariant own) c.in_err-sys_resize.ensures.why))
+    (first_for_callers c.self.inside.heap.bytes c.args.name.0 c.args.size c.in_err-sys_resize.field-0.0 (named_owner c.self.inside.heap.bytes c.args.name.0 c.self.invariant.accepted own) c.in_err-sys_resize.ensures.why))

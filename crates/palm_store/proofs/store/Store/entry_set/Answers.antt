@@ -9,13 +9,14 @@ use Rattle.palm_store.proofs.EntryInfos.{fitting_info, informed_names, informed_
 use Rattle.heap_model.specs.Store.{store_of}
 use Rattle.heap_model.specs.EntrySteps.{resources_under, entries_in}
 use Rattle.palm_store.specs.Databases.{HasNumber}
+use Rattle.palm_store.proofs.KnownIds.{nothing_known}
 use Rattle.palm_store.proofs.store.Store.entry_set.Goals as goal
 
 pub overflow_cast-index : goal.overflow_cast-index
 overflow_cast-index c =
     let number : HasNumber c.self.inside.heap.bytes c.args.db.0 = rw c.self.view_is c.requires.number in
     let inside : c.args.index < length (entries_in (store_of c.self.inside.heap.bytes) c.args.db) = rw c.self.view_is c.requires.inside in
-    let few = count_fits c.self.inside.heap.bytes c.args.db c.self.invariant number in
+    let few = count_fits c.self.inside.heap.bytes c.args.db c.self.invariant.accepted number in
     let below = inside in
     omega (arith, few, below)
 
@@ -27,7 +28,7 @@ entry_with-entry-requires-clause-info c =
 pub write_entry-requires-clause-spells : goal.write_entry-requires-clause-spells
 write_entry-requires-clause-spells c =
     let number : HasNumber c.self.inside.heap.bytes c.args.db.0 = rw c.self.view_is c.requires.number in
-    accepted_spells c.self.inside.heap.bytes c.args.db.0 c.self.invariant number
+    accepted_spells c.self.inside.heap.bytes c.args.db.0 c.self.invariant.accepted number
 
 pub write_entry-requires-clause-inside : goal.write_entry-requires-clause-inside
 write_entry-requires-clause-inside c =
@@ -45,12 +46,12 @@ invariant_of-self c =
     let can : CanHave (store_of c.self.inside.heap.bytes) c.args.db (resources_under (store_of c.self.inside.heap.bytes) c.args.db) c.args.index c.args.info = rw c.self.view_is c.requires.info in
     let image : List ℕ = c.self.inside.heap.bytes in
     let entry : Entry ℕ = entry_of c.read_entry.result in
-    let left = set_steps c.args.counts image c.write_entry.new.heap.bytes c.args.db c.args.index (with_info c.args.info) entry (entry_of c.entry_with-entry.result) c.self.invariant number c.read_entry.ensures.is c.entry_with-entry.ensures.is c.write_entry.ensures.written
+    let left = set_steps c.args.counts image c.write_entry.new.heap.bytes c.args.db c.args.index (with_info c.args.info) entry (entry_of c.entry_with-entry.result) c.self.invariant.accepted number c.read_entry.ensures.is c.entry_with-entry.ensures.is c.write_entry.ensures.written
     (fits_here (with_info c.args.info entry) _ _ _ (c.entry_with-entry.ensures.kind ∙ c.read_entry.ensures.kind) c.entry_with-entry.ensures.is c.entry_with-entry.ensures.fits)
-    (informed_names image c.args.db c.args.index c.args.info entry c.self.invariant number c.read_entry.ensures.is can)
-    (informed_own image c.args.db c.args.index c.args.info entry c.self.invariant number c.read_entry.ensures.is can)
+    (informed_names image c.args.db c.args.index c.args.info entry c.self.invariant.accepted number c.read_entry.ensures.is can)
+    (informed_own image c.args.db c.args.index c.args.info entry c.self.invariant.accepted number c.read_entry.ensures.is can)
     (informed_data c.args.info entry) in
-    left.accepted
+    nothing_known _ left.accepted
 
 pub returns-clause-set : goal.returns-clause-set
 returns-clause-set c =
@@ -58,13 +59,13 @@ returns-clause-set c =
     let can : CanHave (store_of c.self.inside.heap.bytes) c.args.db (resources_under (store_of c.self.inside.heap.bytes) c.args.db) c.args.index c.args.info = rw c.self.view_is c.requires.info in
     rw (← c.self.view_is) (let image : List ℕ = c.self.inside.heap.bytes in
     let entry : Entry ℕ = entry_of c.read_entry.result in
-    set_steps c.args.counts image c.write_entry.new.heap.bytes c.args.db c.args.index (with_info c.args.info) entry (entry_of c.entry_with-entry.result) c.self.invariant number c.read_entry.ensures.is c.entry_with-entry.ensures.is c.write_entry.ensures.written
+    set_steps c.args.counts image c.write_entry.new.heap.bytes c.args.db c.args.index (with_info c.args.info) entry (entry_of c.entry_with-entry.result) c.self.invariant.accepted number c.read_entry.ensures.is c.entry_with-entry.ensures.is c.write_entry.ensures.written
     (fits_here (with_info c.args.info entry) _ _ _ (c.entry_with-entry.ensures.kind ∙ c.read_entry.ensures.kind) c.entry_with-entry.ensures.is c.entry_with-entry.ensures.fits)
-    (informed_names image c.args.db c.args.index c.args.info entry c.self.invariant number c.read_entry.ensures.is can)
-    (informed_own image c.args.db c.args.index c.args.info entry c.self.invariant number c.read_entry.ensures.is can)
+    (informed_names image c.args.db c.args.index c.args.info entry c.self.invariant.accepted number c.read_entry.ensures.is can)
+    (informed_own image c.args.db c.args.index c.args.info entry c.self.invariant.accepted number c.read_entry.ensures.is can)
     (informed_data c.args.info entry))
 
 pub returns-clause-none_made : goal.returns-clause-none_made
 returns-clause-none_made c =
     let number : HasNumber c.self.inside.heap.bytes c.args.db.0 = rw c.self.view_is c.requires.number in
-    rw (← c.self.view_is) (respelled_none c.self.inside.heap.bytes c.write_entry.new.heap.bytes c.args.db.0 _ c.self.invariant number c.write_entry.ensures.written)
+    rw (← c.self.view_is) (respelled_none c.self.inside.heap.bytes c.write_entry.new.heap.bytes c.args.db.0 _ c.self.invariant.accepted number c.write_entry.ensures.written)

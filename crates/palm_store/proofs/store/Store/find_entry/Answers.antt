@@ -3,7 +3,7 @@ use Rattle.palm_store.proofs.store.Store.find_entry.Goals as goal
 
 pub attributes-requires : goal.attributes-requires
 attributes-requires c =
-    header_inside c.self.inside.heap.bytes c.in_ok-header.header.now c.args.db c.self.invariant c.in_ok-header.ensures.known c.in_ok-header.ensures.is
+    header_inside c.self.inside.heap.bytes c.in_ok-header.header.now c.args.db c.self.invariant.accepted c.in_ok-header.ensures.known c.in_ok-header.ensures.is
 
 pub returns-clause-attributes : goal.returns-clause-attributes
 returns-clause-attributes c =

@@ -14,7 +14,7 @@ returns-then-name-eq0 c =
     let is : c.block_in-name.result ≡ info_block_under (store_of image) c.args.db c.args.which =
     c.block_in-name.ensures ∙ ap (λ (body : List ℕ). info_block c.args.which (database_in body)) c.in_ok-find_header.ensures.is ∙ sym (block_here image c.args.db c.args.which known) in
     ask_viewed c.self.inside.heap c.args.self.now _ _ c.self.view_is
-    (no_block_there c.self.inside.heap c.args.db c.args.which c.self.invariant (known_number image c.args.db known) (sym is ∙ c.if-name-eq0.true))
+    (no_block_there c.self.inside.heap c.args.db c.args.which c.self.invariant.accepted (known_number image c.args.db known) (sym is ∙ c.if-name-eq0.true))
 
 pub returns : goal.returns
 returns c =
@@ -23,4 +23,4 @@ returns c =
     let is : c.block_in-name.result ≡ info_block_under (store_of image) c.args.db c.args.which =
     c.block_in-name.ensures ∙ ap (λ (body : List ℕ). info_block c.args.which (database_in body)) c.in_ok-find_header.ensures.is ∙ sym (block_here image c.args.db c.args.which known) in
     ask_viewed c.self.inside.heap c.args.self.now _ _ c.self.view_is
-    (block_told c.self.inside.heap c.args.db c.args.which _ c.self.invariant (known_number image c.args.db known) (λ e. c.if-name-eq0.false (is ∙ e)) is)
+    (block_told c.self.inside.heap c.args.db c.args.which _ c.self.invariant.accepted (known_number image c.args.db known) (λ e. c.if-name-eq0.false (is ∙ e)) is)

@@ -7,10 +7,11 @@ use Rattle.heap_model.specs.DatabaseSteps.{IsTaken}
 use Rattle.palm_store.proofs.Forwarding.{viewed}
 use Rattle.palm_store.proofs.Numbers.{number_held}
 use Rattle.palm_store.proofs.HeaderInfos.{with_info, set_spelled, set_step}
+use Rattle.palm_store.proofs.KnownIds.{nothing_known}
 use Rattle.palm_store.proofs.store.Store.set_database_info.Goals as goal
 
 pub sys_write-requires-clause-there : goal.sys_write-requires-clause-there
-sys_write-requires-clause-there c = number_held c.self.inside.heap.bytes c.args.db.0 c.self.invariant c.in_ok-header.ensures.known
+sys_write-requires-clause-there c = number_held c.self.inside.heap.bytes c.args.db.0 c.self.invariant.accepted c.in_ok-header.ensures.known
 
 pub invariant_of-self : goal.invariant_of-self
 invariant_of-self c =
@@ -21,7 +22,7 @@ invariant_of-self c =
     let free : IsTaken (store_of image) c.args.db.0 c.args.info.now.name → ⊥ = λ taken.
     (let yes = c.has_other_name.ensures.1 (subst (λ (name : List ℕ). IsTaken (store_of image) c.args.db.0 name) (sym c.as_slice-2.ensures.is) taken) in absurd cc) in
     let spelled = set_spelled c.in_ok-header.header.now c.to_bytes.result c.args.info.now c.read.result c.with_info-header.result c.in_ok-header.ensures.spelled c.read.ensures c.with_info-header.ensures.set c.with_info-header.ensures.keeps c.to_bytes.ensures.written in
-    let does = set_step c.self.inside.heap c.sys_write.new.self c.args.db c.args.info.now c.self.invariant
+    let does = set_step c.self.inside.heap c.sys_write.new.self c.args.db c.args.info.now c.self.invariant.accepted
     (record {
       number = c.in_ok-header.ensures.known;
       name = named;
@@ -30,7 +31,7 @@ invariant_of-self c =
       spelled = subst (λ (bytes : List ℕ). IsSpelled (with_info c.args.info.now (database_in bytes)) (overwritten bytes 0 c.to_bytes.result)) body spelled;
       leaves = c.sys_write.ensures.leaves;
     }) c.sys_write.ensures.rest in
-    does.accepted
+    nothing_known _ does.accepted
 
 pub returns : goal.returns
 returns c =
@@ -41,7 +42,7 @@ returns c =
     let free : IsTaken (store_of image) c.args.db.0 c.args.info.now.name → ⊥ = λ taken.
     (let yes = c.has_other_name.ensures.1 (subst (λ (name : List ℕ). IsTaken (store_of image) c.args.db.0 name) (sym c.as_slice-2.ensures.is) taken) in absurd cc) in
     let spelled = set_spelled c.in_ok-header.header.now c.to_bytes.result c.args.info.now c.read.result c.with_info-header.result c.in_ok-header.ensures.spelled c.read.ensures c.with_info-header.ensures.set c.with_info-header.ensures.keeps c.to_bytes.ensures.written in
-    let does = set_step c.self.inside.heap c.sys_write.new.self c.args.db c.args.info.now c.self.invariant
+    let does = set_step c.self.inside.heap c.sys_write.new.self c.args.db c.args.info.now c.self.invariant.accepted
     (record {
       number = c.in_ok-header.ensures.known;
       name = named;

@@ -1,0 +1,74 @@
+-- The entries of an accepted image, by their indexes.
+use Rattle.std.proofs.Common.{◌≡◌, ℕ, ◌<◌, Bool, List, length, get_or, Option, Some, None, refl, sym, ap, subst, ◌∙◌}
+use Rattle.std.proofs.lemmas.Option.{slice_get_within, get_or_from_slice_get}
+use Rattle.std.specs.Prelude.{IsSome, slice_get}
+use Rattle.heap_model.specs.Database.{Entry, a_record, a_resource, EntryFits, has_resources}
+use Rattle.heap_model.specs.Store.{StoredDatabase, databases, IsDatabase, Accepted, store_of}
+use Rattle.heap_model.specs.StoreWords.{with_number}
+use Rattle.heap_model.specs.EntrySteps.{entries_of, entry_under, OfEntry, kind_of, resources_under, Tells}
+use Rattle.heap_model.specs.declared.names.Db.{Db}
+use Rattle.heap_model.specs.declared.entry.Entry as heard
+use Rattle.heap_model.specs.declared.entry.Entry.TheVariants as entries
+use Rattle.laws_store.proofs.Found.{found_stands}
+use Rattle.database_access.specs.Checks.{are_resources, IsTold, IsOfKind}
+use Rattle.database_access.specs.declared.opening.EntryKind.{EntryKind}
+use Rattle.database_access.specs.declared.opening.EntryKind.TheVariants.{Records, Resources}
+use Rattle.database_access.proofs.Raising.{is_there}
+
+-- ---- the database
+
+-- the database of a number, which is whole
+pub record Here (image : List ℕ) (db : ℕ) : Type 0 where
+  pub one : StoredDatabase
+  pub found : with_number (store_of image) db ≡ Some one
+  pub number : one.db ≡ db
+  pub index : ℕ
+  pub inside : index < length (databases image)
+  pub at : get_or (databases image) index one ≡ one
+  pub whole : IsDatabase image one
+
+pub here : (image : List ℕ) (db : ℕ) → Accepted image → IsSome (with_number (store_of image) db) → Here image db
+unfolding store_of
+here image db a has =
+    let there = is_there (with_number (store_of image) db) has in
+    let one : StoredDatabase = there.0 in
+    let stands = found_stands db (databases image) one there.1 in
+    let inside = slice_get_within (databases image) stands.1.0 one stands.1.1 in
+    let at = get_or_from_slice_get (databases image) stands.1.0 one one stands.1.1 in
+    record {
+      one = one;
+      found = there.1;
+      number = stands.0;
+      index = stands.1.0;
+      inside = inside;
+      at = at;
+      whole = subst (λ (s : StoredDatabase). IsDatabase image s) at (a.each stands.1.0 one inside);
+    }
+
+-- its entry of an index
+pub entry_is : (image : List ℕ) (db : Db) (index : ℕ) (entry : Entry ℕ) (h : Here image db.0) → entry_under (store_of image) db index ≡ Some entry → slice_get h.one.database.entries index ≡ Some entry
+entry_is image db index entry h e = sym (ap (λ (x : Option StoredDatabase). slice_get (entries_of x) index) h.found) ∙ e
+
+pub of_all : (P : Entry ℕ → Type 0) (all : List (Entry ℕ)) (index : ℕ) (entry : Entry ℕ) → ((k : ℕ) (d : Entry ℕ) → k < length all → P (get_or all k d)) → slice_get all index ≡ Some entry → P entry
+of_all P all index entry each e = subst P (get_or_from_slice_get all index entry entry e) (each index entry (slice_get_within all index entry e))
+
+-- ---- the entry
+
+pub fits : (image : List ℕ) (db : Db) (resources : Bool) (index : ℕ) (entry : Entry ℕ) → Accepted image → IsSome (with_number (store_of image) db.0) → resources_under (store_of image) db ≡ resources → entry_under (store_of image) db index ≡ Some entry → EntryFits resources entry
+fits image db resources index entry a has kind e =
+    let h = here image db.0 a has in
+    let of_kind : has_resources h.one.database.header.attributes ≡ resources = sym (ap kind_of h.found) ∙ kind in
+    subst (λ (resources : Bool). EntryFits resources entry) of_kind
+    (of_all (λ (x : Entry ℕ). EntryFits (has_resources h.one.database.header.attributes) x) h.one.database.entries index entry h.whole.spelled.fits.entries (entry_is image db index entry h e))
+
+-- what is told of it is of the kind that the database holds
+pub told_kind : (image : List ℕ) (db : Db) (kind : EntryKind) (index : ℕ) (told : heard.Entry) → Accepted image → IsSome (with_number (store_of image) db.0) → resources_under (store_of image) db ≡ are_resources kind → IsTold image db index told → IsOfKind kind told
+told_kind image db kind index told a has is tells = by kind told (entry_under (store_of image) db index) (λ entry e. fits image db (are_resources kind) index entry a has is e) refl tells where
+  by : (kind : EntryKind) (told : heard.Entry) (x : Option (Entry ℕ)) → ((entry : Entry ℕ) → entry_under (store_of image) db index ≡ Some entry → EntryFits (are_resources kind) entry) → entry_under (store_of image) db index ≡ x → OfEntry x (Tells told) → IsOfKind kind told
+  by kind told None fit e p = absurd p
+  by Records (entries.Record info) (Some entry) fit e p = tt
+  by Records (entries.Resource info) (Some (a_record attributes id slot)) fit e p = p
+  by Records (entries.Resource info) (Some (a_resource type id slot)) fit e p = fit (a_resource type id slot) e
+  by Resources (entries.Record info) (Some (a_record attributes id slot)) fit e p = fit (a_record attributes id slot) e
+  by Resources (entries.Record info) (Some (a_resource type id slot)) fit e p = p
+  by Resources (entries.Resource info) (Some entry) fit e p = tt

@@ -1,0 +1,70 @@
+-- Entries searched for in the order of their indexes, and those of a database that is read.
+use Rattle.std.proofs.Common.{◌≡◌, ℕ, ◌+◌, ◌<◌, ◌≤◌, Bool, true, false, List, length, Option, Some, None, sym, ap, subst, ◌∙◌, arith, rules, inl, inr}
+use Rattle.std.proofs.lemmas.Bool.{cases_lt}
+use Rattle.std.proofs.lemmas.List.{take_all}
+use Rattle.std.proofs.lemmas.List.Sums.{count_by_more_yes, count_by_more_no}
+use Rattle.std.proofs.lemmas.Option.{slice_get_within, get_or_from_slice_get}
+use Rattle.std.specs.Prelude.{◌↔◌, IsSome, IsTrue, IfSome, IfNone, slice_get, take, count_by}
+use Rattle.std.specs.Option.{is_some}
+use Rattle.heap_model.specs.Database.{Entry, Database, has_resources}
+use Rattle.heap_model.specs.Store.{StoredDatabase, store_of}
+use Rattle.heap_model.specs.StoreWords.{OfDatabase}
+use Rattle.heap_model.specs.EntrySteps.{entries_of, entries_in, OfEntry, kind_of, resources_under}
+use Rattle.heap_model.specs.declared.names.Db.{Db}
+use Rattle.palm_store.specs.Databases.{HasNumber, HasDatabase}
+use Rattle.palm_store.specs.EntryCalls.{HasDbAttributes}
+use Rattle.database_access.specs.Search.{NoneBehind, SomeHas}
+use Rattle.database_access.proofs.OpeningChecks.{inside}
+
+-- ---- an entry of an index
+
+pub found_at : (entries : List (Entry ℕ)) (index : ℕ) (entry : Entry ℕ) (P : Entry ℕ → Type 0) → slice_get entries index ≡ Some entry → P entry → OfEntry (slice_get entries index) P
+found_at entries index entry P at p = subst (λ (x : Option (Entry ℕ)). OfEntry x P) (sym at) p
+
+-- ---- none that was passed is such
+
+abbrev pub NoneUntil : List (Entry ℕ) → ℕ → ℕ → (Entry ℕ → Type 0) → Type 0
+NoneUntil entries from end P = (at : ℕ) → from ≤ at → at < end → OfEntry (slice_get entries at) P → ⊥
+
+pub none_yet : (entries : List (Entry ℕ)) (from index : ℕ) (P : Entry ℕ → Type 0) → NoneUntil entries from index P → (OfEntry (slice_get entries index) P → ⊥) → NoneUntil entries from (index + 1) P
+none_yet entries from index P before here at low below p = elim (cases_lt at index) [
+  | inl less ↦ before at low less p
+  | inr most ↦ here (subst (λ (n : ℕ). OfEntry (slice_get entries n) P) (omega arith) p)
+]
+
+pub none_left : (entries : List (Entry ℕ)) (from end : ℕ) (P : Entry ℕ → Type 0) → length entries ≤ end → NoneUntil entries from end P → NoneBehind entries from P
+none_left entries from end P all before at low p =
+    let below = inside entries at P p in
+    before at low (omega (arith, all, below)) p
+
+-- whether one was found says whether there is one
+pub found_or_none : (entries : List (Entry ℕ)) (P : Entry ℕ → Type 0) (found : Option ℕ) (result : Bool) → result ≡ is_some found → IfSome found (λ index. OfEntry (slice_get entries index) P) → IfNone found (NoneBehind entries 0 P) → IsTrue result ↔ SomeHas entries P
+found_or_none entries P None result e is none = (λ there. (let nothing : result ≡ false = e in absurd cc), λ some. absurd (none some.0 (omega arith) some.1))
+found_or_none entries P (Some index) result e is none = (λ there. (index, is), λ some. e)
+
+-- ---- a database that is read
+
+pub entries_read : (image : List ℕ) (db : Db) (database : Database ℕ) → HasDatabase image db.0 database → entries_in (store_of image) db ≡ database.entries
+entries_read image db database is = ap entries_of is
+
+pub number_read : (image : List ℕ) (db : Db) (database : Database ℕ) → HasDatabase image db.0 database → HasNumber image db.0
+number_read image db database is = subst (λ (x : Option StoredDatabase). IsSome x) (sym is) (search rules)
+
+pub kind_read : (image : List ℕ) (db : Db) (database : Database ℕ) → HasDatabase image db.0 database → resources_under (store_of image) db ≡ has_resources database.header.attributes
+kind_read image db database is = ap kind_of is
+
+pub attributes_read : (image : List ℕ) (db : Db) (database : Database ℕ) (attributes : ℕ) → HasDatabase image db.0 database → attributes ≡ database.header.attributes → HasDbAttributes image db attributes
+attributes_read image db database attributes is said = subst (λ (x : Option StoredDatabase). OfDatabase x (λ one. one.header.attributes ≡ attributes)) (sym is) (sym said)
+
+-- ---- entries counted
+
+pub counted_more : (test : Entry ℕ → Bool) (entries : List (Entry ℕ)) (index : ℕ) (entry : Entry ℕ) → slice_get entries index ≡ Some entry → test entry ≡ true → count_by test (take (index + 1) entries) ≡ count_by test (take index entries) + 1
+counted_more test entries index entry at is =
+    count_by_more_yes test entries index entry (slice_get_within entries index entry at) (ap test (get_or_from_slice_get entries index entry entry at) ∙ is)
+
+pub counted_same : (test : Entry ℕ → Bool) (entries : List (Entry ℕ)) (index : ℕ) (entry : Entry ℕ) → slice_get entries index ≡ Some entry → test entry ≡ false → count_by test (take (index + 1) entries) ≡ count_by test (take index entries)
+counted_same test entries index entry at is =
+    count_by_more_no test entries index entry (slice_get_within entries index entry at) (ap test (get_or_from_slice_get entries index entry entry at) ∙ is)
+
+pub counted_all : (test : Entry ℕ → Bool) (entries : List (Entry ℕ)) → count_by test (take (length entries) entries) ≡ count_by test entries
+counted_all test entries = ap (count_by test) (take_all (length entries) entries (omega arith))

@@ -1,0 +1,135 @@
+//! What the calls look at first.
+
+ghost use Rattle.std.specs.Prelude.{◌≡◌, ◌<◌, [], length, OnOk, IfOk, IfErr};
+ghost use Rattle.heap_model.specs.Database.{has_resources};
+ghost use Rattle.heap_model.specs.Store.{Accepted};
+ghost use Rattle.heap_model.specs.Refusals.{NoneHolds, FirstBrings};
+ghost use Rattle.palm_store.specs.Databases.{HasNumber, HasDatabase};
+ghost use Rattle.palm_store.specs.EntryCalls.{entries_of_image, resources_of_image, HasCount};
+ghost use Rattle.database_access.specs.Checks.{are_resources, wrong_kind, attribute_checks, opening_checks, finding_checks, IsTold, IsOfKind};
+
+use db_format::{DatabaseView, DbAttrs};
+use heap_model::{Db, Entry, Refusal};
+use palm_store::Store;
+
+/// The entries that a call is on.
+#[derive(Clone, Copy, Debug, PartialEq, Eq)]
+pub enum EntryKind {
+    Records,
+    Resources,
+}
+
+/// How a call uses a database. One that is read-only may not be written.
+#[derive(Clone, Copy, Debug, PartialEq, Eq)]
+pub enum Access {
+    Read,
+    Write,
+}
+
+impl EntryKind {
+    /// Whether the entries are resources.
+    fn are_resources(self) -> bool
+        ensures { result ≡ are_resources self }
+    {
+        match self {
+            EntryKind::Records => false,
+            EntryKind::Resources => true,
+        }
+    }
+
+    /// What refuses a call on entries of this kind where the database holds those of the other.
+    fn wrong_kind(self) -> Refusal
+        ensures { result ≡ wrong_kind self }
+    {
+        match self {
+            EntryKind::Records => Refusal::NotRecordDatabase,
+            EntryKind::Resources => Refusal::NotResourceDatabase,
+        }
+    }
+}
+
+/// A database that holds entries of a kind and may be used so.
+///
+/// Refused: `NoSuchDatabase`; `NotRecordDatabase` or `NotResourceDatabase`; `ReadOnly`, where it is to be written.
+#[inline]
+pub fn open_database<'a>(
+    store: &'a Store,
+    db: Db,
+    kind: EntryKind,
+    access: Access,
+) -> Result<DatabaseView<'a>, Refusal>
+    ensures accepted { Accepted store.now.bytes }
+    ensures is { IfOk result (λ database. HasDatabase store.now.bytes db.0 database) }
+    ensures kind { IfOk result (λ database.
+        has_resources database.header.attributes ≡ are_resources kind) }
+    ensures passes { OnOk result (NoneHolds (opening_checks store.now.bytes db kind access [])) }
+    ensures refused { IfErr result
+        (FirstBrings (opening_checks store.now.bytes db kind access [])) }
+{
+    let database = store.find_database(db)?;
+    check_attributes(database.attributes(), kind, access)?;
+    Ok(database)
+}
+
+/// How many entries a database has that holds those of a kind and may be used so.
+///
+/// Refused: as `open_database`.
+#[inline]
+pub fn count_entries(store: &Store, db: Db, kind: EntryKind, access: Access) -> Result<u32, Refusal>
+    ensures accepted { Accepted store.now.bytes }
+    ensures known { OnOk result (HasNumber store.now.bytes db.0) }
+    ensures kind { OnOk result (resources_of_image store.now.bytes db ≡ are_resources kind) }
+    ensures count { IfOk result (HasCount store.now.bytes db) }
+    ensures passes { OnOk result (NoneHolds (opening_checks store.now.bytes db kind access [])) }
+    ensures refused { IfErr result
+        (FirstBrings (opening_checks store.now.bytes db kind access [])) }
+{
+    Ok(open_database(store, db, kind, access)?.entry_count())
+}
+
+/// What the entry of an index says, of a database that holds entries of a kind and may be used so.
+///
+/// Refused: as `open_database`; `IndexOutOfRange`.
+#[inline]
+pub fn find_entry(
+    store: &Store,
+    db: Db,
+    index: u32,
+    kind: EntryKind,
+    access: Access,
+) -> Result<Entry, Refusal>
+    ensures accepted { Accepted store.now.bytes }
+    ensures known { OnOk result (HasNumber store.now.bytes db.0) }
+    ensures kind { OnOk result (resources_of_image store.now.bytes db ≡ are_resources kind) }
+    ensures inside { OnOk result (index < length (entries_of_image store.now.bytes db)) }
+    ensures is { IfOk result (IsTold store.now.bytes db index) }
+    ensures of_kind { IfOk result (IsOfKind kind) }
+    ensures passes { OnOk result
+        (NoneHolds (finding_checks store.now.bytes db index kind access)) }
+    ensures refused { IfErr result
+        (FirstBrings (finding_checks store.now.bytes db index kind access)) }
+{
+    let found = store.find_entry(db, index)?;
+    check_attributes(found.attributes, kind, access)?;
+    let Some(entry) = found.entry else {
+        return Err(Refusal::IndexOutOfRange);
+    };
+    Ok(entry)
+}
+
+/// Looks whether a database with these attributes holds entries of a kind and may be used so.
+#[inline]
+fn check_attributes(attributes: DbAttrs, kind: EntryKind, access: Access) -> Result<(), Refusal>
+    ensures kind { OnOk result (has_resources attributes.0 ≡ are_resources kind) }
+    ensures passes { OnOk result (NoneHolds (attribute_checks attributes.0 kind access)) }
+    ensures refused { IfErr result (FirstBrings (attribute_checks attributes.0 kind access)) }
+{
+    if attributes.has_resources() != kind.are_resources() {
+        return Err(kind.wrong_kind());
+    }
+    match access {
+        Access::Read => Ok(()),
+        Access::Write if attributes.is_read_only() => Err(Refusal::ReadOnly),
+        Access::Write => Ok(()),
+    }
+}

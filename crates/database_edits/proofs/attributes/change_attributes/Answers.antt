@@ -1,0 +1,29 @@
+-- The bytes of all entries are those of the records with their new attributes.
+use Rattle.std.proofs.Common.{◌+◌, ◌-◌, length, ap, List, ℕ}
+use Rattle.std.specs.Prelude.{slice_range}
+use Rattle.heap_model.specs.Store.{bytes_under}
+use Rattle.heap_model.specs.Leaving.{database_here}
+use Rattle.heap_model.specs.Database.{spelled}
+use Rattle.heap_model.specs.Bytes.{overwritten}
+use Rattle.raw_region.specs.ByteChanges.{changed_every}
+use Rattle.database_edits.specs.Recorded.{attributes_changed}
+use Rattle.database_edits.proofs.Databases.{managers}
+use Rattle.database_edits.proofs.Chunks.{is_there, written, leaves_as}
+use Rattle.database_edits.proofs.Recorded.{body_changed}
+use Rattle.database_edits.proofs.attributes.change_attributes.Goals as goal
+
+pub sys_body-requires : goal.sys_body-requires
+sys_body-requires g c = is_there c.args.heap.now.bytes c.args.db.0 (managers c.args.heap.now.bytes c.args.db.0 c.requires.spells)
+
+pub sys_change_every-requires-clause-there : goal.sys_change_every-requires-clause-there
+sys_change_every-requires-clause-there g c = is_there c.args.heap.now.bytes c.args.db.0 (managers c.args.heap.now.bytes c.args.db.0 c.requires.spells)
+
+pub returns-clause-changed : goal.returns-clause-changed
+returns-clause-changed g c =
+    let old : List ℕ = c.args.heap.now.bytes in
+    let db : ℕ = c.args.db.0 in
+    let count : ℕ = length c.sys_body.result.now - 78 in
+    let change : ℕ → ℕ = g.C.ByteChange.made c.args.change in
+    leaves_as old c.sys_change_every.new.self.bytes db (overwritten (bytes_under old db) 78 (changed_every change 8 4 (slice_range (bytes_under old db) 78 (78 + count)))) (spelled (attributes_changed change (database_here old db)))
+    (body_changed change (database_here old db) (bytes_under old db) count c.requires.spells.spelled.bytes_are c.requires.spells.spelled.fits c.requires.records (ap (λ (bytes : List ℕ). length bytes - 78) c.sys_body.ensures))
+    (written old c.sys_change_every.new.self.bytes db 78 (changed_every change 8 4 (slice_range (bytes_under old db) 78 (78 + count))) (managers old db c.requires.spells) c.sys_change_every.ensures.leaves)

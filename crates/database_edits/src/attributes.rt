@@ -1,0 +1,31 @@
+//! The attributes of all records of a database, changed in one pass.
+
+ghost use Rattle.std.specs.Prelude.{◌≡◌, false};
+ghost use Rattle.heap_model.specs.Leaving.{SpellsHere};
+ghost use Rattle.database_edits.specs.Recorded.{attributes_changed};
+ghost use Rattle.database_edits.specs.Edits.{Changes, HasKindHere};
+
+use db_format::{HEADER_SIZE, RECORD_ATTRIBUTES_AT, RECORD_SIZE};
+use heap_model::{Db, Name};
+use mem_manager::Heap;
+use raw_region::ByteChange;
+
+/// Gives each record the attributes that a change makes of its own.
+#[tactic(auto, using(crate::proofs::Recorded::long_enough, crate::proofs::Recorded::short_enough))]
+pub fn change_attributes<C: ByteChange>(heap: &mut Heap, db: Db, change: C)
+    requires spells { SpellsHere heap.old.bytes db.0 }
+    requires records { HasKindHere heap.old.bytes db.0 false }
+    ensures changed { Changes heap.old.bytes heap.new.bytes db.0
+        (attributes_changed (C.made change)) }
+    ensures rest { heap.new ≡ record heap.old { bytes = heap.new.bytes } }
+{
+    let entries = heap.sys_body(Name(db.0)).len() - HEADER_SIZE;
+    heap.sys_change_every(
+        Name(db.0),
+        HEADER_SIZE as u32,
+        entries as u32,
+        RECORD_ATTRIBUTES_AT as u32,
+        RECORD_SIZE as u32,
+        change,
+    );
+}

@@ -1,0 +1,5 @@
+use Rattle.mem_manager.proofs.Knowing.{none_known}
+use Rattle.mem_manager.proofs.known.KnownNames.none.Goals as goal
+
+pub returns : goal.returns
+returns c name is = none_known name is

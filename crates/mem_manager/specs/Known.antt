@@ -1,0 +1,21 @@
+-- Names that are remembered, each in an entry of its own.
+use Rattle.std.specs.Prelude.{◌≡◌, ◌≢◌, ◌<◌, ◌/◌, ◌%◌, ℕ, List, slice_index, IsSome}
+use Rattle.heap_model.specs.Reading.{held}
+
+-- the entry of a name
+abbrev pub entry_of : ℕ → ℕ
+entry_of name = name / 8 % 64
+
+-- a name is remembered; 0 is none
+pub record IsKnown (names : List ℕ) (name : ℕ) : Type 0 where
+  pub some : 0 < name
+  pub there : slice_index names (entry_of name) ≡ name
+
+-- each name that is remembered stands for a chunk
+abbrev pub KnowsHeld : List ℕ → List ℕ → Type 0
+KnowsHeld image names = (name : ℕ) → IsKnown names name → IsSome (held image name)
+
+-- A name is in its entry now. What was there before is forgotten, and no other name.
+pub record Remembers (old new : List ℕ) (name : ℕ) : Type 0 where
+  pub this : slice_index new (entry_of name) ≡ name
+  pub others : (other : ℕ) → entry_of other ≢ entry_of name → slice_index new (entry_of other) ≡ slice_index old (entry_of other)

@@ -1,0 +1,64 @@
+//! Names of fixed chunks that were found.
+
+ghost use Rattle.std.specs.Prelude.{◌≡◌, ◌≢◌, ◌<◌, ◌↔◌, ℕ};
+ghost use Rattle.std.specs.Bool.{OnTrue, OnFalse};
+ghost use Rattle.mem_manager.specs.Known.{IsKnown, Remembers, entry_of};
+
+use heap_model::Name;
+
+/// How many names are remembered at a time.
+const ENTRIES: usize = 64;
+
+/// Names of fixed chunks, each in the entry that its offset gives, so that a new one takes the place of the
+/// one that was there. An entry without a name is 0.
+#[derive(Drop)]
+pub(crate) struct KnownNames {
+    names: [u32; ENTRIES],
+}
+
+impl KnownNames {
+    /// No name.
+    pub(crate) fn none() -> KnownNames
+        ensures { (name : ℕ) → IsKnown result.names name → ⊥ }
+    {
+        KnownNames {
+            names: [0; ENTRIES],
+        }
+    }
+
+    /// Whether a name is among them.
+    #[inline]
+    pub(crate) fn has(&self, name: Name) -> bool
+        ensures known { OnTrue result (IsKnown self.now.names name.0) }
+        ensures unknown { OnFalse result (IsKnown self.now.names name.0 → ⊥) }
+    {
+        name.0 != 0 && self.names[entry_of(name)] == name.0
+    }
+
+    /// Remembers a name.
+    #[inline]
+    pub(crate) fn remember(&mut self, name: Name)
+        ensures { Remembers self.old.names self.new.names name.0 }
+    {
+        self.names[entry_of(name)] = name.0;
+    }
+
+    /// Forgets a name.
+    pub(crate) fn forget(&mut self, name: Name)
+        ensures { (other : ℕ) → (IsKnown self.new.names other
+            ↔ (IsKnown self.old.names other × (other ≢ name.0))) }
+    {
+        if self.has(name) {
+            self.names[entry_of(name)] = 0;
+        }
+    }
+}
+
+/// The entry of a name. Bodies of fixed chunks begin at multiples of 8.
+#[inline]
+fn entry_of(name: Name) -> usize
+    ensures is { result ≡ entry_of name.0 }
+    ensures below { result < 64 }
+{
+    (name.0 / 8) as usize % ENTRIES
+}

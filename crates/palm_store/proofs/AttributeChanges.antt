@@ -1,0 +1,77 @@
+-- All records of a database with other attributes are a change of the store.
+use Rattle.std.proofs.Common.{◌≡◌, ◌≢◌, ℕ, ◌<◌, ◌^◌, Bool, true, false, List, [], ◌∷◌, length, map, refl, sym, ap, subst, ◌∙◌, arith}
+use Rattle.std.proofs.lemmas.List.{length-map}
+use Rattle.std.proofs.lemmas.List.Elements.{All-nil, All-cons, All-head, All-tail}
+use Rattle.std.specs.Prelude.{All}
+use Rattle.std.specs.Prelude.{filter_map}
+use Rattle.heap_model.specs.Lists.{times, Distinct}
+use Rattle.heap_model.specs.Database.{Entry, a_record, a_resource, Database, entry_data, data_in, has_resources, is_deleted, EntryFits}
+use Rattle.heap_model.specs.Store.{unique_id, Accepted, store_of}
+use Rattle.heap_model.specs.Counts.{IsSound, NamesData}
+use Rattle.heap_model.specs.Leaving.{Respells, database_here}
+use Rattle.heap_model.specs.EntrySteps.{with_attributes, with_entries, resources_under, LeavesStore}
+use Rattle.heap_model.specs.declared.names.Db.{Db}
+use Rattle.laws_store.proofs.Numbered.{accepted_sound, kind_here}
+use Rattle.laws_store.proofs.Editing.{respell_steps}
+use Rattle.database_edits.specs.Recorded.{attributes_changed}
+use Rattle.palm_store.specs.AttributeChanges.{MayChange}
+use Rattle.palm_store.specs.Databases.{HasNumber}
+
+-- the data and the IDs stay
+data_kept : (change : ℕ → ℕ) (entries : List (Entry ℕ)) → map entry_data (map (with_attributes change) entries) ≡ map entry_data entries
+data_kept change [] = refl
+data_kept change (a_record attributes id slot ∷ entries) = ap (λ (names : List ℕ). slot ∷ names) (data_kept change entries)
+data_kept change (a_resource kind id slot ∷ entries) = ap (λ (names : List ℕ). slot ∷ names) (data_kept change entries)
+
+ids_kept : (change : ℕ → ℕ) (entries : List (Entry ℕ)) → filter_map unique_id (map (with_attributes change) entries) ≡ filter_map unique_id entries
+ids_kept change [] = refl
+ids_kept change (a_record attributes id slot ∷ entries) = ap (λ (ids : List ℕ). id ∷ ids) (ids_kept change entries)
+ids_kept change (a_resource kind id slot ∷ entries) = ids_kept change entries
+
+-- each entry fits, and has data if it is not deleted
+one_fits : (change : ℕ → ℕ) (resources : Bool) (entry : Entry ℕ) → MayChange change → EntryFits resources entry → EntryFits resources (with_attributes change entry)
+one_fits change false (a_record attributes id slot) may fits = (may.fits attributes fits.0, fits.1, fits.2)
+one_fits change true (a_record attributes id slot) may fits = absurd fits
+one_fits change false (a_resource kind id slot) may fits = absurd fits
+one_fits change true (a_resource kind id slot) may fits = fits
+
+one_names : (change : ℕ → ℕ) (entry : Entry ℕ) → MayChange change → NamesData entry → NamesData (with_attributes change entry)
+one_names change (a_record attributes id slot) may names = λ none. may.deleted attributes (names none)
+one_names change (a_resource kind id slot) may names = names
+
+all_fit : (change : ℕ → ℕ) (resources : Bool) (entries : List (Entry ℕ)) → MayChange change → All (EntryFits resources) entries → All (EntryFits resources) (map (with_attributes change) entries)
+all_fit change resources [] may all = All-nil (EntryFits resources)
+all_fit change resources (entry ∷ entries) may all =
+    All-cons (EntryFits resources) (with_attributes change entry) (map (with_attributes change) entries) (one_fits change resources entry may (All-head (EntryFits resources) entry entries all)) (all_fit change resources entries may (All-tail (EntryFits resources) entry entries all))
+
+all_name : (change : ℕ → ℕ) (entries : List (Entry ℕ)) → MayChange change → All NamesData entries → All NamesData (map (with_attributes change) entries)
+all_name change [] may all = All-nil NamesData
+all_name change (entry ∷ entries) may all =
+    All-cons NamesData (with_attributes change entry) (map (with_attributes change) entries) (one_names change entry may (All-head NamesData entry entries all)) (all_name change entries may (All-tail NamesData entry entries all))
+
+changed_sound : (change : ℕ → ℕ) (d : Database ℕ) → MayChange change → IsSound d → IsSound (attributes_changed change d)
+changed_sound change d may s = record {
+  fits = record {
+    name = s.fits.name;
+    header = s.fits.header;
+    app_info = s.fits.app_info;
+    sort_info = s.fits.sort_info;
+    entries = all_fit change (has_resources d.header.attributes) d.entries may s.fits.entries;
+    entry_count = (let few = s.fits.entry_count in let len = length-map d.entries (with_attributes change) in omega arith);
+  };
+  entries = all_name change d.entries may s.entries;
+  ids = record {
+    none_zero = subst (λ (ids : List ℕ). All (λ id. id ≢ 0) ids) (sym (ids_kept change d.entries)) s.ids.none_zero;
+    distinct = subst (λ (ids : List ℕ). Distinct ids) (sym (ids_kept change d.entries)) s.ids.distinct;
+  };
+}
+
+pub attributes_steps : (old new : List ℕ) (db : Db) (change : ℕ → ℕ) → MayChange change → Accepted old → HasNumber old db.0 → Respells old new db.0 (attributes_changed change (database_here old db.0))
+    → LeavesStore old new (with_entries (store_of old) db (map (with_attributes change)))
+attributes_steps old new db change may a has l =
+    let d : Database ℕ = database_here old db.0 in
+    respell_steps old new db (attributes_changed change) a has l (changed_sound change d may (accepted_sound old db.0 a has)) refl
+    (λ q some. ap (λ (names : List ℕ). times q (d.app_info ∷ d.sort_info ∷ names)) (data_kept change d.entries))
+
+pub kind_of_records : (image : List ℕ) (db : Db) → HasNumber image db.0 → resources_under (store_of image) db ≡ false → false ≡ has_resources (database_here image db.0).header.attributes
+kind_of_records image db has records = sym records ∙ kind_here image db has

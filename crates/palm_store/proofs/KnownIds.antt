@@ -1,0 +1,166 @@
+-- IDs that are known to be free: which changes of a store leave them free.
+use Rattle.std.proofs.Common.{◌≡◌, ◌≢◌, ◌≤◌, ◌++◌, ℕ, suc, List, [], ◌∷◌, length, take, drop, Option, Some, refl, sym, ap, ◌∙◌, arith, inl, inr}
+use Rattle.std.proofs.lemmas.Bool.{cases_eq, cases_lt, eq-eqb, ne_eqb}
+use Rattle.std.proofs.lemmas.List.{drop_all, take_all, append-nil}
+use Rattle.std.proofs.lemmas.List.Sums.{sum_by-insert, sum_by-remove}
+use Rattle.std.specs.Prelude.{◌==◌}
+use Rattle.std.specs.List.{find, filter_map, remove}
+use Rattle.heap_model.specs.Lists.{times}
+use Rattle.heap_model.specs.Database.{Database, Entry, a_record, a_resource, entry_with, database_in}
+use Rattle.heap_model.specs.Store.{StoredDatabase, Store, unique_id, unique_ids, bytes_under, Accepted, store_of}
+use Rattle.heap_model.specs.StoreWords.{with_changed, with_number}
+use Rattle.heap_model.specs.EntrySteps.{entries_of, with_entry_at, raised_header, HasId}
+use Rattle.heap_model.specs.declared.names.Db.{Db}
+use Rattle.laws_heap.proofs.Deciding.{cond-true, cond-false}
+use Rattle.laws_store.proofs.Listing.{same-no}
+use Rattle.laws_store.proofs.Naming.{has_id, times-ids}
+use Rattle.laws_store.proofs.Numbered.{entries_here}
+use Rattle.fresh_ids.specs.FreeIds.{IsAmong, AreFree, IsWithout}
+use Rattle.fresh_ids.specs.declared.stretch.FreeIds.{FreeIds}
+use Rattle.palm_store.specs.Databases.{HasNumber}
+use Rattle.palm_store.specs.KnownIds.{ids_in, StandFree, StandFreeBeside, IsStore}
+use Rattle.palm_store.specs.declared.entries.known.KnownIds.{KnownIds}
+
+-- no ID at all is known to be free
+pub none_free : (ids : List ℕ) → AreFree ids (record { first = 0; end = 0 })
+none_free ids = λ id among. (let below = among.1 in absurd (omega (arith, below)))
+
+-- so an accepted image is a store
+pub nothing_known : (image : List ℕ) → Accepted image → IsStore image (record { db = record { 0 = 0 }; ids = record { first = 0; end = 0 } })
+nothing_known image accepted = record { accepted = accepted; free = none_free (ids_in (store_of image) (record { 0 = 0 })) }
+
+-- ---- the databases stay
+
+ids_found : List StoredDatabase → ℕ → List ℕ
+ids_found stored number = filter_map unique_id (entries_of (find (λ one. one.db == number) stored))
+
+pub stand_still : (old new : Store) (known : KnownIds) → new.databases ≡ old.databases → StandFree old known → StandFree new known
+unfolding ids_found
+stand_still old new known same free = λ id among. ap (λ (stored : List StoredDatabase). times id (ids_found stored known.db.0)) same ∙ free id among
+
+-- ---- one database is changed
+
+-- no database gets an ID that it had not
+LacksStill : ℕ → (Database ℕ → Database ℕ) → Type 0
+LacksStill id change = (database : Database ℕ) → times id (unique_ids database) ≡ 0 → times id (unique_ids (change database)) ≡ 0
+
+now_is : ℕ → (Database ℕ → Database ℕ) → StoredDatabase → StoredDatabase
+now_is db change one = record { db = db; database = change one.database }
+
+found_first : (number : ℕ) (one : StoredDatabase) (stored : List StoredDatabase) → one.db ≡ number → ids_found (one ∷ stored) number ≡ unique_ids one.database
+unfolding ids_found
+found_first number one stored here = ap (λ (found : Option StoredDatabase). filter_map unique_id (entries_of found)) (cond-true (one.db == number) (Some one) (find (λ other. other.db == number) stored) (eq-eqb one.db number here))
+
+found_behind : (number : ℕ) (one : StoredDatabase) (stored : List StoredDatabase) → one.db ≢ number → ids_found (one ∷ stored) number ≡ ids_found stored number
+unfolding ids_found
+found_behind number one stored apart = ap (λ (found : Option StoredDatabase). filter_map unique_id (entries_of found)) (cond-false (one.db == number) (Some one) (find (λ other. other.db == number) stored) (ne_eqb one.db number apart))
+
+changed_lacks : (id db number : ℕ) (change : Database ℕ → Database ℕ) (stored : List StoredDatabase) → LacksStill id change → times id (ids_found stored number) ≡ 0 → times id (ids_found (with_changed stored db change) number) ≡ 0
+unfolding LacksStill now_is
+changed_lacks id db number change [] lacks none = none
+changed_lacks id db number change (one ∷ stored) lacks none = elim (cases_eq one.db number) [
+  | inl here ↦
+      let was : times id (unique_ids one.database) ≡ 0 = ap (times id) (sym (found_first number one stored here)) ∙ none in
+      elim (cases_eq one.db db) [
+        | inl e ↦
+            ap (λ (now : StoredDatabase). times id (ids_found (now ∷ with_changed stored db change) number)) (cond-true (one.db == db) (now_is db change one) one (eq-eqb one.db db e))
+            ∙ ap (times id) (found_first number (now_is db change one) (with_changed stored db change) (sym e ∙ here)) ∙ lacks one.database was
+        | inr ne ↦
+            ap (λ (now : StoredDatabase). times id (ids_found (now ∷ with_changed stored db change) number)) (cond-false (one.db == db) (now_is db change one) one (ne_eqb one.db db ne))
+            ∙ ap (times id) (found_first number one (with_changed stored db change) here) ∙ was
+      ]
+  | inr apart ↦
+      let was : times id (ids_found stored number) ≡ 0 = ap (times id) (sym (found_behind number one stored apart)) ∙ none in
+      let rest = changed_lacks id db number change stored lacks was in
+      elim (cases_eq one.db db) [
+        | inl e ↦
+            ap (λ (now : StoredDatabase). times id (ids_found (now ∷ with_changed stored db change) number)) (cond-true (one.db == db) (now_is db change one) one (eq-eqb one.db db e))
+            ∙ ap (times id) (found_behind number (now_is db change one) (with_changed stored db change) (λ z. apart (e ∙ z))) ∙ rest
+        | inr ne ↦
+            ap (λ (now : StoredDatabase). times id (ids_found (now ∷ with_changed stored db change) number)) (cond-false (one.db == db) (now_is db change one) one (ne_eqb one.db db ne))
+            ∙ ap (times id) (found_behind number one (with_changed stored db change) apart) ∙ rest
+      ]
+]
+
+-- the modification number is raised
+pub raised_free : (old new : Store) (db : ℕ) (known : KnownIds) → new.databases ≡ with_changed old.databases db (λ database. record database { header = raised_header database.header }) → StandFree old known → StandFree new known
+unfolding ids_found LacksStill
+raised_free old new db known is free = λ id among.
+    ap (λ (stored : List StoredDatabase). times id (ids_found stored known.db.0)) is
+    ∙ changed_lacks id db known.db.0 (λ database. record database { header = raised_header database.header }) old.databases (λ database none. none) (free id among)
+
+-- ---- an entry comes
+
+other_id : (id : ℕ) (entry : Entry ℕ) → (HasId id entry → ⊥) → has_id id entry ≡ 0
+unfolding has_id
+other_id id (a_record attributes other slot) ne = same-no other id (λ e. ne (ap (λ (n : ℕ). Some n) e))
+other_id id (a_resource kind other slot) ne = refl
+
+come_lacks : (id at : ℕ) (entry : Entry ℕ) → (HasId id entry → ⊥) → LacksStill id (with_entry_at at entry)
+unfolding LacksStill
+come_lacks id at entry ne database none =
+    let now = times-ids id (with_entry_at at entry database) in
+    let was = times-ids id database in
+    let sum = sum_by-insert (has_id id) database.entries at entry in
+    let other = other_id id entry ne in
+    omega arith
+
+pub come_free : (old new : Store) (db at : ℕ) (entry : Entry ℕ) (known : KnownIds)
+    → new.databases ≡ with_changed (with_changed old.databases db (with_entry_at at entry)) db (λ database. record database { header = raised_header database.header }) → StandFreeBeside old entry known → StandFree new known
+unfolding ids_found LacksStill
+come_free old new db at entry known is free = λ id among.
+    let beside = free id among in
+    ap (λ (stored : List StoredDatabase). times id (ids_found stored known.db.0)) is
+    ∙ changed_lacks id db known.db.0 (λ database. record database { header = raised_header database.header }) (with_changed old.databases db (with_entry_at at entry)) (λ database none. none)
+    (changed_lacks id db known.db.0 (with_entry_at at entry) old.databases (come_lacks id at entry beside.1) beside.0)
+
+-- ---- an entry goes
+
+none_goes : (entries : List (Entry ℕ)) (index : ℕ) → length entries ≤ index → remove entries index ≡ entries
+none_goes entries index past =
+    ap (λ (es : List (Entry ℕ)). es ++ drop (suc index) entries) (take_all index entries past) ∙ ap (λ (es : List (Entry ℕ)). entries ++ es) (drop_all (suc index) entries (omega (arith, past))) ∙ append-nil entries
+
+without_entry : ℕ → Database ℕ → Database ℕ
+without_entry index database = record database { entries = remove database.entries index }
+
+go_lacks : (id index : ℕ) → LacksStill id (without_entry index)
+unfolding LacksStill without_entry
+go_lacks id index database none =
+    let now = times-ids id (without_entry index database) in
+    let was = times-ids id database in
+    elim (cases_lt index (length database.entries)) [
+      | inl below ↦ let sum = sum_by-remove (has_id id) database.entries index (a_record 0 0 0) below in omega arith
+      | inr past ↦ ap (λ (es : List (Entry ℕ)). times id (unique_ids (record database { entries = es }))) (none_goes database.entries index past) ∙ none
+    ]
+
+pub go_free : (old new : Store) (db index : ℕ) (known : KnownIds)
+    → new.databases ≡ with_changed (with_changed old.databases db (λ database. record database { entries = remove database.entries index })) db (λ database. record database { header = raised_header database.header }) → StandFree old known → StandFree new known
+unfolding ids_found LacksStill without_entry
+go_free old new db index known is free = λ id among.
+    ap (λ (stored : List StoredDatabase). times id (ids_found stored known.db.0)) is
+    ∙ changed_lacks id db known.db.0 (λ database. record database { header = raised_header database.header }) (with_changed old.databases db (without_entry index)) (λ database none. none)
+    (changed_lacks id db known.db.0 (without_entry index) old.databases (go_lacks id index) (free id among))
+
+-- the slot of its data says nothing of its ID
+pub beside_named : (store : Store) (entry : Entry ℕ) (slot : ℕ) (known : KnownIds) → StandFreeBeside store entry known → StandFreeBeside store (entry_with (λ (none : ℕ). slot) entry) known
+beside_named store (a_record attributes id none) slot known free = free
+beside_named store (a_resource kind id none) slot known free = free
+
+-- ---- a new entry
+
+pub same_number : (store : Store) (one other : Db) → one.0 ≡ other.0 → ids_in store one ≡ ids_in store other
+same_number store one other same = ap (λ (number : ℕ). filter_map unique_id (entries_of (with_number store number))) same
+
+-- the IDs that are known of a database, and what is left of them without one
+pub ids_here : (image body : List ℕ) (db : Db) → HasNumber image db.0 → body ≡ bytes_under image db.0 → ids_in (store_of image) db ≡ unique_ids (database_in body)
+ids_here image body db has is = ap (filter_map unique_id) (entries_here image db has) ∙ ap (λ (bytes : List ℕ). unique_ids (database_in bytes)) (sym is)
+
+pub left_beside : (store : Store) (db : Db) (free left : FreeIds) (attributes id slot : ℕ) → AreFree (ids_in store db) free → IsWithout free id left → IsAmong free id → StandFreeBeside store (a_record attributes id slot) (record { db = db; ids = left })
+left_beside store db free left attributes id slot all without here = λ other among. (
+    let both = (without.behind here other).0 among in (
+      all other both.0,
+      λ e. (let same : id ≡ other = cc in let behind = both.1 in omega arith),
+    ))
+
+pub resource_beside : (store : Store) (kind id slot : ℕ) (known : KnownIds) → StandFree store known → StandFreeBeside store (a_resource kind id slot) known
+resource_beside store kind id slot known free = λ other among. (free other among, λ e. absurd cc)

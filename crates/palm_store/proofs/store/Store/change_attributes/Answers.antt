@@ -1,0 +1,36 @@
+use Rattle.std.proofs.Common.{◌≡◌, false}
+use Rattle.heap_model.specs.Store.{store_of}
+use Rattle.heap_model.specs.EntrySteps.{resources_under}
+use Rattle.laws_store.proofs.Numbered.{accepted_spells}
+use Rattle.palm_store.specs.Databases.{HasNumber}
+use Rattle.palm_store.proofs.EntryChanges.{respelled_none}
+use Rattle.palm_store.proofs.AttributeChanges.{attributes_steps, kind_of_records}
+use Rattle.palm_store.proofs.KnownIds.{nothing_known}
+use Rattle.palm_store.proofs.store.Store.change_attributes.Goals as goal
+
+pub change_attributes-requires-clause-spells : goal.change_attributes-requires-clause-spells
+change_attributes-requires-clause-spells g c =
+    let number : HasNumber c.self.inside.heap.bytes c.args.db.0 = rw c.self.view_is c.requires.number in
+    accepted_spells c.self.inside.heap.bytes c.args.db.0 c.self.invariant.accepted number
+
+pub change_attributes-requires-clause-records : goal.change_attributes-requires-clause-records
+change_attributes-requires-clause-records g c =
+    let number : HasNumber c.self.inside.heap.bytes c.args.db.0 = rw c.self.view_is c.requires.number in
+    let records : resources_under (store_of c.self.inside.heap.bytes) c.args.db ≡ false = rw c.self.view_is c.requires.records in
+    kind_of_records c.self.inside.heap.bytes c.args.db number records
+
+pub invariant_of-self : goal.invariant_of-self
+invariant_of-self g c =
+    let number : HasNumber c.self.inside.heap.bytes c.args.db.0 = rw c.self.view_is c.requires.number in
+    nothing_known c.change_attributes.new.heap.bytes
+    (attributes_steps c.self.inside.heap.bytes c.change_attributes.new.heap.bytes c.args.db (g.C.ByteChange.made c.args.change) c.requires.change c.self.invariant.accepted number c.change_attributes.ensures.changed).accepted
+
+pub returns-clause-changed : goal.returns-clause-changed
+returns-clause-changed g c =
+    let number : HasNumber c.self.inside.heap.bytes c.args.db.0 = rw c.self.view_is c.requires.number in
+    rw (← c.self.view_is) (attributes_steps c.self.inside.heap.bytes c.change_attributes.new.heap.bytes c.args.db (g.C.ByteChange.made c.args.change) c.requires.change c.self.invariant.accepted number c.change_attributes.ensures.changed)
+
+pub returns-clause-none_made : goal.returns-clause-none_made
+returns-clause-none_made g c =
+    let number : HasNumber c.self.inside.heap.bytes c.args.db.0 = rw c.self.view_is c.requires.number in
+    rw (← c.self.view_is) (respelled_none c.self.inside.heap.bytes c.change_attributes.new.heap.bytes c.args.db.0 _ c.self.invariant.accepted number c.change_attributes.ensures.changed)

@@ -1,0 +1,33 @@
+//! Unique IDs of a database that are known to be free.
+
+ghost use Rattle.std.specs.Prelude.{◌≡◌};
+ghost use Rattle.heap_model.specs.Store as stores;
+ghost use Rattle.fresh_ids.specs.FreeIds.{AreFree};
+ghost use Rattle.palm_store.specs.KnownIds.{ids_in, StandFree};
+
+use fresh_ids::{FreeIds, NO_IDS};
+use heap_model::Db;
+
+/// Unique IDs that no record of a database has. While the next new record's is among them, no entry is read
+/// for it.
+#[derive(Clone, Copy)]
+pub(crate) struct KnownIds {
+    pub(crate) db: Db,
+    pub(crate) ids: FreeIds,
+}
+
+/// What is known after a change that may give any record any ID.
+pub(crate) const NOTHING_KNOWN: KnownIds = KnownIds {
+    db: Db(0),
+    ids: NO_IDS,
+};
+
+impl KnownIds {
+    /// Those of one database.
+    pub(crate) fn of(self, db: Db) -> FreeIds
+        ensures free { (store : stores.Store) → StandFree store self → AreFree (ids_in store db) result }
+        ensures all { self.db ≡ db → result ≡ self.ids }
+    {
+        if self.db.0 == db.0 { self.ids } else { NO_IDS }
+    }
+}

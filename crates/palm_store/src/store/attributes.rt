@@ -1,0 +1,30 @@
+//! The attributes of all records of a database, changed by one call.
+
+ghost use Rattle.std.specs.Prelude.{◌≡◌, false, map};
+ghost use Rattle.heap_model.specs.EntrySteps.{with_attributes, with_entries, MakesNone};
+ghost use Rattle.palm_store.specs.AttributeChanges.{MayChange};
+ghost use Rattle.palm_store.specs.Databases.{HasNumber};
+ghost use Rattle.palm_store.specs.EntryCalls.{resources_of_image, LeavesChanged};
+
+use crate::entries::NOTHING_KNOWN;
+use crate::store::Store;
+use database_edits::change_attributes;
+use heap_model::Db;
+use raw_region::ByteChange;
+
+impl Store {
+    /// Gives each record of a database the attributes that a change makes of its own, in one pass. The
+    /// database doesn't count the call.
+    pub fn change_attributes<C: ByteChange>(&mut self, db: Db, change: C)
+        requires number { HasNumber self.old.bytes db.0 }
+        requires records { resources_of_image self.old.bytes db ≡ false }
+        requires change { MayChange (C.made change) }
+        ensures changed { LeavesChanged self.old self.new
+            (λ store. with_entries store db (map (with_attributes (C.made change)))) }
+        ensures none_made { MakesNone self.old.bytes self.new.bytes }
+        ensures rest { self.new ≡ record self.old { bytes = self.new.bytes } }
+    {
+        change_attributes(&mut self.heap, db, change);
+        self.known = NOTHING_KNOWN;
+    }
+}

@@ -1,0 +1,70 @@
+-- All records of a category moved to another are records with other attributes.
+use Rattle.std.proofs.Common.{◌≡◌, ℕ, ◌+◌, ◌*◌, ◌/◌, ◌<◌, ◌≤◌, ◌^◌, Bool, true, false, List, [], ◌∷◌, map, refl, sym, ap, subst, ◌∙◌, arith, bit_or, inl, inr}
+use Rattle.std.proofs.lemmas.Bool.{cases_lt}
+use Rattle.std.proofs.lemmas.Nat.{or_lt}
+use Rattle.std.specs.Prelude.{◌==◌, ◌&&◌, ◌||◌, ◌%◌, not, if◌then◌else◌}
+use Rattle.heap_model.specs.Database.{Entry, a_record, a_resource, is_deleted}
+use Rattle.heap_model.specs.Store.{Accepted, store_of}
+use Rattle.heap_model.specs.EntrySteps.{with_attributes, with_entries, LeavesStore}
+use Rattle.heap_model.specs.Categories.{has_category, with_category, recategorized, moved_category}
+use Rattle.heap_model.specs.declared.names.Db.{Db}
+use Rattle.laws_heap.proofs.Deciding.{cond-true, cond-false}
+use Rattle.palm_store.specs.AttributeChanges.{MayChange}
+use Rattle.record_db.specs.Categories.{moved_attributes}
+use Rattle.database_access.proofs.Entries.{Here}
+use Rattle.database_access.proofs.EntriesChanged.{with_list, changed_alike}
+use Rattle.database_access.proofs.Raising.{left_as}
+
+-- ---- the attributes
+
+pub below_categories : (to : ℕ) → (16 ≤ to → ⊥) → to < 16
+below_categories to none = elim (cases_lt to 16) [
+  | inl less ↦ less
+  | inr past ↦ absurd (none past)
+]
+
+same_category : (to attributes : ℕ) → to < 16 → attributes < 2 ^ 8 → with_category to attributes < 2 ^ 8
+same_category to attributes small below = omega arith
+
+recategorized_fits : (to attributes : ℕ) (dirty : Bool) → to < 16 → attributes < 2 ^ 8 → recategorized to dirty attributes < 2 ^ 8
+recategorized_fits to attributes false small below = same_category to attributes small below
+recategorized_fits to attributes true small below = or_lt 8 (with_category to attributes) 0x40 (same_category to attributes small below) (omega arith)
+
+moves_fit : (of : Bool) (one other : ℕ) → one < 2 ^ 8 → other < 2 ^ 8 → (if of then one else other) < 2 ^ 8
+moves_fit true one other a b = a
+moves_fit false one other a b = b
+
+-- a deleted one is of no category
+deleted_of_none : (category attributes : ℕ) → is_deleted attributes ≡ true → has_category category attributes ≡ false
+deleted_of_none category attributes gone = ap (λ (deleted : Bool). not deleted && ((category == 255) || (attributes % 16 == category))) gone
+
+pub may_move : (to from : ℕ) (dirty : Bool) → to < 16 → MayChange (moved_attributes to from dirty)
+may_move to from dirty small = record {
+  fits = λ attributes below. moves_fit (has_category from attributes) (recategorized to dirty attributes) attributes (recategorized_fits to attributes dirty small below) below;
+  deleted = λ attributes gone. ap is_deleted (cond-false (has_category from attributes) (recategorized to dirty attributes) attributes (deleted_of_none from attributes gone)) ∙ gone;
+}
+
+-- ---- the entries
+
+record_if : (of : Bool) (one other id slot : ℕ) → a_record (if of then one else other) id slot ≡ (if of then a_record one id slot else a_record other id slot)
+record_if true one other id slot = refl
+record_if false one other id slot = refl
+
+one_moved : (to from : ℕ) (dirty : Bool) (entry : Entry ℕ) → with_attributes (moved_attributes to from dirty) entry ≡ moved_category to from dirty entry
+one_moved to from dirty (a_record attributes id slot) = record_if (has_category from attributes) (recategorized to dirty attributes) attributes id slot
+one_moved to from dirty (a_resource kind id slot) = refl
+
+all_moved : (to from : ℕ) (dirty : Bool) (entries : List (Entry ℕ)) → map (with_attributes (moved_attributes to from dirty)) entries ≡ map (moved_category to from dirty) entries
+all_moved to from dirty [] = refl
+all_moved to from dirty (entry ∷ entries) =
+    ap (λ (es : List (Entry ℕ)). with_attributes (moved_attributes to from dirty) entry ∷ es) (all_moved to from dirty entries) ∙ ap (λ (e : Entry ℕ). e ∷ map (moved_category to from dirty) entries) (one_moved to from dirty entry)
+
+pub category_moved : (image new : List ℕ) (db : Db) (to from : ℕ) (dirty : Bool) (h : Here image db.0) → Accepted image
+    → LeavesStore image new (with_entries (store_of image) db (map (with_attributes (moved_attributes to from dirty)))) → LeavesStore image new (with_entries (store_of image) db (map (moved_category to from dirty)))
+category_moved image new db to from dirty h a leaves =
+    left_as image new (with_entries (store_of image) db (map (with_attributes (moved_attributes to from dirty)))) (with_entries (store_of image) db (map (moved_category to from dirty))) leaves
+    (record {
+      map = λ name. refl;
+      databases = changed_alike image db.0 (with_list (map (with_attributes (moved_attributes to from dirty)))) (with_list (map (moved_category to from dirty))) h a
+          (ap (λ (entries : List (Entry ℕ)). record h.one.database { entries = entries }) (all_moved to from dirty h.one.database.entries));
+    })

@@ -1,0 +1,53 @@
+-- Resources of a type, counted in the order of their indexes.
+use Rattle.std.proofs.Common.{◌≡◌, ℕ, ◌+◌, ◌<◌, ◌≤◌, Bool, true, List, [], cond, Option, Some, None, refl, sym, subst, arith, inl, inr}
+use Rattle.std.proofs.lemmas.List.Sums.{sum_by-take-le}
+use Rattle.std.specs.Prelude.{IfSome, IfNone, slice_get, take, count_by}
+use Rattle.std.specs.Option.{ok_or}
+use Rattle.heap_model.specs.Memory.{Memory}
+use Rattle.heap_model.specs.Database.{Database, Entry}
+use Rattle.heap_model.specs.Store.{Accepted, store_of}
+use Rattle.heap_model.specs.Refusals.{NoneHolds}
+use Rattle.heap_model.specs.EntrySteps.{entries_in, OfEntry}
+use Rattle.heap_model.specs.ResourceSteps.{has_type}
+use Rattle.heap_model.specs.StoreSteps.{DoesInStore}
+use Rattle.heap_model.specs.declared.names.Db.{Db}
+use Rattle.heap_model.specs.declared.call.Call.TheVariants as calls
+use Rattle.heap_model.specs.declared.call.ResourceCall.TheVariants.{FindType}
+use Rattle.heap_model.specs.declared.call.Reply.TheVariants.{Number}
+use Rattle.heap_model.specs.declared.refusal.Refusal.TheVariants.{ResourceNotFound}
+use Rattle.laws_store.proofs.Doing.{same_store, asks, refused}
+use Rattle.palm_store.specs.Databases.{HasDatabase}
+use Rattle.palm_store.specs.Replies.{number_or_refused}
+use Rattle.database_access.specs.Checks.{opening_checks}
+use Rattle.database_access.specs.declared.opening.Access.TheVariants.{Read}
+use Rattle.database_access.specs.declared.opening.EntryKind.TheVariants.{Resources}
+use Rattle.database_access.proofs.SearchLaws.{entries_read, counted_more}
+use Rattle.resource_db.specs.Resources.{IsNth}
+
+-- those in front are not more than all
+front_least : (test : Entry ℕ → Bool) (entries : List (Entry ℕ)) (count : ℕ) → count_by test (take count entries) ≤ count_by test entries
+front_least test entries count = sum_by-take-le (λ entry. cond (test entry) 1 0) entries count
+
+-- where one is found, more are of the type than stand in front of it
+pub more_than : (entries : List (Entry ℕ)) (kind nth index : ℕ) → IsNth entries kind nth index → nth < count_by (has_type kind) entries
+more_than entries kind nth index is = by (slice_get entries index) refl is.0 where
+  by : (x : Option (Entry ℕ)) → slice_get entries index ≡ x → OfEntry x (λ entry. has_type kind entry ≡ true) → nth < count_by (has_type kind) entries
+  by None e p = absurd p
+  by (Some entry) e p =
+      let more = counted_more (has_type kind) entries index entry e p in
+      let least = front_least (has_type kind) entries (index + 1) in
+      let front = is.1 in
+      omega (arith, more, least, front)
+
+-- what is found by a type, or that nothing is, is the answer of the call
+pub found_type : (region : Memory) (db : Db) (kind nth : ℕ) (database : Database ℕ) (found : Option ℕ) → Accepted region.bytes → HasDatabase region.bytes db.0 database → NoneHolds (opening_checks region.bytes db Resources Read []) → IfSome found (IsNth database.entries kind nth) → IfNone found (count_by (has_type kind) database.entries ≤ nth)
+    → DoesInStore region (calls.Resource (FindType db kind nth)) (number_or_refused (ok_or found ResourceNotFound)) region
+found_type region db kind nth database (Some index) a is none there nothing =
+    let same = entries_read region.bytes db database is in
+    let one : IsNth (entries_in (store_of region.bytes) db) kind nth index = subst (λ (entries : List (Entry ℕ)). IsNth entries kind nth index) (sym same) there in
+    let more = more_than (entries_in (store_of region.bytes) db) kind nth index one in
+    asks region (calls.Resource (FindType db kind nth)) (Number index) a ((none.0, (none.1.0, ((λ few. omega (arith, more, few)), tt))), (one, same_store region))
+found_type region db kind nth database None a is none there nothing =
+    let same = entries_read region.bytes db database is in
+    let few : count_by (has_type kind) (entries_in (store_of region.bytes) db) ≤ nth = subst (λ (entries : List (Entry ℕ)). count_by (has_type kind) entries ≤ nth) (sym same) nothing in
+    refused region (calls.Resource (FindType db kind nth)) ResourceNotFound a (inr (none.0, inr (none.1.0, inl (few, refl))))

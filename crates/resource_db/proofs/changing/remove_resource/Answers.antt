@@ -1,0 +1,50 @@
+use Rattle.std.proofs.Common.{refl, sym, ap, subst, inl, inr}
+use Rattle.heap_model.specs.EntrySteps.{data_of_entry}
+use Rattle.heap_model.specs.declared.call.Call.TheVariants as calls
+use Rattle.heap_model.specs.declared.call.ResourceCall.TheVariants.{Remove}
+use Rattle.heap_model.specs.declared.call.Reply.TheVariants.{Done}
+use Rattle.heap_model.specs.declared.refusal.Refusal.TheVariants.{ChunkLocked}
+use Rattle.laws_store.proofs.Doing.{refused, changes}
+use Rattle.database_access.specs.Checks.{IsLockedChunk}
+use Rattle.palm_store.specs.EntryCalls.{HasLockedData}
+use Rattle.resource_db.proofs.changing.remove_resource.Goals as goal
+
+pub returns-then-is_locked : goal.returns-then-is_locked
+returns-then-is_locked c =
+    let found = c.in_ok-resource.ensures in
+    let none = found.passes in
+    let locked : HasLockedData c.args.store.now.bytes c.args.db c.args.index = subst (IsLockedChunk c.args.store.now.bytes) (sym (ap data_of_entry found.is)) (c.is_locked.ensures.0 c.if-is_locked.true) in
+    refused c.args.store.now (calls.Resource (Remove c.args.db c.args.index)) ChunkLocked found.accepted
+    (inr (none.0, inr (none.1.0, inr (none.1.1.0, inr (none.1.1.1.0, inl (locked, refl))))))
+
+pub entry_drop-requires-clause-unlocked : goal.entry_drop-requires-clause-unlocked
+entry_drop-requires-clause-unlocked c = λ locked.
+    (let yes = c.is_locked.ensures.1 (subst (IsLockedChunk c.args.store.now.bytes) (ap data_of_entry c.in_ok-resource.ensures.is) locked) in
+    let no = c.if-is_locked.false in
+    absurd cc)
+
+pub returns : goal.returns
+returns c =
+    let found = c.in_ok-resource.ensures in
+    let none = found.passes in
+    let leaves = c.entry_drop.ensures.dropped in
+    changes c.args.store.now c.entry_drop.new.self (calls.Resource (Remove c.args.db c.args.index)) Done _ found.accepted leaves (
+      (
+        none.0,
+        (
+          none.1.0,
+          (
+            none.1.1.0,
+            (
+              none.1.1.1.0,
+              (
+                (λ locked.
+                    (let yes = c.is_locked.ensures.1 (subst (IsLockedChunk c.args.store.now.bytes) (ap data_of_entry found.is) locked) in let no = c.if-is_locked.false in absurd cc)),
+                tt,
+              ),
+            ),
+          ),
+        ),
+      ),
+      (tt, leaves.same),
+    ) tt refl

@@ -1,0 +1,19 @@
+use Rattle.std.proofs.Common.{refl, true}
+use Rattle.heap_model.specs.Database.{a_resource}
+use Rattle.heap_model.specs.ResourceSteps.{with_type_and_id}
+use Rattle.heap_model.specs.declared.call.Call.TheVariants as calls
+use Rattle.heap_model.specs.declared.call.ResourceCall.TheVariants.{SetInfo}
+use Rattle.heap_model.specs.declared.call.Reply.TheVariants.{Done}
+use Rattle.laws_store.proofs.Doing.{changes}
+use Rattle.palm_store.specs.EntryInfos.{with_info}
+use Rattle.palm_store.specs.declared.entries.infos.EntryInfo.TheVariants as infos
+use Rattle.database_access.proofs.EntriesChanged.{set_as}
+use Rattle.resource_db.proofs.changing.set_resource_info.Goals as goal
+
+pub returns : goal.returns
+returns c =
+    let found = c.in_ok-resource_at.ensures in
+    let info = c.in_ok-resource_at.field-0 in
+    let leaves = set_as true c.args.store.now.bytes c.entry_set.new.self.bytes c.args.db c.args.index (a_resource info.kind info.id info.«data».0) (with_info (infos.Resource c.args.kind c.args.id)) (with_type_and_id c.args.kind c.args.id)
+    found.accepted found.known found.is refl c.entry_set.ensures.set in
+    changes c.args.store.now c.entry_set.new.self (calls.Resource (SetInfo c.args.db c.args.index c.args.kind c.args.id)) Done _ found.accepted leaves (found.passes, (tt, leaves.same)) tt c.entry_set.ensures.rest

@@ -1,0 +1,18 @@
+//! The calls on the resources of databases (Palm OS Programmer's API Reference, "Data Manager").
+//!
+//! The contract of each function is the step of the abstract store for that call. Each looks first whether
+//! the database is there and holds resources; those that change it then whether it may be written, and count the
+//! call in its modification number. Two resources may have the same type and id.
+#![tactic(auto)]
+
+mod asking;
+mod changing;
+mod giving;
+mod making;
+mod resources;
+mod search;
+
+pub use asking::{find_resource, find_type, num_resources, resource_info};
+pub use changing::{detach_resource, remove_resource, set_resource_info};
+pub use giving::attach_resource;
+pub use making::{new_resource, resize_resource};

@@ -1,0 +1,54 @@
+//! Resources made and resized.
+
+ghost use Rattle.std.specs.Prelude.{◌≡◌, OnErr};
+ghost use Rattle.heap_model.specs.Chunk.{need};
+ghost use Rattle.heap_model.specs.Space.{FitsInPlace, MovesNothing, MovesOneStretchAnd};
+ghost use Rattle.heap_model.specs.MemorySteps.{reply_of};
+ghost use Rattle.heap_model.specs.declared.call.ResourceCall.{ResourceCall};
+ghost use Rattle.palm_store.specs.EntryCalls.{data_of_image};
+ghost use Rattle.palm_store.specs.Replies.{made_reply, done_or_refused};
+ghost use Rattle.resource_db.specs.Resources.{DoesResource};
+
+use crate::resources::resource_at;
+use database_access::{Access, EntryKind, count_entries};
+use heap_model::{Db, Name, Refusal};
+use palm_store::{NewEntry, Store};
+
+/// Makes a resource of so many bytes of zeros behind all others. Its index and the name of its data are answered.
+///
+/// Refused: `NoSuchDatabase`, `NotResourceDatabase`, `ReadOnly`; `TooManyEntries`, where there are 65,535;
+/// `NotEnoughSpace`, where no slot is free, or room for the data and for one entry more can run out.
+pub fn new_resource(
+    store: &mut Store,
+    db: Db,
+    kind: u32,
+    id: u16,
+    size: u32,
+) -> Result<(u32, Name), Refusal>
+    ensures { DoesResource store.old (ResourceCall.New db kind id size)
+        (reply_of made_reply result) store.new }
+{
+    let index = count_entries(store, db, EntryKind::Resources, Access::Write)?;
+    let name = store.entry_new(db, index, NewEntry::Resource { kind, id }, size)?;
+    Ok((index, name))
+}
+
+/// Gives the data of a resource so many bytes: its first ones, or all of them and zeros behind them.
+///
+/// Refused: `NoSuchDatabase`, `NotResourceDatabase`, `ReadOnly`, `IndexOutOfRange`; where the data has to grow
+/// `ChunkLocked`, if it is locked and doesn't fit in its place, and `NotEnoughSpace`. Then nothing has changed.
+pub fn resize_resource(store: &mut Store, db: Db, index: u32, size: u32) -> Result<(), Refusal>
+    ensures does { DoesResource store.old (ResourceCall.Resize db index size)
+        (done_or_refused result) store.new }
+    ensures unmoved { FitsInPlace store.old.bytes
+        (data_of_image store.old.bytes db index) (need size)
+        → MovesNothing store.old.bytes store.new.bytes }
+    ensures one_stretch { MovesOneStretchAnd store.old.bytes store.new.bytes
+        (data_of_image store.old.bytes db index) }
+    ensures refused { OnErr result (store.new ≡ store.old) }
+{
+    let resource = resource_at(store, db, index, Access::Write)?;
+    store.entry_resize(resource.data, size)?;
+    store.raise(db);
+    Ok(())
+}
