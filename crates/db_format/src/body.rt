@@ -2,8 +2,9 @@
 
 ghost use Rattle.std.specs.Prelude.{◌≡◌, ◌≤◌, ◌↔◌, length, IsTrue};
 ghost use Rattle.heap_model.specs.Bytes.{u16_at, u32_at};
-ghost use Rattle.heap_model.specs.DatabaseFields.{header_size, attributes_at, modification_number_at, app_info_at, sort_info_at, seed_at};
+ghost use Rattle.heap_model.specs.DatabaseFields.{header_size, attributes_at, modification_number_at, app_info_at, sort_info_at, seed_at, next_list_at};
 ghost use Rattle.heap_model.specs.Database.{resources_in, entry_count_in};
+ghost use Rattle.heap_model.specs.Database as databases;
 ghost use Rattle.db_format.specs.Headers.{IsWhole};
 
 use crate::database_attributes::DbAttrs;
@@ -79,6 +80,24 @@ pub fn entry_count(bytes: &[u8]) -> u16
     u16_in(bytes, ENTRY_COUNT_AT)
 }
 
+/// Where the list of entries goes on in a file: 0, since it goes on nowhere.
+#[inline]
+pub fn next_list(bytes: &[u8]) -> u32
+    requires { header_size ≤ length bytes.now }
+    ensures { result ≡ u32_at bytes.now next_list_at }
+{
+    u32_in(bytes, NEXT_LIST_AT)
+}
+
+/// Where the entries end that the header says there are, in bytes from its start.
+#[inline]
+pub fn entries_end(bytes: &[u8]) -> usize
+    requires { header_size ≤ length bytes.now }
+    ensures { result ≡ databases.entry_offset (resources_in bytes.now) (entry_count_in bytes.now) }
+{
+    entry_offset(has_resources(bytes), entry_count(bytes))
+}
+
 /// Whether the bytes are a header, whose list of entries goes on nowhere, and then as many entries as it
 /// says. Where they are, and the header has a name (`has_name`), they spell a database.
 pub fn is_whole(bytes: &[u8]) -> bool
@@ -87,8 +106,8 @@ pub fn is_whole(bytes: &[u8]) -> bool
     if bytes.len() < HEADER_SIZE {
         return false;
     }
-    if u32_in(bytes, NEXT_LIST_AT) != 0 {
+    if next_list(bytes) != 0 {
         return false;
     }
-    bytes.len() == entry_offset(has_resources(bytes), entry_count(bytes))
+    bytes.len() == entries_end(bytes)
 }

@@ -33,8 +33,8 @@ mod view;
 mod words;
 
 pub use body::{
-    MOST_DATABASES, app_info, attributes, entry_count, has_resources, is_whole,
-    modification_number, seed, sort_info,
+    MOST_DATABASES, app_info, attributes, entries_end, entry_count, has_resources, is_whole,
+    modification_number, next_list, seed, sort_info,
 };
 pub use database_attributes::DbAttrs;
 pub use db_entry::DbEntry;

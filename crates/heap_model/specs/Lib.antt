@@ -19,6 +19,7 @@ pub mod DatabaseFields
 pub mod Database
 pub mod UniqueIds
 pub mod Store
+pub mod Files
 pub mod Counts
 pub mod Rooms
 pub mod Leaving

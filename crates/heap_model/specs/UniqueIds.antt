@@ -1,4 +1,4 @@
--- The unique IDs that new records get, which is this project's own rule.
+-- The unique IDs that records get, which is this project's own rule.
 use Rattle.std.specs.Prelude.{◌≡◌, ◌+◌, ◌*◌, ◌/◌, ◌%◌, ◌^◌, nat_lt, if◌then◌else◌, ℕ, zero, suc, List}
 use Rattle.heap_model.specs.Lists.{times, Least}
 

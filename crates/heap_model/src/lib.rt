@@ -26,6 +26,7 @@
 //! | `Database` | a database, the bytes that spell it, and the one that is read off bytes |
 //! | `UniqueIds` | the unique ID that a new record gets |
 //! | `Store` | the databases of an image, the accepted image, and the store that it means |
+//! | `Files` | what may be wrong with a file of a database, the database that is read from it, and the file that is written |
 //! | `Counts` | an image and its databases, by how often each name is listed and named |
 //! | `Rooms` | the rooms that are left for a call of several parts |
 //! | `Leaving` | what a call leaves that is no step for callers, and a chunk that spells a database |
@@ -54,6 +55,7 @@ mod call;
 mod counted;
 mod database;
 mod entry;
+mod file_fault;
 mod names;
 mod refusal;
 mod tally;
@@ -64,6 +66,7 @@ pub use call::{Call, DatabaseCall, MemoryCall, RecordCall, Reply, ResourceCall};
 pub use counted::Counted;
 pub use database::{DbInfo, DbName};
 pub use entry::{Entry, RecordInfo, ResourceInfo};
+pub use file_fault::FileFault;
 pub use names::{Db, Name, Place, Which};
 pub use refusal::Refusal;
 pub use tally::Tally;

@@ -1,5 +1,7 @@
 //! Offsets by which callers speak of chunks and databases.
 
+use std::fmt;
+
 /// The name of a live chunk: of a movable one the offset of its slot, its handle, and of a fixed one
 /// the offset of its body, both in bytes from the image's start. `Name(0)` names nothing.
 #[derive(Clone, Copy, Debug, PartialEq, Eq)]
@@ -19,4 +21,13 @@ pub struct Db(pub u32);
 pub enum Which {
     App,
     Sort,
+}
+
+impl fmt::Display for Which {
+    fn fmt<W: fmt::Write>(&self, f: &mut fmt::Formatter<W>) -> fmt::Result {
+        f.write_str(match self {
+            Which::App => "app",
+            Which::Sort => "sort",
+        })
+    }
 }

@@ -1,0 +1,7 @@
+use Rattle.std.proofs.Common.{ℕ, ◌<◌}
+use Rattle.heap_model.specs.Files.{HasFault}
+use Rattle.heap_model.specs.declared.file_fault.FileFault.TheVariants.{BadOffset}
+use Rattle.pdb_format.proofs.faults.find_bad_offset.Given as goal
+
+abbrev pub invariant-loop-index : goal.invariant-loop-index
+invariant-loop-index l = (index : ℕ) → index < l.index → HasFault l.file (BadOffset index) → ⊥

@@ -1,0 +1,95 @@
+//! What is wrong with a file.
+
+ghost use Rattle.std.specs.Prelude.{◌≡◌, ◌≢◌, ◌≤◌, ◌<◌, ◌+◌, ◌↔◌, ℕ, length, IsTrue, IfSome, IfNone, OnOk, IfErr};
+ghost use Rattle.heap_model.specs.Lists.{Least};
+ghost use Rattle.heap_model.specs.DatabaseFields.{header_size};
+ghost use Rattle.heap_model.specs.Database.{entry_count_in, entry_in};
+ghost use Rattle.heap_model.specs.Files.{entries_end, IsOutside, IsBadInfo, HasBadOffset, IsFirstFault, HasNoFault};
+ghost use Rattle.heap_model.specs.Files.{HasFault};
+ghost use Rattle.heap_model.specs.declared.file_fault.FileFault.TheVariants.{Truncated, BadOffset};
+ghost use Rattle.db_format.specs.EitherEntry.{entry_of};
+
+use db_format::{DbEntry, HEADER_SIZE, app_info, entry_count, name_in, next_list, sort_info};
+use heap_model::{FileFault, Which};
+
+/// Whether the file ends before its header does, or before its list of entries does.
+fn is_truncated(file: &[u8]) -> bool
+    ensures { IsTrue result ↔ HasFault file.now Truncated }
+{
+    file.len() < HEADER_SIZE || file.len() < db_format::entries_end(file)
+}
+
+/// Whether no block begins at this offset: it is in front of the end of the entries, or behind that of the
+/// file.
+fn is_outside(file: &[u8], at: u32) -> bool
+    requires { header_size ≤ length file.now }
+    ensures { IsTrue result ↔ IsOutside file.now at }
+{
+    let at = at as usize;
+    at < db_format::entries_end(file) || file.len() < at
+}
+
+/// Whether there is an info block, and it can't begin where the file says.
+fn is_bad_info(file: &[u8], at: u32) -> bool
+    requires { header_size ≤ length file.now }
+    ensures { IsTrue result ↔ IsBadInfo file.now at }
+{
+    at != 0 && is_outside(file, at)
+}
+
+/// Whether an entry has data, and it can't begin where the file says. The record may have none if it is
+/// deleted.
+fn has_bad_offset(file: &[u8], entry: DbEntry) -> bool
+    requires { header_size ≤ length file.now }
+    ensures { IsTrue result ↔ HasBadOffset file.now (entry_of entry) }
+{
+    match entry {
+        DbEntry::Record(record) => {
+            (record.slot != 0 || !record.attributes.is_deleted()) && is_outside(file, record.slot)
+        }
+        DbEntry::Resource(resource) => is_outside(file, resource.slot),
+    }
+}
+
+/// The first entry whose offset is bad.
+fn find_bad_offset(file: &[u8]) -> Option<u16>
+    requires header { header_size ≤ length file.now }
+    requires entries { entries_end file.now ≤ length file.now }
+    ensures some { IfSome result (Least (λ index. HasFault file.now (BadOffset index))) }
+    ensures none { IfNone result ((index : ℕ) → index < entry_count_in file.now → HasFault file.now (BadOffset index) → ⊥) }
+{
+    for index in 0..entry_count(file) {
+        if has_bad_offset(file, DbEntry::read(file, index)) {
+            return Some(index);
+        }
+    }
+    None
+}
+
+/// Looks for what is wrong with a file, and answers the first fault. A file without fault is read as a
+/// database.
+#[tactic(auto, using(crate::proofs::FaultLaws::truncated_first, crate::proofs::FaultLaws::chained_first, crate::proofs::FaultLaws::unnamed_first, crate::proofs::FaultLaws::app_first, crate::proofs::FaultLaws::sort_first, crate::proofs::FaultLaws::first_of_entries, crate::proofs::FaultLaws::no_fault))]
+pub fn check_file(file: &[u8]) -> Result<(), FileFault>
+    ensures sound { OnOk result (HasNoFault file.now) }
+    ensures first { IfErr result (IsFirstFault file.now) }
+{
+    if is_truncated(file) {
+        return Err(FileFault::Truncated);
+    }
+    if next_list(file) != 0 {
+        return Err(FileFault::ChainedList);
+    }
+    if name_in(file).is_empty() {
+        return Err(FileFault::EmptyName);
+    }
+    if is_bad_info(file, app_info(file)) {
+        return Err(FileFault::BadInfo(Which::App));
+    }
+    if is_bad_info(file, sort_info(file)) {
+        return Err(FileFault::BadInfo(Which::Sort));
+    }
+    match find_bad_offset(file) {
+        Some(index) => Err(FileFault::BadOffset(index as u32)),
+        None => Ok(()),
+    }
+}
