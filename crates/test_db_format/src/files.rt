@@ -21,7 +21,7 @@ const RESOURCES: &str = "54696e79\
     74535452 03e8 00000064 74535452 03e9 00000067";
 
 /// The bytes of a file in hex, with spaces between its fields.
-fn bytes_of(alloc: Global, file: &str) -> Result<Vec<u8>, Fail> {
+pub(crate) fn bytes_of(alloc: Global, file: &str) -> Result<Vec<u8>, Fail> {
     let mut bytes = Vec::new(alloc);
     for part in file.split_whitespace() {
         bytes.extend_from_slice(hex::decode(alloc, part)?.as_slice())?;

@@ -7,4 +7,6 @@
 #[cfg(test)]
 mod attributes;
 #[cfg(test)]
+mod faults;
+#[cfg(test)]
 mod files;

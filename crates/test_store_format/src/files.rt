@@ -1,9 +1,10 @@
 //! The definitions of files, tried on some: what is read from each, and what is written of it.
 
 ghost use Rattle.std.specs.Prelude.{◌≡◌, ◌++◌, ℕ, List, [], ◌∷◌, replicate, codes, Some, None};
-ghost use Rattle.heap_model.specs.Database.{a_record, a_resource, name_in};
-ghost use Rattle.heap_model.specs.Files.{blocks_in, kept_ids, AreGiven, Reads, file_of};
-ghost use Rattle.test_store_format.specs.Files.{header, header_read, empty_file, order_file, order_written, ids_file, resource_file, odd_file, noisy_name};
+ghost use Rattle.heap_model.specs.Database.{a_record, a_resource, name_in, database_in};
+ghost use Rattle.heap_model.specs.Store.{unique_ids};
+ghost use Rattle.heap_model.specs.Files.{blocks_in, kept_ids, HaveIds, Reads, file_of};
+ghost use Rattle.test_store_format.specs.Files.{header, header_read, empty_file, order_file, order_written, ids_file, resource_file, backward_file, odd_file, noisy_name};
 
 /// Blocks end where the next begins; of those at one offset all but the last are empty.
 fn blocks_are_read()
@@ -13,6 +14,8 @@ fn blocks_are_read()
     ensures end { blocks_in ids_file ≡ None ∷ None ∷ Some [] ∷ Some [] ∷ [] }
     ensures resources { blocks_in resource_file
         ≡ None ∷ None ∷ Some (0x48 ∷ 0x69 ∷ 0 ∷ []) ∷ Some (0x59 ∷ 0x6F ∷ 0 ∷ []) ∷ [] }
+    ensures none_empty { blocks_in backward_file
+        ≡ Some (7 ∷ []) ∷ Some (5 ∷ 6 ∷ []) ∷ Some (3 ∷ 4 ∷ []) ∷ Some (1 ∷ 2 ∷ []) ∷ [] }
     ensures odd { blocks_in (odd_file 124)
         ≡ Some [] ∷ Some [] ∷ Some (5 ∷ 6 ∷ 7 ∷ 8 ∷ 9 ∷ 10 ∷ []) ∷ Some (1 ∷ 2 ∷ []) ∷ None ∷ Some []
         ∷ Some (3 ∷ 4 ∷ []) ∷ [] }
@@ -26,7 +29,10 @@ fn ids_are_kept()
     ensures order { kept_ids [] (0 ∷ 5 ∷ 5 ∷ []) ≡ 5 ∷ [] }
     ensures thrice { kept_ids [] (7 ∷ 7 ∷ 7 ∷ 0 ∷ 0 ∷ []) ≡ 7 ∷ [] }
     ensures later { kept_ids [] (0 ∷ 1 ∷ []) ≡ 1 ∷ [] }
-    ensures given_behind { AreGiven (1 ∷ []) [] 0 (0 ∷ 1 ∷ []) (2 ∷ 1 ∷ []) 2 }
+    ensures behind { HaveIds 0 (0 ∷ 1 ∷ []) (2 ∷ 1 ∷ []) 2 }
+    ensures all_kept { HaveIds 0xFFFFFE (0xFFFFFF ∷ 1 ∷ []) (0xFFFFFF ∷ 1 ∷ []) 0xFFFFFE }
+    ensures around { HaveIds 0xFFFFFF (7 ∷ 7 ∷ 7 ∷ 0 ∷ 0 ∷ []) (7 ∷ 1 ∷ 2 ∷ 3 ∷ 4 ∷ []) 4 }
+    ensures resources { unique_ids (database_in resource_file) ≡ [] }
 {}
 
 /// A name is what stands in front of the first zero among 31 bytes.
@@ -48,7 +54,7 @@ fn files_are_read()
         }) }
 {}
 
-/// The file of a database: what follows the entries are two zeros, and no record is busy.
+/// The file of a database: two zeros follow the entries, and no record is busy.
 fn files_are_written()
     ensures empty { file_of
         (record { header = header_read (codes "Empty") 0; app_info = None; sort_info = None; entries = [] })
@@ -71,6 +77,18 @@ fn files_are_written()
         ≡ header (0x41 ∷ []) 0 96 98 0x44415441 0 2 ++ 0 ∷ 0 ∷ 0 ∷ 0 ∷ 0x80 ∷ 0 ∷ 0 ∷ 9 ∷ 0 ∷ 0 ∷ 0 ∷ 98 ∷ 0 ∷ 0 ∷ 0 ∷ 8 ∷ 0 ∷ 0 ∷ 1 ∷ 2 ∷ 3 ∷ [] }
 {}
 
+/// The file of a database of resources.
+fn resources_are_written()
+    ensures { file_of
+        (record {
+            header = record (header_read (codes "Tiny") 0) { attributes = 1; version = 1; kind = 0x6170706C };
+            app_info = None;
+            sort_info = None;
+            entries = a_resource 0x74535452 1000 (Some (0x48 ∷ 0x69 ∷ 0 ∷ [])) ∷ a_resource 0x74535452 1001 (Some (0x59 ∷ 0x6F ∷ 0 ∷ [])) ∷ [];
+        })
+        ≡ resource_file }
+{}
+
 /// What the functions above promise is proved, and they run to their end.
 #[test]
 fn definitions_of_files_are_tried() {
@@ -79,4 +97,5 @@ fn definitions_of_files_are_tried() {
     names_are_read();
     files_are_read();
     files_are_written();
+    resources_are_written();
 }

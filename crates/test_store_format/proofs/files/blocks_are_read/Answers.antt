@@ -20,6 +20,10 @@ pub returns-clause-resources : goal.returns-clause-resources
 unfolding u16_at u24_at u32_at u16_bytes u24_bytes u32_bytes name_field header_bytes entry_bytes spelled name_in header_in database_in file_of
 returns-clause-resources c = refl
 
+pub returns-clause-none_empty : goal.returns-clause-none_empty
+unfolding u16_at u24_at u32_at u16_bytes u24_bytes u32_bytes name_field header_bytes entry_bytes spelled name_in header_in database_in file_of
+returns-clause-none_empty c = refl
+
 pub returns-clause-odd : goal.returns-clause-odd
 unfolding u16_at u24_at u32_at u16_bytes u24_bytes u32_bytes name_field header_bytes entry_bytes spelled name_in header_in database_in file_of
 returns-clause-odd c = refl
