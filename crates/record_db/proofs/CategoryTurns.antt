@@ -22,7 +22,7 @@ use Rattle.record_db.specs.Categories.{listed_if, one_deleted}
 use Rattle.database_access.proofs.Entries.{Here}
 use Rattle.database_access.proofs.EntriesChanged.{with_list, changed_alike, changed_behind, changed_nothing, found_changed}
 use Rattle.database_access.proofs.Raising.{left_after, left_as, itself, raised_after}
-use Rattle.record_db.proofs.Turns.{first_changed, none_changed, all_changed, next_kept, next_changed}
+use Rattle.record_db.proofs.Turns.{first_changed, none_changed, all_changed, later_kept, next_changed}
 
 -- ---- the database in between
 
@@ -45,7 +45,7 @@ all_alike image db change count h a all =
 -- ---- deleted
 
 -- the names of the data of some entries, and of others
-data_append : (category : ℕ) (xs ys : List (Entry ℕ)) → data_of_category category (xs ++ ys) ≡ data_of_category category xs ++ data_of_category category ys
+pub data_append : (category : ℕ) (xs ys : List (Entry ℕ)) → data_of_category category (xs ++ ys) ≡ data_of_category category xs ++ data_of_category category ys
 data_append category xs ys = ap (map entry_data) (filter-append (is_of category) xs ys) ∙ map-append entry_data (filter (is_of category) xs) (filter (is_of category) ys)
 
 -- of one entry more
@@ -81,13 +81,13 @@ deleted_so_far store db entries category count =
 abbrev pub HasDeleted : List ℕ → List ℕ → Db → List (Entry ℕ) → ℕ → ℕ → Type 0
 HasDeleted old mid db entries category count = LeavesStore old mid (deleted_so_far (store_of old) db entries category count)
 
--- the next one is as it was
-entry_mid : (old mid : List ℕ) (db : Db) (category count : ℕ) (h : Here old db.0) → HasDeleted old mid db h.one.database.entries category count → entry_under (store_of mid) db count ≡ slice_get h.one.database.entries count
-entry_mid old mid db category count h one =
+-- those behind them are as they were
+pub entry_mid : (old mid : List ℕ) (db : Db) (category count at : ℕ) (h : Here old db.0) → count ≤ at → HasDeleted old mid db h.one.database.entries category count → entry_under (store_of mid) db at ≡ slice_get h.one.database.entries at
+entry_mid old mid db category count at h order one =
     let change : Entry ℕ → Entry ℕ = deleted_category category in
-    ap (λ (x : Option StoredDatabase). slice_get (entries_of x) count)
+    ap (λ (x : Option StoredDatabase). slice_get (entries_of x) at)
     (number_mid old mid db (first_changed change count) (deleted_so_far (store_of old) db h.one.database.entries category count) h one.same refl)
-    ∙ next_kept change count h.one.database.entries
+    ∙ later_kept change count at h.one.database.entries order
 
 deleted_more : (old mid new : List ℕ) (db : Db) (category count : ℕ) (h : Here old db.0) → Accepted old → count < length h.one.database.entries
     → HasDeleted old mid db h.one.database.entries category count → LeavesStore mid new (one_deleted (store_of mid) db count category) → MakesNone mid new → HasDeleted old new db h.one.database.entries category (suc count)
@@ -99,7 +99,7 @@ deleted_more old mid new db category count h a below one two none =
     left_after old mid new (deleted_so_far (store_of old) db entries category count) (one_deleted (store_of mid) db count category) (deleted_so_far (store_of old) db entries category (suc count)) one two
     (record {
       map = λ name.
-          (ap (λ (x : Option (Entry ℕ)). all_gone (store_of mid).map (data_of_category category (listed_if x)) name) (entry_mid old mid db category count h one)
+          (ap (λ (x : Option (Entry ℕ)). all_gone (store_of mid).map (data_of_category category (listed_if x)) name) (entry_mid old mid db category count count h (omega arith) one)
           ∙ ap (λ (x : Option LiveChunk). if times name now == 0 then x else None) (one.same.map name)
           ∙ gone_twice (store_of old).map before now name
           ∙ ap (λ (names : List ℕ). all_gone (store_of old).map names name) (sym (data_more category count entries)));
@@ -137,7 +137,7 @@ pub next_unlocked : (old mid : List ℕ) (db : Db) (category count : ℕ) (h : H
 next_unlocked old mid db category count h some none of locked =
     let one = deleted_here old mid db category count h some in
     let was : entry_under (store_of old) db count ≡ slice_get h.one.database.entries count = ap (λ (x : Option StoredDatabase). slice_get (entries_of x) count) h.found in
-    let same : entry_under (store_of mid) db count ≡ entry_under (store_of old) db count = entry_mid old mid db category count h one ∙ sym was in
+    let same : entry_under (store_of mid) db count ≡ entry_under (store_of old) db count = entry_mid old mid db category count count h (omega arith) one ∙ sym was in
     let slot : ℕ = data_under (store_of old) db count in
     let here : Of ((store_of mid).map slot) IsLocked = subst (λ (n : ℕ). Of ((store_of mid).map n) IsLocked) (ap data_of_entry same) locked in
     let left = subst (λ (x : Option LiveChunk). Of x IsLocked) (one.same.map slot) here in

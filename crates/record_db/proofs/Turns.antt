@@ -20,14 +20,15 @@ all_changed change count entries all =
     ∙ ap (λ (xs : List (Entry ℕ)). map change entries ++ xs) (drop_all count entries all)
     ∙ append-nil (map change entries)
 
--- the one behind them is as it was
-pub next_kept : (change : Entry ℕ → Entry ℕ) (count : ℕ) (entries : List (Entry ℕ)) → slice_get (first_changed change count entries) count ≡ slice_get entries count
-next_kept change zero [] = refl
-next_kept change zero (entry ∷ entries) = refl
-next_kept change (suc count) [] = refl
-next_kept change (suc count) (entry ∷ entries) = next_kept change count entries
+-- those behind them are as they were
+pub later_kept : (change : Entry ℕ → Entry ℕ) (count at : ℕ) (entries : List (Entry ℕ)) → count ≤ at → slice_get (first_changed change count entries) at ≡ slice_get entries at
+later_kept change zero at [] order = refl
+later_kept change zero at (entry ∷ entries) order = refl
+later_kept change (suc count) zero entries order = absurd (omega (arith, order))
+later_kept change (suc count) (suc at) [] order = refl
+later_kept change (suc count) (suc at) (entry ∷ entries) order = later_kept change count at entries (omega (arith, order))
 
--- and with that one changed too they are one more
+-- with the next one changed too they are one more
 pub next_changed : (change : Entry ℕ → Entry ℕ) (count : ℕ) (entries : List (Entry ℕ)) → count < length entries → replaced (first_changed change count entries) count change ≡ first_changed change (suc count) entries
 next_changed change count [] below = absurd (omega arith)
 next_changed change zero (entry ∷ entries) below = refl

@@ -1,6 +1,6 @@
 //! Categories of records: those of one are counted, moved to another, or deleted.
 
-ghost use Rattle.std.specs.Prelude.{◌≡◌, ◌<◌, false, [], ◌∷◌, length, OnOk, IfErr};
+ghost use Rattle.std.specs.Prelude.{◌≡◌, ◌<◌, false, [], ◌∷◌, length, OnOk, OnErr, IfErr};
 ghost use Rattle.heap_model.specs.Store.{store_of};
 ghost use Rattle.heap_model.specs.Refusals.{NoneHolds, FirstBrings};
 ghost use Rattle.heap_model.specs.EntrySteps.{entry_under, OfEntry, MakesNone};
@@ -73,8 +73,9 @@ pub fn move_category(
     from: u8,
     dirty: bool,
 ) -> Result<(), Refusal>
-    ensures { DoesRecord store.old (RecordCall.MoveCategory db to from dirty)
+    ensures does { DoesRecord store.old (RecordCall.MoveCategory db to from dirty)
         (done_or_refused result) store.new }
+    ensures refused { OnErr result (store.new ≡ store.old) }
 {
     count_entries(store, db, EntryKind::Records, Access::Write)?;
     check_category(to)?;
@@ -89,8 +90,9 @@ pub fn move_category(
 /// Refused: `NoSuchDatabase`, `NotRecordDatabase`, `ReadOnly`; `InvalidCategory`, where it is not 0 to 15;
 /// `ChunkLocked`, where the data of one of them is locked. Then none was deleted.
 pub fn delete_category(store: &mut Store, db: Db, category: u8) -> Result<(), Refusal>
-    ensures { DoesRecord store.old (RecordCall.DeleteCategory db category)
+    ensures does { DoesRecord store.old (RecordCall.DeleteCategory db category)
         (done_or_refused result) store.new }
+    ensures refused { OnErr result (store.new ≡ store.old) }
 {
     let count = count_entries(store, db, EntryKind::Records, Access::Write)?;
     check_category(category)?;

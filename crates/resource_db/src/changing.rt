@@ -1,5 +1,6 @@
 //! Resources changed and taken out.
 
+ghost use Rattle.std.specs.Prelude.{◌≡◌, OnErr};
 ghost use Rattle.heap_model.specs.declared.call.ResourceCall.{ResourceCall};
 ghost use Rattle.palm_store.specs.Replies.{done_or_refused, name_or_refused};
 ghost use Rattle.resource_db.specs.Resources.{DoesResource};
@@ -14,8 +15,9 @@ use palm_store::{EntryInfo, Store, check_owner};
 ///
 /// Refused: `NoSuchDatabase`, `NotResourceDatabase`, `ReadOnly`, `IndexOutOfRange`, `InvalidOwner`.
 pub fn detach_resource(store: &mut Store, db: Db, index: u32, owner: u8) -> Result<Name, Refusal>
-    ensures { DoesResource store.old (ResourceCall.Detach db index owner)
+    ensures does { DoesResource store.old (ResourceCall.Detach db index owner)
         (name_or_refused result) store.new }
+    ensures refused { OnErr result (store.new ≡ store.old) }
 {
     let resource = resource_at(store, db, index, Access::Write)?;
     check_owner(owner)?;
@@ -28,8 +30,9 @@ pub fn detach_resource(store: &mut Store, db: Db, index: u32, owner: u8) -> Resu
 /// Refused: `NoSuchDatabase`, `NotResourceDatabase`, `ReadOnly`, `IndexOutOfRange`; `ChunkLocked`, where the data is
 /// locked.
 pub fn remove_resource(store: &mut Store, db: Db, index: u32) -> Result<(), Refusal>
-    ensures { DoesResource store.old (ResourceCall.Remove db index)
+    ensures does { DoesResource store.old (ResourceCall.Remove db index)
         (done_or_refused result) store.new }
+    ensures refused { OnErr result (store.new ≡ store.old) }
 {
     let resource = resource_at(store, db, index, Access::Write)?;
     if is_locked(store, resource.data) {
@@ -49,8 +52,9 @@ pub fn set_resource_info(
     kind: u32,
     id: u16,
 ) -> Result<(), Refusal>
-    ensures { DoesResource store.old (ResourceCall.SetInfo db index kind id)
+    ensures does { DoesResource store.old (ResourceCall.SetInfo db index kind id)
         (done_or_refused result) store.new }
+    ensures refused { OnErr result (store.new ≡ store.old) }
 {
     resource_at(store, db, index, Access::Write)?;
     store.entry_set(db, index, EntryInfo::Resource { kind, id }, true);

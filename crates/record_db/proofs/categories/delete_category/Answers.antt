@@ -60,8 +60,8 @@ raise-requires c =
     let m = number_mid c.args.store.now.bytes c.loop-index.store.bytes c.args.db (first_changed (deleted_category c.args.category) c.loop-index.index) (deleted_so_far (store_of c.args.store.now.bytes) c.args.db (entries_in (store_of c.args.store.now.bytes) c.args.db) c.args.category c.loop-index.index) h c.loop-index.invariant.0.same refl in
     record { number = number_read c.loop-index.store.bytes c.args.db _ m }
 
-pub returns : goal.returns
-returns c =
+pub returns-clause-does : goal.returns-clause-does
+returns-clause-does c =
     let h = here c.args.store.now.bytes c.args.db.0 c.in_ok-count.ensures.accepted c.in_ok-count.ensures.known in
     let count : c.in_ok-count.count ≡ length h.one.database.entries = c.in_ok-count.ensures.count ∙ ap (λ (x : Option StoredDatabase). length (entries_of x)) h.found in
     let over = c.loop-index-test.false in

@@ -25,8 +25,8 @@ raise-requires c =
     let m = number_mid c.args.store.now.bytes c.change_attributes.new.self.bytes c.args.db change (with_entries (store_of c.args.store.now.bytes) c.args.db change) h c.change_attributes.ensures.changed.same refl in
     record { number = number_read c.change_attributes.new.self.bytes c.args.db _ m }
 
-pub returns : goal.returns
-returns c =
+pub returns-clause-does : goal.returns-clause-does
+returns-clause-does c =
     let h = here c.args.store.now.bytes c.args.db.0 c.in_ok-count_entries.ensures.accepted c.in_ok-count_entries.ensures.known in
     let none = c.in_ok-count_entries.ensures.passes in
     let moved = category_moved c.args.store.now.bytes c.change_attributes.new.self.bytes c.args.db c.args.to c.args.from c.args.dirty h c.in_ok-count_entries.ensures.accepted c.change_attributes.ensures.changed in

@@ -9,8 +9,8 @@ use Rattle.database_access.specs.Checks.{IsLockedChunk}
 use Rattle.palm_store.specs.EntryCalls.{HasLockedData}
 use Rattle.resource_db.proofs.changing.remove_resource.Goals as goal
 
-pub returns-then-is_locked : goal.returns-then-is_locked
-returns-then-is_locked c =
+pub returns-then-is_locked-clause-does : goal.returns-then-is_locked-clause-does
+returns-then-is_locked-clause-does c =
     let found = c.in_ok-resource.ensures in
     let none = found.passes in
     let locked : HasLockedData c.args.store.now.bytes c.args.db c.args.index = subst (IsLockedChunk c.args.store.now.bytes) (sym (ap data_of_entry found.is)) (c.is_locked.ensures.0 c.if-is_locked.true) in
@@ -23,8 +23,8 @@ entry_drop-requires-clause-unlocked c = λ locked.
     let no = c.if-is_locked.false in
     absurd cc)
 
-pub returns : goal.returns
-returns c =
+pub returns-clause-does : goal.returns-clause-does
+returns-clause-does c =
     let found = c.in_ok-resource.ensures in
     let none = found.passes in
     let leaves = c.entry_drop.ensures.dropped in

@@ -10,8 +10,8 @@ use Rattle.palm_store.specs.declared.entries.infos.EntryInfo.TheVariants as info
 use Rattle.database_access.proofs.EntriesChanged.{set_as}
 use Rattle.resource_db.proofs.changing.set_resource_info.Goals as goal
 
-pub returns : goal.returns
-returns c =
+pub returns-clause-does : goal.returns-clause-does
+returns-clause-does c =
     let found = c.in_ok-resource_at.ensures in
     let info = c.in_ok-resource_at.field-0 in
     let leaves = set_as true c.args.store.now.bytes c.entry_set.new.self.bytes c.args.db c.args.index (a_resource info.kind info.id info.«data».0) (with_info (infos.Resource c.args.kind c.args.id)) (with_type_and_id c.args.kind c.args.id)
