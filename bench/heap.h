@@ -51,12 +51,14 @@ enum refusal {
     OUT_OF_BOUNDS,
     NO_SUCH_DATABASE,
     NOT_RECORD_DATABASE,
-    READ_ONLY = 13,
+    NOT_RESOURCE_DATABASE,
+    READ_ONLY,
     INDEX_OUT_OF_RANGE,
     RECORD_DELETED,
     TOO_MANY_ENTRIES = 17,
     INVALID_CATEGORY,
     UNIQUE_ID_NOT_FOUND = 20,
+    RESOURCE_NOT_FOUND = 23,
 };
 
 /* An image that is an accepted heap. The slots of all numbers below `lowest` are in use. A list begins at

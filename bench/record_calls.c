@@ -12,25 +12,13 @@
  * sets an ID, so nothing that is remembered has to be forgotten. The chunks are
  * those of heap.h.
  */
+#include "databases.h"
 #include "heap.h"
+#include "resources.h"
 #include "times.h"
 
-/* Where fields stand: of the image the directory; of a database its numbers and its entries; of an entry
- * its attributes, with the ID behind them. */
-enum {
-    DIRECTORY_AT = 12,
-    ATTRIBUTES_AT = 32,
-    MODIFICATION_NUMBER_AT = 48,
-    KIND_AT = 60,
-    CREATOR_AT = 64,
-    SEED_AT = 68,
-    ENTRY_COUNT_AT = 76,
-    ENTRIES_AT = 78,
-    ENTRY_SIZE = 8,
-    LABEL_AT = 4,
-};
-
-enum { MANAGER = 0, RESOURCES = 0x0001, ONLY_READ = 0x0002, MOST_ENTRIES = 65535 };
+/* What the entry of a record takes, and where its attributes stand in it, with the ID behind them. */
+enum { ENTRY_SIZE = 8, LABEL_AT = 4 };
 
 /* The attributes of a new record, dirty and busy; the bits of a dirty and of a deleted one, and of the category. */
 enum { NEW_ATTRIBUTES = 0x60, DIRTY = 0x40, DELETED = 0x80, CATEGORY = 0x0F };
@@ -49,22 +37,13 @@ enum { FEW = 128, MANY = 8192 };
 /* What the calls here are done with: an index behind all records, and the most bytes of a record. */
 enum { END = 0xFFFF, MOST_BYTES = 64 };
 
-static const uint32_t KIND = 0x44415441, CREATOR = 0x54657374;
+/* The types and the creator of the two databases. */
+static const uint32_t KIND = 0x44415441, PROGRAM = 0x6170706C, CREATOR = 0x54657374;
 
 /* What the entry of a record says. */
 struct record {
     uint32_t attributes, id, slot;
 };
-
-static uint8_t *body_of(const struct heap *heap, const struct found *found)
-{
-    return heap->image + found->place;
-}
-
-static uint32_t entries_in(const uint8_t *body)
-{
-    return u16_at(body, ENTRY_COUNT_AT);
-}
 
 static uint8_t *entry_at(uint8_t *body, uint32_t index)
 {
@@ -76,15 +55,12 @@ static uint32_t database_size(uint32_t entries)
     return ENTRIES_AT + ENTRY_SIZE * entries;
 }
 
-/* The chunk of a database of records: a chunk of the manager's that isn't the directory. */
+/* The chunk of a database of records. */
 static enum refusal find_readable(const struct heap *heap, uint32_t db, struct found *found)
 {
-    if (!find_chunk(heap, db, found) || found->owner != MANAGER ||
-        db == u32_at(heap->image, DIRECTORY_AT))
+    if (!find_database(heap, db, found))
         return NO_SUCH_DATABASE;
-    if (u16_at(body_of(heap, found), ATTRIBUTES_AT) & RESOURCES)
-        return NOT_RECORD_DATABASE;
-    return DONE;
+    return has_resources(heap, found) ? NOT_RECORD_DATABASE : DONE;
 }
 
 static enum refusal find_writable(const struct heap *heap, uint32_t db, struct found *found)
@@ -92,25 +68,7 @@ static enum refusal find_writable(const struct heap *heap, uint32_t db, struct f
     enum refusal refusal = find_readable(heap, db, found);
     if (refusal != DONE)
         return refusal;
-    return u16_at(body_of(heap, found), ATTRIBUTES_AT) & ONLY_READ ? READ_ONLY : DONE;
-}
-
-static bool is_locked(const struct heap *heap, uint32_t slot)
-{
-    struct found found;
-    return slot != 0 && find_chunk(heap, slot, &found) && found.lock != 0;
-}
-
-static void free_slot(struct heap *heap, uint32_t slot)
-{
-    struct found found;
-    if (slot != 0 && find_chunk(heap, slot, &found))
-        free_chunk(heap, slot, &found);
-}
-
-static void raise_modification(uint8_t *body)
-{
-    put_u32(body, MODIFICATION_NUMBER_AT, u32_at(body, MODIFICATION_NUMBER_AT) + 1);
+    return is_read_only(heap, found) ? READ_ONLY : DONE;
 }
 
 static uint32_t steps_to(uint32_t seed, uint32_t id)
@@ -461,29 +419,6 @@ static enum refusal move_record(struct heap *heap, uint32_t db, uint32_t from, u
     return DONE;
 }
 
-/* Makes the first database of a heap, and the directory. */
-static enum refusal create(struct heap *heap, const char *name, uint32_t *db)
-{
-    uint32_t directory;
-    struct found found;
-    enum refusal refusal = make_chunk(heap, ENTRIES_AT, MANAGER, db);
-    if (refusal == DONE)
-        refusal = make_chunk(heap, 4, MANAGER, &directory);
-    if (refusal != DONE)
-        return refusal;
-    if (!find_chunk(heap, directory, &found))
-        return INVALID_HANDLE;
-    put_u32(body_of(heap, &found), 0, *db);
-    put_u32(heap->image, DIRECTORY_AT, directory);
-    if (!find_chunk(heap, *db, &found))
-        return NO_SUCH_DATABASE;
-    uint8_t *body = body_of(heap, &found);
-    memcpy(body, name, strlen(name));
-    put_u32(body, KIND_AT, KIND);
-    put_u32(body, CREATOR_AT, CREATOR);
-    return DONE;
-}
-
 /* The owner that gets what is taken out of the database, and the category that is deleted. */
 enum { CALLER = 1, DELETED_CATEGORY = 2 };
 
@@ -499,6 +434,9 @@ struct load {
     struct heap heap;
     uint32_t db, made, replies;
 };
+
+/* The two types that resources have by turns, those of even indexes the first. */
+static const uint32_t KINDS[2] = {0x636F6465, 0x74535452};
 
 static void add(struct load *load, uint32_t number)
 {
@@ -641,6 +579,67 @@ static void categorize(struct load *load)
         add(load, set_record_info(&load->heap, load->db, index, DELETED_CATEGORY));
 }
 
+/* Makes so many resources behind the last, of 0 to 64 bytes. */
+static void make_resources(struct load *load, uint32_t count)
+{
+    for (uint32_t i = 0; i < count; i++) {
+        uint32_t index, name;
+        uint32_t number = load->made++;
+        enum refusal refusal = new_resource(&load->heap, load->db, KINDS[number % 2], number & 0xFFFF,
+                                            number % (MOST_BYTES + 1), &index, &name);
+        if (refusal == DONE) {
+            add(load, index);
+            add(load, name);
+        } else {
+            add(load, refusal);
+        }
+    }
+}
+
+/* What the last resource is, and how many there are. */
+static enum refusal last_resource(const struct load *load, struct resource *last, uint32_t *count)
+{
+    enum refusal refusal = num_resources(&load->heap, load->db, count);
+    if (refusal != DONE)
+        return refusal;
+    return resource_info(&load->heap, load->db, *count > 0 ? *count - 1 : 0, last);
+}
+
+static void find_last_resource(struct load *load, uint32_t passes)
+{
+    struct resource last;
+    uint32_t count, index;
+    if (last_resource(load, &last, &count) != DONE)
+        return;
+    for (uint32_t pass = 0; pass < passes; pass++) {
+        enum refusal refusal = find_resource(&load->heap, load->db, last.kind, last.id, &index);
+        add(load, refusal == DONE ? index : (uint32_t)refusal);
+    }
+}
+
+static void find_last_of_type(struct load *load, uint32_t passes)
+{
+    struct resource last;
+    uint32_t count, index;
+    if (last_resource(load, &last, &count) != DONE)
+        return;
+    for (uint32_t pass = 0; pass < passes; pass++) {
+        enum refusal refusal = find_type(&load->heap, load->db, last.kind, (count - 1) / 2, &index);
+        add(load, refusal == DONE ? index : (uint32_t)refusal);
+    }
+}
+
+static void remove_first_resource(struct load *load, uint32_t count)
+{
+    for (uint32_t i = 0; i < count; i++)
+        add(load, remove_resource(&load->heap, load->db, 0));
+}
+
+/* The loads on records and on resources. */
+struct loads {
+    struct load records, resources;
+};
+
 enum call {
     NEW_AT_THE_END,
     REMOVE_THE_LAST,
@@ -653,74 +652,101 @@ enum call {
     COUNT_CATEGORY,
     MOVE_CATEGORY,
     DETACH_AND_ATTACH,
+    FIND_RESOURCE,
+    FIND_TYPE,
+    REMOVE_RESOURCE,
     CALLS
 };
 
 static const char *const CALL_NAMES[CALLS] = {
-    "new_record_at_the_end", "remove_the_last", "remove_the_first", "move_to_the_end",
-    "move_to_the_front",     "record_info",     "search_by_id",     "find_by_id_of_the_last",
-    "num_in_category",       "move_category",   "detach_and_attach",
+    "new_record_at_the_end",
+    "remove_the_last",
+    "remove_the_first",
+    "move_to_the_end",
+    "move_to_the_front",
+    "record_info",
+    "search_by_id",
+    "find_by_id_of_the_last",
+    "num_in_category",
+    "move_category",
+    "detach_and_attach",
+    "find_resource_of_the_last",
+    "find_type_of_the_last",
+    "remove_the_first_resource",
 };
 
 /* How many calls of a kind `repeat` does. */
-static uint64_t calls_of(const struct load *load, enum call call, const struct work *work)
+static uint64_t calls_of(const struct loads *loads, enum call call, const struct work *work)
 {
     if (call == INFO)
-        return (uint64_t)count_of(load) * work->passes;
+        return (uint64_t)count_of(&loads->records) * work->passes;
+    if (call == FIND_RESOURCE || call == FIND_TYPE)
+        return work->passes;
     return call >= SEARCH_BY_ID && call <= MOVE_CATEGORY ? work->passes : work->calls;
 }
 
 /* Does calls of a kind. */
-static void repeat(struct load *load, enum call call, const struct work *work)
+static void repeat(struct loads *loads, enum call call, const struct work *work)
 {
+    struct load *records = &loads->records, *resources = &loads->resources;
     switch (call) {
-    case NEW_AT_THE_END: make(load, work->calls); break;
-    case REMOVE_THE_LAST: remove_last(load, work->calls); break;
-    case REMOVE_THE_FIRST: remove_first(load, work->calls); break;
-    case MOVE_TO_THE_END: move_to_the_end(load, work->calls); break;
-    case MOVE_TO_THE_FRONT: move_to_the_front(load, work->calls); break;
+    case NEW_AT_THE_END: make(records, work->calls); break;
+    case REMOVE_THE_LAST: remove_last(records, work->calls); break;
+    case REMOVE_THE_FIRST: remove_first(records, work->calls); break;
+    case MOVE_TO_THE_END: move_to_the_end(records, work->calls); break;
+    case MOVE_TO_THE_FRONT: move_to_the_front(records, work->calls); break;
     case INFO:
         for (uint32_t pass = 0; pass < work->passes; pass++)
-            ask_each(load);
+            ask_each(records);
         break;
-    case FIND_THE_LAST: find_last(load, work->passes); break;
-    case COUNT_CATEGORY: count_category(load, work->passes); break;
-    case MOVE_CATEGORY: move_all(load, work->passes); break;
-    case DETACH_AND_ATTACH: detach_and_attach(load, work->calls); break;
-    default: search(load, work->passes); break;
+    case FIND_THE_LAST: find_last(records, work->passes); break;
+    case COUNT_CATEGORY: count_category(records, work->passes); break;
+    case MOVE_CATEGORY: move_all(records, work->passes); break;
+    case DETACH_AND_ATTACH: detach_and_attach(records, work->calls); break;
+    case FIND_RESOURCE: find_last_resource(resources, work->passes); break;
+    case FIND_TYPE: find_last_of_type(resources, work->passes); break;
+    case REMOVE_RESOURCE: remove_first_resource(resources, work->calls); break;
+    default: search(records, work->passes); break;
     }
 }
 
-/* Brings the database back to as many records as it had before calls of a kind. */
-static void even_out(struct load *load, enum call call, const struct work *work)
+/* Brings the databases back to as many entries as they had before calls of a kind. */
+static void even_out(struct loads *loads, enum call call, const struct work *work)
 {
     if (call == NEW_AT_THE_END)
-        remove_last(load, work->calls);
+        remove_last(&loads->records, work->calls);
     if (call == REMOVE_THE_LAST || call == REMOVE_THE_FIRST)
-        make(load, work->calls);
+        make(&loads->records, work->calls);
+    if (call == REMOVE_RESOURCE)
+        make_resources(&loads->resources, work->calls);
 }
 
-/* Makes the records. */
-static void fill(struct load *load, const struct work *work, uint64_t *times)
+/* Makes the records and the resources. */
+static void fill(struct loads *loads, const struct work *work, uint64_t *times)
 {
     uint64_t start = nanoseconds();
-    make(load, work->records);
+    make(&loads->records, work->records);
     times[0] = nanoseconds() - start;
     if (work->prints_times)
         print_times("new_record_filling", work->records, times, 1);
+    start = nanoseconds();
+    make_resources(&loads->resources, work->records);
+    times[0] = nanoseconds() - start;
+    if (work->prints_times)
+        print_times("new_resource_filling", work->records, times, 1);
 }
 
-static void time_calls(struct load *load, const struct work *work, uint64_t *times)
+static void time_calls(struct loads *loads, const struct work *work, uint64_t *times)
 {
     for (enum call call = NEW_AT_THE_END; call < CALLS; call++) {
         for (size_t i = 0; i < work->rounds; i++) {
             uint64_t start = nanoseconds();
-            repeat(load, call, work);
+            repeat(loads, call, work);
             times[i] = nanoseconds() - start;
-            even_out(load, call, work);
+            even_out(loads, call, work);
         }
         if (work->prints_times)
-            print_times(CALL_NAMES[call], calls_of(load, call, work), times, work->rounds);
+            print_times(CALL_NAMES[call], calls_of(loads, call, work), times, work->rounds);
     }
 }
 
@@ -759,20 +785,32 @@ static bool read_work(int argc, char **argv, struct work *work)
     return argc == 1 || argc == 7;
 }
 
+/* Makes the heaps of the two loads, and their databases. */
+static bool make_loads(struct loads *loads, const struct work *work)
+{
+    struct load *records = &loads->records, *resources = &loads->resources;
+    return make_blank(&records->heap, work->size, work->slots) &&
+           create(&records->heap, "Records", KIND, CREATOR, 0, &records->db) == DONE &&
+           make_blank(&resources->heap, work->size, work->slots) &&
+           create(&resources->heap, "Resources", PROGRAM, CREATOR, RESOURCES, &resources->db) == DONE;
+}
+
 int main(int argc, char **argv)
 {
     struct work work;
-    struct load load = {.made = 0};
-    if (!read_work(argc, argv, &work) || !make_blank(&load.heap, work.size, work.slots)) {
+    struct loads loads = {.records = {.made = 0}, .resources = {.made = 0}};
+    if (!read_work(argc, argv, &work) || !make_loads(&loads, &work)) {
         fprintf(stderr, "usage: record_calls [SIZE SLOTS RECORDS CALLS PASSES ROUNDS]\n");
         return 2;
     }
     uint64_t *times = calloc(work.rounds + 1, sizeof *times);
-    if (times == NULL || create(&load.heap, "Records", &load.db) != DONE)
+    if (times == NULL)
         return 2;
-    fill(&load, &work, times);
-    time_calls(&load, &work, times);
-    time_deletion(&load, &work, times);
-    printf("replies %u words %u\n", load.replies, words_of(&load.heap));
+    fill(&loads, &work, times);
+    time_calls(&loads, &work, times);
+    time_deletion(&loads.records, &work, times);
+    uint32_t replies = sum_with(loads.records.replies, loads.resources.replies);
+    uint32_t words = sum_with(words_of(&loads.records.heap), words_of(&loads.resources.heap));
+    printf("replies %u words %u\n", replies, words);
     return 0;
 }

@@ -1,5 +1,6 @@
-//! A database under load: its records are made, moved, taken out and asked for in a fixed order.
+//! Databases under load: their entries are made, moved, taken out and asked for in a fixed order.
 
+use crate::resources::ResourceLoad;
 use crate::work::Work;
 use bench_times::{Sum, Sums};
 use heap_model::{Db, Refusal};
@@ -21,7 +22,7 @@ const CALLER: u8 = 1;
 /// The category that is deleted.
 const DELETED_CATEGORY: u8 = 2;
 
-/// A kind of call on records.
+/// A kind of call on records, or on resources.
 #[derive(Clone, Copy)]
 pub(crate) enum Call {
     /// New records behind the last.
@@ -43,6 +44,12 @@ pub(crate) enum Call {
     MoveCategory,
     /// The last record is taken out, and its data made the last record's again.
     DetachAndAttach,
+    /// The last resource is found by its type and its ID.
+    FindResource,
+    /// The last resource is found as the last of its type.
+    FindType,
+    /// The first resource is taken out.
+    RemoveResource,
 }
 
 /// A store with a database, and the sum of all replies to the calls so far.
@@ -53,16 +60,18 @@ pub(crate) struct Load {
     /// How many records were asked for to be made.
     made: u32,
     replies: Sum,
+    resources: ResourceLoad,
 }
 
 impl Load {
-    /// A load on a database that has no records yet.
-    pub(crate) fn new(store: Store, db: Db) -> Load {
+    /// A load on a database that has no records yet, and on one of resources.
+    pub(crate) fn new(store: Store, db: Db, resources: ResourceLoad) -> Load {
         Load {
             store,
             db,
             made: 0,
             replies: Sum(0),
+            resources,
         }
     }
 
@@ -86,13 +95,21 @@ impl Load {
         }
     }
 
+    /// Makes so many resources behind the last.
+    pub(crate) fn make_resources(&mut self, count: u32) {
+        self.resources.make(count);
+    }
+
     /// How many calls of a kind `repeat` does.
     pub(crate) fn calls(&self, call: Call, work: Work) -> u128 {
         match call {
             Call::Info => (self.count() as u128).saturating_mul(work.passes as u128),
-            Call::SearchById | Call::FindTheLast | Call::CountCategory | Call::MoveCategory => {
-                work.passes as u128
-            }
+            Call::SearchById
+            | Call::FindTheLast
+            | Call::CountCategory
+            | Call::MoveCategory
+            | Call::FindResource
+            | Call::FindType => work.passes as u128,
             _ => work.calls as u128,
         }
     }
@@ -111,14 +128,18 @@ impl Load {
             Call::CountCategory => self.count_category(work.passes),
             Call::MoveCategory => self.move_all(work.passes),
             Call::DetachAndAttach => self.detach_and_attach(work.calls),
+            Call::FindResource => self.resources.find_last(work.passes),
+            Call::FindType => self.resources.find_last_of_type(work.passes),
+            Call::RemoveResource => self.resources.remove_first(work.calls),
         }
     }
 
-    /// Brings the database back to as many records as it had before calls of a kind.
+    /// Brings the databases back to as many entries as they had before calls of a kind.
     pub(crate) fn even_out(&mut self, call: Call, work: Work) {
         match call {
             Call::NewAtTheEnd => self.remove_last(work.calls),
             Call::RemoveTheLast | Call::RemoveTheFirst => self.make(work.calls),
+            Call::RemoveResource => self.resources.make(work.calls),
             _ => {}
         }
     }
@@ -249,17 +270,19 @@ impl Load {
         add_done(&mut self.replies, done);
     }
 
-    /// The sum of all replies, and that of the words of the image.
+    /// The sums of all replies, and of the words of the images.
     pub(crate) fn into_sums(self) -> Sums {
-        Sums {
+        let mut sums = Sums {
             replies: self.replies,
             words: Sum::of_words(&self.store.into_region()),
-        }
+        };
+        self.resources.add_to(&mut sums);
+        sums
     }
 }
 
 /// Adds the number of a refusal, and 0 where there is none.
-fn add_done(replies: &mut Sum, done: Result<(), Refusal>) {
+pub(crate) fn add_done(replies: &mut Sum, done: Result<(), Refusal>) {
     match done {
         Ok(()) => replies.add(0),
         Err(refusal) => replies.add(refusal.number() as u32),
@@ -267,7 +290,7 @@ fn add_done(replies: &mut Sum, done: Result<(), Refusal>) {
 }
 
 /// Adds the number that is answered, or that of a refusal.
-fn add_number(replies: &mut Sum, number: Result<u32, Refusal>) {
+pub(crate) fn add_number(replies: &mut Sum, number: Result<u32, Refusal>) {
     match number {
         Ok(number) => replies.add(number),
         Err(refusal) => replies.add(refusal.number() as u32),

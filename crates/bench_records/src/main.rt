@@ -1,28 +1,31 @@
-//! Times the calls on records. `bench_records SIZE SLOTS RECORDS CALLS PASSES ROUNDS` makes a store in an
-//! image of SIZE bytes with SLOTS slots, and a database of RECORDS records in it. In each round of a kind
-//! CALLS records are made, moved or taken out, or all of them asked for PASSES times. For each kind of call it
-//! prints the calls of a round, and the best and the median processor time of a round in nanoseconds.
+//! Times the calls on records, and some on resources. `bench_records SIZE SLOTS RECORDS CALLS PASSES ROUNDS` makes a
+//! store in an image of SIZE bytes with SLOTS slots, and a database of RECORDS records in it, and another such store
+//! with as many resources. In each round of a kind CALLS entries are made, moved or taken out, or all of them asked
+//! for PASSES times. For each kind of call it prints the calls of a round, and the best and the median processor time
+//! of a round in nanoseconds.
 //!
-//! The last line has the sum of all replies, and that of the words of the image at the end. With no words it
-//! alone is printed, of a small database. bench/record_calls.c does the same calls in plain C, and
+//! The last line has the sum of all replies, and that of the words of the images at the end. With no words it
+//! alone is printed, of small databases. bench/record_calls.c does the same calls in plain C, and
 //! docs/MEASUREMENTS.md has what was measured.
 #![tactic(auto)]
 
 mod load;
+mod resources;
 mod work;
 
 use anyhow::{Result, bail};
 use bench_times::{Times, since};
 use chunk_format::blank;
-use heap_model::DbName;
+use heap_model::{Db, DbName};
 use load::{Call, Load};
 use palm_store::Store;
+use resources::ResourceLoad;
 use std::env;
 use std::rt::CpuClock;
 use work::Work;
 
 /// The kinds of call, by what is printed of them.
-const CALLS: [(&str, Call); 11] = [
+const CALLS: [(&str, Call); 14] = [
     ("new_record_at_the_end", Call::NewAtTheEnd),
     ("remove_the_last", Call::RemoveTheLast),
     ("remove_the_first", Call::RemoveTheFirst),
@@ -34,12 +37,18 @@ const CALLS: [(&str, Call); 11] = [
     ("num_in_category", Call::CountCategory),
     ("move_category", Call::MoveCategory),
     ("detach_and_attach", Call::DetachAndAttach),
+    ("find_resource_of_the_last", Call::FindResource),
+    ("find_type_of_the_last", Call::FindType),
+    ("remove_the_first_resource", Call::RemoveResource),
 ];
 
-/// The type of the database, `DATA`.
+/// The type of the database of records, `DATA`.
 const KIND: u32 = 0x4441_5441;
 
-/// The creator of the database, `Test`.
+/// The type of the database of resources, `appl`.
+const PROGRAM: u32 = 0x6170_706C;
+
+/// The creator of the databases, `Test`.
 const CREATOR: u32 = 0x5465_7374;
 
 fn main(rt: HostRuntime) -> Result<()> {
@@ -58,24 +67,49 @@ fn main(rt: HostRuntime) -> Result<()> {
     Ok(())
 }
 
-/// A load on a database without records, in an image with nothing else.
+/// A load on a database without records and on one without resources, each in an image with nothing else.
 fn blank_load(rt: &impl AllocGlobal, work: Work) -> Result<Load> {
+    let (store, db) = blank_store(rt, work, b"Resources", PROGRAM, true)?;
+    let resources = ResourceLoad::new(store, db);
+    let (store, db) = blank_store(rt, work, b"Records", KIND, false)?;
+    Ok(Load::new(store, db, resources))
+}
+
+/// A store with one database, which has no entries.
+fn blank_store(
+    rt: &impl AllocGlobal,
+    work: Work,
+    name: &[u8],
+    kind: u32,
+    resources: bool,
+) -> Result<(Store, Db)> {
     let region = blank(rt.alloc(), work.size, work.slots)?;
     let mut store = match Store::check(rt.alloc(), region) {
         Ok(store) => store,
         Err(error) => bail!("{}", error.fault),
     };
-    let db = store.create(&DbName::of(b"Records"), KIND, CREATOR, false, 0)?;
-    Ok(Load::new(store, db))
+    let db = store.create(&DbName::of(name), kind, CREATOR, resources, 0)?;
+    Ok((store, db))
 }
 
-/// Makes the records.
+/// Makes the records and the resources.
 fn fill(rt: &(impl CpuClock + Print + AllocGlobal), load: &mut Load, work: Work) -> Result<()> {
     let mut times = Times::new(rt.alloc());
     let start = rt.thread_cpu_time()?;
     load.make(work.records);
     times.add(since(rt, start)?)?;
-    print_times(rt, work, "new_record_filling", work.records as u128, times)
+    print_times(rt, work, "new_record_filling", work.records as u128, times)?;
+    let mut times = Times::new(rt.alloc());
+    let start = rt.thread_cpu_time()?;
+    load.make_resources(work.records);
+    times.add(since(rt, start)?)?;
+    print_times(
+        rt,
+        work,
+        "new_resource_filling",
+        work.records as u128,
+        times,
+    )
 }
 
 /// Does calls of one kind in each round.
