@@ -54,12 +54,12 @@ print_table() {
         function row(name,   c, rattle) {
             c = "c " name
             rattle = "rattle " name
-            printf "  %-22s %10.1f %10.1f %10.1f %10.1f %6.2f\n", name,
+            printf "  %-26s %10.1f %10.1f %10.1f %10.1f %6.2f\n", name,
                 each(c, best[c]), each(c, middle(c)),
                 each(rattle, best[rattle]), each(rattle, middle(rattle)), best[rattle] / best[c]
         }
         END {
-            printf "  %-22s %10s %10s %10s %10s %6s\n", "ns a call", "C best", "C median", "R. best", "R. median", "ratio"
+            printf "  %-26s %10s %10s %10s %10s %6s\n", "ns a call", "C best", "C median", "R. best", "R. median", "ratio"
             while ((getline line < names) > 0) row(line)
         }' names="$work/names"
 }
