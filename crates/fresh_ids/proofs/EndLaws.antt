@@ -16,8 +16,8 @@ use Rattle.fresh_ids.proofs.StepLaws.{some_same, fresh_here}
 
 -- ---- the pass over the records
 
-pub end_first : (body : List ℕ) (first : ℕ) → IsEndBefore body first 0 0x1000000
-end_first body first = record { free = λ id earlier from below before e. absurd (omega arith); ends = inr (omega arith) }
+pub end_first : (body : List ℕ) (first : ℕ) → first ≤ 0x1000000 → IsEndBefore body first 0 0x1000000
+end_first body first most = record { from = most; free = λ id earlier from below before e. absurd (omega arith); ends = inr (omega arith) }
 
 -- the ID of a record is that of an entry in front of it, or its own
 last_is : (body : List ℕ) (index earlier id other : ℕ) → Some id ≡ unique_id (entry_in body index) → unique_id (entry_in body earlier) ≡ Some other → earlier ≡ index → id ≡ other
@@ -25,6 +25,7 @@ last_is body index earlier id other is e at = some_same id other (is ∙ ap (λ 
 
 pub end_nearer : (body : List ℕ) (first index end id : ℕ) → Some id ≡ unique_id (entry_in body index) → first ≤ id → id < end → IsEndBefore body first index end → IsEndBefore body first (index + 1) id
 end_nearer body first index end id is low below h = record {
+  from = low;
   free = λ q earlier from less before e. elim (cases_lt earlier index) [
     | inl old ↦ h.free q earlier from (omega arith) old e
     | inr last ↦ let same = last_is body index earlier id q is e (omega arith) in absurd (omega arith)
@@ -34,6 +35,7 @@ end_nearer body first index end id is low below h = record {
 
 pub end_stays : (body : List ℕ) (first index end id : ℕ) → Some id ≡ unique_id (entry_in body index) → (first ≤ id → id < end → ⊥) → IsEndBefore body first index end → IsEndBefore body first (index + 1) end
 end_stays body first index end id is none h = record {
+  from = h.from;
   free = λ q earlier from less before e. elim (cases_lt earlier index) [
     | inl old ↦ h.free q earlier from less old e
     | inr last ↦ let same = last_is body index earlier id q is e (omega arith) in none (omega arith) (omega arith)
@@ -44,6 +46,7 @@ end_stays body first index end id is none h = record {
 pub end_of_all : (body : List ℕ) (first end : ℕ) → IsEndBefore body first (entry_count_in body) end → IsEndOfFree (unique_ids (database_in body)) first end
 unfolding database_in
 end_of_all body first end h = record {
+  from = h.from;
   free = λ id among. elim (cases_lt 0 (times id (ids_upto (entry_in body) (entry_count_in body)))) [
     | inl some ↦ let t = ids_index (entry_in body) id (entry_count_in body) some in absurd (h.free id t.0 among.0 among.1 t.1 t.2)
     | inr none ↦ omega arith
@@ -64,11 +67,16 @@ next_fresh body field seed id read low is free =
 pub known_free : (ids : List ℕ) (known : FreeIds) (next : ℕ) → AreFree ids known → IsAmong known next → AreFree ids (record { first = next; end = known.end })
 known_free ids known next free among = λ id here. free id ((let low = among.0 in let from = here.0 in omega (arith, low, from)), here.1)
 
--- it alone is free
-pub fresh_free : (ids : List ℕ) (field id : ℕ) → IsFresh ids (seed_in field) id → AreFree ids (record { first = id; end = id + 1 })
-fresh_free ids field id fresh = λ other among. (
-    let new = fresh_new ids field id fresh in
-    let from = among.0 in
-    let below = among.1 in
-    let is : other ≡ id = omega (arith, from, below) in
-    ap (λ (n : ℕ). times n ids) is ∙ new.2)
+-- it is in front of the end that is found behind it
+pub fresh_more : (ids : List ℕ) (field id end : ℕ) → IsFresh ids (seed_in field) id → IsEndOfFree ids id end → id < end
+fresh_more ids field id end fresh is = elim (cases_lt id end) [
+  | inl below ↦ below
+  | inr not ↦
+      let new = fresh_new ids field id fresh in
+      let from = is.from in
+      let same : end ≡ id = omega (arith, not, from) in
+      elim is.ends [
+        | inl taken ↦ let none : times end ids ≡ 0 = ap (λ (n : ℕ). times n ids) same ∙ new.2 in absurd (omega (arith, taken, none))
+        | inr last ↦ let most = new.1 in absurd (omega (arith, last, same, most))
+      ]
+]

@@ -12,11 +12,16 @@ IsAmong free id = (free.first ≤ id) × (id < free.end)
 abbrev pub AreFree : List ℕ → FreeIds → Type 0
 AreFree ids free = (id : ℕ) → IsAmong free id → times id ids ≡ 0
 
--- The records' IDs have none from the first on, below the end; the end is one of them, or is behind the
--- greatest.
+-- The end is the least of the records' IDs that is not below the first, and is behind the greatest where there
+-- is none.
 pub record IsEndOfFree (ids : List ℕ) (first end : ℕ) : Type 0 where
+  pub from : first ≤ end
   pub free : AreFree ids (record { first = first; end = end })
   pub ends : (0 < times end ids) ⊎ (end ≡ greatest_id + 1)
+
+-- IDs end where the known ones do, or as far behind their first as they can.
+abbrev pub EndAsFar : List ℕ → FreeIds → FreeIds → Type 0
+EndAsFar ids known free = (free.end ≡ known.end) ⊎ IsEndOfFree ids free.first free.end
 
 -- The same IDs, where this one isn't among them; else those of them that are behind it.
 pub record IsWithout (old : FreeIds) (id : ℕ) (new : FreeIds) : Type 0 where

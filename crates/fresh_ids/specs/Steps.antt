@@ -26,5 +26,6 @@ IsFirstFree body seed steps = Least (IsFree body seed) steps
 -- No record in front of an index has an ID from the first on, below the end; the end is the ID of one of
 -- them, or is behind the greatest.
 pub record IsEndBefore (body : List ℕ) (first index end : ℕ) : Type 0 where
+  pub from : first ≤ end
   pub free : (id earlier : ℕ) → first ≤ id → id < end → earlier < index → unique_id (entry_in body earlier) ≡ Some id → ⊥
   pub ends : ((earlier : ℕ) × (earlier < index) × (unique_id (entry_in body earlier) ≡ Some end)) ⊎ (end ≡ greatest_id + 1)

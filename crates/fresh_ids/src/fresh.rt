@@ -8,7 +8,7 @@ ghost use Rattle.heap_model.specs.UniqueIds as ids;
 ghost use Rattle.bit_sets.specs.Sets.{HasNone};
 ghost use Rattle.db_format.specs.Headers.{IsWhole};
 ghost use Rattle.fresh_ids.specs.Steps.{HasTaken, IsFirstFree};
-ghost use Rattle.fresh_ids.specs.FreeIds.{AreFree, IsEndOfFree};
+ghost use Rattle.fresh_ids.specs.FreeIds.{AreFree, EndAsFar, IsEndOfFree};
 
 use crate::stretch::FreeIds;
 use db_format::{GREATEST_ID, entry_count, record_id};
@@ -142,8 +142,8 @@ fn end_of_free(body: &[u8], first: u32) -> u32
 
 /// Free IDs of the database that these bytes spell. The first of them is the one for a new record: the first
 /// behind the seed that none of its records has. Where the ID next to the seed is among the known ones, no
-/// entry is read. Else one pass over the entries finds how far the IDs are free from it on; and where it is
-/// taken, one more, or two, find the first that is free.
+/// entry is read, and they end where those do. Else one pass over the entries finds how far the IDs are free from
+/// it on; and where it is taken, two more, or three, find the first that is free, and how far from that one on.
 pub fn free_ids(body: &[u8], known: FreeIds) -> FreeIds
     requires spelled { IsSpelled (database_in body.now) body.now }
     requires records { resources_in body.now ≡ false }
@@ -152,6 +152,7 @@ pub fn free_ids(body: &[u8], known: FreeIds) -> FreeIds
     ensures fresh { IsFresh (unique_ids (database_in body.now)) (seed_in (database_in body.now).header.seed) result.first }
     ensures free { AreFree (unique_ids (database_in body.now)) result }
     ensures more { result.first < result.end }
+    ensures ends { EndAsFar (unique_ids (database_in body.now)) known result }
     ensures some { 0 < result.first }
     ensures most { result.first ≤ greatest_id }
 {
@@ -169,6 +170,6 @@ pub fn free_ids(body: &[u8], known: FreeIds) -> FreeIds
     let first = fresh_id(body);
     FreeIds {
         first,
-        end: first + 1,
+        end: end_of_free(body, first),
     }
 }
