@@ -135,7 +135,10 @@ static uint32_t fresh_id(const uint8_t *body, uint32_t db)
     uint32_t steps = first_step(body, seed, taken, FEW);
     if (steps == 8 * FEW)
         steps = first_step(body, seed, taken, MANY);
-    return id_behind(seed, steps);
+    uint32_t id = id_behind(seed, steps);
+    known.first = id + 1;
+    known.end = end_of_free(body, id);
+    return id;
 }
 
 /* Gives a chunk another owner. */

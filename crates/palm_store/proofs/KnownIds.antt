@@ -1,24 +1,31 @@
 -- IDs that are known to be free: which changes of a store leave them free.
-use Rattle.std.proofs.Common.{◌≡◌, ◌≢◌, ◌≤◌, ◌++◌, ℕ, suc, List, [], ◌∷◌, length, take, drop, Option, Some, refl, sym, ap, ◌∙◌, arith, inl, inr}
+use Rattle.std.proofs.Common.{◌≡◌, ◌≢◌, ◌≤◌, ◌++◌, ℕ, suc, List, [], ◌∷◌, length, take, drop, Option, Some, None, Bool, true, false, ◌+◌, ◌-◌, ◌⊎◌, set, subst, refl, sym, ap, ◌∙◌, arith, inl, inr}
 use Rattle.std.proofs.lemmas.Bool.{cases_eq, cases_lt, eq-eqb, ne_eqb}
-use Rattle.std.proofs.lemmas.List.{drop_all, take_all, append-nil}
-use Rattle.std.proofs.lemmas.List.Sums.{sum_by-insert, sum_by-remove}
-use Rattle.std.specs.Prelude.{◌==◌}
-use Rattle.std.specs.List.{find, filter_map, remove}
-use Rattle.heap_model.specs.Lists.{times}
+use Rattle.std.proofs.lemmas.List.{drop_all, take_all, append-nil, take-append-drop}
+use Rattle.std.proofs.Math.Seq.{take-nil}
+use Rattle.std.proofs.lemmas.List.Sums.{sum_by-insert, sum_by-remove, sum_by-set, get_or-le-sum_by}
+use Rattle.std.proofs.lemmas.Option.{slice_get_within, get_or_from_slice_get}
+use Rattle.std.specs.Prelude.{◌==◌, slice_get, slice_range}
+use Rattle.std.specs.List.{find, filter_map, remove, insert_slice}
+use Rattle.heap_model.specs.Lists.{times, insertion_index, moved}
 use Rattle.heap_model.specs.Database.{Database, Entry, a_record, a_resource, entry_with, database_in}
 use Rattle.heap_model.specs.Store.{StoredDatabase, Store, unique_id, unique_ids, bytes_under, Accepted, store_of}
 use Rattle.heap_model.specs.StoreWords.{with_changed, with_number}
-use Rattle.heap_model.specs.EntrySteps.{entries_of, with_entry_at, raised_header, HasId}
+use Rattle.heap_model.specs.EntrySteps.{entries_of, with_entry_at, raised_header, HasId, replaced, replaced_if, entry_changed, without_data}
 use Rattle.heap_model.specs.declared.names.Db.{Db}
 use Rattle.laws_heap.proofs.Deciding.{cond-true, cond-false}
-use Rattle.laws_store.proofs.Listing.{same-no}
+use Rattle.laws_store.proofs.Listing.{same-yes, same-no}
+use Rattle.laws_store.proofs.Entries.{replaced_is}
+use Rattle.laws_store.proofs.Moving.{sum_by-moved}
 use Rattle.laws_store.proofs.Naming.{has_id, times-ids}
 use Rattle.laws_store.proofs.Numbered.{entries_here}
 use Rattle.fresh_ids.specs.FreeIds.{IsAmong, AreFree, IsWithout}
 use Rattle.fresh_ids.specs.declared.stretch.FreeIds.{FreeIds}
 use Rattle.palm_store.specs.Databases.{HasNumber}
-use Rattle.palm_store.specs.KnownIds.{ids_in, StandFree, StandFreeBeside, IsStore}
+use Rattle.palm_store.specs.declared.entries.infos.EntryInfo.TheVariants as infos
+use Rattle.palm_store.specs.EntryInfos.{with_info}
+use Rattle.palm_store.specs.EntryCalls.{raised_if}
+use Rattle.palm_store.specs.KnownIds.{ids_in, StandFree, StandFreeBeside, GetsNone, IsStore}
 use Rattle.palm_store.specs.declared.entries.known.KnownIds.{KnownIds}
 
 -- no ID at all is known to be free
@@ -145,6 +152,118 @@ go_free old new db index known is free = λ id among.
 pub beside_named : (store : Store) (entry : Entry ℕ) (slot : ℕ) (known : KnownIds) → StandFreeBeside store entry known → StandFreeBeside store (entry_with (λ (none : ℕ). slot) entry) known
 beside_named store (a_record attributes id none) slot known free = free
 beside_named store (a_resource kind id none) slot known free = free
+
+-- ---- an entry is changed
+
+no_id : (id : ℕ) (entry : Entry ℕ) → has_id id entry ≡ 0 → HasId id entry → ⊥
+unfolding has_id
+no_id id (a_record attributes other slot) none has = (let same : other ≡ id = cc in let one = same-yes other id same in absurd (omega (arith, one, none)))
+no_id id (a_resource kind other slot) none has = absurd cc
+
+replaced_lacks : (id index : ℕ) (change : Entry ℕ → Entry ℕ) (database : Database ℕ) (entry : Entry ℕ) → ((other : Entry ℕ) → HasId id (change other) → HasId id other) → slice_get database.entries index ≡ Some entry
+    → times id (unique_ids database) ≡ 0 → times id (unique_ids (record database { entries = replaced database.entries index change })) ≡ 0
+replaced_lacks id index change database entry gets at none =
+    let entries : List (Entry ℕ) = database.entries in
+    let inside = slice_get_within entries index entry at in
+    let is = ap (λ (es : List (Entry ℕ)). times id (unique_ids (record database { entries = es }))) (replaced_is entries index change entry at) in
+    let now = times-ids id (record database { entries = set entries index (change entry) }) in
+    let was = times-ids id database in
+    let here = ap (has_id id) (get_or_from_slice_get entries index entry entry at) in
+    let least = get_or-le-sum_by (has_id id) entries index entry inside in
+    let had_none : has_id id entry ≡ 0 = omega (arith, was, here, least, none) in
+    let has_none = other_id id (change entry) (λ has. no_id id entry had_none (gets entry has)) in
+    let sum = sum_by-set (has_id id) entries index (change entry) entry inside in
+    omega arith
+
+changed_if_lacks : (id index : ℕ) (change : Entry ℕ → Entry ℕ) (database : Database ℕ) (found : Option (Entry ℕ)) → ((other : Entry ℕ) → HasId id (change other) → HasId id other) → slice_get database.entries index ≡ found
+    → times id (unique_ids database) ≡ 0 → times id (unique_ids (record database { entries = replaced database.entries index change })) ≡ 0
+changed_if_lacks id index change database None gets at none = ap (λ (found : Option (Entry ℕ)). times id (unique_ids (record database { entries = replaced_if database.entries index change found }))) at ∙ none
+changed_if_lacks id index change database (Some entry) gets at none = replaced_lacks id index change database entry gets at none
+
+with_change_at : ℕ → (Entry ℕ → Entry ℕ) → Database ℕ → Database ℕ
+with_change_at index change database = record database { entries = replaced database.entries index change }
+
+change_lacks : (id index : ℕ) (change : Entry ℕ → Entry ℕ) → ((other : Entry ℕ) → HasId id (change other) → HasId id other) → LacksStill id (with_change_at index change)
+unfolding LacksStill with_change_at
+change_lacks id index change gets database none = changed_if_lacks id index change database (slice_get database.entries index) gets refl none
+
+-- The entry of an index is changed, which gets none of the IDs; the modification number may be raised.
+pub change_free : (counts : Bool) (old mid new : Store) (db : Db) (index : ℕ) (change : Entry ℕ → Entry ℕ) (known : KnownIds)
+    → mid.databases ≡ (entry_changed old db index change).databases → new.databases ≡ (raised_if counts mid db).databases → GetsNone known change → StandFree old known → StandFree new known
+unfolding ids_found LacksStill with_change_at
+change_free true old mid new db index change known is then gets free = λ id among.
+    ap (λ (stored : List StoredDatabase). times id (ids_found stored known.db.0)) then
+    ∙ changed_lacks id db.0 known.db.0 (λ database. record database { header = raised_header database.header }) mid.databases (λ database none. none)
+    (ap (λ (stored : List StoredDatabase). times id (ids_found stored known.db.0)) is ∙ changed_lacks id db.0 known.db.0 (with_change_at index change) old.databases (change_lacks id index change (gets id among)) (free id among))
+change_free false old mid new db index change known is then gets free = λ id among.
+    ap (λ (stored : List StoredDatabase). times id (ids_found stored known.db.0)) (then ∙ is)
+    ∙ changed_lacks id db.0 known.db.0 (with_change_at index change) old.databases (change_lacks id index change (gets id among)) (free id among)
+
+-- an entry without its data has its ID
+pub emptied_gets : (known : KnownIds) → GetsNone known without_data
+emptied_gets known id among (a_record attributes other slot) has = has
+emptied_gets known id among (a_resource kind other slot) has = has
+
+-- one with other data has its ID too
+pub named_gets : (known : KnownIds) (slot : ℕ) (change : Entry ℕ → Entry ℕ) → GetsNone known change → GetsNone known (λ entry. entry_with (λ (none : ℕ). slot) (change entry))
+named_gets known slot change gets id among entry has = gets id among entry (named_id slot (change entry) id has) where
+  named_id : (slot : ℕ) (entry : Entry ℕ) (id : ℕ) → HasId id (entry_with (λ (none : ℕ). slot) entry) → HasId id entry
+  named_id slot (a_record attributes other none) id has = has
+  named_id slot (a_resource kind other none) id has = has
+
+-- ---- an entry is moved
+
+none_moves : (entries : List (Entry ℕ)) (from to : ℕ) → length entries ≤ from → moved entries from to ≡ entries
+none_moves entries from to past =
+    let rest : List (Entry ℕ) = remove entries from in
+    let at : ℕ = insertion_index from to in
+    let none : slice_range entries from (from + 1) ≡ [] = ap (take (from + 1 - from)) (drop_all from entries past) ∙ take-nil (from + 1 - from) in
+    ap (insert_slice rest at) none ∙ ap (λ (es : List (Entry ℕ)). es ++ drop at rest) (append-nil (take at rest)) ∙ take-append-drop at rest ∙ none_goes entries from past
+
+with_move : ℕ → ℕ → Database ℕ → Database ℕ
+with_move from to database = record database { entries = moved database.entries from to }
+
+move_lacks : (id from to : ℕ) → LacksStill id (with_move from to)
+unfolding LacksStill with_move
+move_lacks id from to database none =
+    let now = times-ids id (with_move from to database) in
+    let was = times-ids id database in
+    elim (cases_lt from (length database.entries)) [
+      | inl below ↦ let sum = sum_by-moved (has_id id) database.entries from to below in omega arith
+      | inr past ↦ ap (λ (es : List (Entry ℕ)). times id (unique_ids (record database { entries = es }))) (none_moves database.entries from to past) ∙ none
+    ]
+
+pub move_free : (old new : Store) (db from to : ℕ) (known : KnownIds)
+    → new.databases ≡ with_changed (with_changed old.databases db (λ database. record database { entries = moved database.entries from to })) db (λ database. record database { header = raised_header database.header }) → StandFree old known → StandFree new known
+unfolding ids_found LacksStill with_move
+move_free old new db from to known is free = λ id among.
+    ap (λ (stored : List StoredDatabase). times id (ids_found stored known.db.0)) is
+    ∙ changed_lacks id db known.db.0 (λ database. record database { header = raised_header database.header }) (with_changed old.databases db (with_move from to)) (λ database none. none)
+    (changed_lacks id db known.db.0 (with_move from to) old.databases (move_lacks id from to) (free id among))
+
+-- ---- known IDs without one
+
+left_among : (old left : FreeIds) (one id : ℕ) → IsWithout old one left → IsAmong left id → IsAmong old id × (one ≢ id)
+left_among old left one id without among = elim (cases_among old one) [
+  | inl here ↦ (let both = (without.behind here id).0 among in (both.0, λ e. (let behind = both.1 in absurd (omega (arith, behind, e)))))
+  | inr apart ↦ (let was : IsAmong old id = subst (λ (free : FreeIds). IsAmong free id) (without.apart apart) among in (was, λ e. apart (subst (IsAmong old) (sym e) was)))
+] where
+  cases_among : (free : FreeIds) (id : ℕ) → IsAmong free id ⊎ (IsAmong free id → ⊥)
+  cases_among free id = elim (cases_lt id free.first) [
+    | inl below ↦ inr (λ among. (let from = among.0 in absurd (omega (arith, from, below))))
+    | inr from ↦ elim (cases_lt id free.end) [ inl within ↦ inl (omega (arith, from), within) | inr past ↦ inr (λ among. (let within = among.1 in absurd (omega (arith, past, within)))) ]
+  ]
+
+pub left_free : (store : Store) (known : KnownIds) (left : FreeIds) (one : ℕ) → IsWithout known.ids one left → StandFree store known → StandFree store (record { db = known.db; ids = left })
+left_free store known left one without free = λ id among. free id (left_among known.ids left one id without among).0
+
+pub left_gets : (known : KnownIds) (left : FreeIds) (attributes one : ℕ) → IsWithout known.ids one left → GetsNone (record { db = known.db; ids = left }) (with_info (infos.Record attributes one))
+left_gets known left attributes one without id among (a_record old_attributes other slot) has = absurd ((left_among known.ids left one id without among).1 cc)
+left_gets known left attributes one without id among (a_resource kind other slot) has = has
+
+pub resource_gets : (known : KnownIds) (kind one : ℕ) → GetsNone known (with_info (infos.Resource kind one))
+resource_gets known kind one id among (a_record attributes other slot) has = has
+resource_gets known kind one id among (a_resource old_kind other slot) has = absurd cc
 
 -- ---- a new entry
 

@@ -21,6 +21,10 @@ StandFree store known = AreFree (ids_in store known.db) known.ids
 abbrev pub StandFreeBeside : Store → Entry ℕ → KnownIds → Type 0
 StandFreeBeside store entry known = (id : ℕ) → IsAmong known.ids id → (times id (ids_in store known.db) ≡ 0) × (HasId id entry → ⊥)
 
+-- an entry has none of the IDs behind a change that it hadn't before
+abbrev pub GetsNone : KnownIds → (Entry ℕ → Entry ℕ) → Type 0
+GetsNone known change = (id : ℕ) → IsAmong known.ids id → (entry : Entry ℕ) → HasId id (change entry) → HasId id entry
+
 -- the image is accepted, and what is known of its IDs holds
 pub record IsStore (image : List ℕ) (known : KnownIds) : Type 0 where
   pub accepted : Accepted image

@@ -34,8 +34,8 @@ use thiserror::Error;
 #[derive(Drop)]
 pub struct Store {
     heap: Heap,
-    /// The IDs that a pass over the entries of a database has shown to be free. A call that may give a
-    /// record another ID forgets them.
+    /// The IDs that a pass over the entries of a database has shown to be free. A call that gives a record an
+    /// ID leaves those behind it, and one that changes the directory, or all records, forgets them.
     known: KnownIds,
 }
 

@@ -3,8 +3,10 @@
 ghost use Rattle.std.specs.Prelude.{◌≡◌};
 ghost use Rattle.heap_model.specs.Store as stores;
 ghost use Rattle.fresh_ids.specs.FreeIds.{AreFree};
-ghost use Rattle.palm_store.specs.KnownIds.{ids_in, StandFree};
+ghost use Rattle.palm_store.specs.EntryInfos.{with_info};
+ghost use Rattle.palm_store.specs.KnownIds.{ids_in, StandFree, GetsNone};
 
+use crate::entries::infos::EntryInfo;
 use fresh_ids::{FreeIds, NO_IDS};
 use heap_model::Db;
 
@@ -16,7 +18,7 @@ pub(crate) struct KnownIds {
     pub(crate) ids: FreeIds,
 }
 
-/// What is known after a change that may give any record any ID.
+/// What is known of an image that is new, or whose databases may be others than before.
 pub(crate) const NOTHING_KNOWN: KnownIds = KnownIds {
     db: Db(0),
     ids: NO_IDS,
@@ -29,5 +31,18 @@ impl KnownIds {
         ensures all { self.db ≡ db → result ≡ self.ids }
     {
         if self.db.0 == db.0 { self.ids } else { NO_IDS }
+    }
+    /// Those of them that are free still when an entry, of whatever database, says this.
+    pub(crate) fn without(self, info: EntryInfo) -> KnownIds
+        ensures free { (store : stores.Store) → StandFree store self → StandFree store result }
+        ensures none { GetsNone result (with_info info) }
+    {
+        match info {
+            EntryInfo::Record { id, .. } => KnownIds {
+                db: self.db,
+                ids: self.ids.without(id),
+            },
+            EntryInfo::Resource { .. } => self,
+        }
     }
 }

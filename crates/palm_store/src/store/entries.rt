@@ -16,8 +16,8 @@ ghost use Rattle.palm_store.specs.EntryCalls.{entries_of_image, resources_of_ima
 
 use crate::chunks::{check_taken, free_chunk_of};
 use crate::entries::{
-    EntryInfo, FoundEntry, NOTHING_KNOWN, NewEntry, count_entries, emptied, entry_at, entry_with,
-    new_entry, put_in, read_entry, take_in, with_slot,
+    EntryInfo, FoundEntry, NewEntry, count_entries, emptied, entry_at, entry_with, new_entry,
+    put_in, read_entry, take_in, with_slot,
 };
 use crate::lookup::{find_header, header_of};
 use crate::store::Store;
@@ -179,7 +179,7 @@ impl Store {
     {
         let entry = entry_with(read_entry(&self.heap, db, index), info);
         write_entry(&mut self.heap, db, index as u16, entry, counts);
-        self.known = NOTHING_KNOWN;
+        self.known = self.known.without(info);
     }
 
     /// Gives an entry a movable chunk of a caller's for its data, and sets what it says. The chunk becomes one for
@@ -202,7 +202,7 @@ impl Store {
         write_entry(&mut self.heap, db, index as u16, entry, true);
         self.heap.sys_set_owner(Name(was.slot()), owner);
         self.heap.sys_set_owner(name, DATA_OWNER);
-        self.known = NOTHING_KNOWN;
+        self.known = self.known.without(info);
     }
 
     /// Moves the entry at an index in front of the one that stands at another, or behind the last: `to` counts
@@ -217,7 +217,6 @@ impl Store {
         ensures rest { self.new ≡ record self.old { bytes = self.new.bytes; slid = self.new.slid } }
     {
         move_entry(&mut self.heap, db, from as u16, to as u16);
-        self.known = NOTHING_KNOWN;
     }
 
     /// Frees the data of a record, if it has any. The record is deleted then, and keeps its ID and its other
@@ -235,7 +234,6 @@ impl Store {
         let entry = read_entry(&self.heap, db, index);
         write_entry(&mut self.heap, db, index as u16, emptied(entry), counts);
         free_chunk_of(&mut self.heap, Name(entry.slot()));
-        self.known = NOTHING_KNOWN;
     }
 
     /// Drops an entry: its data, if it has any, is freed, or handed over to an owner. The database counts the

@@ -1,9 +1,9 @@
-use Rattle.std.proofs.Common.{arith, ◌∙◌, subst, ℕ, List, false, length, ◌≡◌, ◌<◌}
+use Rattle.std.proofs.Common.{arith, refl, ◌∙◌, subst, ℕ, List, false, length, ◌≡◌, ◌<◌}
 use Rattle.heap_model.specs.Database.{Entry}
 use Rattle.heap_model.specs.Maps.{gone}
 use Rattle.heap_model.specs.Leaving.{Leaves}
 use Rattle.heap_model.specs.Reading.{held}
-use Rattle.heap_model.specs.EntrySteps.{without_data, resources_under, entries_in}
+use Rattle.heap_model.specs.EntrySteps.{without_data, data_freed, resources_under, entries_in}
 use Rattle.db_format.specs.EitherEntry.{entry_of}
 use Rattle.laws_store.proofs.Numbered.{accepted_spells}
 use Rattle.palm_store.proofs.EntriesHere.{count_fits, fits_here, index_below}
@@ -11,7 +11,7 @@ use Rattle.palm_store.proofs.EntryChanges.{free_steps, slot_there, slot_no_direc
 use Rattle.palm_store.proofs.EntryInfos.{emptied_names, emptied_id, emptied_data}
 use Rattle.heap_model.specs.Store.{store_of}
 use Rattle.palm_store.specs.Databases.{HasNumber}
-use Rattle.palm_store.proofs.KnownIds.{nothing_known}
+use Rattle.palm_store.proofs.KnownIds.{change_free, emptied_gets}
 use Rattle.palm_store.proofs.store.Store.entry_free_data.Goals as goal
 
 pub overflow_cast-index : goal.overflow_cast-index
@@ -58,7 +58,10 @@ invariant_of-self c =
     (subst (λ (slot : ℕ). Leaves mid c.free_chunk_of.new.heap.bytes (gone (held mid) slot)) c.slot.ensures c.free_chunk_of.ensures.leaves)
     (fits_here (without_data entry) _ _ _ (c.emptied.ensures.kind ∙ c.read_entry-entry.ensures.kind) c.emptied.ensures.is c.emptied.ensures.fits)
     (emptied_names image c.args.db c.args.index entry c.self.invariant.accepted number c.read_entry-entry.ensures.is records) (emptied_id entry) (emptied_data entry)).0 in
-    nothing_known _ left.accepted
+    record {
+      accepted = left.accepted;
+      free = change_free c.args.counts (store_of image) (data_freed (store_of image) c.args.db c.args.index) (store_of c.free_chunk_of.new.heap.bytes) c.args.db c.args.index without_data c.self.inside.known refl left.same.databases (emptied_gets c.self.inside.known) c.self.invariant.free;
+    }
 
 pub returns-clause-freed : goal.returns-clause-freed
 returns-clause-freed c =

@@ -5,7 +5,7 @@ use Rattle.palm_store.proofs.EntryChanges.{move_steps, respelled_none}
 use Rattle.heap_model.specs.Store.{store_of}
 use Rattle.heap_model.specs.EntrySteps.{entries_in}
 use Rattle.palm_store.specs.Databases.{HasNumber}
-use Rattle.palm_store.proofs.KnownIds.{nothing_known}
+use Rattle.palm_store.proofs.KnownIds.{move_free}
 use Rattle.palm_store.proofs.store.Store.entry_move.Goals as goal
 
 pub overflow_cast-from : goal.overflow_cast-from
@@ -48,7 +48,7 @@ invariant_of-self c =
     let to_inside : c.args.to ≤ length (entries_in (store_of c.self.inside.heap.bytes) c.args.db) = rw c.self.view_is c.requires.to_inside in
     let left = move_steps c.self.inside.heap.bytes c.move_entry.new.heap.bytes c.args.db c.args.from c.args.to c.self.invariant.accepted number (index_below c.self.inside.heap.bytes c.args.db c.args.from number from_inside) (index_most c.self.inside.heap.bytes c.args.db c.args.to number to_inside)
     c.move_entry.ensures.moved in
-    nothing_known _ left.accepted
+    record { accepted = left.accepted; free = move_free (store_of c.self.inside.heap.bytes) (store_of c.move_entry.new.heap.bytes) c.args.db.0 c.args.from c.args.to c.self.inside.known left.same.databases c.self.invariant.free }
 
 pub returns-clause-moved : goal.returns-clause-moved
 returns-clause-moved c =

@@ -1,4 +1,4 @@
-use Rattle.std.proofs.Common.{arith, ◌∙◌, ℕ, List, length, ◌<◌}
+use Rattle.std.proofs.Common.{arith, refl, ◌∙◌, ℕ, List, length, ◌<◌}
 use Rattle.heap_model.specs.Database.{Entry}
 use Rattle.db_format.specs.EitherEntry.{entry_of}
 use Rattle.laws_store.proofs.Numbered.{accepted_spells}
@@ -7,9 +7,9 @@ use Rattle.palm_store.proofs.EntriesHere.{count_fits, fits_here, index_below}
 use Rattle.palm_store.proofs.EntryChanges.{set_steps, respelled_none}
 use Rattle.palm_store.proofs.EntryInfos.{fitting_info, informed_names, informed_own, informed_data}
 use Rattle.heap_model.specs.Store.{store_of}
-use Rattle.heap_model.specs.EntrySteps.{resources_under, entries_in}
+use Rattle.heap_model.specs.EntrySteps.{resources_under, entries_in, entry_changed}
 use Rattle.palm_store.specs.Databases.{HasNumber}
-use Rattle.palm_store.proofs.KnownIds.{nothing_known}
+use Rattle.palm_store.proofs.KnownIds.{change_free}
 use Rattle.palm_store.proofs.store.Store.entry_set.Goals as goal
 
 pub overflow_cast-index : goal.overflow_cast-index
@@ -51,7 +51,10 @@ invariant_of-self c =
     (informed_names image c.args.db c.args.index c.args.info entry c.self.invariant.accepted number c.read_entry.ensures.is can)
     (informed_own image c.args.db c.args.index c.args.info entry c.self.invariant.accepted number c.read_entry.ensures.is can)
     (informed_data c.args.info entry) in
-    nothing_known _ left.accepted
+    record {
+      accepted = left.accepted;
+      free = change_free c.args.counts (store_of image) (entry_changed (store_of image) c.args.db c.args.index (with_info c.args.info)) (store_of c.write_entry.new.heap.bytes) c.args.db c.args.index (with_info c.args.info) c.without-self-inside.result refl left.same.databases c.without-self-inside.ensures.none (c.without-self-inside.ensures.free (store_of image) c.self.invariant.free);
+    }
 
 pub returns-clause-set : goal.returns-clause-set
 returns-clause-set c =

@@ -1,5 +1,5 @@
 -- The entry has the name that was given first; then the two chunks change their owners.
-use Rattle.std.proofs.Common.{◌<◌, ◌∙◌, arith, ap, ℕ, length}
+use Rattle.std.proofs.Common.{◌<◌, ◌∙◌, arith, ap, refl, true, ℕ, length}
 use Rattle.heap_model.specs.Database.{entry_with}
 use Rattle.heap_model.specs.Store.{store_of}
 use Rattle.heap_model.specs.EntrySteps.{data_under, entries_in, resources_under}
@@ -7,12 +7,12 @@ use Rattle.db_format.specs.EitherEntry.{entry_of}
 use Rattle.laws_store.proofs.Numbered.{accepted_spells}
 use Rattle.palm_store.specs.Databases.{HasNumber}
 use Rattle.palm_store.specs.EntryInfos.{with_info, CanHave}
-use Rattle.palm_store.specs.EntryCalls.{MayBeGiven}
+use Rattle.palm_store.specs.EntryCalls.{MayBeGiven, entry_given}
 use Rattle.palm_store.proofs.EntriesHere.{count_fits, fits_here, index_below}
 use Rattle.palm_store.proofs.EntryChanges.{slot_movable, slot_no_directory, slot_owner, slot_some}
 use Rattle.palm_store.proofs.EntryInfos.{fitting_info, informed_own}
 use Rattle.palm_store.proofs.GivenData.{given, given_kept_then, given_movable, given_no_directory, swap_steps}
-use Rattle.palm_store.proofs.KnownIds.{nothing_known}
+use Rattle.palm_store.proofs.KnownIds.{change_free, named_gets}
 use Rattle.palm_store.proofs.store.Store.entry_swap.Goals as goal
 
 pub overflow_cast-index : goal.overflow_cast-index
@@ -85,7 +85,10 @@ invariant_of-self c =
     c.write_entry.ensures.written c.sys_set_owner.ensures.leaves c.sys_set_owner-2.ensures.leaves
     (fits_here (entry_with (λ (old : ℕ). c.args.name.0) (with_info c.args.info (entry_of c.read_entry-was.result))) _ _ _ (c.with_slot-entry.ensures.kind ∙ c.entry_with.ensures.kind ∙ c.read_entry-was.ensures.kind) (c.with_slot-entry.ensures.is ∙ ap (entry_with (λ (old : ℕ). c.args.name.0)) c.entry_with.ensures.is) (c.with_slot-entry.ensures.fits c.entry_with.ensures.fits))
     (informed_own c.self.inside.heap.bytes c.args.db c.args.index c.args.info (entry_of c.read_entry-was.result) c.self.invariant.accepted number c.read_entry-was.ensures.is can)).0 in
-    nothing_known _ left.accepted
+    record {
+      accepted = left.accepted;
+      free = change_free true (store_of c.self.inside.heap.bytes) (entry_given (store_of c.self.inside.heap.bytes) c.args.db c.args.index c.args.info c.args.name.0 c.args.owner) (store_of c.sys_set_owner-2.new.self.bytes) c.args.db c.args.index (λ entry. entry_with (λ (slot : ℕ). c.args.name.0) (with_info c.args.info entry)) c.without-self-inside.result refl left.same.databases (named_gets c.without-self-inside.result c.args.name.0 (with_info c.args.info) c.without-self-inside.ensures.none) (c.without-self-inside.ensures.free (store_of c.self.inside.heap.bytes) c.self.invariant.free);
+    }
 
 pub returns-clause-swapped : goal.returns-clause-swapped
 returns-clause-swapped c =
