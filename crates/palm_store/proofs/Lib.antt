@@ -4,6 +4,10 @@ pub mod Lookups
 pub mod Maps
 pub mod ListedSlots
 pub mod Creation
+pub mod WholeRooms
+pub mod GainedChunks
+pub mod WholeListing
+pub mod WholeWriting
 pub mod HeaderInfos
 pub mod NamedChunks
 pub mod UnlistedSlots

@@ -3,6 +3,7 @@ pub mod Directory
 pub mod HeaderInfos
 pub mod EntryInfos
 pub mod NewEntries
+pub mod WholeDatabases
 pub mod EntryCalls
 pub mod InfoBlocks
 pub mod Replies

@@ -12,6 +12,7 @@ mod entries;
 mod lookup;
 mod store;
 
+pub use databases::{BlockSizes, WholeEntry};
 pub use entries::{EntryInfo, FoundEntry, NewEntry};
 pub use mem_manager::{FIXED_LOCK, Locked, check_owner};
 pub use store::{NotAStore, Store};

@@ -1,6 +1,7 @@
 //! The store. Its calls stand in the modules below: those of the memory manager, that ask, that change a
-//! chunk where it stands, and that make, free and move chunks; those on databases and on their info blocks; and those
-//! on entries, for the crates of records and resources.
+//! chunk where it stands, and that make, free and move chunks; those on databases and on their info blocks; those
+//! on entries, for the crates of records and resources; and the one that makes a whole database, for the crate
+//! of files.
 
 ghost use Rattle.std.specs.Prelude.{◌≡◌, ◌⊎◌, is_ok, IfOk, IfErr, OnOk};
 ghost use Rattle.heap_model.specs.Store.{Accepted};
@@ -14,6 +15,7 @@ mod changing;
 mod databases;
 mod entries;
 mod making;
+mod whole;
 
 use crate::entries::{KnownIds, NOTHING_KNOWN};
 use crate::lookup::count_databases;

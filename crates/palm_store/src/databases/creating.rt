@@ -67,7 +67,7 @@ fn extend_directory(heap: &mut Heap, slot: Name) -> Result<(), Refusal>
 }
 
 /// Lists a slot last. Refused `NotEnoughSpace` alone, and then nothing has changed.
-fn list_last(heap: &mut Heap, slot: Name) -> Result<(), Refusal>
+pub(crate) fn list_last(heap: &mut Heap, slot: Name) -> Result<(), Refusal>
     requires heap { HeapAccepted heap.old.bytes }
     requires few { length (directory_bytes heap.old.bytes) ≤ 4096 }
     ensures lists { OnOk result (ListsLast heap.old.bytes heap.new.bytes slot.0) }

@@ -1,0 +1,22 @@
+-- The header's chunk is made, then the data, and then the slot is listed; or all of it is freed again.
+use Rattle.std.proofs.Common.{sym, subst, ◌≤◌, ◌∙◌, List, length, ℕ}
+use Rattle.palm_store.specs.WholeDatabases.{data_sizes, numbers_in}
+use Rattle.palm_store.proofs.ListedSlots.{few_bytes, made_directory, fresh_apart}
+use Rattle.palm_store.proofs.WholeListing.{no_rest_room, listed_whole}
+use Rattle.palm_store.proofs.databases.completing.list_whole.Goals as goal
+
+pub make_data_and_list-requires-clause-few : goal.make_data_and_list-requires-clause-few
+make_data_and_list-requires-clause-few c =
+    subst (λ (bytes : List ℕ). length bytes ≤ 4096) (sym (made_directory c.args.heap.now.bytes c.sys_new.new.self.bytes c.in_ok-slot.slot.0 c.args.size c.requires.accepted.heap c.in_ok-slot.ensures.made)) (few_bytes c.args.heap.now.bytes c.requires.accepted)
+
+pub sys_free-requires-clause-no_directory : goal.sys_free-requires-clause-no_directory
+sys_free-requires-clause-no_directory c e =
+    fresh_apart c.args.heap.now.bytes c.sys_new.new.self.bytes c.in_ok-slot.slot.0 c.args.size c.requires.accepted.heap c.in_ok-slot.ensures.made (e ∙ c.in-Err.ensures.refused.frame.directory)
+
+pub returns-in-Err-clause-no_room : goal.returns-in-Err-clause-no_room
+returns-in-Err-clause-no_room c =
+    no_rest_room c.args.heap.now.bytes c.sys_new.new.self.bytes c.in_ok-slot.slot.0 c.args.size (data_sizes c.args.blocks c.args.entries.now) c.requires.accepted.heap c.in_ok-slot.ensures.made c.in_ok-slot.ensures.lowers c.in-Err.ensures.no_room
+
+pub returns-clause-lists : goal.returns-clause-lists
+returns-clause-lists c =
+    listed_whole c.args.heap.now.bytes c.sys_new.new.self.bytes c.make_data_and_list.new.heap.bytes c.in_ok-slot.slot.0 c.args.size (data_sizes c.args.blocks c.args.entries.now) (numbers_in c.make_data_and_list.new.names) c.requires.accepted.heap c.in_ok-slot.ensures.made c.in_default.ensures.lists

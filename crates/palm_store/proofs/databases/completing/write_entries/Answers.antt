@@ -1,0 +1,50 @@
+-- Each entry is written behind those before it.
+use Rattle.std.proofs.Common.{refl, sym, ◌∙◌, ◌+◌, ◌≡◌, ◌<◌, ℕ, length, arith}
+use Rattle.std.proofs.lemmas.List.{get_or-map, length-map}
+use Rattle.heap_model.specs.declared.names.Name.{Name}
+use Rattle.db_format.specs.EitherEntry.{entry_of}
+use Rattle.laws_store.proofs.Doing.{kept_then}
+use Rattle.palm_store.specs.WholeDatabases.{numbers_in}
+use Rattle.palm_store.proofs.WholeWriting.{body_now, writes_none, IsEntryAt, entry_at, writes_inside, writes_more, writes_all, writes_fits}
+use Rattle.palm_store.proofs.databases.completing.write_entries.Goals as goal
+
+pub loop-index-init : goal.loop-index-init
+loop-index-init c = record { writes = writes_none c.args.heap.now.bytes c.args.slot.0 c.args.resources c.args.entries.now (numbers_in c.args.names.now) c.requires.heap c.requires.owner; rest = refl }
+
+pub sys_write-requires-clause-there : goal.sys_write-requires-clause-there
+sys_write-requires-clause-there c = (body_now c.args.heap.now.bytes c.loop-index.heap.bytes c.args.slot.0 _ c.requires.owner c.loop-index.invariant.writes.leaves).there
+
+pub sys_write-requires-clause-within : goal.sys_write-requires-clause-within
+sys_write-requires-clause-within c =
+    let below = c.loop-index-test.true in
+    let long = c.requires.names in
+    let many = length-map c.args.names.now (λ (one : Name). one.0) in
+    let at = entry_at c.args.resources c.args.entries.now (numbers_in c.args.names.now) c.loop-index.index _ (entry_of c.named_entry-entry.result) _ below (many ∙ long)
+    (sym (get_or-map (λ (one : Name). one.0) c.args.names.now (c.loop-index.index + 2) (record { 0 = 0 }) 0 (omega (arith, below, long)))) c.named_entry-entry.ensures.is c.named_entry-entry.ensures.fits in
+    writes_inside c.args.heap.now.bytes c.loop-index.heap.bytes c.args.slot.0 c.args.resources c.args.entries.now (numbers_in c.args.names.now) c.loop-index.index (entry_of c.named_entry-entry.result) c.entry_offset-at.result c.as_slice.result.now
+    c.requires.owner c.requires.body c.loop-index.invariant.writes at c.entry_offset-at.ensures (c.as_slice.ensures ∙ c.to_bytes.ensures.is)
+
+pub loop-index-preserved : goal.loop-index-preserved
+loop-index-preserved c =
+    let below = c.loop-index-test.true in
+    let long = c.requires.names in
+    let many = length-map c.args.names.now (λ (one : Name). one.0) in
+    let at = entry_at c.args.resources c.args.entries.now (numbers_in c.args.names.now) c.loop-index.index _ (entry_of c.named_entry-entry.result) _ below (many ∙ long)
+    (sym (get_or-map (λ (one : Name). one.0) c.args.names.now (c.loop-index.index + 2) (record { 0 = 0 }) 0 (omega (arith, below, long)))) c.named_entry-entry.ensures.is c.named_entry-entry.ensures.fits in
+    record {
+      writes = writes_more c.args.heap.now.bytes c.loop-index.heap.bytes c.sys_write.new.self.bytes c.args.slot.0 c.args.resources c.args.entries.now (numbers_in c.args.names.now) c.loop-index.index (entry_of c.named_entry-entry.result) c.entry_offset-at.result c.as_slice.result.now
+          c.requires.heap c.requires.owner c.requires.body c.loop-index.invariant.writes at c.entry_offset-at.ensures (c.as_slice.ensures ∙ c.to_bytes.ensures.is) c.sys_write.ensures.leaves;
+      rest = kept_then c.args.heap.now c.loop-index.heap c.sys_write.new.self c.loop-index.invariant.rest c.sys_write.ensures.rest;
+    }
+
+pub returns-clause-written : goal.returns-clause-written
+returns-clause-written c =
+    let most = c.loop-index.auto.index-end in
+    let least = c.loop-index-test.false in
+    writes_all c.args.heap.now.bytes c.loop-index.heap.bytes c.args.slot.0 c.args.resources c.args.entries.now (numbers_in c.args.names.now) c.loop-index.index c.requires.body c.loop-index.invariant.writes (omega (arith, most, least))
+
+pub returns-clause-fits : goal.returns-clause-fits
+returns-clause-fits c =
+    let most = c.loop-index.auto.index-end in
+    let least = c.loop-index-test.false in
+    writes_fits c.args.heap.now.bytes c.loop-index.heap.bytes c.args.slot.0 c.args.resources c.args.entries.now (numbers_in c.args.names.now) c.loop-index.index c.loop-index.invariant.writes (omega (arith, most, least))

@@ -1,0 +1,24 @@
+-- The next name is that of a chunk that is still there, since no name stands in the list twice.
+use Rattle.std.proofs.Common.{refl}
+use Rattle.laws_store.proofs.Doing.{kept_then}
+use Rattle.palm_store.specs.WholeDatabases.{numbers_in}
+use Rattle.palm_store.proofs.GainedChunks.{number_at, own_there, own_beside, freed_upto}
+use Rattle.palm_store.proofs.databases.gaining.free_named.Goals as goal
+
+pub free_chunk_of-requires-clause-there : goal.free_chunk_of-requires-clause-there
+free_chunk_of-requires-clause-there c some =
+    let at = number_at c.args.names.now c.loop-index.index _ c.loop-index-test.true refl in
+    own_there c.args.heap.now.bytes c.loop-index.heap.bytes (numbers_in c.args.names.now) c.loop-index.index _ c.requires.own c.loop-index.invariant.leaves at some
+
+pub free_chunk_of-requires-clause-no_directory : goal.free_chunk_of-requires-clause-no_directory
+free_chunk_of-requires-clause-no_directory c some directory =
+    let at = number_at c.args.names.now c.loop-index.index _ c.loop-index-test.true refl in
+    own_beside c.args.heap.now.bytes c.loop-index.heap.bytes (numbers_in c.args.names.now) c.loop-index.index _ c.requires.own c.loop-index.invariant.leaves at some directory
+
+pub loop-index-preserved : goal.loop-index-preserved
+loop-index-preserved c =
+    let at = number_at c.args.names.now c.loop-index.index _ c.loop-index-test.true refl in
+    record {
+      leaves = freed_upto c.args.heap.now.bytes c.loop-index.heap.bytes c.free_chunk_of.new.heap.bytes (numbers_in c.args.names.now) c.loop-index.index _ c.loop-index.invariant.leaves c.free_chunk_of.ensures.leaves at;
+      rest = kept_then c.args.heap.now c.loop-index.heap c.free_chunk_of.new.heap c.loop-index.invariant.rest c.free_chunk_of.ensures.rest;
+    }

@@ -1,0 +1,76 @@
+//! Chunks of zeros for the data of a new database, made one after the other.
+
+ghost use Rattle.std.specs.Prelude.{◌≡◌, ◌+◌, [], ◌∷◌, length, IfOk, IfErr, OnOk, OnErr};
+ghost use Rattle.heap_model.specs.Heap.{HeapAccepted};
+ghost use Rattle.heap_model.specs.Reading.{held};
+ghost use Rattle.heap_model.specs.Leaving.{Leaves};
+ghost use Rattle.heap_model.specs.StoreWords.{all_gone};
+ghost use Rattle.palm_store.specs.WholeDatabases.{data_sizes, numbers_in, makings, RunsOut, MakesAll, AreOwnChunks};
+
+use crate::chunks::free_chunk_of;
+use crate::databases::whole::{BlockSizes, WholeEntry, size_at};
+use heap_model::{Name, Refusal};
+use mem_manager::{DATA_OWNER, Heap};
+
+/// Makes a chunk of so many zeros for data; where no size is given, none is made and `Name(0)` answered.
+/// Refused `NotEnoughSpace` alone, and then nothing has changed.
+fn make_sized(heap: &mut Heap, size: Option<u32>) -> Result<Name, Refusal>
+    requires heap { HeapAccepted heap.old.bytes }
+    ensures made { IfOk result (λ name.
+        MakesAll heap.old.bytes heap.new.bytes (size ∷ []) (name.0 ∷ [])) }
+    ensures no_room { OnErr result
+        (RunsOut heap.old.bytes (length (makings (size ∷ []))) (makings (size ∷ []))) }
+    ensures refusal { IfErr result (λ refusal. refusal ≡ Refusal.NotEnoughSpace) }
+    ensures refused { OnErr result (heap.new ≡ heap.old) }
+    ensures rest { heap.new ≡ record heap.old { bytes = heap.new.bytes; slid = heap.new.slid } }
+{
+    match size {
+        Some(size) => heap.sys_new(size, DATA_OWNER),
+        None => Ok(Name(0)),
+    }
+}
+
+/// Frees the chunks under these names, where one isn't `Name(0)`.
+pub(crate) fn free_named(heap: &mut Heap, names: &[Name])
+    requires heap { HeapAccepted heap.old.bytes }
+    requires own { AreOwnChunks heap.old.bytes (numbers_in names.now) }
+    ensures leaves { Leaves heap.old.bytes heap.new.bytes
+        (all_gone (held heap.old.bytes) (numbers_in names.now)) }
+    ensures rest { heap.new ≡ record heap.old { bytes = heap.new.bytes } }
+{
+    for index in 0..names.len() {
+        free_chunk_of(heap, names[index]);
+    }
+}
+
+/// Makes a chunk of zeros for each info block and the data of each entry, and puts down their names in that
+/// order. Refused `NotEnoughSpace` alone, and then the heap holds what it held.
+pub(crate) fn make_data(
+    heap: &mut Heap,
+    blocks: BlockSizes,
+    entries: &[WholeEntry],
+    names: &mut [Name],
+) -> Result<(), Refusal>
+    requires heap { HeapAccepted heap.old.bytes }
+    requires names { length names.old ≡ 2 + length entries.now }
+    ensures made { OnOk result (MakesAll heap.old.bytes heap.new.bytes
+        (data_sizes blocks entries.now) (numbers_in names.new)) }
+    ensures names { length names.new ≡ length names.old }
+    ensures no_room { OnErr result (RunsOut heap.old.bytes
+        (length (makings (data_sizes blocks entries.now)))
+        (makings (data_sizes blocks entries.now))) }
+    ensures refusal { IfErr result (λ refusal. refusal ≡ Refusal.NotEnoughSpace) }
+    ensures refused { OnErr result (Leaves heap.old.bytes heap.new.bytes (held heap.old.bytes)) }
+    ensures rest { heap.new ≡ record heap.old { bytes = heap.new.bytes; slid = heap.new.slid } }
+{
+    for index in 0..names.len() {
+        match make_sized(heap, size_at(blocks, entries, index)) {
+            Ok(name) => names[index] = name,
+            Err(refusal) => {
+                free_named(heap, &names[..index]);
+                return Err(refusal);
+            }
+        }
+    }
+    Ok(())
+}

@@ -1,0 +1,105 @@
+//! What a caller asks for who has a whole database made.
+
+ghost use Rattle.std.specs.Prelude.{◌≡◌, ◌+◌, ◌<◌, None, length, slice_index_or};
+ghost use Rattle.heap_model.specs.Database.{EntryFits};
+ghost use Rattle.db_format.specs.EitherEntry.{entry_of, is_resource, HasFittingId};
+ghost use Rattle.db_format.specs.Headers.{header_of};
+ghost use Rattle.palm_store.specs.WholeDatabases.{size_of_data, data_sizes, CanCome, header_asked, entry_named};
+
+use bitflags::Flags;
+use db_format::{DbEntry, DbHeader, NameField, RecordAttrs, RecordEntry, ResourceEntry};
+use heap_model::{DbInfo, Name};
+
+/// What a caller says of an entry of a new database, with the size of its data.
+#[derive(Clone, Copy, Debug, PartialEq, Eq)]
+pub enum WholeEntry {
+    /// The unique ID is 1 to 0xFFFFFF. A record without data is a deleted one.
+    Record {
+        attributes: u8,
+        id: u32,
+        size: Option<u32>,
+    },
+    /// The type is its four bytes as a number.
+    Resource { kind: u32, id: u16, size: u32 },
+}
+
+/// How many bytes the info blocks of a new database have, of those that are to be there.
+#[derive(Clone, Copy, Debug, PartialEq, Eq)]
+pub struct BlockSizes {
+    pub app_info: Option<u32>,
+    pub sort_info: Option<u32>,
+}
+
+/// How many bytes the data of an entry is to have, if there is to be any.
+fn size_of(entry: WholeEntry) -> Option<u32>
+    ensures { result ≡ size_of_data entry }
+{
+    match entry {
+        WholeEntry::Record { size, .. } => size,
+        WholeEntry::Resource { size, .. } => Some(size),
+    }
+}
+
+/// The size at an index among those that a database is to have data for: the AppInfo block, the SortInfo
+/// block, and then the entries.
+pub(crate) fn size_at(blocks: BlockSizes, entries: &[WholeEntry], index: usize) -> Option<u32>
+    requires inside { index < 2 + length entries.now }
+    ensures { result ≡ slice_index_or (data_sizes blocks entries.now) index None }
+{
+    match index {
+        0 => blocks.app_info,
+        1 => blocks.sort_info,
+        _ => size_of(entries[index - 2]),
+    }
+}
+
+/// The entry that is asked for, with its data under a name.
+pub(crate) fn named_entry(entry: WholeEntry, name: Name, resources: bool) -> DbEntry
+    requires { CanCome resources entry }
+    ensures is { entry_of result ≡ entry_named entry name.0 }
+    ensures id { HasFittingId result }
+    ensures fits { EntryFits resources (entry_of result) }
+{
+    match entry {
+        WholeEntry::Record { attributes, id, .. } => DbEntry::Record(RecordEntry {
+            attributes: RecordAttrs::from_bits_retain(attributes),
+            id,
+            slot: name.0,
+        }),
+        WholeEntry::Resource { kind, id, .. } => DbEntry::Resource(ResourceEntry {
+            kind,
+            id,
+            slot: name.0,
+        }),
+    }
+}
+
+/// The header that is asked for, with its info blocks under these names.
+pub(crate) fn named_header(
+    info: &DbInfo,
+    name: NameField,
+    app_info: Name,
+    sort_info: Name,
+) -> DbHeader
+    requires { name ≡ info.now.name }
+    ensures values { header_of result ≡ header_asked info.now }
+    ensures app_info { result.app_info ≡ app_info.0 }
+    ensures sort_info { result.sort_info ≡ sort_info.0 }
+    ensures entry_count { result.entry_count ≡ info.now.entry_count }
+{
+    DbHeader {
+        name,
+        attributes: info.attributes,
+        version: info.version,
+        creation_date: info.creation_date,
+        modification_date: info.modification_date,
+        backup_date: info.backup_date,
+        modification_number: info.modification_number,
+        app_info: app_info.0,
+        sort_info: sort_info.0,
+        kind: info.kind,
+        creator: info.creator,
+        seed: info.seed,
+        entry_count: info.entry_count,
+    }
+}

@@ -1,0 +1,58 @@
+//! The call that makes a whole database, for a crate that reads one from a file.
+
+ghost use Rattle.std.specs.Prelude.{◌≡◌, ◌+◌, length, IfOk, IfErr, OnOk, OnErr};
+ghost use Rattle.heap_model.specs.Refusals.{NoneHolds, FirstBrings};
+ghost use Rattle.heap_model.specs.StoreSteps.{StoreAsBefore};
+ghost use Rattle.palm_store.specs.EntryCalls.{LeavesChanged};
+ghost use Rattle.palm_store.specs.WholeDatabases.{numbers_in, CanBeWhole, MakesWhole, checks_of_whole};
+
+use crate::databases::{BlockSizes, WholeEntry, list_whole, write_whole};
+use crate::entries::NOTHING_KNOWN;
+use crate::lookup::{count_databases, has_other_name};
+use crate::store::Store;
+use db_format::{DbAttrs, MOST_DATABASES, entry_offset};
+use heap_model::{Db, DbInfo, Name, Refusal};
+
+impl Store {
+    /// Makes a database with this header and these entries, which comes behind the others: all of it or
+    /// nothing. Its info blocks and the data of its entries are zeros, and their names are put down in `names`,
+    /// in that order; `Name(0)` stands where there is none.
+    ///
+    /// Refused: `AlreadyExists`, where another database has the name; `TooManyEntries`, where there are 1,024
+    /// databases; `NotEnoughSpace`, where slots or room can run out for its header, its info blocks and data,
+    /// and the directory, one after the other. Then nothing is left of it, and what stands in `names` means
+    /// nothing.
+    pub fn create_whole(
+        &mut self,
+        info: &DbInfo,
+        blocks: BlockSizes,
+        entries: &[WholeEntry],
+        names: &mut [Name],
+    ) -> Result<Db, Refusal>
+        requires whole { CanBeWhole info.now entries.now }
+        requires names { length names.old ≡ 2 + length entries.now }
+        ensures made { IfOk result (λ db. MakesWhole self.old.bytes self.new.bytes db.0
+            info.now blocks entries.now (numbers_in names.new)) }
+        ensures names { length names.new ≡ length names.old }
+        ensures could { OnOk result (NoneHolds
+            (checks_of_whole self.old.bytes info.now blocks entries.now)) }
+        ensures why { IfErr result (FirstBrings
+            (checks_of_whole self.old.bytes info.now blocks entries.now)) }
+        ensures refused { OnErr result (LeavesChanged self.old self.new (λ store. store)) }
+        ensures as_before { OnErr result (StoreAsBefore self.old self.new) }
+        ensures rest { self.new ≡ record self.old { bytes = self.new.bytes; slid = self.new.slid } }
+    {
+        if has_other_name(&self.heap, Db(0), info.name.as_slice()) {
+            return Err(Refusal::AlreadyExists);
+        }
+        if count_databases(&self.heap) >= MOST_DATABASES {
+            return Err(Refusal::TooManyEntries);
+        }
+        self.known = NOTHING_KNOWN;
+        let resources = DbAttrs(info.attributes).has_resources();
+        let size = entry_offset(resources, info.entry_count) as u32;
+        let slot = list_whole(&mut self.heap, size, blocks, entries, names)?;
+        write_whole(&mut self.heap, slot, info, entries, names);
+        Ok(Db(slot.0))
+    }
+}
