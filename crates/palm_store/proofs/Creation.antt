@@ -77,7 +77,7 @@ header_put old mid new slot bytes h l w long =
 
 -- ---- the database that came
 
-slot_fits : (image : List ℕ) (slot : ℕ) → HeapAccepted image → owner_under image slot ≡ 0 → slot < 2 ^ 32
+pub slot_fits : (image : List ℕ) (slot : ℕ) → HeapAccepted image → owner_under image slot ≡ 0 → slot < 2 ^ 32
 slot_fits image slot h own =
     let s = owned_slot image slot h (inl own) in
     let heap = read_heap image h in
@@ -94,7 +94,7 @@ names_apart image name a free k d inside e =
     let some = owned_some image one.db 0 a.heap own (omega arith) in
     free (k, one, inside, get-any (databases image) k one d inside, (λ z. (let low = some in omega arith), e))
 
-own_names : (image : List ℕ) (one : StoredDatabase) → Accepted image → (IsTaken (store_of image) 0 one.database.header.name → ⊥) → Distinct (names_of (databases image ++ one ∷ []))
+pub own_names : (image : List ℕ) (one : StoredDatabase) → Accepted image → (IsTaken (store_of image) 0 one.database.header.name → ⊥) → Distinct (names_of (databases image ++ one ∷ []))
 own_names image one a free =
     let many = length-map (databases image) (λ (x : StoredDatabase). x.database.header.name) in
     subst (λ (names : List (List ℕ)). Distinct names) (sym (map-append (λ (x : StoredDatabase). x.database.header.name) (databases image) (one ∷ [])))
@@ -107,6 +107,74 @@ none_named name some =
     let two = times-cons name 0 [] in
     let no = same-no 0 name (λ e. omega arith) in
     omega arith
+
+-- who owns each name, before and after
+pub counted : (old new : List ℕ) (slot name : ℕ) → HeapAccepted old → HeapAccepted new → 0 < directory_of new → slot ≢ directory_of new → 0 < name → owner_under new slot ≡ 0 → owner_under old slot ≡ 16 → owner_under new (directory_of new) ≡ 0
+    → (directory_of new ≡ directory_of old) ⊎ ((directory_of old ≡ 0) × (owner_under old (directory_of new) ≡ 16)) → (name ≢ slot → name ≢ directory_of new → same (owner_under new name) 0 ≡ same (owner_under old name) 0)
+    → same name slot + same name (directory_of new) + same (owner_under old name) 0 ≡ same name (directory_of old) + same (owner_under new name) 0
+counted old new slot name h is low apart positive own was directory begins others = elim (cases_eq name slot) [
+  | inl e ↦
+      let one = same-yes name slot e in
+      let two = same-no name (directory_of new) (λ f. apart (sym e ∙ f)) in
+      let now : owner_under new name ≡ 0 = ap (owner_under new) e ∙ own in
+      let past : owner_under old name ≡ 16 = ap (owner_under old) e ∙ was in
+      let three = same-no (owner_under old name) 0 (λ z. omega arith) in
+      let four = same-yes (owner_under new name) 0 now in
+      let five = same-no name (directory_of old) (λ f. elim begins [
+        | inl stays ↦ apart (sym e ∙ f ∙ sym stays)
+        | inr none ↦ (let zero_is = none.0 in omega arith)
+      ]) in
+      omega arith
+  | inr ne ↦ elim (cases_eq name (directory_of new)) [
+    | inl e ↦
+        let one = same-no name slot ne in
+        let two = same-yes name (directory_of new) e in
+        let now : owner_under new name ≡ 0 = ap (owner_under new) e ∙ directory in
+        let four = same-yes (owner_under new name) 0 now in
+        elim begins [
+          | inl stays ↦
+              let past : owner_under old name ≡ 0 = ap (owner_under old) (e ∙ stays) ∙ directory_owner old h (omega arith) in
+              let three = same-yes (owner_under old name) 0 past in
+              let five = same-yes name (directory_of old) (e ∙ stays) in
+              omega arith
+          | inr none ↦
+              let past : owner_under old name ≡ 16 = ap (owner_under old) e ∙ none.1 in
+              let three = same-no (owner_under old name) 0 (λ z. omega arith) in
+              let zero_is = none.0 in
+              let five = same-no name (directory_of old) (λ f. omega arith) in
+              omega arith
+        ]
+    | inr other ↦
+        let one = same-no name slot ne in
+        let two = same-no name (directory_of new) other in
+        let kept = others ne other in
+        let five = same-no name (directory_of old) (λ f. elim begins [
+          | inl stays ↦ other (f ∙ sym stays)
+          | inr none ↦ (let zero_is = none.0 in omega arith)
+        ]) in
+        omega arith
+  ]
+]
+
+pub data_alike : (old new : List ℕ) (slot name : ℕ) → owner_under new slot ≡ 0 → owner_under old slot ≡ 16 → owner_under new (directory_of new) ≡ 0 → HeapAccepted old
+    → (directory_of new ≡ directory_of old) ⊎ ((directory_of old ≡ 0) × (owner_under old (directory_of new) ≡ 16)) → 0 < directory_of new → (name ≢ slot → name ≢ directory_of new → owner_under new name ≡ owner_under old name)
+    → same (owner_under old name) 15 ≡ same (owner_under new name) 15
+data_alike old new slot name own was directory h begins low others = elim (cases_eq name slot) [
+  | inl e ↦
+      let now : owner_under new name ≡ 0 = ap (owner_under new) e ∙ own in
+      let past : owner_under old name ≡ 16 = ap (owner_under old) e ∙ was in
+      same-no (owner_under old name) 15 (λ z. omega arith) ∙ sym (same-no (owner_under new name) 15 (λ z. omega arith))
+  | inr ne ↦ elim (cases_eq name (directory_of new)) [
+    | inl e ↦
+        let now : owner_under new name ≡ 0 = ap (owner_under new) e ∙ directory in
+        let past : owner_under old name ≢ 15 = λ z. elim begins [
+          | inl stays ↦ (let before = ap (owner_under old) (e ∙ stays) ∙ directory_owner old h (omega arith) in omega arith)
+          | inr none ↦ (let before = ap (owner_under old) e ∙ none.1 in omega arith)
+        ] in
+        same-no (owner_under old name) 15 past ∙ sym (same-no (owner_under new name) 15 (λ z. omega arith))
+    | inr other ↦ ap (λ (o : ℕ). same o 15) (sym (others ne other))
+  ]
+]
 
 pub appends : (old new : List ℕ) (one : StoredDatabase) → Accepted old → ListsNew old new one.db (spelled one.database) → data_in one.database ≡ 0 ∷ 0 ∷ [] → one.database.entries ≡ [] → DatabaseFits one.database → length (databases old) < most_databases
     → (IsTaken (store_of old) 0 one.database.header.name → ⊥) → Appends old new (databases old) one
@@ -138,7 +206,7 @@ appends old new one a l none empty fits few free =
         | inl stays ↦ other (e ∙ stays)
         | inr begins ↦ (let gone = owner_none old (directory_of new) begins.1 in let same_owner = ap (owner_under old) (sym e) ∙ owns in omega arith)
       ]);
-      owners = λ name positive. counted old new slot name h l.accepted l.some l.apart positive own was new_directory (elim l.directory [ inl stays ↦ inl stays | inr begins ↦ inr (begins.0, owner_none old (directory_of new) begins.1) ]) (λ ne other. owner_alike old new name (l.others name ne other));
+      owners = λ name positive. counted old new slot name h l.accepted l.some l.apart positive own was new_directory (elim l.directory [ inl stays ↦ inl stays | inr begins ↦ inr (begins.0, owner_none old (directory_of new) begins.1) ]) (λ ne other. ap (λ (o : ℕ). same o 0) (owner_alike old new name (l.others name ne other)));
       balance = λ name positive.
           let nothing : times name (data_in one.database) ≡ 0 = ap (times name) none ∙ none_named name positive in
           let alike : same (owner_under old name) 15 ≡ same (owner_under new name) 15 = data_alike old new slot name own was new_directory h (elim l.directory [ inl stays ↦ inl stays | inr begins ↦ inr (begins.0, owner_none old (directory_of new) begins.1) ]) l.some
@@ -149,74 +217,6 @@ appends old new one a l none empty fits few free =
       no_ids database empty =
           let none : unique_ids database ≡ [] = ap (filter_map unique_id) empty in
           record { none_zero = subst (λ (ids : List ℕ). All (λ id. id ≢ 0) ids) (sym none) (All-nil (λ id. id ≢ 0)); distinct = subst (λ (ids : List ℕ). Distinct ids) (sym none) (λ i j d less below. absurd (omega arith)) }
-
-      -- who owns each name, before and after
-      counted : (old new : List ℕ) (slot name : ℕ) → HeapAccepted old → HeapAccepted new → 0 < directory_of new → slot ≢ directory_of new → 0 < name → owner_under new slot ≡ 0 → owner_under old slot ≡ 16 → owner_under new (directory_of new) ≡ 0
-          → (directory_of new ≡ directory_of old) ⊎ ((directory_of old ≡ 0) × (owner_under old (directory_of new) ≡ 16)) → (name ≢ slot → name ≢ directory_of new → owner_under new name ≡ owner_under old name)
-          → same name slot + same name (directory_of new) + same (owner_under old name) 0 ≡ same name (directory_of old) + same (owner_under new name) 0
-      counted old new slot name h is low apart positive own was directory begins others = elim (cases_eq name slot) [
-        | inl e ↦
-            let one = same-yes name slot e in
-            let two = same-no name (directory_of new) (λ f. apart (sym e ∙ f)) in
-            let now : owner_under new name ≡ 0 = ap (owner_under new) e ∙ own in
-            let past : owner_under old name ≡ 16 = ap (owner_under old) e ∙ was in
-            let three = same-no (owner_under old name) 0 (λ z. omega arith) in
-            let four = same-yes (owner_under new name) 0 now in
-            let five = same-no name (directory_of old) (λ f. elim begins [
-              | inl stays ↦ apart (sym e ∙ f ∙ sym stays)
-              | inr none ↦ (let zero_is = none.0 in omega arith)
-            ]) in
-            omega arith
-        | inr ne ↦ elim (cases_eq name (directory_of new)) [
-          | inl e ↦
-              let one = same-no name slot ne in
-              let two = same-yes name (directory_of new) e in
-              let now : owner_under new name ≡ 0 = ap (owner_under new) e ∙ directory in
-              let four = same-yes (owner_under new name) 0 now in
-              elim begins [
-                | inl stays ↦
-                    let past : owner_under old name ≡ 0 = ap (owner_under old) (e ∙ stays) ∙ directory_owner old h (omega arith) in
-                    let three = same-yes (owner_under old name) 0 past in
-                    let five = same-yes name (directory_of old) (e ∙ stays) in
-                    omega arith
-                | inr none ↦
-                    let past : owner_under old name ≡ 16 = ap (owner_under old) e ∙ none.1 in
-                    let three = same-no (owner_under old name) 0 (λ z. omega arith) in
-                    let zero_is = none.0 in
-                    let five = same-no name (directory_of old) (λ f. omega arith) in
-                    omega arith
-              ]
-          | inr other ↦
-              let one = same-no name slot ne in
-              let two = same-no name (directory_of new) other in
-              let kept : same (owner_under new name) 0 ≡ same (owner_under old name) 0 = ap (λ (o : ℕ). same o 0) (others ne other) in
-              let five = same-no name (directory_of old) (λ f. elim begins [
-                | inl stays ↦ other (f ∙ sym stays)
-                | inr none ↦ (let zero_is = none.0 in omega arith)
-              ]) in
-              omega arith
-        ]
-      ]
-
-      data_alike : (old new : List ℕ) (slot name : ℕ) → owner_under new slot ≡ 0 → owner_under old slot ≡ 16 → owner_under new (directory_of new) ≡ 0 → HeapAccepted old
-          → (directory_of new ≡ directory_of old) ⊎ ((directory_of old ≡ 0) × (owner_under old (directory_of new) ≡ 16)) → 0 < directory_of new → (name ≢ slot → name ≢ directory_of new → owner_under new name ≡ owner_under old name)
-          → same (owner_under old name) 15 ≡ same (owner_under new name) 15
-      data_alike old new slot name own was directory h begins low others = elim (cases_eq name slot) [
-        | inl e ↦
-            let now : owner_under new name ≡ 0 = ap (owner_under new) e ∙ own in
-            let past : owner_under old name ≡ 16 = ap (owner_under old) e ∙ was in
-            same-no (owner_under old name) 15 (λ z. omega arith) ∙ sym (same-no (owner_under new name) 15 (λ z. omega arith))
-        | inr ne ↦ elim (cases_eq name (directory_of new)) [
-          | inl e ↦
-              let now : owner_under new name ≡ 0 = ap (owner_under new) e ∙ directory in
-              let past : owner_under old name ≢ 15 = λ z. elim begins [
-                | inl stays ↦ (let before = ap (owner_under old) (e ∙ stays) ∙ directory_owner old h (omega arith) in omega arith)
-                | inr none ↦ (let before = ap (owner_under old) e ∙ none.1 in omega arith)
-              ] in
-              same-no (owner_under old name) 15 past ∙ sym (same-no (owner_under new name) 15 (λ z. omega arith))
-          | inr other ↦ ap (λ (o : ℕ). same o 15) (sym (others ne other))
-        ]
-      ]
 
 -- callers may name what they might
 pub callers_alike : (old new : List ℕ) (slot : ℕ) (bytes : List ℕ) → HeapAccepted old → ListsNew old new slot bytes → (name : ℕ) → callers_map new name ≡ callers_map old name
@@ -235,7 +235,7 @@ callers_alike old new slot bytes h l name = elim (cases_eq name slot) [
 
 -- ---- the step
 
-below_most : (image : List ℕ) → length (databases image) < most_databases → most_databases ≤ length (store_of image).databases → ⊥
+pub below_most : (image : List ℕ) → length (databases image) < most_databases → most_databases ≤ length (store_of image).databases → ⊥
 unfolding store_of
 below_most image room many = omega arith
 
@@ -290,7 +290,7 @@ pub name_taken : (old : Memory) (name : List ℕ) (kind creator : ℕ) (resource
     → DoesInStore old (calls.Database (Create name kind creator resources date)) (replies.Refused AlreadyExists) old
 name_taken old name kind creator resources date a named taken = refused old (calls.Database (Create name kind creator resources date)) AlreadyExists a (inr ((λ not_name. not_name named), inl (taken, refl)))
 
-most_there : (image : List ℕ) → most_databases ≤ length (listed image) → most_databases ≤ length (store_of image).databases
+pub most_there : (image : List ℕ) → most_databases ≤ length (listed image) → most_databases ≤ length (store_of image).databases
 unfolding store_of
 most_there image many = (let count = length-numbers (databases image) in let as_listed = ap length (listed_numbers image) in omega arith)
 

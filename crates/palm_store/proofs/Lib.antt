@@ -8,6 +8,7 @@ pub mod WholeRooms
 pub mod GainedChunks
 pub mod WholeListing
 pub mod WholeWriting
+pub mod WholeSteps
 pub mod HeaderInfos
 pub mod NamedChunks
 pub mod UnlistedSlots

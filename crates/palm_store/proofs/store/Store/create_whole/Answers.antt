@@ -1,47 +1,90 @@
-use Rattle.std.proofs.Common.{rules, ◌≡◌, ◌+◌, length, IfOk, IfErr, OnOk, OnErr, ℕ, ◌-◌, ◌*◌, ◌<◌, ◌≤◌, ◌/◌, ◌%◌, Bool, true, false, nat_eq, nat_lt, List, [], ◌∷◌, ◌++◌, slice_index_or, slice_set, bit_and, bit_or, Fits, w8, w32, w64, Bor, MutBor}
-use Rattle.heap_model.specs.Refusals.{NoneHolds, FirstBrings}
-use Rattle.heap_model.specs.StoreSteps.{StoreAsBefore}
-use Rattle.palm_store.specs.EntryCalls.{LeavesChanged}
-use Rattle.palm_store.specs.WholeDatabases.{numbers_in, CanBeWhole, MakesWhole, checks_of_whole}
+-- What was found of the name and of the databases lets the call go on; all is made and written, or all is as before.
+use Rattle.std.proofs.Common.{refl, sym, ap, subst, ◌∙◌, ◌≡◌, ◌<◌, ◌≤◌, ◌+◌, arith, inl, inr, ℕ, List, length, replicate}
+use Rattle.std.proofs.lemmas.List.{length-replicate, length-map}
+use Rattle.heap_model.specs.Refusals.{FirstBrings}
+use Rattle.heap_model.specs.Database.{Database, entry_offset, spelled}
+use Rattle.heap_model.specs.Store.{listed, databases, most_databases, bytes_under, store_of}
+use Rattle.heap_model.specs.DatabaseSteps.{IsTaken}
+use Rattle.heap_model.specs.declared.names.Name.{Name}
+use Rattle.laws_heap.proofs.Results.{on_err, if_err}
+use Rattle.laws_store.proofs.Editing.{same_steps}
+use Rattle.laws_store.proofs.Counting.{listed_numbers, length-numbers}
+use Rattle.palm_store.specs.WholeDatabases.{data_sizes, numbers_in, whole_database, whole_size, whole_parts, whole_slots, RunsOut, ListsWhole, MakesWhole, checks_of_whole}
+use Rattle.palm_store.proofs.Maps.{bytes_held, owner_held}
+use Rattle.palm_store.proofs.ListedSlots.{chunk_of}
+use Rattle.palm_store.proofs.Creation.{below_most, most_there}
+use Rattle.palm_store.proofs.NewEntries.{left_as_before}
+use Rattle.palm_store.proofs.WholeListing.{whole_written}
+use Rattle.palm_store.proofs.WholeSteps.{whole_made, few_listed, size_asked}
+use Rattle.palm_store.proofs.KnownIds.{nothing_known}
 use Rattle.palm_store.proofs.store.Store.create_whole.Goals as goal
 
--- src/store/whole.rt:49:13
-pub returns-then-count_databases-ge-MOST_DATABASES-clause-why :
-    goal.returns-then-count_databases-ge-MOST_DATABASES-clause-why
-returns-then-count_databases-ge-MOST_DATABASES-clause-why c = ?
+pub returns-then-count_databases-ge-MOST_DATABASES-clause-why : goal.returns-then-count_databases-ge-MOST_DATABASES-clause-why
+returns-then-count_databases-ge-MOST_DATABASES-clause-why c =
+    let image : List ℕ = c.self.inside.heap.bytes in
+    let free : IsTaken (store_of image) 0 c.args.info.now.name → ⊥ = λ taken. (let yes = c.has_other_name.ensures.1 (subst (λ (name : List ℕ). IsTaken (store_of image) 0 name) (sym c.as_slice.ensures.is) taken) in let no = c.if-has_other_name.false in absurd cc) in
+    let count = c.count_databases.ensures in
+    let most = c.if-count_databases-ge-MOST_DATABASES.true in
+    let many : most_databases ≤ length (listed image) = omega (arith, count, most) in
+    rw (← c.self.view_is) (inr (free, inl (most_there image many, refl)))
 
--- src/store/whole.rt:54:20
 pub invariant_of-self : goal.invariant_of-self
-invariant_of-self c = ?
+invariant_of-self c = nothing_known _ (same_steps c.self.inside.heap.bytes c.list_whole.new.heap.bytes c.self.invariant.accepted c.in_err-slot.ensures.refused).accepted
 
--- src/store/whole.rt:54:20
 pub returns-in_err-slot-clause-why : goal.returns-in_err-slot-clause-why
-returns-in_err-slot-clause-why c = ?
+returns-in_err-slot-clause-why c =
+    let image : List ℕ = c.self.inside.heap.bytes in
+    let free : IsTaken (store_of image) 0 c.args.info.now.name → ⊥ = λ taken. (let yes = c.has_other_name.ensures.1 (subst (λ (name : List ℕ). IsTaken (store_of image) 0 name) (sym c.as_slice.ensures.is) taken) in let no = c.if-has_other_name.false in absurd cc) in
+    let count = c.count_databases.ensures in
+    let below = c.if-count_databases-ge-MOST_DATABASES.false in
+    let few : length (listed image) < most_databases = omega (arith, count, below) in
+    let size = size_asked c.args.info.now c.args.entries.now c.has_resources-resources.result c.entry_offset-size.result c.has_resources-resources.ensures c.requires.whole.entry_count c.entry_offset-size.ensures in
+    let lacks = subst (λ (bytes : ℕ). RunsOut image (whole_slots image (data_sizes c.args.blocks c.args.entries.now)) (whole_parts image bytes (data_sizes c.args.blocks c.args.entries.now))) size c.in_err-slot.ensures.no_room in
+    let e = c.from_residual.ensures in
+    rw (← c.self.view_is) (if_err (FirstBrings (checks_of_whole image c.args.info.now c.args.blocks c.args.entries.now)) c.from_residual.result (e.0, e.1)
+    (inr (free, inr ((λ many. below_most image (few_listed image few) many), inl (lacks, c.in_err-slot.ensures.refusal)))))
 
--- src/store/whole.rt:54:20
 pub returns-in_err-slot-clause-refused : goal.returns-in_err-slot-clause-refused
-returns-in_err-slot-clause-refused c = ?
+returns-in_err-slot-clause-refused c =
+    rw (← c.self.view_is) (on_err _ c.from_residual.result (same_steps c.self.inside.heap.bytes c.list_whole.new.heap.bytes c.self.invariant.accepted c.in_err-slot.ensures.refused))
 
--- src/store/whole.rt:54:20
 pub returns-in_err-slot-clause-as_before : goal.returns-in_err-slot-clause-as_before
-returns-in_err-slot-clause-as_before c = ?
+returns-in_err-slot-clause-as_before c =
+    rw (← c.self.view_is) (on_err _ c.from_residual.result (left_as_before c.self.inside.heap c.list_whole.new.heap c.self.invariant.accepted c.in_err-slot.ensures.refused))
 
--- src/store/whole.rt:55:9
 pub write_whole-requires-clause-owner : goal.write_whole-requires-clause-owner
-write_whole-requires-clause-owner c = ?
+write_whole-requires-clause-owner c = owner_held c.list_whole.new.heap.bytes c.in_ok-slot.slot.0 (chunk_of (replicate c.entry_offset-size.result 0)) c.in_ok-slot.ensures.lists.chunk
 
--- src/store/whole.rt:55:9
 pub write_whole-requires-clause-body : goal.write_whole-requires-clause-body
-write_whole-requires-clause-body c = ?
+write_whole-requires-clause-body c =
+    let size = size_asked c.args.info.now c.args.entries.now c.has_resources-resources.result c.entry_offset-size.result c.has_resources-resources.ensures c.requires.whole.entry_count c.entry_offset-size.ensures in
+    ap length (bytes_held c.list_whole.new.heap.bytes c.in_ok-slot.slot.0 (chunk_of (replicate c.entry_offset-size.result 0)) c.in_ok-slot.ensures.lists.chunk)
+    ∙ length-replicate {A = ℕ} c.entry_offset-size.result 0 ∙ size
 
--- src/store/whole.rt:25:5
+made : (c : goal.After-write_whole) → MakesWhole c.self.inside.heap.bytes c.write_whole.new.heap.bytes c.in_ok-slot.slot.0 c.args.info.now c.args.blocks c.args.entries.now (numbers_in c.list_whole.new.names)
+made c =
+    let image : List ℕ = c.self.inside.heap.bytes in
+    let names : List ℕ = numbers_in c.list_whole.new.names in
+    let free : IsTaken (store_of image) 0 c.args.info.now.name → ⊥ = λ taken. (let yes = c.has_other_name.ensures.1 (subst (λ (name : List ℕ). IsTaken (store_of image) 0 name) (sym c.as_slice.ensures.is) taken) in let no = c.if-has_other_name.false in absurd cc) in
+    let count = c.count_databases.ensures in
+    let below = c.if-count_databases-ge-MOST_DATABASES.false in
+    let few : length (listed image) < most_databases = omega (arith, count, below) in
+    let many = length-map c.list_whole.new.names (λ (one : Name). one.0) in
+    let written = whole_written image c.list_whole.new.heap.bytes c.write_whole.new.heap.bytes c.in_ok-slot.slot.0 (replicate c.entry_offset-size.result 0) (spelled (whole_database c.args.info.now c.args.entries.now names)) (data_sizes c.args.blocks c.args.entries.now) names
+    c.self.invariant.accepted.heap c.in_ok-slot.ensures.lists c.write_whole.ensures.written in
+    whole_made image c.write_whole.new.heap.bytes c.in_ok-slot.slot.0 c.args.info.now c.args.blocks c.args.entries.now names c.self.invariant.accepted written c.write_whole.ensures.fits c.requires.whole (many ∙ c.in_ok-slot.ensures.names ∙ c.requires.names) (few_listed image few) free
+
 pub invariant_of-self-2 : goal.invariant_of-self-2
-invariant_of-self-2 c = ?
+invariant_of-self-2 c = nothing_known _ (made c).accepted
 
--- src/store/whole.rt:25:5
 pub returns-clause-made : goal.returns-clause-made
-returns-clause-made c = ?
+returns-clause-made c = rw (← c.self.view_is) (made c)
 
--- src/store/whole.rt:25:5
 pub returns-clause-could : goal.returns-clause-could
-returns-clause-could c = ?
+returns-clause-could c =
+    let image : List ℕ = c.self.inside.heap.bytes in
+    let free : IsTaken (store_of image) 0 c.args.info.now.name → ⊥ = λ taken. (let yes = c.has_other_name.ensures.1 (subst (λ (name : List ℕ). IsTaken (store_of image) 0 name) (sym c.as_slice.ensures.is) taken) in let no = c.if-has_other_name.false in absurd cc) in
+    let count = c.count_databases.ensures in
+    let below = c.if-count_databases-ge-MOST_DATABASES.false in
+    let few : length (listed image) < most_databases = omega (arith, count, below) in
+    rw (← c.self.view_is) (free, ((λ many. below_most image (few_listed image few) many), (tt, tt)))
