@@ -20,7 +20,11 @@ pub enum WholeEntry {
         size: Option<u32>,
     },
     /// The type is its four bytes as a number.
-    Resource { kind: u32, id: u16, size: u32 },
+    Resource {
+        kind: u32,
+        id: u16,
+        size: u32,
+    },
 }
 
 /// How many bytes the info blocks of a new database have, of those that are to be there.
