@@ -6,7 +6,7 @@ use Rattle.std.proofs.lemmas.List.Elements.{All-nil, All-cons, All-append}
 use Rattle.std.proofs.lemmas.List.FromFn.{length-map-range_with_len, take-map-range_with_len, get_or-map-range_with_len}
 use Rattle.heap_model.specs.Lists.{Least, numbered}
 use Rattle.heap_model.specs.Database.{entry_count_in}
-use Rattle.heap_model.specs.Files.{HasFault, file_faults, IsFirstFault, HasNoFault}
+use Rattle.heap_model.specs.Files.{HasFault, IsFirstFault, HasNoFault}
 use Rattle.heap_model.specs.declared.names.Which.TheVariants.{App, Sort}
 use Rattle.heap_model.specs.declared.file_fault.FileFault.{FileFault}
 use Rattle.heap_model.specs.declared.file_fault.FileFault.TheVariants.{Truncated, ChainedList, EmptyName, BadInfo, BadOffset}

@@ -1,4 +1,4 @@
-use Rattle.std.proofs.Common.{rules, sym, ◌∙◌, arith}
+use Rattle.std.proofs.Common.{rules, sym, ◌∙◌}
 use Rattle.std.proofs.lemmas.List.{nil_from_length}
 use Rattle.pdb_format.proofs.FaultLaws.{unnamed_first}
 use Rattle.pdb_format.proofs.faults.check_file.Goals as goal

@@ -1,4 +1,4 @@
-use Rattle.std.proofs.Common.{refl, rules, arith, inl, inr}
+use Rattle.std.proofs.Common.{refl, rules}
 use Rattle.heap_model.specs.Bytes.{u16_at, u24_at, u32_at, u16_bytes, u24_bytes, u32_bytes}
 use Rattle.heap_model.specs.Database.{name_field, header_bytes, entry_bytes, spelled, name_in, header_in, database_in}
 use Rattle.heap_model.specs.Files.{file_of}
