@@ -1,16 +1,16 @@
 /*
- * Calls on records in plain C, and their times: what the Rattle calls are measured beside.
+ * Calls on records in plain C, some on resources, and their times: what the Rattle calls are measured beside.
  *
  * usage: record_calls [SIZE SLOTS RECORDS CALLS PASSES ROUNDS]
  *
- * It does the same calls in the same order as crates/bench_records, on a database in an image of the same
+ * It does the same calls in the same order as crates/bench_records, on databases in images of the same
  * format (docs/FORMAT.md) and by the same algorithm, and prints the same lines. Each call looks first whether
  * its database is there, holds records, and may be written where it is to be. Entries are moved by one memmove.
  * A new record gets the first ID behind the seed that no record has. How far the IDs are free from the one next
  * to the seed on takes a pass over the entries, and is remembered; only where that one is taken, a second pass
  * marks those near the seed, and where all of these are taken a third one has a bit for each record. No call here
  * sets an ID, so nothing that is remembered has to be forgotten. The chunks are
- * those of heap.h.
+ * those of heap.h, and the calls on resources those of resources.h.
  */
 #include "databases.h"
 #include "heap.h"
