@@ -1,5 +1,6 @@
 //! A call on a heap, and the same on the plain model beside it.
 
+use crate::linked::{are_built, class_with_a_gap};
 use crate::notation::{do_call, text_of};
 use heap_model::{MemoryCall, Reply};
 use mem_manager::Heap;
@@ -56,6 +57,46 @@ impl Beside {
             &after,
         )?;
         self.image = after;
+        Ok(reply)
+    }
+}
+
+/// A heap that calls are done on from end to end, with its image and the model, and whether the lists of its
+/// free chunks are built.
+#[derive(Drop)]
+pub(crate) struct OneHeap {
+    heap: Heap,
+    pub(crate) beside: Beside,
+    are_built: bool,
+}
+
+impl OneHeap {
+    pub(crate) fn new(alloc: Global, image: Vec<u8>) -> Result<OneHeap, Fail> {
+        Ok(OneHeap {
+            heap: adopt(alloc, &image)?,
+            beside: Beside::new(alloc, image)?,
+            are_built: false,
+        })
+    }
+
+    /// Does a call on the heap and on the model, and checks what came of it. While the lists are built, each
+    /// free chunk must be in the one of its class.
+    pub(crate) fn call(
+        &mut self,
+        rt: &(impl Abort + AllocGlobal),
+        spot: &str,
+        call: &MemoryCall,
+    ) -> Result<Reply, Fail> {
+        let alloc = rt.alloc();
+        let before = self.beside.image.clone()?;
+        let reply = self.beside.call_on(rt, &mut self.heap, spot, call)?;
+        let before = Image::decode(alloc, &before)?;
+        let after = Image::decode(alloc, &self.beside.image)?;
+        self.are_built = are_built(self.are_built, call, &reply, &before, &after);
+        if self.are_built {
+            let gap = class_with_a_gap(alloc, &after)?;
+            assert_eq!(rt; gap, None, "{spot}");
+        }
         Ok(reply)
     }
 }

@@ -1,6 +1,6 @@
 //! Free chunks of many sizes, on one heap from end to end, whose image is checked behind each call.
 
-use crate::beside::{Beside, adopt};
+use crate::beside::OneHeap;
 use crate::images::image;
 use crate::notation::{call_of, text_of};
 use std::process::Abort;
@@ -13,11 +13,10 @@ pub(crate) fn check_on_one(
     lines: &[String],
 ) -> Result<(), Fail> {
     let alloc = rt.alloc();
-    let mut heap = adopt(alloc, &image)?;
-    let mut beside = Beside::new(alloc, image)?;
+    let mut one = OneHeap::new(alloc, image)?;
     for line in lines {
         let (call, right) = line.trim().split_once(" = ").ok_or("no reply")?;
-        let reply = beside.call_on(rt, &mut heap, line.as_str(), &call_of(alloc, call)?)?;
+        let reply = one.call(rt, line.as_str(), &call_of(alloc, call)?)?;
         let said = text_of(alloc, &reply)?;
         assert_eq!(rt; said.as_str(), right, "{line}");
     }
@@ -103,4 +102,75 @@ fn chunks_grow_over_any_of_a_list(rt: HostRuntime) -> Result<(), Fail> {
         check_on_one(&rt, image(alloc, 80 + 16 * 32, 16, &[])?, &lines)?;
     }
     Ok(())
+}
+
+const GROWN_OVER_TWO: &str = "handle_new 24 1 = named 16
+    handle_new 24 1 = named 20
+    handle_new 24 1 = named 24
+    handle_new 24 1 = named 28
+    handle_new 24 1 = named 32
+    handle_new 24 1 = named 36
+    free 20 = done
+    free 24 = done
+    free 32 = done
+    resize 16 88 = done
+    free 36 = done
+    free_bytes = 80
+    handle_new 24 1 = named 20
+    free_bytes = 48";
+
+/// A chunk grows over two that were freed, which are not joined. The next one that is freed finds the others in
+/// their lists.
+#[test]
+fn a_chunk_grows_over_two(rt: HostRuntime) -> Result<(), Fail> {
+    let alloc = rt.alloc();
+    check_text(&rt, image(alloc, 256, 8, &[])?, GROWN_OVER_TWO)
+}
+
+const OPENED: &str = "handle_new 24 1 = named 16
+    handle_new 24 1 = named 20
+    handle_new 24 1 = named 24
+    handle_new 24 1 = named 28
+    handle_new 24 1 = named 32
+    handle_new 24 1 = named 36
+    lock 28 = at 152 locks 1
+    free 32 = done
+    free 20 = done
+    resize 24 56 = done
+    free 36 = done
+    free_bytes = 80
+    handle_new 24 1 = named 20
+    free_bytes = 48";
+
+/// The room of one stretch is opened behind a chunk; the free chunk of another is in its list behind the next call.
+#[test]
+fn room_is_opened_behind_a_chunk(rt: HostRuntime) -> Result<(), Fail> {
+    let alloc = rt.alloc();
+    check_text(&rt, image(alloc, 256, 8, &[])?, OPENED)
+}
+
+/// A chunk grows over the last of 72 in a list, which is behind those that are looked at: the lists are dropped,
+/// and the next chunk that is freed finds all others in theirs.
+#[test]
+fn a_chunk_grows_over_one_far_in_a_list(rt: HostRuntime) -> Result<(), Fail> {
+    let alloc = rt.alloc();
+    let mut lines = Vec::new(alloc);
+    for number in 0..144u32 {
+        let made = name(number);
+        lines.push(format!(in alloc; "handle_new 0 1 = named {made}")?)?;
+    }
+    for number in 0..72u32 {
+        let freed = name(number * 2 + 1);
+        lines.push(format!(in alloc; "free {freed} = done")?)?;
+    }
+    for line in [
+        "resize 16 8 = done",
+        "free 24 = done",
+        "free_bytes = 576",
+        "handle_new 8 1 = named 20",
+        "free_bytes = 560",
+    ] {
+        lines.push(format!(in alloc; "{line}")?)?;
+    }
+    check_on_one(&rt, image(alloc, 16 + 4 * 144 + 144 * 8, 144, &[])?, &lines)
 }

@@ -19,6 +19,8 @@ mod hostile;
 #[cfg(test)]
 mod images;
 #[cfg(test)]
+mod linked;
+#[cfg(test)]
 mod lists;
 #[cfg(test)]
 mod moving;

@@ -1,6 +1,6 @@
 //! Lists of calls that look random, on a heap and on the plain model beside it.
 
-use crate::beside::{Beside, adopt};
+use crate::beside::{Beside, OneHeap};
 use crate::images::{five, image, large, odd};
 use rand_pcg::Pcg32;
 use std::process::Abort;
@@ -38,12 +38,15 @@ fn run_on_one(
 ) -> Result<(), Fail> {
     let alloc = rt.alloc();
     let mut random = Pcg32::new(seed, 1);
-    let mut heap = adopt(alloc, &image)?;
-    let mut beside = Beside::new(alloc, image)?;
+    let mut one = OneHeap::new(alloc, image)?;
     for number in 0..count {
-        let call = memory_call(&mut random, alloc, &Image::decode(alloc, &beside.image)?)?;
+        let call = memory_call(
+            &mut random,
+            alloc,
+            &Image::decode(alloc, &one.beside.image)?,
+        )?;
         let spot = format!(in alloc; "call {number} of list {seed} on one heap")?;
-        beside.call_on(rt, &mut heap, spot.as_str(), &call)?;
+        one.call(rt, spot.as_str(), &call)?;
     }
     Ok(())
 }

@@ -1,0 +1,142 @@
+//! Free chunks in lists, as far as an image shows them. Of each class they follow one another by their second
+//! words, and the last one has 0 there; the heads stand beside the image.
+//!
+//! What is proved is that the lists link free chunks of their class, each once. That none is missing is seen
+//! here: while the lists are built, each class has one free chunk that no other of it names, and from that one
+//! the links lead to all others and end.
+
+use heap_model::{MemoryCall, Name, Reply};
+use std::alloc::{AllocError, Global};
+use test_model::Image;
+
+/// How many classes of sizes there are.
+const CLASSES: u32 = 21;
+
+/// How many chunks of a list are looked at, at most, for one that a resize takes.
+const PROBES: usize = 64;
+
+/// A free chunk: where its header stands, the class of its size, and its second word.
+#[derive(Clone, Copy)]
+struct FreeChunk {
+    at: u32,
+    class: u32,
+    next: u32,
+}
+
+/// Whether the lists are built behind a call, by the call and what it left. Where a stretch was packed for a
+/// new chunk, and where chunks moved or all of an owner were freed, they are dropped; and where a resize takes
+/// several free chunks, or one of a long list. A chunk that is made else, or is freed, builds them.
+pub(crate) fn are_built(
+    were_built: bool,
+    call: &MemoryCall,
+    reply: &Reply,
+    before: &Image,
+    after: &Image,
+) -> bool {
+    let has_moved = before.moved_bytes(after) > 0;
+    match (call, reply) {
+        (_, Reply::Refused(_)) => were_built,
+        (MemoryCall::HandleNew { .. } | MemoryCall::PtrNew { .. }, _) => !has_moved,
+        (MemoryCall::Free(_), _) => true,
+        (MemoryCall::FreeByOwner(_) | MemoryCall::Compact, _) => false,
+        (MemoryCall::Resize { name, .. }, _) => {
+            were_built && !has_moved && takes_one_at_most(before, *name)
+        }
+        _ => were_built,
+    }
+}
+
+/// Whether at most one free chunk stands directly behind that of a name, and few at all.
+fn takes_one_at_most(image: &Image, name: Name) -> bool {
+    let behind = image
+        .pieces
+        .iter()
+        .skip_while(|piece| piece.live.is_none_or(|live| live.name != name))
+        .skip(1)
+        .take_while(|piece| piece.live.is_none())
+        .count();
+    let free = image
+        .pieces
+        .iter()
+        .filter(|piece| piece.live.is_none())
+        .count();
+    behind <= 1 && free <= PROBES
+}
+
+/// The first class whose free chunks aren't all in one list.
+pub(crate) fn class_with_a_gap(alloc: Global, image: &Image) -> Result<Option<u32>, AllocError> {
+    let chunks = free_chunks(alloc, image)?;
+    for class in 0..CLASSES {
+        if !are_linked(&chunks, class) {
+            return Ok(Some(class));
+        }
+    }
+    Ok(None)
+}
+
+fn free_chunks(alloc: Global, image: &Image) -> Result<Vec<FreeChunk>, AllocError> {
+    let mut chunks = Vec::new(alloc);
+    for piece in &image.pieces {
+        if piece.live.is_none() {
+            let at = piece.place.0.saturating_sub(8);
+            chunks.push(FreeChunk {
+                at,
+                class: 31u32.saturating_sub((piece.size / 8).leading_zeros()),
+                next: second_word(image.bytes, at),
+            })?;
+        }
+    }
+    Ok(chunks)
+}
+
+/// The second word of the chunk at an offset.
+fn second_word(bytes: &[u8], at: u32) -> u32 {
+    match bytes.get(at as usize..) {
+        Some(chunk) => match chunk.get(4..) {
+            Some(word) => match word.first_chunk() {
+                Some(word) => u32::from_be_bytes(*word),
+                None => 0,
+            },
+            None => 0,
+        },
+        None => 0,
+    }
+}
+
+/// Whether the free chunks of a class are one list: one that no other names comes first, and from it the links
+/// lead to as many as there are, and end.
+fn are_linked(chunks: &[FreeChunk], class: u32) -> bool {
+    let mut count = 0u32;
+    let mut first = 0;
+    for chunk in chunks {
+        if chunk.class == class {
+            count = count.saturating_add(1);
+            if !is_named(chunks, *chunk) {
+                first = chunk.at;
+            }
+        }
+    }
+    let mut at = first;
+    for _ in 0..count {
+        match next_of(chunks, class, at) {
+            Some(next) => at = next,
+            None => return false,
+        }
+    }
+    at == 0
+}
+
+/// Whether a chunk is the next one of another of its class.
+fn is_named(chunks: &[FreeChunk], chunk: FreeChunk) -> bool {
+    chunks.iter().any(|other| other.class == chunk.class && other.next == chunk.at)
+}
+
+/// What follows the chunk of a class at an offset, if one stands there.
+fn next_of(chunks: &[FreeChunk], class: u32, at: u32) -> Option<u32> {
+    for chunk in chunks {
+        if chunk.class == class && chunk.at == at {
+            return Some(chunk.next);
+        }
+    }
+    None
+}
