@@ -131,6 +131,15 @@ static enum refusal heap_free(struct heap *heap, uint32_t name)
     return DONE;
 }
 
+/* The sizes of the free chunks together. */
+static uint32_t free_bytes(const struct heap *heap)
+{
+    uint32_t sum = 0;
+    for (uint32_t at = area_start(slot_count(heap)); at < heap->len; at += size_of_chunk(heap, at))
+        sum += is_free(heap, at) ? size_of_chunk(heap, at) : 0;
+    return sum;
+}
+
 /* The greatest room of a stretch, 0 where there is none. */
 static uint32_t heap_largest_stretch(const struct heap *heap)
 {
@@ -518,6 +527,98 @@ static bool time_walks(const struct scattered *scattered, const struct work *wor
     return true;
 }
 
+/* A heap whose free chunks are all of one class: small ones, and in their middle a few large ones. Between
+ * two of them stands a chunk of no bytes, and nothing else is free. */
+struct one_class {
+    struct heap heap;
+    uint32_t *kept;
+    size_t count, large, freed;
+};
+
+enum { SMALL = 56, LARGE = 112, MOST_LARGE = 32, MOST_FREED = 2000 };
+
+static bool fill_with_one_class(const struct work *work, struct one_class *one)
+{
+    size_t pairs = work->slots / 2;
+    *one = (struct one_class){.kept = calloc(pairs + 1, sizeof *one->kept)};
+    uint32_t *freed = calloc(pairs + 1, sizeof *freed);
+    if (one->kept == NULL || freed == NULL || !make_blank(&one->heap, work->size, work->slots))
+        return false;
+    one->large = pairs / 4 < MOST_LARGE ? pairs / 4 : MOST_LARGE;
+    size_t freed_count = 0;
+    for (size_t i = 0; i < pairs; i++) {
+        bool is_large = i >= pairs / 2 && i - pairs / 2 < one->large;
+        if (heap_handle_new(&one->heap, is_large ? LARGE : SMALL, OWNER, &freed[freed_count]) == DONE)
+            freed_count++;
+        if (heap_handle_new(&one->heap, 0, OWNER, &one->kept[one->count]) == DONE)
+            one->count++;
+    }
+    one->freed = one->count / 4 < MOST_FREED ? one->count / 4 : MOST_FREED;
+    uint32_t rest = free_bytes(&one->heap), name;
+    if (heap_handle_new(&one->heap, rest > 8 ? rest - 8 : 0, OWNER, &name) == DONE)
+        for (size_t i = 0; i < freed_count; i++)
+            heap_free(&one->heap, freed[i]);
+    free(freed);
+    return true;
+}
+
+/* Orders of calls for which the list of that class helps least: new chunks that need a large free one, a chunk
+ * that goes to a large one and a new chunk in turns, and one chunk over many that were freed one by one. */
+enum order { FAR_IN_A_LIST, RESIZE_IN_TURN, OVER_MANY_FREED, ORDERS };
+
+static const char *const ORDER_NAMES[ORDERS] = {
+    "handle_new_far_in_a_list", "resize_in_turn", "handle_new_over_freed",
+};
+
+static uint32_t sum_with_new(uint32_t replies, struct heap *heap, uint32_t length)
+{
+    uint32_t name;
+    enum refusal refusal = heap_handle_new(heap, length, OWNER, &name);
+    return sum_with(replies, refusal == DONE ? name : refusal);
+}
+
+/* Does the calls, and answers the sum of their replies. */
+static uint32_t do_order(struct heap *heap, const struct one_class *one, enum order order)
+{
+    uint32_t replies = 0;
+    if (order == OVER_MANY_FREED)
+        return sum_with_new(replies, heap, (uint32_t)one->freed * (SMALL + 16) + SMALL);
+    for (size_t i = 0; i < one->large; i++) {
+        if (order == RESIZE_IN_TURN)
+            replies = sum_with(replies, heap_resize(heap, one->kept[i], LARGE));
+        replies = sum_with_new(replies, heap, order == RESIZE_IN_TURN ? SMALL - 16 : LARGE);
+    }
+    return replies;
+}
+
+/* Does calls in each order in each round, on a new copy of a heap. */
+static bool time_orders(const struct one_class *one, const struct work *work, struct sums *sums,
+                        uint64_t *times)
+{
+    struct heap heap = {.image = malloc(one->heap.len), .len = one->heap.len};
+    if (heap.image == NULL)
+        return false;
+    const size_t calls[ORDERS] = {one->large, 2 * one->large, 1};
+    for (enum order order = FAR_IN_A_LIST; order < ORDERS; order++) {
+        for (size_t i = 0; i < work->rounds; i++) {
+            memcpy(heap.image, one->heap.image, heap.len);
+            heap.lowest = 0;
+            drop_lists(&heap);
+            heap.packed = false;
+            for (size_t j = 0; order == OVER_MANY_FREED && j < one->freed; j++)
+                heap_free(&heap, one->kept[j]);
+            uint64_t start = nanoseconds();
+            uint32_t replies = do_order(&heap, one, order);
+            times[i] = nanoseconds() - start;
+            sums->replies = sum_with(sums->replies, replies);
+            sums->words = sum_with(sums->words, words_of(&heap));
+        }
+        if (work->prints_times)
+            print_times(ORDER_NAMES[order], calls[order], times, work->rounds);
+    }
+    return true;
+}
+
 static bool read_work(int argc, char **argv, struct work *work)
 {
     if (argc == 1)
@@ -556,7 +657,10 @@ int main(int argc, char **argv)
     time_calls(&load, &work, times);
     struct sums sums = {.replies = load.replies, .words = words_of(&load.heap)};
 
+    struct one_class one;
     if (!scatter(&blank, work.slots, &scattered) || !time_walks(&scattered, &work, &sums, times))
+        return 2;
+    if (!fill_with_one_class(&work, &one) || !time_orders(&one, &work, &sums, times))
         return 2;
     printf("replies %u words %u\n", sums.replies, sums.words);
     return 0;

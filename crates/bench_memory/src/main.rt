@@ -1,7 +1,8 @@
 //! Times the calls of the memory manager. `bench_memory SIZE SLOTS PASSES ROUNDS` makes a heap of SIZE
 //! bytes with SLOTS slots, and a chunk under each slot. It frees and makes chunks, and then does the
 //! calls whose time doesn't depend on the heap, PASSES times at each handle. Calls that walk through all
-//! chunks or move them are done on another heap: one that chunks fill, of which every second is freed.
+//! chunks or move them are done on another heap: one that chunks fill, of which every second is freed. And calls
+//! are done on a third in orders for which lists of free chunks help least.
 //! For each kind of call it prints the calls of a round, and the best and the median processor time of a round in
 //! nanoseconds.
 //!
@@ -12,6 +13,7 @@
 
 mod load;
 mod numbers;
+mod one_class;
 mod scattered;
 mod work;
 
@@ -20,6 +22,7 @@ use bench_times::{Sums, Times, since};
 use chunk_format::blank;
 use load::{Call, Load};
 use mem_manager::Heap;
+use one_class::{OneClass, Order};
 use raw_region::Region;
 use scattered::{Scattered, Walk};
 use std::env;
@@ -44,6 +47,13 @@ const WALKS: [(&str, Walk); 5] = [
     ("resize_by_moving", Walk::ResizeByMoving),
 ];
 
+/// The orders for which lists help least, by what is printed of them.
+const ORDERS: [(&str, Order); 3] = [
+    ("handle_new_far_in_a_list", Order::FarInAList),
+    ("resize_in_turn", Order::ResizeInTurn),
+    ("handle_new_over_freed", Order::OverManyFreed),
+];
+
 /// What is printed of the calls that free and make chunks.
 const AT_THE_END: (&str, &str) = ("free_at_the_end", "handle_new_at_the_end");
 
@@ -66,10 +76,15 @@ fn main(rt: HostRuntime) -> Result<()> {
     load.lock_wide();
     repeat(&rt, &mut load, work, "write", Call::Write)?;
     let mut sums = load.into_sums();
-    let blank = blank_load(&rt, work, work.most_when_full())?;
-    let scattered = Scattered::of(rt.alloc(), blank, work.slots)?;
+    let load = blank_load(&rt, work, work.most_when_full())?;
+    let scattered = Scattered::of(rt.alloc(), load, work.slots)?;
     for (name, walk) in WALKS {
         walk_through(&rt, work, &scattered, name, walk, &mut sums)?;
+    }
+    let blank = heap_of(blank(rt.alloc(), work.size, work.slots)?)?;
+    let one_class = OneClass::of(rt.alloc(), blank, work.slots)?;
+    for (name, order) in ORDERS {
+        run_order(&rt, work, &one_class, name, order, &mut sums)?;
     }
     println!(rt; "replies {} words {}", sums.replies.0, sums.words.0)?;
     Ok(())
@@ -160,6 +175,27 @@ fn walk_through(
         sums.add(replies, &heap.into_region());
     }
     print_times(rt, work, name, scattered.calls(walk), times)
+}
+
+/// Does calls in one order in each round, on a new copy of a heap.
+fn run_order(
+    rt: &(impl CpuClock + Print + AllocGlobal),
+    work: Work,
+    one_class: &OneClass,
+    name: &str,
+    order: Order,
+    sums: &mut Sums,
+) -> Result<()> {
+    let mut times = Times::new(rt.alloc());
+    for _ in 0..work.rounds {
+        let mut heap = heap_of(one_class.copy(rt.alloc())?)?;
+        one_class.prepare(&mut heap, order);
+        let start = rt.thread_cpu_time()?;
+        let replies = one_class.run(&mut heap, order);
+        times.add(since(rt, start)?)?;
+        sums.add(replies, &heap.into_region());
+    }
+    print_times(rt, work, name, one_class.calls(order), times)
 }
 
 fn print_times(rt: &impl Print, work: Work, name: &str, calls: u128, times: Times) -> Result<()> {
