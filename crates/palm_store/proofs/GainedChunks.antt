@@ -9,10 +9,10 @@ use Rattle.heap_model.specs.Chunk.{need}
 use Rattle.heap_model.specs.Heap.{HeapAccepted, directory_of}
 use Rattle.heap_model.specs.Meaning.{LiveChunk, ChunkMap}
 use Rattle.heap_model.specs.Reading.{held}
-use Rattle.heap_model.specs.Space.{rooms, free_slots}
-use Rattle.heap_model.specs.Lists.{same, times}
+use Rattle.heap_model.specs.Space.{rooms}
+use Rattle.heap_model.specs.Lists.{times}
 use Rattle.heap_model.specs.Maps.{gone}
-use Rattle.heap_model.specs.Rooms.{Part, Lowers, KeepsStretches, stretch_of}
+use Rattle.heap_model.specs.Rooms.{Part, Lowers, stretch_of}
 use Rattle.heap_model.specs.Leaving.{Leaves}
 use Rattle.heap_model.specs.Store.{owner_under}
 use Rattle.heap_model.specs.StoreWords.{all_gone}

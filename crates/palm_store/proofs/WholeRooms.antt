@@ -1,5 +1,5 @@
 -- Room for parts that are made one after the other.
-use Rattle.std.proofs.Common.{◌≡◌, ℕ, ◌+◌, ◌<◌, ◌≤◌, List, [], ◌∷◌, ◌++◌, length, Option, Some, None, refl, sym, ap, subst, ◌∙◌, append_assoc, arith, length-append, inl, inr}
+use Rattle.std.proofs.Common.{◌≡◌, ℕ, ◌+◌, ◌≤◌, List, [], ◌∷◌, ◌++◌, length, Option, Some, None, refl, ap, subst, arith, inl, inr}
 use Rattle.heap_model.specs.Space.{free_slots, rooms}
 use Rattle.heap_model.specs.Rooms.{Part, making, Stuck}
 use Rattle.palm_store.specs.WholeDatabases.{makings, RunsOut, Spends}

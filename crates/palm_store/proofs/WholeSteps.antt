@@ -1,5 +1,5 @@
 -- A whole database that was made is a step of the store: it comes behind the others, and its data to the map.
-use Rattle.std.proofs.Common.{◌≡◌, ◌≢◌, ℕ, suc, ◌+◌, ◌/◌, ◌%◌, ◌^◌, ◌<◌, ◌≤◌, Bool, true, false, List, [], ◌∷◌, ◌++◌, length, map, drop, Option, Some, None, refl, sym, ap, subst, ◌∙◌, arith, length-append, inl, inr}
+use Rattle.std.proofs.Common.{◌≡◌, ◌≢◌, ℕ, ◌+◌, ◌<◌, Bool, List, [], ◌∷◌, ◌++◌, length, map, drop, Option, Some, None, refl, sym, ap, subst, ◌∙◌, arith, length-append, inl, inr}
 use Rattle.std.proofs.lemmas.Bool.{cases_eq}
 use Rattle.std.proofs.lemmas.List.Elements.{All-nil, All-cons, All-head, All-tail}
 use Rattle.std.specs.Prelude.{◌⊎◌, All}
@@ -10,9 +10,9 @@ use Rattle.heap_model.specs.Meaning.{LiveChunk, ChunkMap}
 use Rattle.heap_model.specs.Reading.{held}
 use Rattle.heap_model.specs.Lists.{same, times, u32s_in, Distinct}
 use Rattle.heap_model.specs.Maps.{not_owned, callers_map}
-use Rattle.heap_model.specs.Database.{Entry, Database, data_in, entry_data, spelled, has_resources, DatabaseFits, entry_offset}
-use Rattle.heap_model.specs.Store.{StoredDatabase, owner_of, owner_under, directory_bytes, listed, databases, most_databases, unique_id, unique_ids, HasUniqueIds, Accepted, store_of}
-use Rattle.heap_model.specs.Counts.{NamesData, IsWhole}
+use Rattle.heap_model.specs.Database.{Database, data_in, entry_data, spelled, has_resources, DatabaseFits, entry_offset}
+use Rattle.heap_model.specs.Store.{StoredDatabase, owner_of, owner_under, directory_bytes, listed, databases, most_databases, unique_id, HasUniqueIds, Accepted, store_of}
+use Rattle.heap_model.specs.Counts.{NamesData}
 use Rattle.heap_model.specs.DatabaseSteps.{IsTaken}
 use Rattle.heap_model.specs.declared.database.DbInfo.{DbInfo}
 use Rattle.laws_heap.proofs.Frames.{length-u32_bytes}
@@ -27,7 +27,7 @@ use Rattle.laws_store.proofs.Stepping.{has_store}
 use Rattle.palm_store.specs.declared.databases.whole.WholeEntry.{WholeEntry}
 use Rattle.palm_store.specs.declared.databases.whole.WholeEntry.TheVariants as whole
 use Rattle.palm_store.specs.declared.databases.whole.BlockSizes.{BlockSizes}
-use Rattle.palm_store.specs.WholeDatabases.{size_of_data, data_sizes, CanCome, id_asked, CanBeWhole, entry_named, entries_named, whole_database, whole_size, IsGained, GainsZeros, GainsWhole, MakesWhole, ListsWhole}
+use Rattle.palm_store.specs.WholeDatabases.{size_of_data, data_sizes, CanCome, id_asked, CanBeWhole, entries_named, whole_database, whole_size, IsGained, GainsZeros, MakesWhole, ListsWhole}
 use Rattle.palm_store.proofs.Maps.{owner_held, owner_none, owner_alike, bytes_held, held_some}
 use Rattle.palm_store.proofs.ListedSlots.{chunk_of}
 use Rattle.palm_store.proofs.Creation.{slot_fits, own_names, counted, data_alike}

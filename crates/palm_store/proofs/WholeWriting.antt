@@ -1,5 +1,5 @@
 -- A header and its entries, written one after the other into a chunk of the manager's that has room for them.
-use Rattle.std.proofs.Common.{◌≡◌, ◌≢◌, ℕ, zero, suc, ◌+◌, ◌*◌, ◌<◌, ◌≤◌, Bool, true, false, List, [], ◌∷◌, ◌++◌, length, get_or, take, drop, Option, Some, None, refl, sym, ap, subst, ◌∙◌, append_assoc, arith, length-append, length-take, length-drop, inl, inr}
+use Rattle.std.proofs.Common.{◌≡◌, ◌≢◌, ℕ, zero, suc, ◌+◌, ◌*◌, ◌<◌, ◌≤◌, Bool, true, false, List, [], ◌∷◌, ◌++◌, length, get_or, take, drop, Some, refl, sym, ap, subst, ◌∙◌, append_assoc, arith, length-append, length-take, length-drop, inl, inr}
 use Rattle.std.proofs.Math.Seq.{take-append_seam}
 use Rattle.std.proofs.lemmas.Bool.{cases_eq}
 use Rattle.std.proofs.lemmas.Grind.{flat_map-append}
@@ -15,21 +15,20 @@ use Rattle.heap_model.specs.Reading.{held}
 use Rattle.heap_model.specs.Maps.{changed, put}
 use Rattle.heap_model.specs.Leaving.{Leaves, rewritten}
 use Rattle.heap_model.specs.DatabaseFields.{entry_size}
-use Rattle.heap_model.specs.Database.{Entry, Database, DatabaseHeader, HeaderFits, IsDatabaseName, has_resources, header_bytes, entry_bytes, spelled, EntryFits, DatabaseFits, entry_offset}
+use Rattle.heap_model.specs.Database.{Entry, Database, DatabaseHeader, IsDatabaseName, has_resources, header_bytes, entry_bytes, spelled, EntryFits, DatabaseFits, entry_offset}
 use Rattle.heap_model.specs.Store.{bytes_under, owner_under}
 use Rattle.heap_model.specs.declared.database.DbInfo.{DbInfo}
 use Rattle.heap_model.specs.declared.names.Name.{Name}
 use Rattle.db_format.specs.declared.header.DbHeader.{DbHeader}
 use Rattle.db_format.specs.Headers.{header_of, HasHeader, WritesHeader}
 use Rattle.laws_heap.proofs.Becoming.{same_frame, frame_then}
-use Rattle.laws_store.proofs.Spellings.{length-header_bytes, length-entry_bytes, length-entries, size-suc}
+use Rattle.laws_store.proofs.Spellings.{length-entry_bytes, length-entries}
 use Rattle.laws_store.proofs.Shapes.{offset_below}
 use Rattle.laws_store.proofs.Creating.{managers_loose}
 use Rattle.laws_store.proofs.Edited.{here as updated_here, apart as updated_apart}
 use Rattle.palm_store.specs.declared.databases.whole.WholeEntry.{WholeEntry}
-use Rattle.palm_store.specs.declared.databases.whole.WholeEntry.TheVariants as whole
-use Rattle.palm_store.specs.WholeDatabases.{CanCome, CanBeWhole, header_asked, entry_named, entries_named, whole_database, numbers_in}
-use Rattle.palm_store.proofs.Maps.{owner_held, bytes_held, Owned, owned, kept_apart, still_through}
+use Rattle.palm_store.specs.WholeDatabases.{header_asked, entry_named, entries_named, whole_database, numbers_in}
+use Rattle.palm_store.proofs.Maps.{owner_held, bytes_held, owned, kept_apart, still_through}
 use Rattle.palm_store.proofs.ListedSlots.{put_here, put_apart, lock_of}
 
 -- ---- bytes on the way

@@ -2,17 +2,15 @@
 -- store gains for its data.
 use Rattle.std.specs.Prelude.{◌≡◌, ◌≢◌, ◌≤◌, ◌<◌, ◌+◌, ◌++◌, ◌⊎◌, ◌==◌, if◌then◌else◌, ℕ, Bool, true, false, List, [], ◌∷◌, length, map, drop, replicate, Option, Some, None, IsSome, All}
 use Rattle.std.specs.List.{AllZip, filter_map}
-use Rattle.heap_model.specs.Memory.{Memory}
 use Rattle.heap_model.specs.Bytes.{u32_bytes}
 use Rattle.heap_model.specs.Slots.{slots_total}
 use Rattle.heap_model.specs.Heap.{HeapAccepted, directory_of}
-use Rattle.heap_model.specs.Meaning.{LiveChunk, ChunkMap}
+use Rattle.heap_model.specs.Meaning.{ChunkMap}
 use Rattle.heap_model.specs.Reading.{held}
 use Rattle.heap_model.specs.Space.{Still, free_slots, rooms}
 use Rattle.heap_model.specs.Placing.{SameFrame}
 use Rattle.heap_model.specs.Lists.{times, Distinct}
-use Rattle.heap_model.specs.DatabaseFields.{header_size, entry_size}
-use Rattle.heap_model.specs.Database.{DatabaseHeader, Entry, a_record, a_resource, Database, data_in, has_resources, is_deleted, IsDatabaseName, entry_offset}
+use Rattle.heap_model.specs.Database.{DatabaseHeader, Entry, a_record, a_resource, Database, has_resources, is_deleted, IsDatabaseName, entry_offset}
 use Rattle.heap_model.specs.UniqueIds.{greatest_id}
 use Rattle.heap_model.specs.Rooms.{Part, making, growth, taken_by, rooms_for, LowersOne, KeepsStretches, Stuck}
 use Rattle.heap_model.specs.Refusals.{Check, ◌brings◌}
@@ -21,7 +19,6 @@ use Rattle.heap_model.specs.StoreWords.{may_run_out}
 use Rattle.heap_model.specs.EntrySteps.{most_entries}
 use Rattle.heap_model.specs.DatabaseSteps.{taken}
 use Rattle.heap_model.specs.declared.names.Name.{Name}
-use Rattle.heap_model.specs.declared.names.Db.{Db}
 use Rattle.heap_model.specs.declared.database.DbInfo.{DbInfo}
 use Rattle.heap_model.specs.declared.refusal.Refusal.TheVariants.{TooManyEntries}
 use Rattle.palm_store.specs.Directory.{ListsLast}

@@ -1,5 +1,5 @@
 -- One chunk more was made; or there was no room for it, and those before it are freed.
-use Rattle.std.proofs.Common.{refl, sym, subst, ◌∙◌, ◌<◌, arith, List, length, take, ℕ}
+use Rattle.std.proofs.Common.{refl, sym, subst, ◌∙◌, arith, List, take, ℕ}
 use Rattle.std.proofs.lemmas.List.{length-map, length-set, take-map}
 use Rattle.heap_model.specs.Memory.{Memory}
 use Rattle.heap_model.specs.Leaving.{Leaves}

@@ -1,5 +1,5 @@
 -- One chunk was made.
-use Rattle.palm_store.proofs.GainedChunks.{made_sized, makes_none}
+use Rattle.palm_store.proofs.GainedChunks.{made_sized}
 use Rattle.palm_store.proofs.databases.gaining.make_sized.Goals as goal
 
 pub returns-in-Some-clause-made : goal.returns-in-Some-clause-made

@@ -1,5 +1,5 @@
 -- Behind those of the info blocks the sizes are the entries'.
-use Rattle.std.proofs.Common.{sym, ap, ◌∙◌, ◌≡◌, ◌+◌, ◌-◌, ◌<◌, ◌≤◌, arith, ℕ, suc, length, get_or, Option, None, List}
+use Rattle.std.proofs.Common.{◌∙◌, arith}
 use Rattle.palm_store.proofs.GainedChunks.{size_behind}
 use Rattle.palm_store.proofs.databases.whole.size_at.Goals as goal
 

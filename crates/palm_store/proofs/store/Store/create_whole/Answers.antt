@@ -1,15 +1,14 @@
 -- What was found of the name and of the databases lets the call go on; all is made and written, or all is as before.
-use Rattle.std.proofs.Common.{refl, sym, ap, subst, ◌∙◌, ◌≡◌, ◌<◌, ◌≤◌, ◌+◌, arith, inl, inr, ℕ, List, length, replicate}
+use Rattle.std.proofs.Common.{refl, sym, ap, subst, ◌∙◌, ◌<◌, ◌≤◌, arith, inl, inr, ℕ, List, length, replicate}
 use Rattle.std.proofs.lemmas.List.{length-replicate, length-map}
 use Rattle.heap_model.specs.Refusals.{FirstBrings}
-use Rattle.heap_model.specs.Database.{Database, entry_offset, spelled}
-use Rattle.heap_model.specs.Store.{listed, databases, most_databases, bytes_under, store_of}
+use Rattle.heap_model.specs.Database.{spelled}
+use Rattle.heap_model.specs.Store.{listed, most_databases, store_of}
 use Rattle.heap_model.specs.DatabaseSteps.{IsTaken}
 use Rattle.heap_model.specs.declared.names.Name.{Name}
 use Rattle.laws_heap.proofs.Results.{on_err, if_err}
 use Rattle.laws_store.proofs.Editing.{same_steps}
-use Rattle.laws_store.proofs.Counting.{listed_numbers, length-numbers}
-use Rattle.palm_store.specs.WholeDatabases.{data_sizes, numbers_in, whole_database, whole_size, whole_parts, whole_slots, RunsOut, ListsWhole, MakesWhole, checks_of_whole}
+use Rattle.palm_store.specs.WholeDatabases.{data_sizes, numbers_in, whole_database, whole_parts, whole_slots, RunsOut, MakesWhole, checks_of_whole}
 use Rattle.palm_store.proofs.Maps.{bytes_held, owner_held}
 use Rattle.palm_store.proofs.ListedSlots.{chunk_of}
 use Rattle.palm_store.proofs.Creation.{below_most, most_there}
