@@ -22,3 +22,5 @@ mod known;
 mod lists;
 #[cfg(test)]
 mod taken;
+#[cfg(test)]
+mod whole;
