@@ -1,1 +1,3 @@
 pub mod FaultLaws
+pub mod WrittenBlocks
+pub mod WrittenOffsets
