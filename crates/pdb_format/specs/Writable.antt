@@ -1,0 +1,33 @@
+-- Which databases are written to files: those whose content can stand in an accepted image.
+use Rattle.std.specs.Prelude.{◌≡◌, ◌≢◌, ◌<◌, ◌+◌, ◌^◌, ℕ, Bool, true, false, List, length, Option, None, All}
+use Rattle.std.specs.List.{flat_map}
+use Rattle.heap_model.specs.Bytes.{AreBytes}
+use Rattle.heap_model.specs.Lists.{Distinct}
+use Rattle.heap_model.specs.Database.{Database, Entry, a_record, a_resource, data_in, has_resources, is_deleted, IsDatabaseName, HeaderFits}
+use Rattle.heap_model.specs.Store.{unique_ids}
+use Rattle.heap_model.specs.Files.{block_bytes, first_block}
+
+-- The entry is a resource, or else a record, and its numbers have room in their fields. A resource has data,
+-- and so has a record that isn't deleted.
+abbrev pub IsWritableEntry : Bool → Entry (Option (List ℕ)) → Type 0
+IsWritableEntry false (a_record attributes id block) = (attributes < 2 ^ 8) × (id < 2 ^ 24) × (block ≡ None → is_deleted attributes ≡ true)
+IsWritableEntry false (a_resource kind id block) = ⊥
+IsWritableEntry true (a_record attributes id block) = ⊥
+IsWritableEntry true (a_resource kind id block) = (kind < 2 ^ 32) × (id < 2 ^ 16) × (block ≢ None)
+
+-- the bytes that the file of a database takes: what stands in front of its first block, and its blocks
+abbrev pub file_size : Database (Option (List ℕ)) → ℕ
+file_size database = first_block database + length (flat_map block_bytes (data_in database))
+
+-- The name is one, the numbers of the header and of the entries have room in their fields, and the entries
+-- are of the kind that the attributes say. No two records have the same ID, and none has 0. The blocks are
+-- bytes, and the file is short enough for its offsets.
+pub record IsWritable (database : Database (Option (List ℕ))) : Type 0 where
+  pub name : IsDatabaseName database.header.name
+  pub header : HeaderFits database.header
+  pub entries : All (IsWritableEntry (has_resources database.header.attributes)) database.entries
+  pub entry_count : length database.entries < 2 ^ 16
+  pub none_zero : All (λ id. id ≢ 0) (unique_ids database)
+  pub distinct : Distinct (unique_ids database)
+  pub blocks : All (λ block. AreBytes (block_bytes block)) (data_in database)
+  pub size : file_size database < 2 ^ 32
