@@ -1,8 +1,8 @@
 -- A written file is read as the database that was written, of which no record is busy.
-use Rattle.std.proofs.Common.{◌≡◌, ◌≢◌, ℕ, zero, suc, ◌+◌, ◌*◌, ◌/◌, ◌%◌, ◌^◌, ◌<◌, ◌≤◌, Bool, true, false, Option, Some, None, List, [], ◌∷◌, ◌++◌, length, get_or, map, refl, sym, ap, subst, ◌∙◌, append_assoc, arith, inl, inr, length-append}
+use Rattle.std.proofs.Common.{◌≡◌, ◌≢◌, ℕ, ◌+◌, ◌^◌, ◌<◌, ◌≤◌, Bool, true, false, Option, Some, None, List, [], ◌∷◌, ◌++◌, length, map, refl, sym, ap, subst, ◌∙◌, append_assoc, arith, inl, inr, length-append}
 use Rattle.std.specs.Prelude.{All, ◌==◌, ◌⊎◌, bit_and}
 use Rattle.std.specs.Int.{bit_at}
-use Rattle.std.specs.List.{AllZip, flat_map, filter_map}
+use Rattle.std.specs.List.{AllZip, filter_map}
 use Rattle.std.proofs.lemmas.Bool.{false≢true}
 use Rattle.std.proofs.lemmas.List.{length-map}
 use Rattle.std.proofs.lemmas.Nat.{and_assoc, and_le_l}
@@ -12,9 +12,9 @@ use Rattle.std.proofs.lemmas.List.Elements.{All-head, All-tail, All-nil, All-con
 use Rattle.heap_model.specs.Bytes.{u32_at}
 use Rattle.heap_model.specs.Lists.{Distinct}
 use Rattle.heap_model.specs.UniqueIds.{seed_in, with_seed}
-use Rattle.heap_model.specs.Database.{DatabaseHeader, Database, Entry, a_record, a_resource, entry_data, data_in, entry_with, has_resources, is_deleted, spelled, IsDatabaseName, EntryFits, DatabaseFits, name_in, header_in, resources_in, entry_count_in, entry_offset, entry_in, database_in}
+use Rattle.heap_model.specs.Database.{DatabaseHeader, Database, Entry, a_record, a_resource, entry_data, data_in, has_resources, is_deleted, spelled, EntryFits, DatabaseFits, name_in, header_in, resources_in, entry_count_in, entry_offset, entry_in, database_in}
 use Rattle.heap_model.specs.Store.{unique_id, unique_ids}
-use Rattle.heap_model.specs.Files.{entries_end, IsOutside, IsBadInfo, HasBadOffset, HasNoFault, offsets_in, blocks_in, HaveIds, idle_attributes, idle_entry, idle, IsReadAs, Reads, block_bytes, block_size, block_offset, entries_with_offsets, with_offsets, first_block, file_of}
+use Rattle.heap_model.specs.Files.{entries_end, IsOutside, IsBadInfo, HasBadOffset, HasNoFault, offsets_in, HaveIds, idle_attributes, idle_entry, idle, IsReadAs, Reads, block_size, block_offset, entries_with_offsets, with_offsets, first_block, file_of}
 use Rattle.laws_store.proofs.Spellings.{length-spelled}
 use Rattle.pdb_format.specs.Writable.{IsWritableEntry, file_size, IsWritable}
 use Rattle.pdb_format.proofs.FaultLaws.{HasGoodHead, no_fault}

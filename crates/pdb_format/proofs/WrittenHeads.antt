@@ -1,5 +1,5 @@
 -- A database is read off its spelling whatever stands behind it.
-use Rattle.std.proofs.Common.{◌≡◌, ℕ, zero, suc, ◌+◌, ◌*◌, ◌^◌, ◌<◌, ◌≤◌, Bool, true, false, List, [], ◌∷◌, ◌++◌, length, get_or, take, map, refl, sym, ap, ◌∙◌, arith}
+use Rattle.std.proofs.Common.{◌≡◌, ℕ, zero, suc, ◌+◌, ◌<◌, ◌≤◌, Bool, true, false, List, ◌∷◌, ◌++◌, length, get_or, map, refl, sym, ap, ◌∙◌, arith}
 use Rattle.std.specs.List.{range_with_len, take_while}
 use Rattle.std.specs.Prelude.{◌==◌, not}
 use Rattle.std.proofs.lemmas.List.{take_at, take-append-le, get_or_append_left}
@@ -8,7 +8,7 @@ use Rattle.byteorder.specs.Numbers.{big_from-take}
 use Rattle.heap_model.specs.Bytes.{u16_at, u24_at, u32_at}
 use Rattle.heap_model.specs.Lists.{numbered}
 use Rattle.heap_model.specs.DatabaseFields.{entry_size}
-use Rattle.heap_model.specs.Database.{DatabaseHeader, Entry, a_record, a_resource, Database, has_resources, spelled, DatabaseFits, IsSpelled, name_in, header_in, resources_in, entry_count_in, entry_offset, entry_at, entry_in, database_in, HasShape}
+use Rattle.heap_model.specs.Database.{DatabaseHeader, Entry, a_record, a_resource, Database, has_resources, spelled, DatabaseFits, IsSpelled, name_in, header_in, resources_in, entry_count_in, entry_offset, entry_at, entry_in, database_in}
 use Rattle.laws_store.proofs.Spellings.{database_read, count_read, resources_read, next_list_read, entry_read}
 use Rattle.laws_store.proofs.Shapes.{spelled_shape}
 

@@ -1,5 +1,5 @@
 -- The content of a database of an accepted image is written, where its file is short enough.
-use Rattle.std.proofs.Common.{◌≡◌, ◌≢◌, ℕ, zero, suc, ◌+◌, ◌^◌, ◌<◌, ◌≤◌, Bool, true, false, cond, Option, Some, None, List, [], ◌∷◌, length, get_or, map, refl, sym, ap, subst, ◌∙◌, arith, inl, inr}
+use Rattle.std.proofs.Common.{◌≡◌, ◌≢◌, ℕ, zero, suc, ◌^◌, ◌<◌, Bool, true, false, cond, Option, Some, None, List, [], ◌∷◌, get_or, map, refl, sym, ap, subst, arith, inl, inr}
 use Rattle.std.specs.Prelude.{All, ◌==◌}
 use Rattle.std.specs.List.{filter_map}
 use Rattle.std.proofs.lemmas.List.{length-map}
@@ -11,7 +11,7 @@ use Rattle.heap_model.specs.Meaning.{LiveChunk, ChunkMap}
 use Rattle.heap_model.specs.Reading.{held}
 use Rattle.heap_model.specs.Maps.{not_owned, callers_map}
 use Rattle.heap_model.specs.Database.{Database, Entry, a_record, a_resource, entry_data, data_in, entry_with, has_resources, EntryFits}
-use Rattle.heap_model.specs.Store.{StoredDatabase, data_owner, owner_under, bytes_of, bytes_under, bytes_named, content, HasData, unique_id, unique_ids, IsDatabase}
+use Rattle.heap_model.specs.Store.{StoredDatabase, bytes_of, bytes_under, bytes_named, content, HasData, unique_id, IsDatabase}
 use Rattle.heap_model.specs.Files.{block_bytes}
 use Rattle.laws_heap.proofs.Deciding.{none_some}
 use Rattle.laws_store.proofs.Bodies.{held_bytes}
