@@ -1,4 +1,5 @@
-//! Files of databases, PDB and PRC (Palm OS File Format Specification), as bytes: what is wrong with one.
+//! Files of databases, PDB and PRC (Palm OS File Format Specification), as bytes: what is wrong with one, and the
+//! laws of what is read from files and written to them.
 //!
 //! ```text
 //! header           78 bytes, as db_format has them
@@ -10,5 +11,7 @@
 #![tactic(auto)]
 
 mod faults;
+mod laws;
 
 pub use faults::check_file;
+pub use laws::{contents_are_writable, written_files_are_read};

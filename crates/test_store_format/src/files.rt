@@ -81,10 +81,10 @@ fn files_are_written()
 fn resources_are_written()
     ensures { file_of
         (record {
-            header = record (header_read (codes "Tiny") 0) { attributes = 1; version = 1; kind = 0x6170706C };
-            app_info = None;
-            sort_info = None;
-            entries = a_resource 0x74535452 1000 (Some (0x48 ∷ 0x69 ∷ 0 ∷ [])) ∷ a_resource 0x74535452 1001 (Some (0x59 ∷ 0x6F ∷ 0 ∷ [])) ∷ [];
+          header = record (header_read (codes "Tiny") 0) { attributes = 1; version = 1; kind = 0x6170706C };
+          app_info = None;
+          sort_info = None;
+          entries = a_resource 0x74535452 1000 (Some (0x48 ∷ 0x69 ∷ 0 ∷ [])) ∷ a_resource 0x74535452 1001 (Some (0x59 ∷ 0x6F ∷ 0 ∷ [])) ∷ [];
         })
         ≡ resource_file }
 {}

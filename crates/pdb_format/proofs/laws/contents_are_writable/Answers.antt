@@ -1,0 +1,5 @@
+use Rattle.pdb_format.proofs.WrittenStores.{content_writable}
+use Rattle.pdb_format.proofs.laws.contents_are_writable.Goals as goal
+
+pub returns : goal.returns
+returns c = content_writable
