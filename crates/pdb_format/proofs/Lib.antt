@@ -1,4 +1,7 @@
 pub mod FaultLaws
+pub mod GoodFiles
+pub mod PlacedBlocks
+pub mod SortedStarts
 pub mod WrittenBlocks
 pub mod WrittenFiles
 pub mod WrittenHeads

@@ -15,7 +15,7 @@ some : List ℕ → Option (List ℕ)
 some bytes = Some bytes
 
 -- a block that begins behind the file's start
-block_there : (file : List ℕ) (rank at : ℕ) → 0 < at → block_at file rank at ≡ Some (slice_range file at (block_end file rank at))
+pub block_there : (file : List ℕ) (rank at : ℕ) → 0 < at → block_at file rank at ≡ Some (slice_range file at (block_end file rank at))
 block_there file rank zero low = absurd (omega arith)
 block_there file rank (suc at) low = refl
 

@@ -1,2 +1,4 @@
+pub mod Blocks
 pub mod Laws
+pub mod Starts
 pub mod Writable

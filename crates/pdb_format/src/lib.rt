@@ -1,5 +1,5 @@
-//! Files of databases, PDB and PRC (Palm OS File Format Specification), as bytes: what is wrong with one, and the
-//! laws of what is read from files and written to them.
+//! Files of databases, PDB and PRC (Palm OS File Format Specification), as bytes: what is wrong with one, where its
+//! blocks stand, and the laws of what is read from files and written to them.
 //!
 //! ```text
 //! header           78 bytes, as db_format has them
@@ -10,8 +10,11 @@
 //! Offsets count bytes from the file's start.
 #![tactic(auto)]
 
+mod blocks;
 mod faults;
 mod laws;
+mod starts;
 
+pub use blocks::{Block, find_blocks};
 pub use faults::check_file;
 pub use laws::{contents_are_writable, written_files_are_read};

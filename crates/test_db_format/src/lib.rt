@@ -7,6 +7,8 @@
 #[cfg(test)]
 mod attributes;
 #[cfg(test)]
+mod blocks;
+#[cfg(test)]
 mod faults;
 #[cfg(test)]
 mod files;

@@ -1,0 +1,84 @@
+-- Blocks that are put down at their ranks, one start after the other.
+use Rattle.std.proofs.Common.{◌≡◌, ℕ, ◌+◌, ◌<◌, ◌≤◌, List, length, get_or, set, map, Option, Some, None, sym, ap, subst, ◌∙◌, arith, inl, inr}
+use Rattle.std.specs.Prelude.{◌^◌, min, slice_range, slice_index}
+use Rattle.std.specs.List.{fold}
+use Rattle.std.specs.List.Sorted.{IsPermutation, IsNonDecreasingBy}
+use Rattle.std.proofs.lemmas.Bool.{cases_eq, cases_lt}
+use Rattle.std.proofs.lemmas.List.{length-map, length-set, get_or-map, get_or-set_same, get_or-set_other}
+use Rattle.std.proofs.lemmas.List.FromFn.{fill_by_all}
+use Rattle.heap_model.specs.Files.{starts_behind, offsets_in, block_end, block_at, blocks_in, HasNoFault}
+use Rattle.pdb_format.specs.declared.starts.Start.{Start}
+use Rattle.pdb_format.specs.declared.blocks.Block.{Block}
+use Rattle.pdb_format.specs.Starts.{starts_in, order, begins}
+use Rattle.pdb_format.specs.Blocks.{bytes_at}
+use Rattle.pdb_format.proofs.GoodFiles.{offset_inside_file}
+use Rattle.pdb_format.proofs.SortedStarts.{none, AreSorted, items_are, ranks_apart, start_found, sorted_end}
+use Rattle.pdb_format.proofs.WrittenBlocks.{block_there}
+
+-- the block of an index among sorted starts
+abbrev pub placed : ℕ → List Start → ℕ → Block
+placed last items index = record { start = (get_or items index none).at; end = begins last items (index + 1) }
+
+-- The blocks of the first starts are put down at their ranks, and nothing at other ranks.
+pub record ArePut (offsets : List ℕ) (last : ℕ) (items : List Start) (blocks : List (Option Block)) (index : ℕ) : Type 0 where
+  pub room : length blocks ≡ length offsets
+  pub put : (j : ℕ) → j < index → get_or blocks (get_or items j none).rank None ≡ Some (placed last items j)
+  pub rest : (rank : ℕ) → ((j : ℕ) → j < index → (get_or items j none).rank ≡ rank → ⊥) → get_or blocks rank None ≡ None
+
+pub put_more : (offsets : List ℕ) (last : ℕ) (items : List Start) (blocks : List (Option Block)) (index : ℕ) → AreSorted offsets last items → index < length items → ArePut offsets last items blocks index
+    → ArePut offsets last items (set blocks (get_or items index none).rank (Some (placed last items index))) (index + 1)
+put_more offsets last items blocks index sorted inside are =
+    let rank : ℕ = (get_or items index none).rank in
+    let own = (items_are offsets last items sorted index inside).0.0 in
+    let room = are.room in
+    record {
+      room = length-set blocks rank (Some (placed last items index)) ∙ are.room;
+      put = λ j less. elim (cases_lt j index) [
+        | inl before ↦
+            get_or-set_other blocks rank (get_or items j none).rank (Some (placed last items index)) None (λ e. ranks_apart offsets last items sorted j index before inside e)
+            ∙ are.put j before
+        | inr here ↦
+            let is : index ≡ j = omega arith in
+            subst (λ (k : ℕ). get_or (set blocks rank (Some (placed last items index))) (get_or items k none).rank None ≡ Some (placed last items k)) is
+            (get_or-set_same blocks rank (Some (placed last items index)) None (omega arith))
+      ];
+      rest = λ other none_has.
+          get_or-set_other blocks rank other (Some (placed last items index)) None (λ e. none_has index (omega arith) (sym e))
+          ∙ are.rest other (λ j less e. none_has j (omega arith) e);
+    }
+
+-- where all are put down, they are the blocks of the file
+pub all_put : (file : List ℕ) (items : List Start) (blocks : List (Option Block)) → AreSorted (offsets_in file) (length file) items → ArePut (offsets_in file) (length file) items blocks (length items)
+    → map (bytes_at file) blocks ≡ blocks_in file
+all_put file items blocks sorted are =
+    let offsets : List ℕ = offsets_in file in
+    let long = length-map blocks (bytes_at file) in
+    let room = are.room in
+    fill_by_all (λ rank. block_at file rank (slice_index offsets rank)) (map (bytes_at file) blocks) (length offsets) None (long ∙ room) (λ rank inside.
+    get_or-map (bytes_at file) blocks rank None None (omega arith)
+    ∙ elim (cases_eq (get_or offsets rank 0) 0) [
+      | inl absent ↦
+          let no_start : (j : ℕ) → j < length items → (get_or items j none).rank ≡ rank → ⊥ = λ j less e.
+          let own = items_are offsets (length file) items sorted j less in
+          let some = own.1 in
+          let at = own.0.1 ∙ ap (λ (r : ℕ). get_or offsets r 0) e in
+          omega arith in
+          ap (bytes_at file) (are.rest rank no_start) ∙ ap (block_at file rank) (sym absent)
+      | inr there ↦
+          let found = start_found offsets (length file) items sorted rank inside (omega arith) in
+          let at = found.3 in
+          let ends = sorted_end offsets (length file) items sorted found.0 found.1 in
+          let block = ap (λ (r : ℕ). get_or blocks r None) (sym found.2) ∙ are.put found.0 found.1 in
+          let end_is : begins (length file) items (found.0 + 1) ≡ block_end file rank (get_or offsets rank 0) =
+          sym ends
+          ∙ ap (λ (r : ℕ). fold min (length file) (starts_behind offsets r (get_or items found.0 none).at)) found.2
+          ∙ ap (λ (o : ℕ). fold min (length file) (starts_behind offsets rank o)) at in
+          ap (bytes_at file) block
+          ∙ ap (λ (o : ℕ). Some (slice_range file o (begins (length file) items (found.0 + 1)))) at
+          ∙ ap (λ (e : ℕ). Some (slice_range file (get_or offsets rank 0) e)) end_is
+          ∙ sym (block_there file rank (get_or offsets rank 0) (omega arith))
+    ])
+
+-- the sorted starts of a file without fault
+pub file_sorted : (file : List ℕ) (items : List Start) → HasNoFault file → length (offsets_in file) ≤ 2 ^ 32 → IsPermutation (starts_in (offsets_in file)) items → IsNonDecreasingBy order items → AreSorted (offsets_in file) (length file) items
+file_sorted file items good few all rising = record { few = few; most = offset_inside_file file good; all = all; rising = rising }

@@ -1,0 +1,9 @@
+use Rattle.std.proofs.Common.{arith}
+use Rattle.pdb_format.proofs.GoodFiles.{offset_count}
+use Rattle.pdb_format.proofs.starts.rank_count.Goals as goal
+
+pub returns-clause-is : goal.returns-clause-is
+returns-clause-is c =
+    let count = offset_count c.args.file.now in
+    let is = c.entry_count.ensures in
+    omega arith

@@ -1,0 +1,62 @@
+//! The blocks of a file.
+
+ghost use Rattle.std.specs.Prelude.{◌≡◌, ◌<◌, ◌≤◌, ◌+◌, length, map, None, IfOk, All};
+ghost use Rattle.std.specs.List.Sorted.{IsPermutation, IsNonDecreasingBy};
+ghost use Rattle.heap_model.specs.Files.{offsets_in, blocks_in, HasNoFault};
+ghost use Rattle.pdb_format.specs.Starts.{starts_in, order, begins};
+ghost use Rattle.pdb_format.specs.Blocks.{bytes_at};
+
+use crate::starts::{Start, rank_count, sorted_starts};
+use std::alloc::{AllocError, Global};
+
+/// Where a block of a file stands: from its offset up to where the next one begins, in bytes from the file's start.
+#[derive(Clone, Copy, Debug, PartialEq, Eq)]
+pub struct Block {
+    pub start: usize,
+    pub end: usize,
+}
+
+/// Where the block ends whose start has an index among sorted ones: where the next one begins, or at the end of the
+/// file.
+fn end_of(starts: &[Start], index: usize, last: usize) -> usize
+    requires { index < length starts.now }
+    ensures { result ≡ begins last starts.now (index + 1) }
+{
+    if index + 1 < starts.len() {
+        starts[index + 1].at as usize
+    } else {
+        last
+    }
+}
+
+/// Puts down where each block stands, at its rank.
+fn put_blocks(file: &[u8], starts: &[Start], blocks: &mut [Option<Block>])
+    requires good { HasNoFault file.now }
+    requires all { IsPermutation (starts_in (offsets_in file.now)) starts.now }
+    requires rising { IsNonDecreasingBy order starts.now }
+    requires room { length blocks.old ≡ length (offsets_in file.now) }
+    requires few { length (offsets_in file.now) ≤ 65537 }
+    requires empty { All (λ block. block ≡ None) blocks.old }
+    ensures { map (bytes_at file.now) blocks.new ≡ blocks_in file.now }
+{
+    for index in 0..starts.len() {
+        let start = starts[index];
+        blocks[start.rank as usize] = Some(Block {
+            start: start.at as usize,
+            end: end_of(starts, index, file.len()),
+        });
+    }
+}
+
+/// Where the blocks of a file without fault stand: the AppInfo block, the SortInfo block, and the data of the entries in
+/// order. Memory for them can be refused. One sort.
+pub fn find_blocks(alloc: Global, file: &[u8]) -> Result<Vec<Option<Block>>, AllocError>
+    requires { HasNoFault file.now }
+    ensures { IfOk result (λ blocks. map (bytes_at file.now) blocks.items ≡ blocks_in file.now) }
+{
+    let starts = sorted_starts(alloc, file)?;
+    let mut blocks = Vec::new(alloc);
+    blocks.resize(rank_count(file) as usize, None)?;
+    put_blocks(file, &starts, &mut blocks);
+    Ok(blocks)
+}

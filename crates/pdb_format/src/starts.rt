@@ -1,0 +1,76 @@
+//! Where the blocks of a file begin, in the order in which they stand.
+
+ghost use Rattle.std.specs.Prelude.{◌≡◌, ◌<◌, ◌≤◌, ◌+◌, length, slice_index, IfOk};
+ghost use Rattle.std.specs.List.Sorted.{IsPermutation, IsNonDecreasingBy};
+ghost use Rattle.heap_model.specs.Files.{offsets_in, HasNoFault};
+ghost use Rattle.pdb_format.specs.Starts.{starts_in, order};
+
+use db_format::{app_info, entry_count, entry_slot, has_resources, sort_info};
+use std::alloc::{AllocError, Global};
+
+/// Where a block begins in a file, and its rank: 0 for the AppInfo block, 1 for the SortInfo block, and 2 more than its
+/// index for the data of an entry.
+#[derive(Clone, Copy, Debug, PartialEq, Eq)]
+pub(crate) struct Start {
+    pub(crate) at: u32,
+    pub(crate) rank: u32,
+}
+
+impl Start {
+    /// A number by which blocks are ordered as they stand in a file: by their offsets, and at one offset by their rank.
+    fn order(self) -> u64
+        ensures { result ≡ order self }
+    {
+        self.at as u64 * (1 << 32) + self.rank as u64
+    }
+}
+
+/// How many blocks a file may have: its info blocks, and one for each entry.
+pub(crate) fn rank_count(file: &[u8]) -> u32
+    requires { HasNoFault file.now }
+    ensures is { result ≡ length (offsets_in file.now) }
+    ensures most { result ≤ 65537 }
+{
+    entry_count(file) as u32 + 2
+}
+
+/// The offset of the block of a rank, or 0.
+fn offset_of(file: &[u8], rank: u32) -> u32
+    requires good { HasNoFault file.now }
+    requires inside { rank < length (offsets_in file.now) }
+    requires few { rank ≤ 65536 }
+    ensures { result ≡ slice_index (offsets_in file.now) rank }
+{
+    match rank {
+        0 => app_info(file),
+        1 => sort_info(file),
+        _ => entry_slot(file, has_resources(file), (rank - 2) as u16),
+    }
+}
+
+/// Where the blocks of a file begin that are there, by their rank.
+fn starts_of(alloc: Global, file: &[u8]) -> Result<Vec<Start>, AllocError>
+    requires { HasNoFault file.now }
+    ensures { IfOk result (λ starts. starts.items ≡ starts_in (offsets_in file.now)) }
+{
+    let mut starts = Vec::new(alloc);
+    for rank in 0..rank_count(file) {
+        let at = offset_of(file, rank);
+        if at != 0 {
+            starts.push(Start { at, rank })?;
+        }
+    }
+    Ok(starts)
+}
+
+/// The same in the order in which the blocks stand in the file.
+pub(crate) fn sorted_starts(alloc: Global, file: &[u8]) -> Result<Vec<Start>, AllocError>
+    requires { HasNoFault file.now }
+    ensures all { IfOk result (λ starts.
+        IsPermutation (starts_in (offsets_in file.now)) starts.items) }
+    ensures rising { IfOk result (λ starts. IsNonDecreasingBy order starts.items) }
+{
+    let mut starts = starts_of(alloc, file)?;
+    starts.sort_unstable_by_key(|start| start.order());
+    Ok(starts)
+}
