@@ -5,12 +5,13 @@
  * second word of each is the offset of the next. A new chunk goes to the front of the first chunk of a list
  * that has room; where no list begins with one, to the front of the first run of neighbouring free chunks
  * that has it, which is looked for from the first chunk on. One that is freed goes to the front of its
- * list, joined with none. A free chunk that is taken is looked for among the first ones of its list; where
- * it isn't one of them, or where more than one is taken, all lists are dropped, and they are built again,
- * with all neighbours joined, when a chunk is made or freed. Where no free run has the room for a new
+ * list, joined with none. A free chunk that is taken is looked for in its list, among the first ones where a
+ * chunk grows over it; where it isn't one of them, or where more than one is taken, all lists are dropped, and
+ * they are built again, with all neighbours joined, when a chunk is made or freed. Where no free run has the room for a new
  * chunk, the first stretch that has it is packed, by one move for each chunk that goes down over the free
- * one in front of it; that drops the lists, and they are not built with this chunk, so that no walk follows
- * the packing. A chunk that is to be larger than it and the free chunks behind it goes to a free run that
+ * one in front of it; that drops the lists, and puts what is free behind the packed chunks into its own. Where
+ * the stretch isn't the whole heap, they are not built with this chunk, so that no walk follows the packing. A
+ * chunk that is to be larger than it and the free chunks behind it goes to a free run that
  * has the room, which is looked for from the first chunk on; else its stretch is packed, and what is behind
  * it is lifted in one move; else another stretch is packed. No chunk here is fixed, so that a name of no
  * slot names nothing.
@@ -31,8 +32,8 @@ enum { MAX_SIZE = 16777208, HEADER = 8, DATABASE = 15, FIXED = 15 };
 /* How many classes of sizes free chunks have. */
 enum { CLASSES = 21 };
 
-/* How many chunks of a list are looked at, at most, for one that is taken out of it. */
-enum { PROBES = 64 };
+/* How many chunks of a list are looked at, at most, for one that a chunk grows over; and more than any list has. */
+enum { FEW_PROBES = 64, ALL_PROBES = 0x200000 };
 
 static const uint32_t MAGIC = 0x50484931;
 static const uint32_t FREE_BIT = 0x80000000;
@@ -204,8 +205,8 @@ static bool find_listed(const struct heap *heap, uint32_t size, uint32_t *at, ui
     return false;
 }
 
-/* Takes a free chunk out of its list. Where it isn't among the first ones, the lists are dropped. */
-static void take_out(struct heap *heap, uint32_t at, uint32_t size)
+/* Takes a free chunk out of its list. Where it isn't among the first `probes`, the lists are dropped. */
+static void take_out(struct heap *heap, uint32_t at, uint32_t size, size_t probes)
 {
     uint32_t class = class_of(size);
     if (heap->heads[class] == at) {
@@ -213,7 +214,7 @@ static void take_out(struct heap *heap, uint32_t at, uint32_t size)
         return;
     }
     uint32_t here = heap->heads[class];
-    for (size_t i = 0; i < PROBES; i++) {
+    for (size_t i = 0; i < probes; i++) {
         if (here == 0)
             return;
         uint32_t next = u32_at(heap->image, here + 4);
@@ -227,12 +228,12 @@ static void take_out(struct heap *heap, uint32_t at, uint32_t size)
 }
 
 /* Takes free chunks from their lists. Where they are more than one, the lists are dropped. */
-static void unlink_run(struct heap *heap, uint32_t at, uint32_t size)
+static void unlink_run(struct heap *heap, uint32_t at, uint32_t size, size_t probes)
 {
     if (size == 0)
         return;
     if (size_of_chunk(heap, at) == size)
-        take_out(heap, at, size);
+        take_out(heap, at, size, probes);
     else
         drop_lists(heap);
 }
@@ -306,19 +307,28 @@ static void mend(struct heap *heap, uint32_t from, uint32_t at)
     put_u32(heap->image, slot, at + HEADER);
 }
 
+/* Puts the free chunk of `room` bytes that ends at `end`, if there are any, into its list. */
+static void push_room(struct heap *heap, uint32_t end, uint32_t room)
+{
+    if (room > 0)
+        push(heap, end - room, room);
+}
+
 /* Packs the chunks from `start` up to `end`, and answers how many bytes were moved. `room` is how much is
- * free behind them then. */
+ * free behind them then. The free chunks that are left of them are those in the lists then. */
 static uint32_t pack(struct heap *heap, uint32_t start, uint32_t end, uint32_t *room)
 {
     uint32_t moved = 0;
     *room = 0;
     drop_lists(heap);
+    heap->built = start == area_start(slot_count(heap)) && end == heap->len;
     for (uint32_t at = start; at < end;) {
         uint32_t size = size_of_chunk(heap, at);
         if (is_free(heap, at)) {
             put_free(heap, at - *room, *room + size);
             *room += size;
         } else if (stays(heap, at)) {
+            push_room(heap, at, *room);
             *room = 0;
         } else if (*room > 0) {
             memmove(heap->image + at - *room, heap->image + at, size);
@@ -328,6 +338,7 @@ static uint32_t pack(struct heap *heap, uint32_t start, uint32_t end, uint32_t *
         }
         at += size;
     }
+    push_room(heap, end, *room);
     return moved;
 }
 
@@ -350,7 +361,7 @@ static bool make_room(struct heap *heap, uint32_t size, uint32_t *run_at, uint32
     if (!find_stretch(heap, size, &start, &end))
         return false;
     pack(heap, start, end, &room);
-    heap->packed = true;
+    heap->packed = !heap->built;
     return find_run(heap, size, run_at, run_size);
 }
 
@@ -365,7 +376,7 @@ static enum refusal make_chunk(struct heap *heap, uint32_t length, uint32_t owne
     uint32_t at, run;
     if (number >= slots || size == 0 || !make_room(heap, size, &at, &run))
         return NOT_ENOUGH_SPACE;
-    unlink_run(heap, at, run);
+    unlink_run(heap, at, run, ALL_PROBES);
     if (run > size) {
         put_free(heap, at + size, run - size);
         push(heap, at + size, run - size);
@@ -406,7 +417,7 @@ static void resize_at(struct heap *heap, const struct found *found, uint32_t len
     uint32_t size = chunk_size(length);
     uint32_t own = chunk_size(found->length);
     uint32_t left = own + behind - size;
-    unlink_run(heap, at + own, behind);
+    unlink_run(heap, at + own, behind, FEW_PROBES);
     if (length > found->length)
         memset(heap->image + found->place + found->length, 0, length - found->length);
     put_u32(heap->image, at, (size - HEADER - length) << 24 | size);
@@ -452,19 +463,20 @@ static void relocate(struct heap *heap, uint32_t name, uint32_t length, uint32_t
     find_chunk(heap, name, &found);
     uint32_t size = chunk_size(length);
     uint32_t kept = length < found.length ? length : found.length;
-    if (run > size)
+    unlink_run(heap, at, run, ALL_PROBES);
+    if (run > size) {
         put_free(heap, at + size, run - size);
+        push(heap, at + size, run - size);
+    }
     put_u32(heap->image, at, (size - HEADER - length) << 24 | size);
     put_u32(heap->image, at + 4, u32_at(heap->image, found.place - 4));
     memset(heap->image + at + HEADER, 0, length);
     memmove(heap->image + at + HEADER, heap->image + found.place, kept);
     uint32_t from = found.place - HEADER;
     uint32_t freed = chunk_size(found.length);
-    if (from + freed < heap->len && is_free(heap, from + freed))
-        freed += size_of_chunk(heap, from + freed);
     put_free(heap, from, freed);
+    push(heap, from, freed);
     mend(heap, from, at);
-    drop_lists(heap);
     heap->packed = false;
 }
 
@@ -484,8 +496,12 @@ static bool resize_by_moving(struct heap *heap, uint32_t name, const struct foun
         struct found now;
         pack(heap, start, end, &run);
         find_chunk(heap, name, &now);
-        if (run > 0)
-            lift(heap, now.place - HEADER + chunk_size(now.length), end - run, run);
+        if (run > 0) {
+            uint32_t behind = now.place - HEADER + chunk_size(now.length);
+            lift(heap, behind, end - run, run);
+            memset(heap->heads, 0, sizeof heap->heads);
+            push(heap, behind, run);
+        }
         return resize_in_place(heap, &now, length);
     }
     if (!make_room(heap, size, &at, &run))

@@ -103,6 +103,47 @@ b.img: File too large (os error 27)' "$(cat complained)"
 is 'the old file is there' frob "$(cat b.img)"
 [ -e b.img.palmheap-new ] && is 'a file beside' none b.img.palmheap-new
 
+# FILEs are imported, and exported ones go beside OUT, whole or not at all
+{
+    printf Empty
+    head -c 55 /dev/zero
+    printf DATATest
+    head -c 10 /dev/zero
+} >empty.pdb
+"$program" new 1024 16 blank.img >printed
+printf 'import d 2\nexport d\nexport e\nimport d 3\nexport d\n' >files.txt
+printf 'old' >b.img.1
+ln b.img.1 old.pdb
+says 'files in and out' 0 'ok
+ok 80
+refused 10 NoSuchDatabase
+refused 25 BadFile Truncated
+ok 80' '' run blank.img files.txt b.img calls.txt empty.pdb
+{ cat empty.pdb; printf '\000\000'; } >wanted.pdb
+is 'the first exported file' '' "$(cmp wanted.pdb b.img.1 2>&1)"
+is 'the second exported file' '' "$(cmp wanted.pdb b.img.2 2>&1)"
+is 'the old exported file is as it was' old "$(cat old.pdb)"
+is 'the exported files' 'b.img.1 b.img.2' "$(echo b.img.*)"
+rm old.pdb b.img.1 b.img.2
+says 'a FILE that is not there' 3 '' 'fault read
+none.pdb: No such file or directory (os error 2)' run bad.img faulty.txt c.img empty.pdb none.pdb
+[ -e c.img ] && is 'an image where a FILE is not there' none c.img
+mkdir c.img.2
+says 'an exported file to a folder' 3 'ok
+ok 80
+refused 10 NoSuchDatabase
+refused 25 BadFile Truncated
+ok 80' 'fault write
+c.img.2: Is a directory (os error 21)' run blank.img files.txt c.img calls.txt empty.pdb
+is 'the exported file in front of one that is not written' '' "$(cmp wanted.pdb c.img.1 2>&1)"
+rm -r c.img c.img.1 c.img.2
+printf 'import d 1\nexport d\n' >files.txt
+ln -s /dev/full c.img.1
+says 'an exported file to a full device' 3 'ok
+ok 80' 'fault write
+c.img.1: No space left on device (os error 28)' run blank.img files.txt c.img empty.pdb
+rm c.img c.img.1
+
 # memory that is refused is told, and nothing else: the more there is, the further a run gets
 "$program" new 16777208 4 large.img >printed
 told=0

@@ -22,9 +22,10 @@ const MOST_FREED: usize = 2000;
 #[derive(Clone, Copy)]
 pub(crate) enum Order {
     /// New chunks, each of which needs a large free one. These stand far behind the first of their list, so that
-    /// the chunks are walked for each, and all lists are built anew.
+    /// the chunks are walked for each, and their list.
     FarInAList,
-    /// A chunk of no bytes goes to a large free one, which drops the lists, and then a chunk is made, in turns.
+    /// A chunk of no bytes goes to a large free one, far behind the first of its list, and then a chunk is made, in
+    /// turns.
     ResizeInTurn,
     /// One chunk that takes all the room of many that were freed one by one, of which none are joined.
     OverManyFreed,

@@ -5,11 +5,11 @@
 
 use clap::builder::ValueParser;
 use clap::error::{Error, ErrorKind};
-use clap::{Arg, ArgMatches, Command};
+use clap::{Arg, ArgAction, ArgMatches, Command};
 use std::alloc::{AllocError, Global};
 
 /// What the words ask for.
-#[derive(Clone, Copy)]
+#[derive(Drop)]
 pub enum Request<'a> {
     New {
         size: u32,
@@ -23,6 +23,8 @@ pub enum Request<'a> {
         image: &'a str,
         script: &'a str,
         out: &'a str,
+        /// The files that lines of the script import, in order.
+        files: Vec<&'a str>,
     },
 }
 
@@ -35,12 +37,21 @@ struct CommandRow {
     arguments: &'static [Argument],
 }
 
-/// An argument, which can't be left out.
+/// An argument.
 #[derive(Clone, Copy)]
 struct Argument {
     name: &'static str,
+    count: Count,
     values: ValueParser<'static>,
     help: &'static str,
+}
+
+/// How many words an argument may be.
+#[derive(Clone, Copy)]
+enum Count {
+    One,
+    /// Any number of them, or none.
+    Any,
 }
 
 /// Every command.
@@ -52,17 +63,20 @@ const COMMANDS: [CommandRow; 3] = [
         arguments: &[
             Argument {
                 name: "SIZE",
+                count: Count::One,
                 values: ValueParser::Unsigned(0, u32::MAX as u64),
                 help: "Size of the image in bytes: a multiple of 8, from 64 to 16777208",
             },
             Argument {
                 name: "SLOTS",
+                count: Count::One,
                 values: ValueParser::Unsigned(0, u16::MAX as u64),
                 help: "How many slots its table has, 1 to 65535: the most chunks that can be movable \
                     at a time. A slot takes 4 bytes",
             },
             Argument {
                 name: "OUT",
+                count: Count::One,
                 values: ValueParser::String,
                 help: "File for the image. One that is there is replaced, once the image is whole",
             },
@@ -82,14 +96,23 @@ const COMMANDS: [CommandRow; 3] = [
             IMAGE,
             Argument {
                 name: "SCRIPT",
+                count: Count::One,
                 values: ValueParser::String,
                 help: "File with the script",
             },
             Argument {
                 name: "OUT",
+                count: Count::One,
                 values: ValueParser::String,
                 help: "File for the changed image. One that is there is replaced, once the image is \
-                    whole",
+                    whole. The files that the script exports go to OUT.1, OUT.2 and so on",
+            },
+            Argument {
+                name: "FILE",
+                count: Count::Any,
+                values: ValueParser::String,
+                help: "Files of databases, PDB or PRC, that lines of the script import by their number: \
+                    the first is 1",
             },
         ],
     },
@@ -97,6 +120,7 @@ const COMMANDS: [CommandRow; 3] = [
 
 const IMAGE: Argument = Argument {
     name: "IMAGE",
+    count: Count::One,
     values: ValueParser::String,
     help: "File with the image",
 };
@@ -122,12 +146,12 @@ On 3 and 4 the first line on standard error is 'fault read', 'fault write' or 'f
 the first two a second line names the file and says why.";
 
 const SCRIPTS: &str = "\
-A script is a text of lines. Each is a call of the memory manager, on databases, on their records or on
-their resources, and prints 'ok' with what the call answers, or 'refused' with the number and the name of
-the refusal. A chunk goes by a label, which 'new', 'ptrnew' and 'bind' give it: a letter, then letters,
+A script is a text of lines. Each is a call of the memory manager, on databases, on their records, their
+resources or their files, and prints 'ok' with what the call answers, or 'refused' with the number and the
+name of the refusal. A chunk goes by a label, which 'new', 'ptrnew' and 'bind' give it: a letter, then letters,
 digits or '_'; so do the data of a record, by 'recnew', 'recget', 'recquery', 'recdetach' and 'recreplace',
 the data of a resource, by 'resnew', 'resinfo' and 'resdetach', and an info block, by 'info' and 'infotake'.
-A database goes by a label of its own, which 'create', 'find' and 'nth' give it.
+A database goes by a label of its own, which 'create', 'find', 'nth' and 'import' give it.
 
   bind A NAME         new A SIZE OWNER    ptrnew A SIZE OWNER
   free A              resize A SIZE       setowner A OWNER
@@ -159,6 +183,8 @@ A database goes by a label of its own, which 'create', 'find' and 'nth' give it.
   resfind D \"TYPE\" ID                     restype D \"TYPE\" NTH
   rescount D
 
+  import D FILE-NUMBER                    export D
+
 'write', 'set' and 'strcopy' need a locked or a fixed chunk. OWNER is 1 to 14. RESOURCES is 1 where
 the entries are resources, and 0 where they are records. DIRTY is 1 where the record is to be dirty,
 and else 0. BLOCK is 'app' or 'sort'. 'recreplace' gives a record the data A, and its old data to OWNER
@@ -173,27 +199,32 @@ behind '0x'. HEX is hex digits, or '-' for no byte. A line that is empty or star
 /// The error is also a request for help or for the version.
 pub fn parse<'a>(alloc: Global, words: &'a [String]) -> Result<Request<'a>, Error> {
     let mut command = palmheap(alloc)?;
-    parse_by(&mut command, words)
+    parse_by(alloc, &mut command, words)
 }
 
-fn parse_by<'a>(command: &mut Command<'a>, words: &'a [String]) -> Result<Request<'a>, Error> {
+fn parse_by<'a>(
+    alloc: Global,
+    command: &mut Command<'a>,
+    words: &'a [String],
+) -> Result<Request<'a>, Error> {
     let matches = command.try_get_matches_from_mut(words)?;
-    match requested(&matches) {
+    match requested(alloc, &matches)? {
         Some(request) => Ok(request),
         None => Err(command.error(ErrorKind::MissingSubcommand, "no command was given")?),
     }
 }
 
-/// What the matches of `palmheap` ask for. The command has each of these arguments as a required
+/// What the matches of `palmheap` ask for. The command has each of its arguments but FILE as a required
 /// one, so nothing is missing.
-fn requested<'a>(matches: &ArgMatches<'a>) -> Option<Request<'a>> {
-    match matches.subcommand()? {
-        ("new", given) => new_requested(given),
-        ("check", given) => Some(Request::Check {
-            image: given.get_str("IMAGE")?,
-        }),
-        ("run", given) => run_requested(given),
-        _ => None,
+fn requested<'a>(
+    alloc: Global,
+    matches: &ArgMatches<'a>,
+) -> Result<Option<Request<'a>>, AllocError> {
+    match matches.subcommand() {
+        Some(("new", given)) => Ok(new_requested(given)),
+        Some(("check", given)) => Ok(check_requested(given)),
+        Some(("run", given)) => run_requested(alloc, given),
+        _ => Ok(None),
     }
 }
 
@@ -205,11 +236,26 @@ fn new_requested<'a>(given: &ArgMatches<'a>) -> Option<Request<'a>> {
     })
 }
 
-fn run_requested<'a>(given: &ArgMatches<'a>) -> Option<Request<'a>> {
+fn check_requested<'a>(given: &ArgMatches<'a>) -> Option<Request<'a>> {
+    Some(Request::Check {
+        image: given.get_str("IMAGE")?,
+    })
+}
+
+fn run_requested<'a>(
+    alloc: Global,
+    given: &ArgMatches<'a>,
+) -> Result<Option<Request<'a>>, AllocError> {
+    let files = Vec::from_slice(alloc, given.get_strs("FILE").unwrap_or(&[]))?;
+    Ok(run_on(given, files))
+}
+
+fn run_on<'a>(given: &ArgMatches<'a>, files: Vec<&'a str>) -> Option<Request<'a>> {
     Some(Request::Run {
         image: given.get_str("IMAGE")?,
         script: given.get_str("SCRIPT")?,
         out: given.get_str("OUT")?,
+        files,
     })
 }
 
@@ -246,14 +292,17 @@ fn command<'a>(alloc: Global, row: &CommandRow) -> Result<Command<'a>, AllocErro
         command = command.after_help(text);
     }
     for argument in row.arguments {
-        command = command.arg(required(alloc, argument))?;
+        command = command.arg(described_argument(alloc, argument))?;
     }
     Ok(command)
 }
 
-fn required<'a>(alloc: Global, argument: &Argument) -> Arg<'a> {
-    Arg::new(alloc, argument.name)
-        .required(true)
+fn described_argument<'a>(alloc: Global, argument: &Argument) -> Arg<'a> {
+    let described = Arg::new(alloc, argument.name)
         .value_parser(argument.values)
-        .help(argument.help)
+        .help(argument.help);
+    match argument.count {
+        Count::One => described.required(true),
+        Count::Any => described.num_args(1..).action(ArgAction::Append),
+    }
 }

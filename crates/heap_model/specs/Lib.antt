@@ -33,5 +33,7 @@ pub mod DatabaseSteps
 pub mod Categories
 pub mod RecordSteps
 pub mod ResourceSteps
+pub mod FileSteps
 pub mod StoreSteps
+pub mod Runs
 pub mod Counted

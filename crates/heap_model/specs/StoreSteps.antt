@@ -14,9 +14,11 @@ use Rattle.heap_model.specs.StoreWords.{SameStore}
 use Rattle.heap_model.specs.DatabaseSteps.{database_call, database_row}
 use Rattle.heap_model.specs.RecordSteps.{record_call, record_row}
 use Rattle.heap_model.specs.ResourceSteps.{resource_call, resource_row}
+use Rattle.heap_model.specs.FileSteps.{file_call, file_row}
 use Rattle.heap_model.specs.declared.call.DatabaseCall.TheVariants.{Create, Delete}
 use Rattle.heap_model.specs.declared.call.RecordCall.TheVariants as records
 use Rattle.heap_model.specs.declared.call.ResourceCall.TheVariants as resources
+use Rattle.heap_model.specs.declared.call.FileCall.TheVariants.{Import, Export}
 use Rattle.heap_model.specs.declared.names.Name.{Name}
 use Rattle.heap_model.specs.declared.names.Db.{Db}
 use Rattle.heap_model.specs.declared.call.Call as given
@@ -36,6 +38,7 @@ call_by chunk number (calls.Memory call) = calls.Memory (memory.memory_call chun
 call_by chunk number (calls.Database call) = calls.Database (database_call chunk number call)
 call_by chunk number (calls.Record call) = calls.Record (record_call chunk number call)
 call_by chunk number (calls.Resource call) = calls.Resource (resource_call chunk number call)
+call_by chunk number (calls.File call) = calls.File (file_call number call)
 
 -- ---- the rows
 
@@ -53,6 +56,7 @@ row old store (calls.Memory call) = lifted (memory.row old store.map call)
 row old store (calls.Database call) = database_row old store call
 row old store (calls.Record call) = record_row old store call
 row old store (calls.Resource call) = resource_row old store call
+row old store (calls.File call) = file_row old store call
 
 -- ---- the step
 
@@ -73,6 +77,7 @@ StoreStep old call reply new = StepBy (row_of old call) (StoreAsBefore old new) 
 -- the call has made a database, and may have made the directory for it
 abbrev pub HasMade : Call → Reply → Type 0
 HasMade (calls.Database (Create name kind creator resources date)) (replies.Database db) = Unit {0}
+HasMade (calls.File (Import file)) (replies.Database db) = Unit {0}
 HasMade call reply = ⊥
 
 -- the calls that may slide bytes, of chunks that move or within one
@@ -94,6 +99,8 @@ may_slide (calls.Resource (resources.Detach db index owner)) = true
 may_slide (calls.Resource (resources.Remove db index)) = true
 may_slide (calls.Resource (resources.Resize db index size)) = true
 may_slide (calls.Resource call) = false
+may_slide (calls.File (Import file)) = true
+may_slide (calls.File (Export db)) = false
 
 -- From an accepted image the call does its step to an accepted image of the same size with as many slots,
 -- where nothing locked has moved; also where it is refused. The directory is the same chunk, but where a

@@ -235,6 +235,15 @@ pub enum ResourceCall<C = Name, D = Db> {
     Count(D),
 }
 
+/// A call on files of databases, PDB and PRC (Palm OS File Format Specification), by how it gives its database.
+#[derive(Drop, Debug, PartialEq, Eq)]
+pub enum FileCall<D = Db> {
+    /// The database of a file, of which these are the bytes, comes behind the others.
+    Import(Bytes),
+    /// Answers the bytes of the file of a database.
+    Export(D),
+}
+
 /// A call of any manager.
 #[derive(Drop, Debug, PartialEq, Eq)]
 pub enum Call<C = Name, D = Db> {
@@ -242,6 +251,7 @@ pub enum Call<C = Name, D = Db> {
     Database(DatabaseCall<C, D>),
     Record(RecordCall<C, D>),
     Resource(ResourceCall<C, D>),
+    File(FileCall<D>),
 }
 
 /// What a call answers: a refusal, or a value of its own.
@@ -252,6 +262,7 @@ pub enum Reply {
     Number(u32),
     Named(Name),
     Locked { place: Place, count: u8 },
+    /// The bytes of a chunk, or of a file.
     Data(Bytes),
     Database(Db),
     Info(DbInfo),

@@ -40,7 +40,9 @@
 //! | `Categories` | the category of a record, and what calls on a category do to a record |
 //! | `RecordSteps` | the row of each call on records |
 //! | `ResourceSteps` | the row of each call on resources |
+//! | `FileSteps` | the row of each call on files, and the room that a database takes which is made whole |
 //! | `StoreSteps` | the row of each call on a store, the memory manager's calls among them, and its step |
+//! | `Runs` | a list of calls, done one after the other |
 //! | `Counted` | what contracts see of a writer whose faults are counted |
 //!
 //! Offsets count bytes from the image's start, and numbers are big-endian. The fields of a chunk's
@@ -62,7 +64,7 @@ mod tally;
 
 pub use allowance::Allowance;
 pub use bytes::Bytes;
-pub use call::{Call, DatabaseCall, MemoryCall, RecordCall, Reply, ResourceCall};
+pub use call::{Call, DatabaseCall, FileCall, MemoryCall, RecordCall, Reply, ResourceCall};
 pub use counted::Counted;
 pub use database::{DbInfo, DbName};
 pub use entry::{Entry, RecordInfo, ResourceInfo};

@@ -3,6 +3,7 @@
 ghost use Rattle.std.specs.Prelude.{◌≡◌};
 ghost use Rattle.heap_model.specs.Numbers.{number_of, name_of};
 
+use crate::file_fault::FileFault;
 use thiserror::Error;
 
 /// Why a call was refused. A refused call leaves what the heap means as it was. The numbers are this
@@ -81,6 +82,9 @@ pub enum Refusal {
     /// The database has no such info block.
     #[error("NoInfoBlock")]
     NoInfoBlock,
+    /// No database is read from the file, and this is what is wrong with it first.
+    #[error("BadFile {0}")]
+    BadFile(FileFault),
     /// Memory for the answer was refused.
     #[error("OutOfMemory")]
     OutOfMemory,
@@ -131,6 +135,7 @@ impl Refusal {
             Refusal::InvalidName => (22, "InvalidName"),
             Refusal::ResourceNotFound => (23, "ResourceNotFound"),
             Refusal::NoInfoBlock => (24, "NoInfoBlock"),
+            Refusal::BadFile(_) => (25, "BadFile"),
             Refusal::OutOfMemory => (26, "OutOfMemory"),
         }
     }

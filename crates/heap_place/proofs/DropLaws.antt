@@ -22,16 +22,20 @@ use Rattle.chunk_format.specs.Header.{HasHeader, live_words, h_offset_to}
 use Rattle.chunk_format.specs.declared.header.Header.TheVariants as headers
 use Rattle.laws_heap.proofs.CarriedBytes.{Carries, slice-carried, slid_down}
 use Rattle.heap_place.specs.Packs.{BecomesExactly, Droppable}
+use Rattle.heap_place.specs.Lists.{KeepsFree}
+use Rattle.heap_place.specs.Gathers.{Before}
 use Rattle.heap_place.proofs.FoundLaws.{heap_in_parts, Middle, middle_of}
 use Rattle.laws_heap.proofs.Exchanging.{gap_free, gap_total}
 use Rattle.heap_place.proofs.RoomLaws.{free_push}
 use Rattle.heap_place.proofs.CutLaws.{has_free, header_movable, wrote_words}
 use Rattle.heap_place.proofs.ExactLaws.{exactly_heap}
+use Rattle.heap_place.proofs.KeepLaws.{keeps_replaced, outside_apart}
 
 -- ---- a chunk that goes down
 
 -- where it is, and its slot
 pub record DropFacts (old : List ℕ) (before : List Chunk) (bytes : List ℕ) (lock owner slot : ℕ) (after : List Chunk) (at room to : ℕ) : Type 0 where
+  pub accepted : HeapAccepted old
   pub heap : IsHeap old (before ++ ((free room ∷ movable bytes lock owner slot ∷ []) ++ after))
   pub middle : Middle old before (free room ∷ movable bytes lock owner slot ∷ []) after to
   pub to_is : to ≡ area_start old + total before
@@ -57,6 +61,7 @@ drop_facts old before bytes lock owner slot after at room to h d e =
     let tied = (heap.tied slot (at + 8) (omega arith)).1 here in
     let inside = m.inside in
     record {
+      accepted = h;
       heap = heap;
       middle = m;
       to_is = to_is;
@@ -134,7 +139,7 @@ down_ties old new before bytes lock owner slot after at room to f own others nam
 pub dropped : (old slid head hole new : List ℕ) (before : List Chunk) (bytes : List ℕ) (lock owner slot : ℕ) (after : List Chunk) (at room to size : ℕ) → DropFacts old before bytes lock owner slot after at room to → size ≡ need (length bytes)
     → slid ≡ overwritten old to (take (at + size - at) (drop at old)) → head ≡ overwritten slid to (live_words (length bytes) lock owner (h_offset_to to slot)) → HasHeader head to (headers.Movable (length bytes) lock owner slot)
     → hole ≡ overwritten head (to + size) (u32_bytes (2 ^ 31 + room)) → HasHeader hole (to + size) (headers.Free room) → new ≡ overwritten hole slot (u32_bytes (to + 8))
-    → BecomesExactly old new (before ++ movable bytes lock owner slot ∷ free room ∷ after)
+    → BecomesExactly old new (before ++ movable bytes lock owner slot ∷ free room ∷ after) × KeepsFree (Before to) old new
 dropped old slid head hole new before bytes lock owner slot after at room to size f size_is slid_is head_is header hole_is rest new_is =
     let c : Chunk = movable bytes lock owner slot in
     let at_is = f.at_is in
@@ -186,7 +191,10 @@ dropped old slid head hole new before bytes lock owner slot after at room to siz
       | inl none ↦ absurd none
       | inr more ↦ free_plain new (to + size_of c) room [] (subst (λ (n : ℕ). u32_at new (to + n) ≡ 2 ^ 31 + room) size_is hole_word) (omega (arith, inside, most)) (λ there none. absurd none) there more
     ]) in
-    exactly_heap old new (before ++ c ∷ free room ∷ after) r.head heap plain
+    let was : chunks_of old ≡ before ++ ((free room ∷ c ∷ []) ++ after) = chunks_of-tiled old (before ++ free room ∷ c ∷ after) f.heap.tiles in (
+      exactly_heap old new (before ++ c ∷ free room ∷ after) r.head heap plain,
+      λ there low b. keeps_replaced old new before (free room ∷ c ∷ []) (c ∷ free room ∷ []) after to f.accepted was heap r there (outside_apart old before (free room ∷ c ∷ []) after to there f.heap to_is (inl low)) b,
+    )
 
 -- ---- a free chunk that is joined
 
@@ -198,6 +206,7 @@ pub gap_none : (room : ℕ) → room ≡ 0 → gap room ≡ []
 gap_none room none = ap gap none
 
 pub record JoinFacts (old : List ℕ) (before : List Chunk) (size : ℕ) (after : List Chunk) (at room to : ℕ) : Type 0 where
+  pub accepted : HeapAccepted old
   pub heap : IsHeap old (before ++ ((gap room ++ free size ∷ []) ++ after))
   pub middle : Middle old before (gap room ++ free size ∷ []) after to
   pub sizes : total (gap room ++ free size ∷ []) ≡ room + size
@@ -213,10 +222,10 @@ join_facts old before size after at room to h chunks there e =
     let b = gap_total room in
     let parts = SpelledAll-split old to (gap room) (free size ∷ []) (to + total (gap room ++ free size ∷ [])) m.spelled in
     let here : to + total (gap room) ≡ at = omega (arith, b, there, e) in
-    record { heap = heap; middle = m; sizes = omega (arith, a, b); to_is = to_is; is_free = subst (λ (n : ℕ). IsFree old n size) here parts.1.0 }
+    record { accepted = h; heap = heap; middle = m; sizes = omega (arith, a, b); to_is = to_is; is_free = subst (λ (n : ℕ). IsFree old n size) here parts.1.0 }
 
 pub joined : (old new : List ℕ) (before : List Chunk) (size : ℕ) (after : List Chunk) (at room to : ℕ) → JoinFacts old before size after at room to → new ≡ overwritten old to (u32_bytes (2 ^ 31 + (room + size))) → HasHeader new to (headers.Free (room + size))
-    → BecomesExactly old new (before ++ (gap (room + size) ++ after))
+    → BecomesExactly old new (before ++ (gap (room + size) ++ after)) × KeepsFree (Before to) old new
 joined old new before size after at room to f is header =
     let mid : List Chunk = gap room ++ free size ∷ [] in
     let sizes = f.sizes in
@@ -235,4 +244,7 @@ joined old new before size after at room to f is header =
     let written : u32_at new to ≡ 2 ^ 31 + (room + size) = ap (λ (bs : List ℕ). u32_at bs to) is ∙ u32_at-written (2 ^ 31 + (room + size)) to old (omega (arith, inside, sizes, least)) (omega (arith, inside, sizes, most)) in
     let plain = replaced_plain old new before mid (free (room + size) ∷ []) after to (chunks_of-tiled old (before ++ (mid ++ after)) f.heap.tiles) heap r (free_plain new to (room + size) [] written (omega (arith, inside, sizes, most)) (λ there none. absurd none)) in
     let exact : BecomesExactly old new (before ++ free (room + size) ∷ after) = exactly_heap old new (before ++ free (room + size) ∷ after) r.head heap plain in
-    subst (λ (cs : List Chunk). BecomesExactly old new (before ++ (cs ++ after))) g exact
+    let was : chunks_of old ≡ before ++ (mid ++ after) = chunks_of-tiled old (before ++ (mid ++ after)) f.heap.tiles in (
+      subst (λ (cs : List Chunk). BecomesExactly old new (before ++ (cs ++ after))) g exact,
+      λ there low b. keeps_replaced old new before mid (free (room + size) ∷ []) after to f.accepted was heap r there (outside_apart old before mid after to there f.heap to_is (inl low)) b,
+    )

@@ -10,6 +10,8 @@ use Rattle.laws_heap.proofs.Writing.{WroteWithin, wrote_part, wrote_word, wrote_
 use Rattle.chunk_format.specs.Header.{size_by, HasHeader, IsWritable, live_words, h_offset_to, header_bytes}
 use Rattle.chunk_format.specs.declared.header.Header.{Header}
 use Rattle.chunk_format.specs.declared.header.Header.TheVariants as headers
+use Rattle.heap_place.specs.Lists.{KeepsFree}
+use Rattle.heap_place.specs.Gathers.{Before}
 use Rattle.heap_place.specs.Packs.{BecomesExactly, IsDroppable}
 use Rattle.heap_place.proofs.CutLaws.{wrote_words, wrote_head}
 use Rattle.heap_place.proofs.MendLaws.{header_there}
@@ -59,7 +61,7 @@ drop_table old slid head hole before bytes lock owner slot after at room to size
 
 pub dropped_read : (old slid head hole new : List ℕ) (before : List Chunk) (bytes : List ℕ) (lock owner slot : ℕ) (after : List Chunk) (at room to size count k v named : ℕ) (header : Header) → DropFacts old before bytes lock owner slot after at room to → HasHeader old at header → size ≡ size_by header → header ≡ headers.Movable count k v named
     → slid ≡ overwritten old to (take (at + size - at) (drop at old)) → head ≡ overwritten slid to (header_bytes to header) → HasHeader head to header → hole ≡ overwritten head (to + size) (u32_bytes (2 ^ 31 + room)) → HasHeader hole (to + size) (headers.Free room)
-    → new ≡ overwritten hole named (u32_bytes (to + 8)) → BecomesExactly old new (before ++ movable bytes lock owner slot ∷ free room ∷ after)
+    → new ≡ overwritten hole named (u32_bytes (to + 8)) → BecomesExactly old new (before ++ movable bytes lock owner slot ∷ free room ∷ after) × KeepsFree (Before to) old new
 dropped_read old slid head hole new before bytes lock owner slot after at room to size count k v named header f found size_is is slid_is head_is written hole_is rest new_is =
     let e = same_header old before bytes lock owner slot after at room to header f found in
     let n = same_slot count k v named (length bytes) lock owner slot (sym is ∙ e) in

@@ -1,5 +1,5 @@
 -- An image that has become a heap with these very chunks.
-use Rattle.std.proofs.Common.{◌≡◌, ℕ, List, ap}
+use Rattle.std.proofs.Common.{◌≡◌, ℕ, List, ap, ◌∙◌}
 use Rattle.heap_model.specs.Chunk.{Chunk}
 use Rattle.heap_model.specs.Slots.{area_start}
 use Rattle.heap_model.specs.Heap.{IsHeap, HeapAccepted}
@@ -10,6 +10,7 @@ use Rattle.laws_heap.proofs.Replacing.{SameHead}
 use Rattle.laws_heap.proofs.Becoming.{frame_of, same_frame, frame_then, becomes_start}
 use Rattle.laws_heap.proofs.Plain.{plain_same, plain_then}
 use Rattle.heap_place.specs.Packs.{BecomesExactly}
+use Rattle.heap_place.specs.Lists.{SameChunks}
 
 pub exactly_heap : (old new : List ℕ) (cs : List Chunk) → SameHead old new → IsHeap new cs → WritesPlain old new → BecomesExactly old new cs
 exactly_heap old new cs same h plain = record { frame = frame_of old new cs same h; exact = chunks_of-tiled new cs h.tiles; plain = plain }
@@ -25,3 +26,7 @@ exactly_becomes old new cs b = record { frame = b.frame; layout = ap merged b.ex
 
 pub exactly_start : (old new : List ℕ) (cs : List Chunk) → BecomesExactly old new cs → area_start new ≡ area_start old
 exactly_start old new cs b = becomes_start old new cs (exactly_becomes old new cs b)
+
+-- and then links were written
+pub exactly_linked : (old mid new : List ℕ) (cs : List Chunk) → BecomesExactly old mid cs → SameChunks mid new → BecomesExactly old new cs
+exactly_linked old mid new cs b s = record { frame = frame_then old mid new b.frame s.frame; exact = s.chunks ∙ b.exact; plain = plain_then old mid new b.plain s.plain }

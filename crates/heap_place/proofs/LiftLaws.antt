@@ -16,8 +16,10 @@ use Rattle.laws_heap.proofs.Chunks.{total-append, SameWords}
 use Rattle.laws_heap.proofs.Slots.{slot_alike, start_listed}
 use Rattle.laws_heap.proofs.Plain.{free_plain, lives_plain, middle_plain}
 use Rattle.laws_heap.proofs.Runs.{chunks_of-tiled}
-use Rattle.heap_place.specs.Lifting.{Lifting}
+use Rattle.heap_place.specs.Lifting.{Lifting, FreeBehind, Lifts}
+use Rattle.heap_place.specs.Lists.{IsFreeChunk}
 use Rattle.heap_place.specs.Packs.{BecomesExactly}
+use Rattle.heap_place.proofs.ExactLaws.{exactly_start}
 
 -- ---- what does not depend on where a chunk stands
 
@@ -214,3 +216,9 @@ module _ (old image : List ℕ) (before moved after : List Chunk) (gap at : ℕ)
     exact = chunks_of-tiled image (before ++ free gap ∷ (moved ++ after)) l.tiles;
     plain = lift_plain small live;
   }
+
+-- the free chunk stands where the first of them stood
+pub lifted_room : (old new : List ℕ) (before mid after : List Chunk) (start end gap : ℕ) → FreeBehind old before mid after start end gap → Lifts old new start end gap → IsFreeChunk new start gap
+lifted_room old new before mid after start end gap f lifts =
+    let b = lifts before mid after f in
+    record { before = before; after = mid ++ after; chunks = b.exact; there = f.from ∙ ap (λ (n : ℕ). n + total before) (sym (exactly_start old new (before ++ free gap ∷ (mid ++ after)) b)) }

@@ -1,9 +1,9 @@
 -- Chains of free chunks: their length is determined, they visit no chunk twice, and what keeps them.
-use Rattle.std.proofs.Common.{◌≡◌, ◌≢◌, ℕ, zero, suc, ◌+◌, ◌^◌, ◌<◌, ◌≤◌, List, length, get_or, refl, sym, ap, subst, ◌∙◌, arith, inl, inr}
+use Rattle.std.proofs.Common.{◌≡◌, ◌≢◌, ℕ, zero, suc, ◌+◌, ◌^◌, ◌<◌, ◌≤◌, List, length, replicate, get_or, refl, sym, ap, subst, ◌∙◌, arith, inl, inr}
 use Rattle.std.specs.Prelude.{◌⊎◌, slice_index}
 use Rattle.std.proofs.Math.ListN.{set}
 use Rattle.std.proofs.Math.Nat.{pow-le-pow_right}
-use Rattle.std.proofs.lemmas.List.{get_or-set_same, get_or-set_other}
+use Rattle.std.proofs.lemmas.List.{get_or-set_same, get_or-set_other, get_or-replicate}
 use Rattle.heap_model.specs.Bytes.{u32_at}
 use Rattle.heap_model.specs.Reading.{size_field}
 use Rattle.heap_model.specs.Layout.{BeginsFree}
@@ -86,6 +86,9 @@ lists_any P image heads a = lists_weaker P Any image heads (λ x b p. tt) a
 -- the empty lists
 pub no_lists : (P : ℕ → Type 0) (image heads : List ℕ) → ((class : ℕ) → class < class_count → slice_index heads class ≡ 0) → AreLists P image heads
 no_lists P image heads none = record { lists = λ class below. record { count = 0; chain = none class below; each = tt } }
+
+pub new_lists : (P : ℕ → Type 0) (image : List ℕ) → AreLists P image (replicate class_count 0)
+new_lists P image = no_lists P image (replicate class_count 0) (λ class below. get_or-replicate class_count class 0 0 below)
 
 -- the head of a list, and the others
 pub record IsHead (image heads : List ℕ) (class at : ℕ) : Type 0 where

@@ -18,9 +18,11 @@ use Rattle.chunk_format.specs.Header.{header_of, size_by, HasHeader, IsWritable}
 use Rattle.chunk_format.specs.declared.header.Header.{Header}
 use Rattle.chunk_format.specs.declared.header.Header.TheVariants as headers
 use Rattle.heap_place.specs.Packs.{BecomesExactly, RunOf, IsRun, Packs, last_room, packed_one, room_after, moved_one, HeaderStays, BehindRoom, IsBehindRoom, PackedOne, PacksOne, Droppable, IsDroppable, Drops, Packing, PacksUpTo}
+use Rattle.heap_place.specs.Lists.{KeepsFree, IsFreeChunk, SameChunks}
+use Rattle.heap_place.specs.Gathers.{Before}
 use Rattle.heap_place.proofs.FoundLaws.{heap_in_parts}
 use Rattle.heap_place.proofs.MendLaws.{header_there}
-use Rattle.heap_place.proofs.ExactLaws.{exactly_itself, exactly_then, exactly_becomes, exactly_start}
+use Rattle.heap_place.proofs.ExactLaws.{exactly_itself, exactly_then, exactly_becomes, exactly_start, exactly_linked}
 use Rattle.heap_place.proofs.DropLaws.{gap_some, gap_none, join_facts, joined}
 use Rattle.laws_heap.proofs.Exchanging.{gap_total}
 use Rattle.chunk_format.proofs.HeaderLaws.{size_by-header_of}
@@ -59,7 +61,23 @@ pub packed_free : (old new : List ℕ) (before : List Chunk) (c : Chunk) (after 
 packed_free old new before c after at room n size h b found e is written =
     let c_is : c ≡ free size = free_header n c (behind_header old before c after at room (headers.Free n) h b found) ∙ ap free (sym e) in
     let f = join_facts old before size after at room (at - room) h (b.chunks ∙ ap (λ (d : Chunk). before ++ (gap room ++ d ∷ after)) c_is) b.there refl in
-    subst (λ (d : Chunk). PackedOne old new before d after room size 0 (room + size)) (sym c_is) record { becomes = joined old new before size after at room (at - room) f is written; size_is = refl; moved_is = refl; room_is = refl }
+    subst (λ (d : Chunk). PackedOne old new before d after room size 0 (room + size)) (sym c_is) record { becomes = (joined old new before size after at room (at - room) f is written).0; size_is = refl; moved_is = refl; room_is = refl }
+
+pub free_keeps : (old new : List ℕ) (before : List Chunk) (c : Chunk) (after : List Chunk) (at room n size : ℕ) → HeapAccepted old → BehindRoom old before c after at room → HasHeader old at (headers.Free n) → size ≡ n
+    → new ≡ overwritten old (at - room) (u32_bytes (2 ^ 31 + (room + size))) → HasHeader new (at - room) (headers.Free (room + size)) → KeepsFree (Before (at - room)) old new
+free_keeps old new before c after at room n size h b found e is written =
+    let c_is : c ≡ free size = free_header n c (behind_header old before c after at room (headers.Free n) h b found) ∙ ap free (sym e) in
+    let f = join_facts old before size after at room (at - room) h (b.chunks ∙ ap (λ (d : Chunk). before ++ (gap room ++ d ∷ after)) c_is) b.there refl in
+    (joined old new before size after at room (at - room) f is written).1
+
+-- ---- the room in front
+
+pub room_in_front : (image : List ℕ) (at room : ℕ) → IsBehindRoom image at room → (room ≤ at) × (0 < room → IsFreeChunk image (at - room) room)
+room_in_front image at room b =
+    let there = b.behind.there in (
+      omega (arith, there),
+      λ some. record { before = b.before; after = b.chunk ∷ b.after; chunks = b.behind.chunks ∙ ap (λ (g : List Chunk). b.before ++ (g ++ b.chunk ∷ b.after)) (gap_some room some); there = omega (arith, there) },
+    )
 
 -- ---- a movable one
 
@@ -146,6 +164,11 @@ packed_kept old before c after at room size header h b found isnt size_is why = 
   | inl stay ↦ packed_staying old before c after at room size header h b found stay size_is
   | inr none ↦ packed_still old before c after at room size header h b found isnt none.0 size_is none.1
 ]
+
+-- and then links were written
+pub kept_linked : (old new : List ℕ) (before : List Chunk) (c : Chunk) (after : List Chunk) (room size more room_then : ℕ) → PackedOne old old before c after room size more room_then → SameChunks old new → PackedOne old new before c after room size more room_then
+kept_linked old new before c after room size more room_then p s =
+    record { becomes = exactly_linked old old new (before ++ (packed_one room c ++ after)) p.becomes s; size_is = p.size_is; moved_is = p.moved_is; room_is = p.room_is }
 
 -- ---- all of them
 
@@ -315,6 +338,23 @@ packing_on old image new start end at moved room size more room_then w run on p 
     let few = moved_few 0 run.mid in
     let to = run.run.to in
     record { on = omega (arith, least, size_is); within = omega (arith, ends); few = omega (arith, sum, few, to) }
+
+-- the room behind what is packed
+pub room_packed : (old image : List ℕ) (start end at moved room : ℕ) → PacksUpTo old image start end at moved room → IsRun old start end → (room ≤ at) × (0 < room → IsFreeChunk image (at - room) room)
+room_packed old image start end at moved room w run =
+    let k = w run.before run.mid run.after run.run in
+    let starts = exactly_start old image (run.before ++ (k.done ++ (gap room ++ (k.rest ++ run.after)))) k.becomes in
+    let both = total-append run.before k.done in
+    let there = k.there in
+    let from = run.run.from in (
+      omega (arith, there),
+      λ some. record {
+        before = run.before ++ k.done;
+        after = k.rest ++ run.after;
+        chunks = k.becomes.exact ∙ ap (λ (g : List Chunk). run.before ++ (k.done ++ (g ++ (k.rest ++ run.after)))) (gap_some room some) ∙ sym (append_assoc run.before k.done (free room ∷ (k.rest ++ run.after)));
+        there = omega (arith, there, from, both, starts);
+      },
+    )
 
 -- at the end all are packed
 pub record AllPacked (old image : List ℕ) (before mid after : List Chunk) (moved room : ℕ) : Type 0 where

@@ -1,5 +1,5 @@
 -- A chunk that goes to room elsewhere, step by step.
-use Rattle.std.proofs.Common.{◌≡◌, ◌≢◌, ℕ, ◌+◌, ◌-◌, ◌%◌, ◌^◌, ◌<◌, ◌≤◌, List, [], ◌∷◌, ◌++◌, length, take, drop, replicate, Bool, Option, Some, None, refl, sym, ap, subst, ◌∙◌, arith, inl, inr}
+use Rattle.std.proofs.Common.{◌≡◌, ◌≢◌, ℕ, ◌+◌, ◌-◌, ◌%◌, ◌^◌, ◌<◌, ◌≤◌, List, [], ◌∷◌, ◌++◌, length, take, drop, replicate, Bool, Option, Some, None, refl, sym, ap, subst, ◌∙◌, arith, inl, inr, length-drop}
 use Rattle.std.proofs.lemmas.List.{length-replicate, length-take, take_all, take-take, drop-replicate}
 use Rattle.std.proofs.lemmas.Bool.{cases_lt, OnTrue_at, OnTrue_from}
 use Rattle.std.specs.Bool.{OnTrue}
@@ -32,11 +32,13 @@ use Rattle.laws_heap.proofs.Becoming.{becomes_heap, slot_kept}
 use Rattle.laws_heap.proofs.Plain.{lives_plain, replaced_plain}
 use Rattle.chunk_format.specs.declared.header.Header.TheVariants as headers
 use Rattle.chunk_format.specs.Header.{HasHeader, live_words, h_offset_to}
-use Rattle.heap_model.specs.declared.names.Name.{Name}
 use Rattle.heap_place.specs.declared.found.Found.{Found}
 use Rattle.heap_place.specs.Found.{IsOne}
 use Rattle.heap_place.specs.Relocation.{stand_in, KeepsFound, Copies, with_name, RelocatesToRun}
-use Rattle.heap_place.proofs.FoundLaws.{heap_in_parts, middle_of, found_inside, own_slot, one_held, when_movable}
+use Rattle.heap_place.specs.Lists.{Any, KeepsFree}
+use Rattle.heap_place.proofs.FoundLaws.{heap_in_parts, middle_of, found_inside, bytes_inside, own_slot, one_held, when_movable}
+use Rattle.heap_place.proofs.KeepLaws.{keeps_replaced, live_apart}
+use Rattle.heap_place.proofs.WithinLaws.{keeps_body}
 use Rattle.heap_place.proofs.CutLaws.{header_movable, wrote_words, table_kept}
 use Rattle.heap_place.proofs.AlterLaws.{changed_there, written_there}
 
@@ -104,7 +106,7 @@ stand_keeps old new at size count h r fits x found f = found_kept old new (fixed
 
 pub named_write : (old mid new : List ℕ) (at name : ℕ) (live : LiveChunk) (bytes : List ℕ) (holder owner slot : ℕ) → HeapAccepted old → (f : Finds old name live (fixed bytes holder) at) → IsSlot old slot → u32_at old slot ≡ 0
     → mid ≡ overwritten old at (live_words (length bytes) 0 owner (h_offset_to at slot)) → HasHeader mid at (headers.Movable (length bytes) 0 owner slot) → new ≡ overwritten mid slot (u32_bytes (at + 8))
-    → Becomes old new (f.before ++ movable bytes 0 owner slot ∷ f.after) × WritesPlain old new
+    → Becomes old new (f.before ++ movable bytes 0 owner slot ∷ f.after) × WritesPlain old new × KeepsFree Any old new
 named_write old mid new at name live bytes holder owner slot h f s empty mid_is header new_is =
     let c : Chunk = fixed bytes holder in
     let d : Chunk = movable bytes 0 owner slot in
@@ -132,19 +134,20 @@ named_write old mid new at name live bytes holder owner slot h f s empty mid_is 
     let done = claimed old new f.before f.after at c bytes owner slot tt heap replaces s empty holds others in (
       becomes_heap old new (f.before ++ d ∷ f.after) replaces.head done,
       replaced_plain old new f.before (c ∷ []) (d ∷ []) f.after at f.chunks done replaces (lives_plain new at (d ∷ []) refl),
+      λ there any b. keeps_replaced old new f.before (c ∷ []) (d ∷ []) f.after at h f.chunks done replaces there (live_apart at there c (λ size e. absurd cc)) b,
     )
 
 -- by what was found
 pub named_there : (old mid new : List ℕ) (there : Found) (owner slot : ℕ) → HeapAccepted old → IsOne old there → there.lock ≡ fixed_lock → IsSlot old slot → u32_at old slot ≡ 0
     → mid ≡ overwritten old (there.place.0 - 8) (live_words there.length 0 owner (h_offset_to (there.place.0 - 8) slot)) → HasHeader mid (there.place.0 - 8) (headers.Movable there.length 0 owner slot) → new ≡ overwritten mid slot (u32_bytes there.place.0)
-    → Alters old new (there.place.0 - 8) (with_name owner slot) × WritesPlain old new
+    → Alters old new (there.place.0 - 8) (with_name owner slot) × WritesPlain old new × KeepsFree Any old new
 named_there old mid new there owner slot h one is_fixed s empty mid_is header new_is =
     let done = by_chunk one.live one.chunk one.finds one.count one.lock_is in
-    (changed_there old new there (with_name owner slot) h one done.0, done.1) where
+    (changed_there old new there (with_name owner slot) h one done.0, done.1, done.2) where
       at : ℕ
       at = there.place.0 - 8
 
-      by_chunk : (live : LiveChunk) (c : Chunk) (f : Finds old there.name.0 live c at) → there.length ≡ length live.bytes → there.lock ≡ live.lock → Becomes old new (f.before ++ with_name owner slot c ∷ f.after) × WritesPlain old new
+      by_chunk : (live : LiveChunk) (c : Chunk) (f : Finds old there.name.0 live c at) → there.length ≡ length live.bytes → there.lock ≡ live.lock → Becomes old new (f.before ++ with_name owner slot c ∷ f.after) × WritesPlain old new × KeepsFree Any old new
       by_chunk live (free size) f count lock_is = absurd f.named
       by_chunk live (movable bytes lock holder named) f count lock_is =
           let s : Spelled old at (movable bytes lock holder named) = finds_spelled old there.name.0 live (movable bytes lock holder named) at h f in
@@ -219,9 +222,13 @@ copy_stands old new to part h one fits x =
     let count = one.count in
     found_held new to (record one.live { bytes = overwritten one.live.bytes 0 part }) ch.frame.accepted ch.here ch.place (one.count ∙ sym (length-overwritten one.live.bytes 0 part (omega arith))) one.lock_is one.owner_is
 
--- by the name that it was given
-pub as_named : (image : List ℕ) (at count : ℕ) (name : Name) → name.0 ≡ at + 8 → IsOne image (stand_in at count) → IsOne image (record { name = name; place = record { 0 = name.0 }; length = count; lock = fixed_lock; owner = 1 })
-as_named image at count name e one = subst (λ (n : ℕ). IsOne image (record { name = record { 0 = n }; place = record { 0 = n }; length = count; lock = fixed_lock; owner = 1 })) (sym e) one
+-- no free chunk is written
+pub copied_keeps : (old new : List ℕ) (from to : Found) (n : ℕ) → HeapAccepted old → IsOne old from → IsOne old to → n ≡ min from.length to.length → new ≡ overwritten old to.place.0 (slice_range old from.place.0 (from.place.0 + n)) → KeepsFree Any old new
+copied_keeps old new from to n h f one is new_is =
+    let inside = bytes_inside old from h f in
+    let many : length (slice_range old from.place.0 (from.place.0 + n)) ≡ n = simp (length-take, length-drop) (omega arith) in
+    let front : to.place.0 ≡ to.place.0 + 0 = omega arith in
+    keeps_body old new to 0 (slice_range old from.place.0 (from.place.0 + n)) h one (omega arith) (new_is ∙ ap (λ (k : ℕ). overwritten old k (slice_range old from.place.0 (from.place.0 + n))) front)
 
 -- ---- all steps
 

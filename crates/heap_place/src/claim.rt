@@ -6,12 +6,12 @@ ghost use Rattle.heap_model.specs.Chunk.{movable, fixed, need};
 ghost use Rattle.heap_model.specs.Slots.{IsSlot};
 ghost use Rattle.heap_model.specs.Heap.{HeapAccepted};
 ghost use Rattle.heap_model.specs.Reading.{chunks_of};
-ghost use Rattle.heap_model.specs.Layout.{Becomes, IsSpot, Claims, WritesPlain};
+ghost use Rattle.heap_model.specs.Layout.{Becomes, IsSpot, WritesPlain};
 ghost use Rattle.heap_place.specs.Search.{WroteRest};
 ghost use Rattle.heap_place.specs.Lists.{IsFreeChunk, KeepsFree, Outside, ButAt, CutsRoom, Fills};
 
 use crate::room::Room;
-use chunk_format::{HEADER_SIZE, Header, size_of_body};
+use chunk_format::{HEADER_SIZE, Header};
 use heap_model::{Name, Place};
 use raw_region::Region;
 
@@ -67,24 +67,6 @@ pub(crate) fn claim_movable(region: &mut Region, at: u32, slot: Name, count: u32
     header.write(region, at);
     region.fill(at as usize + HEADER_SIZE as usize, count as usize, 0);
     master_table::set(region, slot, Place(at + HEADER_SIZE));
-}
-
-/// Makes the front of room a fixed chunk of `count` zeros, and answers its name.
-pub(crate) fn claim_fixed(region: &mut Region, room: Room, count: u32, owner: u8) -> Name
-    requires accepted { HeapAccepted region.old.bytes }
-    requires room { IsSpot region.old.bytes room.at room.size }
-    requires enough { need count ≤ room.size }
-    requires some_owner { 0 < owner }
-    requires most_owner { owner < 15 }
-    ensures made { Claims region.old.bytes region.new.bytes room.at room.size
-        (fixed (replicate count 0) owner) }
-    ensures name { result.0 ≡ room.at + 8 }
-    ensures plain { WritesPlain region.old.bytes region.new.bytes }
-    ensures rest { region.new ≡ record region.old { bytes = region.new.bytes } }
-{
-    cut(region, room, size_of_body(count));
-    claim_fixed_at(region, room.at, count, owner);
-    Name(room.at + HEADER_SIZE)
 }
 
 /// Makes the free chunk at `at` a fixed one of zeros.

@@ -1,11 +1,12 @@
 //! The lists of free chunks, one for each class of sizes.
 
-ghost use Rattle.std.specs.Prelude.{◌≡◌, ◌≤◌, ◌<◌, ◌+◌, ◌%◌, ◌^◌, length, IfSome};
+ghost use Rattle.std.specs.Prelude.{◌≡◌, ◌≤◌, ◌<◌, ◌+◌, ◌-◌, ◌%◌, ◌^◌, length, IfSome};
 ghost use Rattle.heap_model.specs.Bytes.{u32_at};
 ghost use Rattle.heap_model.specs.Heap.{HeapAccepted};
 ghost use Rattle.heap_model.specs.Reading.{size_field, chunks_of};
 ghost use Rattle.heap_model.specs.Layout.{Becomes, IsSpot, WritesPlain};
 ghost use Rattle.heap_place.specs.Lists.{class_count, IsOfClass, IsFreeChunk, Pushes, HasLists, AreLists, Outside, ButAt, CutsRoom, SameChunks};
+ghost use Rattle.heap_place.specs.Gathers.{Before};
 
 use crate::claim::cut;
 use crate::room::Room;
@@ -20,6 +21,13 @@ pub(crate) const LINK_AT: usize = 4;
 
 /// The first number that no size field holds.
 pub(crate) const ABOVE_SIZES: u32 = 0x100_0000;
+
+/// How many chunks of a list are looked at, at most, for one that a call takes that costs the same however
+/// large the heap is.
+const FEW: usize = 64;
+
+/// More chunks than a list has: an image has fewer than 2^24 bytes, and a chunk takes 8 of them.
+const ALL: usize = 0x20_0000;
 
 /// The class of a free chunk of `size` bytes.
 pub(crate) fn class_of(size: u32) -> usize
@@ -43,6 +51,34 @@ pub(crate) fn push(region: &mut Region, heads: &mut [u32; CLASSES], at: u32, siz
     heads[class] = at;
 }
 
+/// Puts the free chunk of `room` bytes that ends at `end`, if there are any, into its list. The lists hold
+/// chunks in front of it.
+pub(crate) fn push_room(region: &mut Region, heads: &mut [u32; CLASSES], end: u32, room: u32)
+    requires accepted { HeapAccepted region.old.bytes }
+    requires within { room ≤ end }
+    requires free { 0 < room → IsFreeChunk region.old.bytes (end - room) room }
+    requires lists { AreLists (Before (end - room)) region.old.bytes heads.old }
+    ensures same { SameChunks region.old.bytes region.new.bytes }
+    ensures lists { AreLists (Before end) region.new.bytes heads.new }
+    ensures rest { region.new ≡ record region.old { bytes = region.new.bytes } }
+{
+    if room > 0 {
+        push(region, heads, end - room, room);
+    }
+}
+
+/// Drops all lists, and puts the free chunk at `at` into its own.
+pub(crate) fn push_alone(region: &mut Region, heads: &mut [u32; CLASSES], at: u32, size: u32)
+    requires accepted { HeapAccepted region.old.bytes }
+    requires free { IsFreeChunk region.old.bytes at size }
+    ensures same { SameChunks region.old.bytes region.new.bytes }
+    ensures lists { HasLists region.new.bytes heads.new }
+    ensures rest { region.new ≡ record region.old { bytes = region.new.bytes } }
+{
+    *heads = [0; CLASSES];
+    push(region, heads, at, size);
+}
+
 /// The size of a free chunk, by its first word.
 #[inline]
 fn size_at(region: &Region, at: u32) -> u32
@@ -53,8 +89,8 @@ fn size_at(region: &Region, at: u32) -> u32
 }
 
 /// Takes the free chunks of room from their lists, and answers whether the others are in theirs still. Where
-/// the room is not one chunk among the first ones of its list, all lists are dropped.
-fn unlink(region: &mut Region, heads: &mut [u32; CLASSES], room: Room) -> bool
+/// the room is not one chunk among the first `probes` of its list, all lists are dropped.
+fn unlink(region: &mut Region, heads: &mut [u32; CLASSES], room: Room, probes: usize) -> bool
     requires accepted { HeapAccepted region.old.bytes }
     requires room { IsSpot region.old.bytes room.at room.size }
     requires some { 8 ≤ room.size }
@@ -65,13 +101,13 @@ fn unlink(region: &mut Region, heads: &mut [u32; CLASSES], room: Room) -> bool
     ensures rest { region.new ≡ record region.old { bytes = region.new.bytes } }
 {
     if size_at(region, room.at) == room.size {
-        return take_out(region, heads, room.at, room.size);
+        return take_out(region, heads, room.at, room.size, probes);
     }
     *heads = [0; CLASSES];
     false
 }
 
-/// The same, where the room may have no bytes.
+/// The same, where the room may have no bytes, and a few chunks are looked at.
 pub(crate) fn unlink_run(region: &mut Region, heads: &mut [u32; CLASSES], room: Room) -> bool
     requires accepted { HeapAccepted region.old.bytes }
     requires room { IsSpot region.old.bytes room.at room.size }
@@ -84,11 +120,12 @@ pub(crate) fn unlink_run(region: &mut Region, heads: &mut [u32; CLASSES], room: 
     if room.size == 0 {
         return true;
     }
-    unlink(region, heads, room)
+    unlink(region, heads, room, FEW)
 }
 
 /// Makes the front of room one free chunk of `size` bytes, which is in no list, and what is left another,
-/// which is. Answers whether all other free chunks are in the lists in which they were.
+/// which is. Answers whether all other free chunks are in the lists in which they were. Room that isn't the first
+/// of a list was found by a walk over the chunks in front of it, so that its list may be searched to the end.
 pub(crate) fn take(region: &mut Region, heads: &mut [u32; CLASSES], room: Room, size: u32) -> bool
     requires accepted { HeapAccepted region.old.bytes }
     requires room { IsSpot region.old.bytes room.at room.size }
@@ -102,7 +139,7 @@ pub(crate) fn take(region: &mut Region, heads: &mut [u32; CLASSES], room: Room, 
     ensures plain { WritesPlain region.old.bytes region.new.bytes }
     ensures rest { region.new ≡ record region.old { bytes = region.new.bytes } }
 {
-    let kept = unlink(region, heads, room);
+    let kept = unlink(region, heads, room, ALL);
     cut(region, room, size);
     if size < room.size {
         push(region, heads, room.at + size, room.size - size);

@@ -7,9 +7,11 @@ ghost use Rattle.heap_model.specs.Layout.{WritesPlain};
 ghost use Rattle.heap_model.specs.Packing.{OpensBehind};
 ghost use Rattle.heap_place.specs.Found.{header_at};
 ghost use Rattle.heap_place.specs.Stretches.{IsAmong, OpensExactly};
+ghost use Rattle.heap_place.specs.Lists.{HasLists};
 
 use crate::found::Found;
 use crate::lift::lift;
+use crate::lists::{CLASSES, push_alone};
 use crate::pack::pack;
 use crate::stretch::Stretch;
 use chunk_format::{HEADER_SIZE, size_of_body};
@@ -18,20 +20,27 @@ use raw_region::Region;
 
 /// Opens room behind a movable chunk without locks, which was found in this stretch: the free chunks of
 /// the stretch become one, directly behind it. The stretch is packed, and what is behind the chunk then
-/// is slid once more.
-pub(crate) fn open_in(region: &mut Region, stretch: Stretch, found: Found)
+/// is slid once more. That free chunk alone is in a list then.
+pub(crate) fn open_in(
+    region: &mut Region,
+    heads: &mut [u32; CLASSES],
+    stretch: Stretch,
+    found: Found,
+)
     requires accepted { HeapAccepted region.old.bytes }
     requires among { IsAmong region.old.bytes found stretch }
+    ensures lists { HasLists region.new.bytes heads.new }
     ensures opened { OpensBehind region.old.bytes region.new.bytes (header_at found) }
     ensures exact { OpensExactly region.old.bytes region.new.bytes (header_at found) }
     ensures frame { SameFrame region.old.bytes region.new.bytes }
     ensures plain { WritesPlain region.old.bytes region.new.bytes }
     ensures few { region.new.slid ≤ region.old.slid + 2 * (stretch.end - stretch.start) }
 {
-    let room = pack(region, stretch.start, stretch.end).room;
+    let room = pack(region, heads, stretch.start, stretch.end).room;
     if room > 0 {
         let place = word_of(region, found.name.0);
         let behind = place - HEADER_SIZE + size_of_body(found.length);
         lift(region, behind, stretch.end - room, room);
+        push_alone(region, heads, behind, room);
     }
 }

@@ -1,4 +1,5 @@
-//! Chunks are packed: those of a stretch go to its front, and its room is behind them.
+//! Chunks are packed: those of a stretch go to its front, and its room is behind them. The lists of free chunks
+//! are dropped, and each room is put into its list when no chunk behind it can move any more.
 
 ghost use Rattle.std.specs.Prelude.{◌≡◌, ◌↔◌, ◌+◌, ◌-◌, IsTrue};
 ghost use Rattle.heap_model.specs.Heap.{HeapAccepted};
@@ -9,8 +10,11 @@ ghost use Rattle.heap_model.specs.Layout.{Becomes, WritesPlain};
 ghost use Rattle.heap_model.specs.Packing.{packed};
 ghost use Rattle.heap_place.specs.Stretches.{IsStretch, PacksStretch, RoomAtEnd, SlidesStretch};
 ghost use Rattle.heap_place.specs.Packs.{IsRun, Packs, MovesInRun, LeavesRoom, IsBehindRoom, PacksOne, IsDroppable, Drops, HeaderStays};
+ghost use Rattle.heap_place.specs.Lists.{AreLists, HasLists, KeepsFree};
+ghost use Rattle.heap_place.specs.Gathers.{Before};
 ghost use Rattle.chunk_format.specs.Header.{HasHeader, size_by};
 
+use crate::lists::{CLASSES, push_room};
 use crate::stretch::Stretch;
 use chunk_format::{HEADER_SIZE, Header, area_start};
 use heap_model::{Name, Place};
@@ -25,9 +29,10 @@ pub(crate) struct Outcome {
     pub(crate) room: u32,
 }
 
-/// Packs the chunks of each stretch, and answers how many bytes it slid.
-pub(crate) fn compact(region: &mut Region) -> u32
+/// Packs the chunks of each stretch, and answers how many bytes it slid. Each free chunk is in its list then.
+pub(crate) fn compact(region: &mut Region, heads: &mut [u32; CLASSES]) -> u32
     requires accepted { HeapAccepted region.old.bytes }
+    ensures lists { HasLists region.new.bytes heads.new }
     ensures packed { Becomes region.old.bytes region.new.bytes
         (packed (chunks_of region.old.bytes)) }
     ensures exact { chunks_of region.new.bytes ≡ packed (chunks_of region.old.bytes) }
@@ -37,40 +42,46 @@ pub(crate) fn compact(region: &mut Region) -> u32
 {
     let start = area_start(region);
     let end = region.len() as u32;
-    pack(region, start, end).slid
+    pack(region, heads, start, end).slid
 }
 
-/// Packs the chunks of one stretch, and answers how much room is behind them then.
-pub(crate) fn pack_stretch(region: &mut Region, stretch: Stretch) -> u32
+/// Packs the chunks of one stretch, and answers how much room is behind them then. That room alone is in a list
+/// then.
+pub(crate) fn pack_stretch(region: &mut Region, heads: &mut [u32; CLASSES], stretch: Stretch) -> u32
     requires accepted { HeapAccepted region.old.bytes }
     requires stretch { IsStretch region.old.bytes stretch }
+    ensures lists { HasLists region.new.bytes heads.new }
     ensures packed { PacksStretch region.old.bytes region.new.bytes stretch }
     ensures room { RoomAtEnd region.old.bytes region.new.bytes stretch result }
     ensures frame { SameFrame region.old.bytes region.new.bytes }
     ensures plain { WritesPlain region.old.bytes region.new.bytes }
     ensures slid { SlidesStretch region.old.bytes stretch region.old.slid region.new.slid }
 {
-    pack(region, stretch.start, stretch.end).room
+    pack(region, heads, stretch.start, stretch.end).room
 }
 
-/// Packs the chunks from `start` up to `end`, in one walk and by one slide for each chunk that moves.
-pub(crate) fn pack(region: &mut Region, start: u32, end: u32) -> Outcome
+/// Packs the chunks from `start` up to `end`, in one walk and by one slide for each chunk that moves. The free
+/// chunks that are left of them are those in the lists then.
+pub(crate) fn pack(region: &mut Region, heads: &mut [u32; CLASSES], start: u32, end: u32) -> Outcome
     requires accepted { HeapAccepted region.old.bytes }
     requires run { IsRun region.old.bytes start end }
+    ensures lists { HasLists region.new.bytes heads.new }
     ensures packed { Packs region.old.bytes region.new.bytes start end }
     ensures moved { MovesInRun region.old.bytes start end result.slid }
     ensures room { LeavesRoom region.old.bytes start end result.room }
     ensures slid { region.new.slid ≡ region.old.slid + result.slid }
 {
+    *heads = [0; CLASSES];
     let mut at = start;
     let mut slid = 0;
     let mut room = 0;
     while at < end {
-        let step = pack_one(region, at, room);
+        let step = pack_one(region, heads, at, room);
         at += step.size;
         slid += step.slid;
         room = step.room;
     }
+    push_room(region, heads, at, room);
     Outcome { slid, room }
 }
 
@@ -83,10 +94,13 @@ struct Step {
     room: u32,
 }
 
-/// Packs the chunk at `at`, which has `room` free bytes in front of it, in one chunk or none.
-fn pack_one(region: &mut Region, at: u32, room: u32) -> Step
+/// Packs the chunk at `at`, which has `room` free bytes in front of it, in one chunk or none. Room in front of a
+/// chunk that stays is put into its list.
+fn pack_one(region: &mut Region, heads: &mut [u32; CLASSES], at: u32, room: u32) -> Step
     requires accepted { HeapAccepted region.old.bytes }
     requires behind { IsBehindRoom region.old.bytes at room }
+    requires lists { AreLists (Before (at - room)) region.old.bytes heads.old }
+    ensures lists { AreLists (Before (at + result.size - result.room)) region.new.bytes heads.new }
     ensures packed { PacksOne region.old.bytes region.new.bytes at room
         result.size result.slid result.room }
     ensures slid { region.new.slid ≡ region.old.slid + result.slid }
@@ -102,6 +116,7 @@ fn pack_one(region: &mut Region, at: u32, room: u32) -> Step
         };
     }
     if stays(header) || room == 0 {
+        push_room(region, heads, at, room);
         return Step {
             size,
             slid: 0,
@@ -136,6 +151,7 @@ fn drop_one(region: &mut Region, header: Header, at: u32, size: u32, room: u32)
     requires header { HasHeader region.old.bytes at header }
     requires size { size ≡ size_by header }
     ensures dropped { Drops region.old.bytes region.new.bytes at room }
+    ensures keeps { KeepsFree (Before (at - room)) region.old.bytes region.new.bytes }
     ensures slid { region.new.slid ≡ region.old.slid + size }
 {
     if let Header::Movable { slot, .. } = header {

@@ -5,9 +5,10 @@ ghost use Rattle.heap_model.specs.Heap.{HeapAccepted, directory_of};
 ghost use Rattle.heap_model.specs.Layout.{Alters, FreeUpTo, freed, WritesPlain};
 ghost use Rattle.heap_place.specs.Found.{IsOne, header_at};
 ghost use Rattle.heap_place.specs.Search.{free_size_at, ChunksFrom};
-ghost use Rattle.heap_place.specs.Lists.{Any, IsFreeChunk, KeepsFree};
+ghost use Rattle.heap_place.specs.Lists.{Any, IsFreeChunk, KeepsFree, HasLists};
 
 use crate::found::Found;
+use crate::lists::{CLASSES, push};
 use crate::walks::size_if_free;
 use chunk_format::{FIXED_LOCK, HEADER_SIZE, Header, size_of_body};
 use raw_region::Region;
@@ -49,6 +50,23 @@ pub(crate) fn release_alone(region: &mut Region, found: Found) -> u32
     if found.lock != FIXED_LOCK {
         master_table::clear(region, found.name);
     }
+    size
+}
+
+/// Makes a live chunk free, alone, and puts it into its list. Answers the size of the free chunk.
+pub(crate) fn release_listed(region: &mut Region, heads: &mut [u32; CLASSES], found: Found) -> u32
+    requires accepted { HeapAccepted region.old.bytes }
+    requires found { IsOne region.old.bytes found }
+    requires no_directory { found.name.0 ≢ directory_of region.old.bytes }
+    requires lists { HasLists region.old.bytes heads.old }
+    ensures gone { Alters region.old.bytes region.new.bytes (header_at found) freed }
+    ensures free { FreeUpTo region.new.bytes (header_at found) (header_at found + result) }
+    ensures lists { HasLists region.new.bytes heads.new }
+    ensures plain { WritesPlain region.old.bytes region.new.bytes }
+    ensures rest { region.new ≡ record region.old { bytes = region.new.bytes } }
+{
+    let size = release_alone(region, found);
+    push(region, heads, found.place.0 - HEADER_SIZE, size);
     size
 }
 

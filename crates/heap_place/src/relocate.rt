@@ -12,13 +12,15 @@ ghost use Rattle.heap_model.specs.Placing.{SameFrame};
 ghost use Rattle.heap_model.specs.Layout.{Alters, Exchanges, in_front, IsRoom, WritesPlain};
 ghost use Rattle.heap_place.specs.Found.{IsOne, header_at};
 ghost use Rattle.heap_place.specs.Relocation.{stand_in, KeepsFound, Copies, with_name, RelocatesFound, RelocatesToRun};
+ghost use Rattle.heap_place.specs.Lists.{Any, KeepsFree, HasLists};
 
-use crate::claim::claim_fixed;
+use crate::claim::claim_fixed_at;
 use crate::directory::{directory_name, name_directory};
 use crate::found::Found;
-use crate::release::release;
+use crate::lists::{CLASSES, take};
+use crate::release::release_listed;
 use crate::room::{Room, room_for_body};
-use chunk_format::{FIXED_LOCK, HEADER_SIZE, Header};
+use chunk_format::{FIXED_LOCK, HEADER_SIZE, Header, size_of_body};
 use heap_model::{Name, Place};
 use raw_region::Region;
 
@@ -26,11 +28,20 @@ use raw_region::Region;
 const STAND_IN_OWNER: u8 = 1;
 
 /// Moves a movable chunk without locks to the front of a free run that has the room, and gives it `count`
-/// bytes there: its first ones, or all of them and zeros behind. Answers whether there is such a run.
-pub(crate) fn relocate(region: &mut Region, found: Found, count: u32) -> bool
+/// bytes there: its first ones, or all of them and zeros behind. Answers whether there is such a run. `built`
+/// is false afterwards where lists were dropped.
+pub(crate) fn relocate(
+    region: &mut Region,
+    heads: &mut [u32; CLASSES],
+    built: &mut bool,
+    found: Found,
+    count: u32,
+) -> bool
     requires accepted { HeapAccepted region.old.bytes }
     requires found { IsOne region.old.bytes found }
     requires unlocked { found.lock ≡ 0 }
+    requires lists { HasLists region.old.bytes heads.old }
+    ensures lists { HasLists region.new.bytes heads.new }
     ensures moved { OnTrue result (RelocatesToRun region.old.bytes region.new.bytes found count) }
     ensures no_run { OnFalse result (NoRun (chunks_of region.old.bytes) (need count)) }
     ensures refused { OnFalse result (region.new ≡ region.old) }
@@ -40,7 +51,7 @@ pub(crate) fn relocate(region: &mut Region, found: Found, count: u32) -> bool
 {
     match room_for_body(region, count) {
         Some(room) => {
-            relocate_to(region, found, room, count);
+            relocate_to(region, heads, built, found, room, count);
             true
         }
         None => false,
@@ -48,67 +59,102 @@ pub(crate) fn relocate(region: &mut Region, found: Found, count: u32) -> bool
 }
 
 /// Moves a movable chunk without locks to the front of room. It may be the directory.
-fn relocate_to(region: &mut Region, found: Found, room: Room, count: u32)
+fn relocate_to(
+    region: &mut Region,
+    heads: &mut [u32; CLASSES],
+    built: &mut bool,
+    found: Found,
+    room: Room,
+    count: u32,
+)
     requires accepted { HeapAccepted region.old.bytes }
     requires found { IsOne region.old.bytes found }
     requires unlocked { found.lock ≡ 0 }
     requires room { IsRoom region.old.bytes room.at room.size }
     requires enough { need count ≤ room.size }
+    requires lists { HasLists region.old.bytes heads.old }
+    ensures lists { HasLists region.new.bytes heads.new }
     ensures moved { RelocatesFound region.old.bytes region.new.bytes found room.at count }
     ensures frame { SameFrame region.old.bytes region.new.bytes }
     ensures plain { WritesPlain region.old.bytes region.new.bytes }
     ensures slid { region.new.slid ≡ region.old.slid + min found.length count }
 {
     if directory_name(region) == found.name {
-        relocate_directory(region, found, room, count);
+        relocate_directory(region, heads, built, found, room, count);
     } else {
-        relocate_other(region, found, room, count);
+        relocate_other(region, heads, built, found, room, count);
     }
 }
 
 /// Moves the directory. While it moves the image has none, so that each step leaves an accepted heap.
-fn relocate_directory(region: &mut Region, found: Found, room: Room, count: u32)
+fn relocate_directory(
+    region: &mut Region,
+    heads: &mut [u32; CLASSES],
+    built: &mut bool,
+    found: Found,
+    room: Room,
+    count: u32,
+)
     requires accepted { HeapAccepted region.old.bytes }
     requires found { IsOne region.old.bytes found }
     requires unlocked { found.lock ≡ 0 }
     requires directory { found.name.0 ≡ directory_of region.old.bytes }
     requires room { IsRoom region.old.bytes room.at room.size }
     requires enough { need count ≤ room.size }
+    requires lists { HasLists region.old.bytes heads.old }
+    ensures lists { HasLists region.new.bytes heads.new }
     ensures moved { RelocatesFound region.old.bytes region.new.bytes found room.at count }
     ensures frame { SameFrame region.old.bytes region.new.bytes }
     ensures plain { WritesPlain region.old.bytes region.new.bytes }
     ensures slid { region.new.slid ≡ region.old.slid + min found.length count }
 {
     name_directory(region, Name(0));
-    relocate_other(region, found, room, count);
+    relocate_other(region, heads, built, found, room, count);
     name_directory(region, found.name);
 }
 
 /// Moves a chunk that isn't the directory. A fixed chunk stands in for it there until it is free, so that
 /// each step leaves an accepted heap.
-fn relocate_other(region: &mut Region, found: Found, room: Room, count: u32)
+fn relocate_other(
+    region: &mut Region,
+    heads: &mut [u32; CLASSES],
+    built: &mut bool,
+    found: Found,
+    room: Room,
+    count: u32,
+)
     requires accepted { HeapAccepted region.old.bytes }
     requires found { IsOne region.old.bytes found }
     requires unlocked { found.lock ≡ 0 }
     requires no_directory { found.name.0 ≢ directory_of region.old.bytes }
     requires room { IsRoom region.old.bytes room.at room.size }
     requires enough { need count ≤ room.size }
+    requires lists { HasLists region.old.bytes heads.old }
+    ensures lists { HasLists region.new.bytes heads.new }
     ensures moved { RelocatesFound region.old.bytes region.new.bytes found room.at count }
     ensures frame { SameFrame region.old.bytes region.new.bytes }
     ensures plain { WritesPlain region.old.bytes region.new.bytes }
     ensures slid { region.new.slid ≡ region.old.slid + min found.length count }
 {
-    let there = stand_in_at(region, room, count);
+    let there = stand_in_at(region, heads, built, room, count);
     copy_bytes(region, found, there);
-    release(region, found);
+    release_listed(region, heads, found);
     take_name(region, there, found.name, found.owner);
 }
 
 /// Makes the front of room a fixed chunk of `count` zeros.
-fn stand_in_at(region: &mut Region, room: Room, count: u32) -> Found
+fn stand_in_at(
+    region: &mut Region,
+    heads: &mut [u32; CLASSES],
+    built: &mut bool,
+    room: Room,
+    count: u32,
+) -> Found
     requires accepted { HeapAccepted region.old.bytes }
     requires room { IsRoom region.old.bytes room.at room.size }
     requires enough { need count ≤ room.size }
+    requires lists { HasLists region.old.bytes heads.old }
+    ensures lists { HasLists region.new.bytes heads.new }
     ensures made { Exchanges region.old.bytes region.new.bytes room.at
         (in_front (fixed (replicate count 0) 1)) }
     ensures is { result ≡ stand_in room.at count }
@@ -117,10 +163,13 @@ fn stand_in_at(region: &mut Region, room: Room, count: u32) -> Found
     ensures plain { WritesPlain region.old.bytes region.new.bytes }
     ensures rest { region.new ≡ record region.old { bytes = region.new.bytes } }
 {
-    let name = claim_fixed(region, room, count, STAND_IN_OWNER);
+    let kept = take(region, heads, room, size_of_body(count));
+    *built &= kept;
+    claim_fixed_at(region, room.at, count, STAND_IN_OWNER);
+    let body = room.at + HEADER_SIZE;
     Found {
-        name,
-        place: Place(name.0),
+        name: Name(body),
+        place: Place(body),
         length: count,
         lock: FIXED_LOCK,
         owner: STAND_IN_OWNER,
@@ -136,6 +185,7 @@ fn copy_bytes(region: &mut Region, from: Found, to: Found)
     ensures copied { Copies region.old.bytes region.new.bytes from to }
     ensures from { IsOne region.new.bytes from }
     ensures to { IsOne region.new.bytes to }
+    ensures keeps { KeepsFree Any region.old.bytes region.new.bytes }
     ensures plain { WritesPlain region.old.bytes region.new.bytes }
     ensures slid { region.new.slid ≡ region.old.slid + min from.length to.length }
 {
@@ -153,6 +203,7 @@ fn take_name(region: &mut Region, there: Found, slot: Name, owner: u8)
     requires owner { owner < 16 }
     ensures made { Alters region.old.bytes region.new.bytes (header_at there)
         (with_name owner slot.0) }
+    ensures keeps { KeepsFree Any region.old.bytes region.new.bytes }
     ensures plain { WritesPlain region.old.bytes region.new.bytes }
     ensures rest { region.new ≡ record region.old { bytes = region.new.bytes } }
 {

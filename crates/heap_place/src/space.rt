@@ -24,17 +24,19 @@ use crate::alter::{relock_at, reown_at};
 use crate::claim::{claim_fixed_at, claim_movable};
 use crate::directory::{directory_name, name_directory};
 use crate::found::Found;
-use crate::gather::build;
-use crate::lists::{ABOVE_SIZES, CLASSES, find_listed, push, take};
+use crate::gather::{build, gather};
+use crate::lists::{ABOVE_SIZES, CLASSES, find_listed, take};
 use crate::lookup::{chunk_named, find_named, find_placed};
 use crate::open::open_in;
 use crate::owned::release_owned;
 use crate::pack::{compact, pack_stretch};
-use crate::release::release_alone;
+use crate::release::release_listed;
 use crate::relocate::relocate;
 use crate::resize::{grow_in_place_at, resize_listed};
 use crate::room::{Room, find_room};
-use crate::stretch::{Stretch, largest_room, room_of_stretch, stretch_around, stretch_with_room};
+use crate::stretch::{
+    Stretch, is_whole, largest_room, room_of_stretch, stretch_around, stretch_with_room,
+};
 use crate::walks::free_bytes;
 use chunk_format::{HEADER_SIZE, size_of_body};
 use heap_model::{Name, Place};
@@ -50,8 +52,8 @@ pub struct Space {
     heads: [u32; CLASSES],
     /// Whether the lists were built since they were last dropped. Where not, free chunks may be missing in them.
     built: bool,
-    /// Whether a stretch was packed for the chunk that is made next. The lists aren't built with that one, so
-    /// that no walk over all chunks follows the packing.
+    /// Whether a stretch that isn't the whole heap was packed for the chunk that is made next. The lists aren't
+    /// built with that one, so that no walk over all chunks follows the packing.
     packed: bool,
 }
 
@@ -237,18 +239,11 @@ impl Space {
     {
         build(&mut self.region, &mut self.heads, self.built);
         self.built = true;
-        let size = release_alone(&mut self.region, found);
-        push(
-            &mut self.region,
-            &mut self.heads,
-            found.place.0 - HEADER_SIZE,
-            size,
-        );
-        size
+        release_listed(&mut self.region, &mut self.heads, found)
     }
 
-    /// Makes all chunks of an owner but the manager free, locked and fixed ones too, in one walk, and
-    /// answers how many there were.
+    /// Makes all chunks of an owner but the manager free, locked and fixed ones too, in one walk over the chunks
+    /// and one that joins free neighbours, and answers how many there were.
     pub fn give_back_owned(&mut self, owner: u8) -> u32
         requires accepted { HeapAccepted self.old.bytes }
         requires some_owner { 0 < owner }
@@ -258,9 +253,10 @@ impl Space {
         ensures plain { WritesPlain self.old.bytes self.new.bytes }
         ensures rest { self.new ≡ record self.old { bytes = self.new.bytes } }
     {
-        self.heads = [0; CLASSES];
-        self.built = false;
-        release_owned(&mut self.region, owner)
+        let count = release_owned(&mut self.region, owner);
+        gather(&mut self.region, &mut self.heads);
+        self.built = true;
+        count
     }
 
     /// Gives a movable chunk another lock count. One of the manager's, whose owner is 0, has none.
@@ -421,9 +417,8 @@ impl Space {
         ensures slid { self.new.slid ≡ self.old.slid + result }
         ensures rest { self.new ≡ record self.old { bytes = self.new.bytes; slid = self.new.slid } }
     {
-        self.heads = [0; CLASSES];
-        self.built = false;
-        compact(&mut self.region)
+        self.built = true;
+        compact(&mut self.region, &mut self.heads)
     }
 
     /// The stretch of a movable chunk that was found, which has no locks.
@@ -468,10 +463,9 @@ impl Space {
         ensures slid { SlidesStretch self.old.bytes stretch self.old.slid self.new.slid }
         ensures rest { self.new ≡ record self.old { bytes = self.new.bytes; slid = self.new.slid } }
     {
-        self.heads = [0; CLASSES];
-        self.built = false;
-        self.packed = true;
-        pack_stretch(&mut self.region, stretch)
+        self.built = is_whole(&self.region, stretch);
+        self.packed = !self.built;
+        pack_stretch(&mut self.region, &mut self.heads, stretch)
     }
 
     /// Opens room behind a movable chunk without locks, which was found in this stretch: the free chunks of
@@ -486,9 +480,8 @@ impl Space {
         ensures few { self.new.slid ≤ self.old.slid + 2 * (stretch.end - stretch.start) }
         ensures rest { self.new ≡ record self.old { bytes = self.new.bytes; slid = self.new.slid } }
     {
-        self.heads = [0; CLASSES];
-        self.built = false;
-        open_in(&mut self.region, stretch, found);
+        self.built = is_whole(&self.region, stretch);
+        open_in(&mut self.region, &mut self.heads, stretch, found);
     }
 
     /// Moves a movable chunk without locks to the front of a run of neighbouring free chunks that has the
@@ -507,12 +500,14 @@ impl Space {
         ensures slid { OnTrue result (self.new.slid ≡ self.old.slid + min found.length count) }
         ensures rest { self.new ≡ record self.old { bytes = self.new.bytes; slid = self.new.slid } }
     {
-        let moved = relocate(&mut self.region, found, count);
-        if moved {
-            self.heads = [0; CLASSES];
-            self.built = false;
-            self.packed = false;
-        }
+        let moved = relocate(
+            &mut self.region,
+            &mut self.heads,
+            &mut self.built,
+            found,
+            count,
+        );
+        self.packed &= !moved;
         moved
     }
 }

@@ -8,12 +8,15 @@ ghost use Rattle.heap_place.specs.Splices.{LeadsTo};
 use crate::lists::{CLASSES, LINK_AT, class_of};
 use raw_region::Region;
 
-/// How many chunks of a list are looked at, at most, for one that is taken out of it.
-const PROBES: usize = 64;
-
 /// Takes a free chunk out of its list, and answers whether all others are in theirs still. Where it isn't
-/// among the first ones of its list, all lists are dropped.
-pub(crate) fn take_out(region: &mut Region, heads: &mut [u32; CLASSES], at: u32, size: u32) -> bool
+/// among the first `probes` of its list, all lists are dropped.
+pub(crate) fn take_out(
+    region: &mut Region,
+    heads: &mut [u32; CLASSES],
+    at: u32,
+    size: u32,
+    probes: usize,
+) -> bool
     requires accepted { HeapAccepted region.old.bytes }
     requires free { IsFreeChunk region.old.bytes at size }
     requires lists { HasLists region.old.bytes heads.old }
@@ -27,7 +30,7 @@ pub(crate) fn take_out(region: &mut Region, heads: &mut [u32; CLASSES], at: u32,
         heads[class] = region.get_u32(at as usize + LINK_AT);
         return true;
     }
-    match find_before(region, heads, class, at) {
+    match find_before(region, heads, class, at, probes) {
         Some(before) => {
             link_past(region, heads, class, before, at);
             true
@@ -40,8 +43,14 @@ pub(crate) fn take_out(region: &mut Region, heads: &mut [u32; CLASSES], at: u32,
 }
 
 /// The chunk of a list in front of the one at `at`, which isn't its first: 0 where the list ends without it. None
-/// where the list goes on behind the first ones.
-fn find_before(region: &Region, heads: &[u32; CLASSES], class: usize, at: u32) -> Option<u32>
+/// where the list goes on behind the first `probes`.
+fn find_before(
+    region: &Region,
+    heads: &[u32; CLASSES],
+    class: usize,
+    at: u32,
+    probes: usize,
+) -> Option<u32>
     requires accepted { HeapAccepted region.now.bytes }
     requires lists { HasLists region.now.bytes heads.now }
     requires class { class < class_count }
@@ -49,7 +58,7 @@ fn find_before(region: &Region, heads: &[u32; CLASSES], class: usize, at: u32) -
     ensures { IfSome result (λ before. LeadsTo region.now.bytes heads.now class before at) }
 {
     let mut here = heads[class];
-    for _ in 0..PROBES {
+    for _ in 0..probes {
         if here == 0 {
             return Some(0);
         }

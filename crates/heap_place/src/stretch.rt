@@ -1,6 +1,7 @@
 //! Stretches: longest runs of neighbouring chunks without one that stays.
 
-ghost use Rattle.std.specs.Prelude.{◌≡◌, ◌<◌, ◌+◌, ◌-◌, IfSome, IfNone};
+ghost use Rattle.std.specs.Prelude.{◌≡◌, ◌↔◌, ◌<◌, ◌+◌, ◌-◌, length, IsTrue, IfSome, IfNone};
+ghost use Rattle.heap_model.specs.Slots.{area_start};
 ghost use Rattle.heap_model.specs.Space.{Short, rooms, greatest};
 ghost use Rattle.heap_model.specs.Heap.{HeapAccepted};
 ghost use Rattle.heap_place.specs.Found.{IsOne};
@@ -17,6 +18,15 @@ use raw_region::Region;
 pub struct Stretch {
     pub start: u32,
     pub end: u32,
+}
+
+/// Whether all chunks are of a stretch.
+pub(crate) fn is_whole(region: &Region, stretch: Stretch) -> bool
+    requires accepted { HeapAccepted region.now.bytes }
+    ensures { IsTrue result
+        ↔ (stretch.start ≡ area_start region.now.bytes) × (stretch.end ≡ length region.now.bytes) }
+{
+    stretch.start == area_start(region) && stretch.end as usize == region.len()
 }
 
 /// The stretch of a movable chunk that was found, which has no locks.

@@ -4,12 +4,14 @@ use Rattle.heap_model.specs.MemorySteps.{MemoryCall, memory_call}
 use Rattle.heap_model.specs.DatabaseSteps.{DatabaseCall, database_call}
 use Rattle.heap_model.specs.RecordSteps.{RecordCall, record_call}
 use Rattle.heap_model.specs.ResourceSteps.{ResourceCall, resource_call}
+use Rattle.heap_model.specs.FileSteps.{FileCall, file_call}
 use Rattle.heap_model.specs.StoreSteps.{Call, call_by}
-use Rattle.heap_model.specs.declared.call.Call.TheVariants.{Memory, Database, Record, Resource}
+use Rattle.heap_model.specs.declared.call.Call.TheVariants.{Memory, Database, Record, Resource, File}
 use Rattle.heap_model.specs.declared.call.MemoryCall.TheVariants.{FreeBytes}
 use Rattle.heap_model.specs.declared.call.DatabaseCall.TheVariants as databases
 use Rattle.heap_model.specs.declared.call.RecordCall.TheVariants as records
 use Rattle.heap_model.specs.declared.call.ResourceCall.TheVariants as resources
+use Rattle.heap_model.specs.declared.call.FileCall.TheVariants as files
 
 memory_call-same : (call : MemoryCall) → memory_call (λ name. name) call ≡ call
 memory_call-same FreeBytes = refl
@@ -27,9 +29,14 @@ resource_call-same : (call : ResourceCall) → resource_call (λ name. name) (λ
 resource_call-same (resources.Count db) = refl
 resource_call-same call = refl
 
+file_call-same : (call : FileCall) → file_call (λ db. db) call ≡ call
+file_call-same (files.Export db) = refl
+file_call-same (files.Import file) = refl
+
 -- they are the same calls
 pub same_call : (call : Call) → call_by (λ name. name) (λ db. db) call ≡ call
 same_call (Memory call) = ap Memory (memory_call-same call)
 same_call (Database call) = ap Database (database_call-same call)
 same_call (Record call) = ap Record (record_call-same call)
 same_call (Resource call) = ap Resource (resource_call-same call)
+same_call (File call) = ap File (file_call-same call)

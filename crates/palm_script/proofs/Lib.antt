@@ -1,3 +1,4 @@
 pub mod CallLaws
 pub mod LineLaws
+pub mod RunLaws
 pub mod WordLaws

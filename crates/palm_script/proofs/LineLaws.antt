@@ -1,24 +1,50 @@
 -- Lines behind one another.
-use Rattle.std.proofs.Common.{◌≡◌, ℕ, ◌+◌, ◌<◌, List, [], ◌∷◌, ◌++◌, length, take, get_or, refl, sym, ap, ◌∙◌, subst, append_assoc, append-nil, add-one, take-suc, Option, Some, true, false}
+use Rattle.std.proofs.Common.{◌≡◌, ℕ, ◌+◌, ◌<◌, ◌≤◌, arith, cond, List, [], ◌∷◌, ◌++◌, length, take, get_or, refl, sym, ap, ◌∙◌, subst, append_assoc, append-nil, add-one, take-suc, Option, Some, true, false}
+use Rattle.std.specs.Prelude.{count_by, Err}
+use Rattle.std.proofs.lemmas.List.Sums.{sum_by-append, sum_by-take-le}
 use Rattle.std.proofs.lemmas.Option.{slice_get-get_or}
 use Rattle.std.proofs.KnownBytes.{Appends-trans}
 use Rattle.heap_model.specs.Memory.{Memory}
 use Rattle.heap_model.specs.Counted.{Writing, Writes}
+use Rattle.heap_model.specs.MemorySteps.{MemoryCall}
+use Rattle.heap_model.specs.declared.call.Call.TheVariants.{Memory as OnMemory}
 use Rattle.heap_model.specs.declared.call.Reply.{Reply}
+use Rattle.heap_model.specs.declared.call.Reply.TheVariants.{Data}
+use Rattle.palm_text.specs.declared.output.WriteFault.{WriteFault}
+use Rattle.script_lines.specs.Labels.{is_export}
 use Rattle.script_lines.specs.declared.line.Line.{Line}
-use Rattle.script_lines.specs.declared.line.Line.TheVariants.{Bind}
-use Rattle.palm_script.specs.Lines.{Bindings, BreaksOff, DoesLine, LineStep, Lines, bound_after, exported, reply_line, unbound}
-
--- ---- what lines export
-
-exported-none : (line : Line) (reply : Reply) → exported line reply ≡ []
-exported-none (Bind label name) reply = refl
-exported-none line reply = refl
+use Rattle.script_lines.specs.declared.line.Line.TheVariants.{Bind, Export}
+use Rattle.palm_script.specs.Lines.{Bindings, BreaksOff, DoesLine, LineStep, Lines, bound_after, call_of, exported, reply_line, unbound}
 
 -- ---- the lines up to one of them
 
 pub take_one : (lines : List Line) (i : ℕ) (d : Line) → i < length lines → take (i + 1) lines ≡ take i lines ++ (get_or lines i d ∷ [])
 take_one lines i d within = rw add-one (take-suc lines i d within)
+
+-- ---- what lines export
+
+-- a line whose call is one of the memory manager exports none
+pub memory_exports_none : (inputs : List (List ℕ)) (bound : Bindings) (line : Line) (call : MemoryCall) (reply : Reply) → call_of inputs bound line ≡ OnMemory call → exported line reply ≡ []
+memory_exports_none inputs bound (Export label) call reply is = cc
+memory_exports_none inputs bound (Bind label name) call reply is = refl
+memory_exports_none inputs bound line call reply is = refl
+
+-- no line exports more than one, and only one that is counted
+exports_one : (line : Line) (reply : Reply) → length (exported line reply) ≤ count_by is_export (line ∷ [])
+exports_one (Export label) (Data bytes) = omega arith
+exports_one (Export label) reply = omega arith
+exports_one line reply = omega arith
+
+-- the files of lines are as many as the lines that export, at most
+pub room_is_left : (lines : List Line) (i : ℕ) (line : Line) (reply : Reply) (more : List (List ℕ)) (used : ℕ) → i < length lines → line ≡ get_or lines i line → exported line reply ≡ more → used ≤ count_by is_export (take i lines)
+    → (used + length more ≤ count_by is_export (take (i + 1) lines)) × (count_by is_export (take (i + 1) lines) ≤ count_by is_export lines)
+room_is_left lines i line reply more used within here is below =
+    let to_here : take (i + 1) lines ≡ take i lines ++ (line ∷ []) = take_one lines i line within ∙ ap (λ l. take i lines ++ (l ∷ [])) (sym here) in
+    let one : length more ≤ count_by is_export (line ∷ []) = rw (← is) (exports_one line reply) in
+    let counted : count_by is_export (take (i + 1) lines) ≡ count_by is_export (take i lines) + count_by is_export (line ∷ []) = rw to_here (sum_by-append (λ l. cond (is_export l) 1 0) (take i lines) (line ∷ [])) in
+    (omega (arith, one, counted), sum_by-take-le (λ l. cond (is_export l) 1 0) lines (i + 1))
+
+-- ---- one line more
 
 pub one_more : (inputs : List (List ℕ)) (old : Memory) (bound : Bindings) (lines : List Line) (text : List ℕ) (files : List (List ℕ)) (mid : Memory) (bound_mid : Bindings) (line : Line) (reply : Reply) (new : Memory)
     → Lines inputs old bound lines text files mid bound_mid → LineStep inputs mid bound_mid line reply new
@@ -44,24 +70,24 @@ one_more inputs old bound (first ∷ lines) text files mid bound_mid line reply 
   one_more inputs next (bound_after bound first answer) lines rest more mid bound_mid line reply new tail step,
 )
 
-pub one_further : (inputs : List (List ℕ)) (old : Memory) (bound : Bindings) (lines : List Line) (i : ℕ) (line : Line) (text : List ℕ) (mid : Memory) (bound_mid : Bindings) (reply : Reply) (new : Memory) (bound_new : Bindings)
-    → i < length lines → line ≡ get_or lines i line → Lines inputs old bound (take i lines) text [] mid bound_mid → LineStep inputs mid bound_mid line reply new → bound_new ≡ bound_after bound_mid line reply
-    → Lines inputs old bound (take (i + 1) lines) (text ++ reply_line line reply) [] new bound_new
-one_further inputs old bound lines i line text mid bound_mid reply new bound_new within here ran step binds =
+pub one_further : (inputs : List (List ℕ)) (old : Memory) (bound : Bindings) (lines : List Line) (i : ℕ) (line : Line) (text : List ℕ) (files : List (List ℕ)) (mid : Memory) (bound_mid : Bindings) (reply : Reply) (more : List (List ℕ)) (new : Memory) (bound_new : Bindings)
+    → i < length lines → line ≡ get_or lines i line → Lines inputs old bound (take i lines) text files mid bound_mid → LineStep inputs mid bound_mid line reply new → bound_new ≡ bound_after bound_mid line reply → exported line reply ≡ more
+    → Lines inputs old bound (take (i + 1) lines) (text ++ reply_line line reply) (files ++ more) new bound_new
+one_further inputs old bound lines i line text files mid bound_mid reply more new bound_new within here ran step binds are =
     let to_here : take (i + 1) lines ≡ take i lines ++ (line ∷ []) = take_one lines i line within ∙ ap (λ l. take i lines ++ (l ∷ [])) (sym here) in
-    rw (to_here, binds, ← exported-none line reply) (one_more inputs old bound (take i lines) text [] mid bound_mid line reply new ran step)
+    rw (to_here, binds, ← are) (one_more inputs old bound (take i lines) text files mid bound_mid line reply new ran step)
 
 -- ---- a line whose reply line couldn't be written
 
-pub breaks : {W : Type 0} (contents : W → Option (List ℕ)) (inputs : List (List ℕ)) (lines : List Line) (old : Memory) (first : Writing W) (i : ℕ) (line : Line) (text : List ℕ) (mid : Memory) (bound : Bindings) (before : Writing W) (new : Memory) (bound_new : Bindings) (after : Writing W)
-    → i < length lines → line ≡ get_or lines i line → Lines inputs old unbound (take i lines) text [] mid bound → Writes contents first before text true → DoesLine contents inputs line mid bound before new bound_new after false
+pub breaks : {W : Type 0} (contents : W → Option (List ℕ)) (inputs : List (List ℕ)) (lines : List Line) (old : Memory) (first : Writing W) (i : ℕ) (line : Line) (text : List ℕ) (files : List (List ℕ)) (mid : Memory) (bound : Bindings) (before : Writing W) (new : Memory) (bound_new : Bindings) (after : Writing W) (fault : WriteFault)
+    → i < length lines → line ≡ get_or lines i line → Lines inputs old unbound (take i lines) text files mid bound → Writes contents first before text true → DoesLine contents inputs line mid bound before new bound_new after (Err fault)
     → BreaksOff contents inputs lines old first new after
-breaks contents inputs lines old first i line text mid bound before new bound_new after within here ran all does =
+breaks contents inputs lines old first i line text files mid bound before new bound_new after fault within here ran all does =
     let (n, short, appended) = does.written.0 in
     record {
       count = i;
       text = text;
-      files = [];
+      files = files;
       mid = mid;
       bound = bound;
       before = ran;

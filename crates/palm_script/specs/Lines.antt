@@ -1,6 +1,7 @@
 -- What the lines of a script do, bind, print and export.
-use Rattle.std.specs.Prelude.{◌≡◌, ◌≢◌, ◌<◌, ◌++◌, ◌==◌, ℕ, Bool, List, [], ◌∷◌, Option, Some, None, take, get_or, slice_get, if◌then◌else◌, codes, decimal, true, false, ◌≤◌, length}
+use Rattle.std.specs.Prelude.{◌≡◌, ◌≢◌, ◌<◌, ◌++◌, ◌==◌, ◌-◌, ℕ, Bool, List, [], ◌∷◌, Option, Some, None, Result, IfOk, is_ok, take, get_or, slice_get, if◌then◌else◌, codes, decimal, true, false, ◌≤◌, length}
 use Rattle.std.specs.List.{flat_map}
+use Rattle.std.specs.Option.{option_to_list}
 use Rattle.std.specs.Io.KnownBytes.{Appends}
 use Rattle.hex.specs.Hex.{encode_lower}
 use Rattle.heap_model.specs.Memory.{Memory as Region}
@@ -11,19 +12,28 @@ use Rattle.heap_model.specs.Counted.{Writing, Writes}
 use Rattle.heap_model.specs.Numbers.{number_of, name_of}
 use Rattle.heap_model.specs.declared.names.Name.{Name}
 use Rattle.heap_model.specs.declared.names.Db.{Db}
+use Rattle.heap_model.specs.declared.names.Which.{Which}
+use Rattle.heap_model.specs.declared.names.Which.TheVariants.{App, Sort}
 use Rattle.heap_model.specs.declared.database.DbInfo.{DbInfo}
 use Rattle.heap_model.specs.declared.entry.RecordInfo.{RecordInfo}
 use Rattle.heap_model.specs.declared.entry.ResourceInfo.{ResourceInfo}
-use Rattle.heap_model.specs.declared.call.Call.TheVariants.{Memory}
+use Rattle.heap_model.specs.declared.call.Call.TheVariants.{Memory, Database as OnDatabases, Record as OnRecords, Resource as OnResources, File}
 use Rattle.heap_model.specs.declared.call.MemoryCall.TheVariants as calls
+use Rattle.heap_model.specs.declared.call.FileCall.TheVariants as files
 use Rattle.heap_model.specs.declared.call.Reply.{Reply}
 use Rattle.heap_model.specs.declared.call.Reply.TheVariants.{Refused, Done, Number, Named, Locked, Data, Database, Info, Made, Record, Resource}
-use Rattle.heap_model.specs.declared.refusal.Refusal.TheVariants.{OutOfMemory}
+use Rattle.heap_model.specs.declared.refusal.Refusal.{Refusal}
+use Rattle.heap_model.specs.declared.refusal.Refusal.TheVariants.{BadFile, OutOfMemory}
+use Rattle.heap_model.specs.declared.file_fault.FileFault.{FileFault}
+use Rattle.heap_model.specs.declared.file_fault.FileFault.TheVariants.{Truncated, ChainedList, EmptyName, BadInfo, BadOffset}
 use Rattle.script_lines.specs.Commands.{LineCall}
 use Rattle.script_lines.specs.declared.line.Line.{Line}
-use Rattle.script_lines.specs.declared.line.Line.TheVariants.{Bind, Print, Silent, BindChunk, BindDatabase}
+use Rattle.script_lines.specs.declared.line.Line.TheVariants.{Bind, Print, Silent, BindChunk, BindDatabase, Import, Export}
+use Rattle.palm_text.specs.declared.output.WriteFault.{WriteFault}
 use Rattle.palm_script.specs.declared.calls.Outcome.{Outcome}
 use Rattle.palm_script.specs.declared.calls.Outcome.TheVariants.{Replied, Reads}
+use Rattle.palm_script.specs.declared.replies.Told.{Told}
+use Rattle.palm_script.specs.declared.replies.Told.TheVariants.{Nothing, Values, Length}
 
 -- ---- what labels stand for
 
@@ -64,17 +74,32 @@ tables names databases = record { chunks = table no_name names; databases = tabl
 abbrev pub call_among : Bindings → LineCall → Call
 call_among bound call = call_by (λ label. bound.chunks label.0) (λ label. bound.databases label.0) call
 
--- the call of a line; no line takes a file of the inputs
+-- the input file of a number, counted from 1; a number that names none stands for a file of no bytes
+abbrev pub input_of : List (List ℕ) → ℕ → List ℕ
+input_of inputs file = if file == 0 then [] else get_or inputs (file - 1) []
+
+-- the call of a line
 abbrev pub call_of : List (List ℕ) → Bindings → Line → Call
 call_of inputs bound (Bind label name) = Memory (calls.Size (record { 0 = name }))
 call_of inputs bound (Print call) = call_among bound call
 call_of inputs bound (Silent call) = call_among bound call
 call_of inputs bound (BindChunk label call) = call_among bound call
 call_of inputs bound (BindDatabase label call) = call_among bound call
+call_of inputs bound (Import label file) = File (files.Import (input_of inputs file))
+call_of inputs bound (Export label) = File (files.Export (bound.databases label.0))
 
--- What comes of a call: it was done, and no memory was wanted; or it is a `read`, which is left to the caller.
+-- the calls that may want memory where their answer isn't lent: those on files
+abbrev pub may_want_memory : Call → Bool
+may_want_memory (Memory call) = false
+may_want_memory (OnDatabases call) = false
+may_want_memory (OnRecords call) = false
+may_want_memory (OnResources call) = false
+may_want_memory (File call) = true
+
+-- What comes of a call: it was done, and no memory was wanted unless it is one on files; or it is a `read`,
+-- which is left to the caller.
 abbrev pub Answers : Region → Call → Outcome → Region → Type 0
-Answers old call (Replied reply) new = DoesInStore old call reply new × (reply ≢ Refused OutOfMemory)
+Answers old call (Replied reply) new = DoesInStore old call reply new × (may_want_memory call ≡ false → reply ≢ Refused OutOfMemory)
 Answers old call (Reads name at count) new = (call ≡ Memory (calls.Read name at count)) × (new ≡ old)
 
 -- ---- what each line binds
@@ -116,6 +141,8 @@ bound_after bound (Print call) reply = bound
 bound_after bound (Silent call) reply = bound
 bound_after bound (BindChunk label call) reply = bound_to bound label.0 reply
 bound_after bound (BindDatabase label call) reply = bound_to_database bound label.0 reply
+bound_after bound (Import label file) reply = bound_to_database bound label.0 reply
+bound_after bound (Export label) reply = bound
 
 -- ---- what is printed
 
@@ -173,46 +200,96 @@ values_text Done = []
 values_text (Named name) = []
 values_text (Database db) = []
 
--- the lines of whose answers nothing is printed; what the others answer to bind it prints no value
-abbrev pub is_silent : Line → Bool
-is_silent (Bind label name) = true
-is_silent (Print call) = false
-is_silent (Silent call) = true
-is_silent (BindChunk label call) = false
-is_silent (BindDatabase label call) = false
+-- how many bytes are answered
+abbrev pub length_text : Reply → List ℕ
+length_text (Data bytes) = codes " " ++ decimal (length bytes)
+length_text (Refused refusal) = []
+length_text Done = []
+length_text (Number number) = []
+length_text (Named name) = []
+length_text (Locked place count) = []
+length_text (Database db) = []
+length_text (Info info) = []
+length_text (Made index name) = []
+length_text (Record info) = []
+length_text (Resource info) = []
 
-abbrev pub reply_text : Bool → Reply → List ℕ
-reply_text silent (Refused refusal) = codes "refused " ++ decimal (number_of refusal) ++ codes " " ++ name_of refusal ++ codes "\n"
-reply_text true reply = codes "ok\n"
-reply_text false reply = codes "ok" ++ values_text reply ++ codes "\n"
+-- What is told of the answer to a line: nothing, its values, or its length; what is answered to be bound
+-- has no value.
+abbrev pub told_of : Line → Told
+told_of (Bind label name) = Nothing
+told_of (Print call) = Values
+told_of (Silent call) = Nothing
+told_of (BindChunk label call) = Values
+told_of (BindDatabase label call) = Values
+told_of (Import label file) = Nothing
+told_of (Export label) = Length
+
+abbrev pub told_text : Told → Reply → List ℕ
+told_text Nothing reply = []
+told_text Values reply = values_text reply
+told_text Length reply = length_text reply
+
+-- an info block, as scripts name it
+abbrev pub which_word : Which → List ℕ
+which_word App = codes "app"
+which_word Sort = codes "sort"
+
+-- what is wrong with a file
+abbrev pub fault_text : FileFault → List ℕ
+fault_text Truncated = codes "Truncated"
+fault_text ChainedList = codes "ChainedList"
+fault_text EmptyName = codes "EmptyName"
+fault_text (BadInfo which) = codes "BadInfo " ++ which_word which
+fault_text (BadOffset index) = codes "BadOffset " ++ decimal index
+
+-- what stands behind the name of a refusal: of a file what is wrong with it, and of all others nothing
+abbrev pub details_text : Refusal → List ℕ
+details_text (BadFile fault) = codes " " ++ fault_text fault
+details_text refusal = []
+
+abbrev pub refusal_line : Refusal → List ℕ
+refusal_line refusal = codes "refused " ++ decimal (number_of refusal) ++ codes " " ++ name_of refusal ++ details_text refusal ++ codes "\n"
+
+abbrev pub reply_text : Told → Reply → List ℕ
+reply_text told (Refused refusal) = refusal_line refusal
+reply_text told reply = codes "ok" ++ told_text told reply ++ codes "\n"
 
 abbrev pub reply_line : Line → Reply → List ℕ
-reply_line line reply = reply_text (is_silent line) reply
+reply_line line reply = reply_text (told_of line) reply
 
 -- ---- what is exported
 
--- the files that a line exports; no line exports one
+-- the file that is answered, if one is
+abbrev pub file_in : Reply → List (List ℕ)
+file_in (Data bytes) = bytes ∷ []
+file_in (Refused refusal) = []
+file_in Done = []
+file_in (Number number) = []
+file_in (Named name) = []
+file_in (Locked place count) = []
+file_in (Database db) = []
+file_in (Info info) = []
+file_in (Made index name) = []
+file_in (Record info) = []
+file_in (Resource info) = []
+
+-- the file that a line exports, if it exports one
 abbrev pub exported : Line → Reply → List (List ℕ)
 exported (Bind label name) reply = []
 exported (Print call) reply = []
 exported (Silent call) reply = []
 exported (BindChunk label call) reply = []
 exported (BindDatabase label call) reply = []
+exported (Import label file) reply = []
+exported (Export label) reply = file_in reply
 
 -- ---- the run of lines
 
--- a line whose call may want memory; none does
-abbrev pub may_want_memory : Line → Bool
-may_want_memory (Bind label name) = false
-may_want_memory (Print call) = false
-may_want_memory (Silent call) = false
-may_want_memory (BindChunk label call) = false
-may_want_memory (BindDatabase label call) = false
-
--- The call of a line does its step. Only where the line may want memory it is refused for want of it.
+-- The call of a line does its step. Only where the call may want memory it is refused for want of it.
 pub record LineStep (inputs : List (List ℕ)) (old : Region) (bound : Bindings) (line : Line) (reply : Reply) (new : Region) : Type 0 where
   pub does : DoesInStore old (call_of inputs bound line) reply new
-  pub takes_no_memory : may_want_memory line ≡ false → reply ≢ Refused OutOfMemory
+  pub takes_no_memory : may_want_memory (call_of inputs bound line) ≡ false → reply ≢ Refused OutOfMemory
 
 -- The lines in their order, from a region and what labels stand for: each is one call, its reply line
 -- comes behind the text of those before it, and what it exports behind their files; what it binds is
@@ -226,12 +303,14 @@ Lines inputs old bound (line ∷ lines) text files new after =
     × (files ≡ exported line reply ++ more)
     × Lines inputs mid (bound_after bound line reply) lines rest more new after
 
--- One line: its call is done, what it binds is bound, and its reply line goes to a writer.
-pub record DoesLine {W : Type 0} (contents : W → Option (List ℕ)) (inputs : List (List ℕ)) (line : Line) (old : Region) (bound : Bindings) (out : Writing W) (new : Region) (bound_new : Bindings) (out_after : Writing W) (ok : Bool) : Type 0 where
+-- One line: its call is done, what it binds is bound, and its reply line goes to a writer. Where that got
+-- through, the file that it exports is answered, if it exports one.
+pub record DoesLine {W : Type 0} (contents : W → Option (List ℕ)) (inputs : List (List ℕ)) (line : Line) (old : Region) (bound : Bindings) (out : Writing W) (new : Region) (bound_new : Bindings) (out_after : Writing W) (answer : Result (Option (List ℕ)) WriteFault) : Type 0 where
   pub reply : Reply
   pub step : LineStep inputs old bound line reply new
   pub binds : bound_new ≡ bound_after bound line reply
-  pub written : Writes contents out out_after (reply_line line reply) ok
+  pub written : Writes contents out out_after (reply_line line reply) (is_ok answer)
+  pub file : IfOk answer (λ file. exported line reply ≡ option_to_list file)
 
 -- All lines were run, all of their text was written, and these are the files that they export.
 pub record RunsThrough {W : Type 0} (contents : W → Option (List ℕ)) (inputs : List (List ℕ)) (lines : List Line) (old : Region) (out : Writing W) (new : Region) (out_after : Writing W) (files : List (List ℕ)) : Type 0 where

@@ -72,7 +72,7 @@ pub(crate) fn bind_line(names: &mut [Name], databases: &mut [Db], line: &Line, r
         (Line::BindChunk(label, _), Reply::Resource(info)) => {
             bind_chunk(names, *label, info.data)
         }
-        (Line::BindDatabase(label, _), Reply::Database(db)) => {
+        (Line::BindDatabase(label, _) | Line::Import { label, .. }, Reply::Database(db)) => {
             bind_database(databases, *label, *db)
         }
         _ => {}

@@ -12,6 +12,7 @@ ghost use Rattle.palm_script.specs.Lines.{Answers};
 
 use crate::bindings::Given;
 use crate::calls::Outcome::{Reads, Replied};
+use crate::files::do_file_call;
 use crate::records::do_record_call;
 use crate::replies::{database, done, info, locked, named, number, small_number};
 use crate::resources::do_resource_call;
@@ -19,8 +20,8 @@ use heap_model::{Allowance, Bytes, Call, DatabaseCall, Db, MemoryCall, Name, Ref
 use palm_store::Store;
 use std::alloc::{AllocError, Global};
 
-/// Does one call and answers its reply. Memory is taken for the bytes that `read` answers alone;
-/// where it is refused, so is the call.
+/// Does one call and answers its reply. Memory is taken by `read`, `import` and `export` alone; where
+/// it is refused, so is the call.
 pub fn do_call(alloc: Global, store: &mut Store, call: &Call) -> Reply
     ensures { DoesInStore store.old call.now result store.new }
 {
@@ -31,7 +32,7 @@ pub fn do_call(alloc: Global, store: &mut Store, call: &Call) -> Reply
 pub fn do_call_from<A: Allowance>(memory: &A, store: &mut Store, call: &Call) -> Reply
     ensures { DoesInStore store.old call.now result store.new }
 {
-    match do_given(store, &[], &[], call) {
+    match do_given(memory, store, &[], &[], call) {
         Replied(reply) => reply,
         Reads(name, at, count) => read(memory, store, name, at, count),
     }
@@ -57,7 +58,7 @@ fn copied<A: Allowance>(memory: &A, bytes: &[u8]) -> Result<Bytes, AllocError>
     Ok(Bytes::of(Vec::from_slice(memory.grant()?, bytes)?))
 }
 
-/// What comes of a call that takes no memory.
+/// What comes of a call, where bytes that a store lends aren't copied.
 #[derive(Drop)]
 pub(crate) enum Outcome {
     Replied(Reply),
@@ -68,7 +69,8 @@ pub(crate) enum Outcome {
 
 /// Does a call, if it isn't a `read`. What it gives as chunks and databases is looked up in these
 /// tables.
-pub(crate) fn do_given<C: Given<Name>, D: Given<Db>>(
+pub(crate) fn do_given<A: Allowance, C: Given<Name>, D: Given<Db>>(
+    memory: &A,
     store: &mut Store,
     names: &[Name],
     databases: &[Db],
@@ -82,6 +84,7 @@ pub(crate) fn do_given<C: Given<Name>, D: Given<Db>>(
         Call::Database(call) => Replied(do_database_call(store, names, databases, call)),
         Call::Record(call) => Replied(do_record_call(store, names, databases, call)),
         Call::Resource(call) => Replied(do_resource_call(store, names, databases, call)),
+        Call::File(call) => Replied(do_file_call(memory, store, databases, call)),
     }
 }
 

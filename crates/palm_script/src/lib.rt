@@ -1,14 +1,17 @@
 //! Scripts of manager calls.
 //!
-//! `do_call` does one call and answers its reply. `run` does the calls of a script, line by line,
-//! and prints a reply line for each; `parse` reads the script. `specs/Lines.antt` says what lines
-//! do, bind and print: start there.
+//! `do_call` does one call and answers its reply, and `run_calls` those of a list. `check_and_run` checks an
+//! image and runs a list of calls from it: its promise, `specs/Headline.antt`, is what the library is for.
+//! `run` does the calls of a script, line by line, and prints a reply line for each; `parse` reads the
+//! script. `specs/Lines.antt` says what lines do, bind, print and export.
 //!
 //! | module | does |
 //! |---|---|
 //! | `calls` | one call of each kind |
 //! | `records` | one call on records |
 //! | `resources` | one call on resources |
+//! | `files` | one call on files |
+//! | `lists` | the calls of a list |
 //! | `bindings` | what labels stand for, and how a call finds that |
 //! | `lines` | one line: its call, what it binds, its reply line |
 //! | `replies` | what a manager answers, as a reply; and reply lines |
@@ -17,13 +20,16 @@
 
 mod bindings;
 mod calls;
+mod files;
 mod lines;
+mod lists;
 mod records;
 mod replies;
 mod resources;
 mod runs;
 
 pub use calls::{do_call, do_call_from};
+pub use lists::{NotRun, OutOfMemory, check_and_run, run_calls, run_calls_from};
 pub use runs::{RunFault, run, run_from};
 pub use script_lines::{
     ChunkLabel, DatabaseLabel, Line, LineCall, LineFault, Script, ScriptFault, parse,

@@ -1,49 +1,74 @@
 //! One line of a script.
 
-ghost use Rattle.std.specs.Prelude.{◌≡◌, ◌≤◌, is_ok, length};
+ghost use Rattle.std.specs.Prelude.{◌≡◌, ◌≤◌, length};
+ghost use Rattle.std.specs.Option.{option_to_list};
 ghost use Rattle.script_lines.specs.Labels.{chunk_label_end, database_label_end};
 ghost use Rattle.heap_model.specs.declared.call.Call.TheVariants as calls;
 ghost use Rattle.heap_model.specs.declared.call.MemoryCall.{MemoryCall};
 ghost use Rattle.palm_script.specs.Lines.{Answers, DoesLine, call_of, tables};
+ghost use Rattle.palm_script.specs.Lines as words;
 
-use crate::bindings::bind_line;
+use crate::bindings::{Given, bind_line};
 use crate::calls::{Outcome, do_given};
+use crate::files::{export, import};
 use crate::replies::{number, put_data, put_refusal, put_reply};
-use heap_model::{Bytes, Counted, Db, Name};
+use heap_model::{Allowance, Bytes, Counted, Db, Name, Reply};
 use palm_store::Store;
 use palm_text::WriteFault;
 use script_lines::Line;
 use std::io::Write;
 
-/// Does the call of a line, binds what it binds and prints its reply line. Nothing takes memory.
-pub(crate) fn do_line<W: Write>(
+/// Does the call of a line, binds what it binds and prints its reply line, and answers the file that it
+/// exports. Only an import or an export takes memory.
+pub(crate) fn do_line<A: Allowance, W: Write>(
+    memory: &A,
     store: &mut Store,
     names: &mut [Name],
     databases: &mut [Db],
     inputs: &[Bytes],
     line: &Line,
     out: &mut Counted<W>,
-) -> Result<(), WriteFault>
+) -> Result<Option<Bytes>, WriteFault>
     requires chunks { chunk_label_end line.now ≤ length names.old }
     requires databases { database_label_end line.now ≤ length databases.old }
     ensures { DoesLine W.contents inputs.now line.now
         store.old (tables names.old databases.old) out.old
-        store.new (tables names.new databases.new) out.new (is_ok result) }
+        store.new (tables names.new databases.new) out.new result }
 {
-    match outcome_of(store, names, databases, inputs, line) {
+    match outcome_of(memory, store, names, databases, inputs, line) {
         Outcome::Replied(reply) => {
             bind_line(names, databases, line, &reply);
-            put_reply(out, line, &reply)
+            match put_reply(out, line, &reply) {
+                Ok(()) => Ok(exported_file(line, reply)),
+                Err(fault) => Err(fault),
+            }
         }
-        Outcome::Reads(name, at, count) => match store.read(name, at, count) {
-            Ok(bytes) => put_data(out, line, bytes),
-            Err(refusal) => put_refusal(out, refusal),
-        },
+        Outcome::Reads(name, at, count) => {
+            let put = match store.read(name, at, count) {
+                Ok(bytes) => put_data(out, line, bytes),
+                Err(refusal) => put_refusal(out, refusal),
+            };
+            match put {
+                Ok(()) => Ok(None),
+                Err(fault) => Err(fault),
+            }
+        }
+    }
+}
+
+/// The file that a line exports that was answered so, if it exports one.
+fn exported_file(line: &Line, reply: Reply) -> Option<Bytes>
+    ensures { words.exported line.now reply ≡ option_to_list result }
+{
+    match (line, reply) {
+        (Line::Export(_), Reply::Data(file)) => Some(file),
+        _ => None,
     }
 }
 
 /// What comes of the call of a line.
-fn outcome_of(
+fn outcome_of<A: Allowance>(
+    memory: &A,
     store: &mut Store,
     names: &[Name],
     databases: &[Db],
@@ -58,6 +83,25 @@ fn outcome_of(
         Line::Print(call)
         | Line::Silent(call)
         | Line::BindChunk(_, call)
-        | Line::BindDatabase(_, call) => do_given(store, names, databases, call),
+        | Line::BindDatabase(_, call) => do_given(memory, store, names, databases, call),
+        Line::Import { file, .. } => Outcome::Replied(import(
+            memory,
+            store,
+            input_of(inputs, *file),
+        )),
+        Line::Export(label) => Outcome::Replied(export(memory, store, label.among(databases))),
+    }
+}
+
+/// The input file of a number, counted from 1; of one that names none, no bytes.
+fn input_of(inputs: &[Bytes], file: u32) -> &[u8]
+    ensures { result.now ≡ words.input_of inputs.now file }
+{
+    if file == 0 {
+        return &[];
+    }
+    match inputs.get(file as usize - 1) {
+        Some(bytes) => bytes.as_slice(),
+        None => &[],
     }
 }

@@ -1,17 +1,21 @@
 //! Replies, and the lines that they are printed as.
 
-ghost use Rattle.std.specs.Prelude.{◌≡◌, ◌++◌, codes, decimal, is_ok};
+ghost use Rattle.std.specs.Prelude.{◌≡◌, ◌++◌, codes, decimal, is_ok, length};
 ghost use Rattle.heap_model.specs.Counted.{Writes};
 ghost use Rattle.heap_model.specs.MemorySteps.{reply_of};
-ghost use Rattle.heap_model.specs.Numbers.{number_of, name_of};
 ghost use Rattle.heap_model.specs.declared.call.Reply.{Reply};
-ghost use Rattle.palm_script.specs.Lines.{hex_text, info_words, is_silent, record_words};
-ghost use Rattle.palm_script.specs.Lines.{reply_line, reply_text, resource_words, values_text};
+ghost use Rattle.palm_script.specs.Lines.{details_text, hex_text, info_words, record_words};
+ghost use Rattle.palm_script.specs.Lines.{refusal_line, reply_line, reply_text, resource_words};
+ghost use Rattle.palm_script.specs.Lines.{told_text, values_text};
 ghost use Rattle.palm_script.specs.Lines.{words_text};
 ghost use Rattle.palm_script.specs.Lines as words;
 ghost use Rattle.palm_store.specs.Replies.{made_reply};
+ghost use Rattle.palm_text.specs.Pieces.{piece_text};
 
-use heap_model::{Counted, Db, DbInfo, Name, RecordInfo, Refusal, Reply, ResourceInfo};
+use heap_model::{
+    Bytes, Counted, Db, DbInfo, FileFault, Name, RecordInfo, Refusal, Reply, ResourceInfo, Which,
+};
+use itoa::Buffer;
 use palm_store::Locked;
 use palm_text::{Piece, WriteFault, put_pieces};
 use script_lines::Line;
@@ -109,7 +113,35 @@ pub(crate) fn resource(answer: Result<ResourceInfo, Refusal>) -> Reply
     }
 }
 
+pub(crate) fn data(answer: Result<Bytes, Refusal>) -> Reply
+    ensures { result ≡ reply_of (λ bytes. Reply.Data bytes) answer }
+{
+    match answer {
+        Ok(bytes) => Reply::Data(bytes),
+        Err(refusal) => Reply::Refused(refusal),
+    }
+}
+
 // ---- reply lines
+
+/// What is told of the answer to a line, where it is no refusal.
+#[derive(Clone, Copy)]
+pub(crate) enum Told {
+    Nothing,
+    Values,
+    /// How many bytes it has.
+    Length,
+}
+
+fn told_of(line: &Line) -> Told
+    ensures { result ≡ words.told_of line.now }
+{
+    match line {
+        Line::Bind { .. } | Line::Silent(_) | Line::Import { .. } => Told::Nothing,
+        Line::Print(_) | Line::BindChunk(..) | Line::BindDatabase(..) => Told::Values,
+        Line::Export(_) => Told::Length,
+    }
+}
 
 /// Prints the reply line of a line.
 pub(crate) fn put_reply<W: Write>(
@@ -121,8 +153,11 @@ pub(crate) fn put_reply<W: Write>(
 {
     match reply {
         Reply::Refused(refusal) => put_refusal(out, *refusal),
-        _ if says_nothing(line) => put_pieces(out, &[Piece::Text(b"ok\n")]),
-        _ => put_values(out, reply),
+        Reply::Data(bytes) => put_told_bytes(out, told_of(line), bytes.as_slice()),
+        _ => match told_of(line) {
+            Told::Values => put_values(out, reply),
+            Told::Nothing | Told::Length => put_pieces(out, &[Piece::Text(b"ok\n")]),
+        },
     }
 }
 
@@ -135,26 +170,33 @@ pub(crate) fn put_data<W: Write>(
     ensures { Writes W.contents out.old out.new (reply_line line.now (Reply.Data bytes.now))
         (is_ok result) }
 {
-    if says_nothing(line) {
-        return put_pieces(out, &[Piece::Text(b"ok\n")]);
-    }
-    put_bytes(out, bytes)
+    put_told_bytes(out, told_of(line), bytes)
 }
 
-fn says_nothing(line: &Line) -> bool
-    ensures { result ≡ is_silent line.now }
+/// Prints `ok` and what is told of an answer of bytes.
+fn put_told_bytes<W: Write>(
+    out: &mut Counted<W>,
+    told: Told,
+    bytes: &[u8],
+) -> Result<(), WriteFault>
+    ensures { Writes W.contents out.old out.new (reply_text told (Reply.Data bytes.now))
+        (is_ok result) }
 {
-    matches!(line, Line::Bind { .. } | Line::Silent(_))
+    match told {
+        Told::Nothing => put_pieces(out, &[Piece::Text(b"ok\n")]),
+        Told::Values => put_bytes(out, bytes),
+        Told::Length => put_length(out, bytes.len()),
+    }
 }
 
-/// Prints `refused` with the number and the name of a refusal.
+/// Prints `refused` with the number and the name of a refusal, and behind them what is wrong with a file.
 pub(crate) fn put_refusal<W: Write>(
     out: &mut Counted<W>,
     refusal: Refusal,
 ) -> Result<(), WriteFault>
-    ensures { Writes W.contents out.old out.new (codes "refused " ++ decimal (number_of refusal)
-        ++ codes " " ++ name_of refusal ++ codes "\n") (is_ok result) }
+    ensures { Writes W.contents out.old out.new (refusal_line refusal) (is_ok result) }
 {
+    let (fault, of) = details(refusal);
     put_pieces(
         out,
         &[
@@ -162,9 +204,39 @@ pub(crate) fn put_refusal<W: Write>(
             Piece::Number(u32::from(refusal.number())),
             Piece::Text(b" "),
             Piece::Text(refusal.name().as_bytes()),
+            Piece::Text(fault),
+            of,
             Piece::Text(b"\n"),
         ],
     )
+}
+
+/// What stands behind the name of a refusal: of a file what is wrong with it, and of which of its parts.
+fn details(refusal: Refusal) -> (&'static [u8], Piece<'static>)
+    ensures { result.0.now ++ piece_text result.1 ≡ details_text refusal }
+{
+    match refusal {
+        Refusal::BadFile(FileFault::Truncated) => (b" Truncated", NOTHING),
+        Refusal::BadFile(FileFault::ChainedList) => (b" ChainedList", NOTHING),
+        Refusal::BadFile(FileFault::EmptyName) => (b" EmptyName", NOTHING),
+        Refusal::BadFile(FileFault::BadInfo(which)) => {
+            (b" BadInfo ", Piece::Text(which_word(which)))
+        }
+        Refusal::BadFile(FileFault::BadOffset(index)) => (b" BadOffset ", Piece::Number(index)),
+        _ => (b"", NOTHING),
+    }
+}
+
+const NOTHING: Piece<'static> = Piece::Text(b"");
+
+/// An info block, as scripts name it.
+fn which_word(which: Which) -> &'static [u8]
+    ensures { result.now ≡ words.which_word which }
+{
+    match which {
+        Which::App => b"app",
+        Which::Sort => b"sort",
+    }
 }
 
 /// Prints `ok` with the values of a reply that is no refusal.
@@ -195,6 +267,22 @@ fn put_number<W: Write>(out: &mut Counted<W>, number: u32) -> Result<(), WriteFa
         &[
             Piece::Text(b"ok "),
             Piece::Number(number),
+            Piece::Text(b"\n"),
+        ],
+    )
+}
+
+/// Prints `ok` and a length.
+fn put_length<W: Write>(out: &mut Counted<W>, length: usize) -> Result<(), WriteFault>
+    ensures { Writes W.contents out.old out.new
+        (codes "ok" ++ (codes " " ++ decimal length) ++ codes "\n") (is_ok result) }
+{
+    let mut buffer = Buffer::new();
+    put_pieces(
+        out,
+        &[
+            Piece::Text(b"ok "),
+            Piece::Text(buffer.format(length).as_bytes()),
             Piece::Text(b"\n"),
         ],
     )

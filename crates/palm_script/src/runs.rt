@@ -1,6 +1,8 @@
 //! The lines of a script, one behind another.
 
-ghost use Rattle.std.specs.Prelude.{◌≡◌, [], Err, IfOk, OnOk, replicate};
+ghost use Rattle.std.specs.Prelude.{◌≡◌, ◌≤◌, ◌+◌, ◌++◌, [], Err, IfOk, length, replicate};
+ghost use Rattle.std.specs.Prelude.{vec_capacity, vec_len};
+ghost use Rattle.std.specs.Option.{option_to_list};
 ghost use Rattle.palm_script.specs.Lines.{BreaksOff, RunsThrough, no_database, no_name};
 
 use crate::lines::do_line;
@@ -25,8 +27,8 @@ pub enum RunFault {
 /// Runs the lines of a script, and prints the reply line of each. A line that is refused doesn't
 /// end the run.
 ///
-/// `inputs` are the files that lines import, and the answer lists the files that they export. No
-/// line does either, so the answer is empty. Memory is taken before the first line alone.
+/// `inputs` are the files that lines import, and the answer lists the files that they export, in order.
+/// Behind the first line only imports and exports take memory; where that is refused, so is the line.
 pub fn run<W: Write>(
     alloc: Global,
     store: &mut Store,
@@ -36,28 +38,24 @@ pub fn run<W: Write>(
 ) -> Result<Vec<Bytes>, RunFault>
     ensures ok { IfOk result (λ files. RunsThrough W.contents inputs.now script.now
         store.old out.old store.new out.new files.items) }
-    ensures files { IfOk result (λ files. files.items ≡ []) }
     ensures write { result ≡ Err RunFault.Write → BreaksOff W.contents inputs.now script.now
         store.old out.old store.new out.new }
     ensures memory { result ≡ Err RunFault.OutOfMemory
         → (store.new ≡ store.old) × (out.new ≡ out.old) }
 {
-    match run_from(&alloc, store, script, inputs, out) {
-        Ok(()) => Ok(Vec::new(alloc)),
-        Err(fault) => Err(fault),
-    }
+    run_from(&alloc, store, script, inputs, out)
 }
 
-/// `run`, where the growth asks for a grant.
+/// `run`, where each growth asks for a grant.
 pub fn run_from<A: Allowance, W: Write>(
     memory: &A,
     store: &mut Store,
     script: &Script,
     inputs: &[Bytes],
     out: &mut Counted<W>,
-) -> Result<(), RunFault>
-    ensures ok { OnOk result (RunsThrough W.contents inputs.now script.now
-        store.old out.old store.new out.new []) }
+) -> Result<Vec<Bytes>, RunFault>
+    ensures ok { IfOk result (λ files. RunsThrough W.contents inputs.now script.now
+        store.old out.old store.new out.new files.items) }
     ensures write { result ≡ Err RunFault.Write → BreaksOff W.contents inputs.now script.now
         store.old out.old store.new out.new }
     ensures memory { result ≡ Err RunFault.OutOfMemory
@@ -69,15 +67,18 @@ pub fn run_from<A: Allowance, W: Write>(
     let Ok(mut databases) = unbound_databases(memory, script.database_label_count()) else {
         return Err(RunFault::OutOfMemory);
     };
+    let Ok(mut files) = room_for_files(memory, script.export_count()) else {
+        return Err(RunFault::OutOfMemory);
+    };
     let names = names.as_mut_slice();
     let databases = databases.as_mut_slice();
     for line in script.lines() {
-        match do_line(store, names, databases, inputs, line, out) {
-            Ok(()) => {}
+        match do_line(memory, store, names, databases, inputs, line, out) {
+            Ok(file) => add_file(&mut files, file),
             Err(_) => return Err(RunFault::Write),
         }
     }
-    Ok(())
+    Ok(files)
 }
 
 /// A table of so many labels of chunks, none of them bound.
@@ -92,4 +93,25 @@ fn unbound_databases<A: Allowance>(memory: &A, count: usize) -> Result<Vec<Db>, 
     ensures { IfOk result (λ databases. databases.items ≡ replicate count no_database) }
 {
     vec![in memory.grant()?; Db(0); count]
+}
+
+/// No files yet, and room for so many.
+fn room_for_files<A: Allowance>(memory: &A, count: usize) -> Result<Vec<Bytes>, AllocError>
+    ensures none { IfOk result (λ files. files.items ≡ []) }
+    ensures len { IfOk result (λ files. vec_len files ≡ 0) }
+    ensures room { IfOk result (λ files. vec_capacity files ≡ count) }
+{
+    Vec::with_capacity(memory.grant()?, count)
+}
+
+/// Puts a file behind the others, if there is one.
+fn add_file(files: &mut Vec<Bytes>, file: Option<Bytes>)
+    requires { vec_len files.old + length (option_to_list file) ≤ vec_capacity files.old }
+    ensures items { files.new.items ≡ files.old.items ++ option_to_list file }
+    ensures len { vec_len files.new ≡ vec_len files.old + length (option_to_list file) }
+    ensures capacity { vec_capacity files.new ≡ vec_capacity files.old }
+{
+    if let Some(file) = file {
+        files.push_reserved(file);
+    }
 }

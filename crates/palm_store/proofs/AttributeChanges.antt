@@ -1,11 +1,11 @@
 -- All records of a database with other attributes are a change of the store.
-use Rattle.std.proofs.Common.{◌≡◌, ◌≢◌, ℕ, ◌<◌, ◌^◌, Bool, true, false, List, [], ◌∷◌, length, map, refl, sym, ap, subst, ◌∙◌, arith}
+use Rattle.std.proofs.Common.{◌≡◌, ◌≢◌, ℕ, Bool, true, false, List, [], ◌∷◌, map, refl, sym, ap, subst, ◌∙◌, arith}
 use Rattle.std.proofs.lemmas.List.{length-map}
 use Rattle.std.proofs.lemmas.List.Elements.{All-nil, All-cons, All-head, All-tail}
 use Rattle.std.specs.Prelude.{All}
 use Rattle.std.specs.Prelude.{filter_map}
 use Rattle.heap_model.specs.Lists.{times, Distinct}
-use Rattle.heap_model.specs.Database.{Entry, a_record, a_resource, Database, entry_data, data_in, has_resources, is_deleted, EntryFits}
+use Rattle.heap_model.specs.Database.{Entry, a_record, a_resource, Database, entry_data, has_resources, EntryFits}
 use Rattle.heap_model.specs.Store.{unique_id, Accepted, store_of}
 use Rattle.heap_model.specs.Counts.{IsSound, NamesData}
 use Rattle.heap_model.specs.Leaving.{Respells, database_here}

@@ -66,7 +66,7 @@ header_put old mid new slot bytes h l w long =
       last = listed_still ∙ l.last;
       fresh = l.fresh;
       apart = λ e. l.apart (e ∙ word);
-      chunk = put_here mid new slot 0 bytes (chunk_of (replicate header_size 0)) w l.chunk ∙ ap (λ (xs : List ℕ). Some (chunk_of xs)) (all_written 78 bytes long);
+      chunk = put_here mid new slot 0 bytes (chunk_of (replicate header_size 0)) w l.chunk ∙ ap (λ (xs : List ℕ). Some (chunk_of xs)) (all_written (replicate 78 0) bytes long);
       others = λ name ne other. kept name ne ∙ l.others name ne (λ e. other (e ∙ sym word));
     } where
       fresh_there : (o : Option LiveChunk) (live : LiveChunk) → o ≡ Some live → o ≡ None → ⊥

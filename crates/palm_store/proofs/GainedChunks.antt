@@ -27,7 +27,8 @@ use Rattle.laws_store.proofs.Owners.{directory_owner}
 use Rattle.laws_store.proofs.Creating.{slots_made}
 use Rattle.laws_store.proofs.Edited.{here as updated_here, apart as updated_apart}
 use Rattle.mem_manager.specs.Lookup.{MakesNew}
-use Rattle.palm_store.specs.WholeDatabases.{size_of_data, data_sizes, numbers_in, IsGained, GainsZeros, makings, RunsOut, Spends, MakesAll, AreOwnChunks}
+use Rattle.heap_model.specs.FileSteps.{makings}
+use Rattle.palm_store.specs.WholeDatabases.{size_of_data, data_sizes, numbers_in, IsGained, GainsZeros, RunsOut, Spends, MakesAll, AreOwnChunks}
 use Rattle.palm_store.proofs.Maps.{gone_out, gone_in, kept, owner_none, held_some, still_through}
 use Rattle.palm_store.proofs.NamedChunks.{freed_one, freed_more}
 use Rattle.palm_store.proofs.WholeRooms.{spends_both, makings-append, runs_more, runs_then}

@@ -27,3 +27,4 @@ pub mod InfoBlocks
 pub mod BlockCalls
 pub mod KnownIds
 pub mod AttributeChanges
+pub mod FilledData

@@ -76,11 +76,9 @@ pub lock_of : (image : List ℕ) (name : ℕ) (one other : LiveChunk) → held i
 lock_of image name one other e none f = ap (λ (l : LiveChunk). l.lock) (one_live (sym f ∙ e)) ∙ none
 
 -- all of a chunk's bytes are written
-pub all_written : (size : ℕ) (part : List ℕ) → length part ≡ size → overwritten (replicate size 0) 0 part ≡ part
+pub all_written : (old part : List ℕ) → length part ≡ length old → overwritten old 0 part ≡ part
 unfolding overwritten
-all_written size part len =
-    let zeros : length (replicate {A = ℕ} size 0) ≡ size = length-replicate size 0 in
-    ap (λ (xs : List ℕ). part ++ xs) (drop_all (0 + length part) (replicate size 0) (omega arith)) ∙ append-nil part
+all_written old part len = ap (λ (xs : List ℕ). part ++ xs) (drop_all (0 + length part) old (omega arith)) ∙ append-nil part
 
 -- bytes that were written behind those of a chunk that grew for them
 pub more_written : (old part : List ℕ) → overwritten (sized_to old (length old + length part)) (length old) part ≡ old ++ part
@@ -111,7 +109,7 @@ begun old first second new name slot word h none m l n is =
     let made = made_here old first name 4 m in
     let four : length word ≡ 4 = ap length is ∙ length-u32_bytes slot in
     let wrote = put_here first second name 0 word (chunk_of (replicate 4 0)) l made in
-    let now : held new name ≡ Some (chunk_of word) = n.map name ∙ wrote ∙ ap (λ (bytes : List ℕ). Some (chunk_of bytes)) (all_written 4 word four) in
+    let now : held new name ≡ Some (chunk_of word) = n.map name ∙ wrote ∙ ap (λ (bytes : List ℕ). Some (chunk_of bytes)) (all_written (replicate 4 0) word four) in
     let same : (other : ℕ) → other ≢ name → held new other ≡ held old other = λ other ne. n.map other ∙ put_apart first second name 0 word l other ne ∙ made_apart old first name 4 m other ne in
     record {
       accepted = n.accepted;

@@ -21,7 +21,8 @@ use Rattle.laws_store.proofs.Parts.{one_grown}
 use Rattle.laws_store.proofs.Edited.{here as updated_here, apart as updated_apart}
 use Rattle.mem_manager.specs.Lookup.{MakesNew, HasNoRoomFor}
 use Rattle.palm_store.specs.Directory.{HasNoRoomToList}
-use Rattle.palm_store.specs.WholeDatabases.{IsGained, makings, listing_part, listing_slots, whole_parts, whole_slots, RunsOut, MakesAll, MakesAndLists, ListsWhole}
+use Rattle.heap_model.specs.FileSteps.{makings, listing_part, listing_slots, whole_parts, whole_slots}
+use Rattle.palm_store.specs.WholeDatabases.{IsGained, RunsOut, MakesAll, MakesAndLists, ListsWhole}
 use Rattle.palm_store.proofs.Maps.{owner_none, owned, still_through}
 use Rattle.palm_store.proofs.ListedSlots.{chunk_of, made_here, made_apart, made_kept, lock_of, is_zero, is_some_number}
 use Rattle.palm_store.proofs.WholeRooms.{runs_then}

@@ -9,3 +9,4 @@ pub mod InfoBlocks
 pub mod Replies
 pub mod KnownIds
 pub mod AttributeChanges
+pub mod Files

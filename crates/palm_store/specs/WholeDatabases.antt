@@ -1,6 +1,6 @@
 -- Databases that are made whole: what is asked for, the database that comes of it, and the chunks that the
 -- store gains for its data.
-use Rattle.std.specs.Prelude.{◌≡◌, ◌≢◌, ◌≤◌, ◌<◌, ◌+◌, ◌++◌, ◌⊎◌, ◌==◌, if◌then◌else◌, ℕ, Bool, true, false, List, [], ◌∷◌, length, map, drop, replicate, Option, Some, None, IsSome, All}
+use Rattle.std.specs.Prelude.{◌≡◌, ◌≢◌, ◌≤◌, ◌<◌, ◌+◌, ◌++◌, ◌⊎◌, ℕ, Bool, true, false, List, [], ◌∷◌, length, map, drop, replicate, Option, Some, None, IsSome, All}
 use Rattle.std.specs.List.{AllZip, filter_map}
 use Rattle.heap_model.specs.Bytes.{u32_bytes}
 use Rattle.heap_model.specs.Slots.{slots_total}
@@ -12,12 +12,13 @@ use Rattle.heap_model.specs.Placing.{SameFrame}
 use Rattle.heap_model.specs.Lists.{times, Distinct}
 use Rattle.heap_model.specs.Database.{DatabaseHeader, Entry, a_record, a_resource, Database, has_resources, is_deleted, IsDatabaseName, entry_offset}
 use Rattle.heap_model.specs.UniqueIds.{greatest_id}
-use Rattle.heap_model.specs.Rooms.{Part, making, growth, taken_by, rooms_for, LowersOne, KeepsStretches, Stuck}
+use Rattle.heap_model.specs.Rooms.{Part, taken_by, rooms_for, LowersOne, KeepsStretches, Stuck}
 use Rattle.heap_model.specs.Refusals.{Check, ◌brings◌}
 use Rattle.heap_model.specs.Store.{Store, data_owner, managers_owner, directory_bytes, most_databases, Accepted, store_of}
 use Rattle.heap_model.specs.StoreWords.{may_run_out}
 use Rattle.heap_model.specs.EntrySteps.{most_entries}
 use Rattle.heap_model.specs.DatabaseSteps.{taken}
+use Rattle.heap_model.specs.FileSteps.{makings, whole_parts, whole_slots}
 use Rattle.heap_model.specs.declared.names.Name.{Name}
 use Rattle.heap_model.specs.declared.database.DbInfo.{DbInfo}
 use Rattle.heap_model.specs.declared.refusal.Refusal.TheVariants.{TooManyEntries}
@@ -136,30 +137,9 @@ pub record MakesWhole (old new : List ℕ) (db : ℕ) (info : DbInfo) (blocks : 
 
 -- ---- room for it
 
--- the chunks of these sizes, to be made one after the other
-abbrev pub makings : List (Option ℕ) → List Part
-makings [] = []
-makings (None ∷ sizes) = makings sizes
-makings (Some size ∷ sizes) = making size ∷ makings sizes
-
--- what it takes to list one database more: a directory is made where there is none, and else it grows
-abbrev pub listing_part : List ℕ → Part
-listing_part image = if directory_of image == 0 then making 4 else growth image (directory_of image) (length (directory_bytes image) + 4)
-
-abbrev pub listing_slots : List ℕ → ℕ
-listing_slots image = if directory_of image == 0 then 1 else 0
-
 -- the bytes of the header with all of its entries
 abbrev pub whole_size : DbInfo → List WholeEntry → ℕ
 whole_size info entries = entry_offset (has_resources info.attributes) (length entries)
-
--- the parts in their order: the header, the info blocks, the data of the entries, and the directory
-abbrev pub whole_parts : List ℕ → ℕ → List (Option ℕ) → List Part
-whole_parts image size sizes = making size ∷ (makings sizes ++ listing_part image ∷ [])
-
--- how many slots they take
-abbrev pub whole_slots : List ℕ → List (Option ℕ) → ℕ
-whole_slots image sizes = 1 + (length (makings sizes) + listing_slots image)
 
 -- the parts may not all find room
 abbrev pub RunsOut : List ℕ → ℕ → List Part → Type 0

@@ -1,7 +1,7 @@
 //! The store. Its calls stand in the modules below: those of the memory manager, that ask, that change a
 //! chunk where it stands, and that make, free and move chunks; those on databases and on their info blocks; those
-//! on entries, for the crates of records and resources; and the one that makes a whole database, for the crate
-//! of files.
+//! on entries, for the crates of records and resources; and those that make a whole database, fill its data and
+//! read it, for the crate of files.
 
 ghost use Rattle.std.specs.Prelude.{◌≡◌, ◌⊎◌, is_ok, IfOk, IfErr, OnOk};
 ghost use Rattle.heap_model.specs.Store.{Accepted};
@@ -14,6 +14,7 @@ mod blocks;
 mod changing;
 mod databases;
 mod entries;
+mod files;
 mod making;
 mod whole;
 
@@ -31,8 +32,8 @@ use store_check::{StoreFault, StoreSummary, check_store_from};
 use thiserror::Error;
 
 /// A region that is an accepted image. Contracts see the region's value alone, and no method but those on
-/// entries asks for anything of its caller: what a call can't do it refuses. Neither its region nor its
-/// heap is lent, so no byte of it is written but by its calls.
+/// entries and for files asks for anything of its caller: what a call can't do it refuses. Neither its region
+/// nor its heap is lent, so no byte of it is written but by its calls.
 #[derive(Drop)]
 pub struct Store {
     heap: Heap,

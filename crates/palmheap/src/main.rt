@@ -8,10 +8,10 @@
 
 use clap::error::ErrorKind;
 use command_line::Request;
-use heap_model::Counted;
+use heap_model::{Bytes, Counted};
 use palmheap_commands::{check_region, cmd_new, run_region};
 use program_io::{
-    InputFault, Noted, OutputFile, Status, read_input, report_fault, report_input_fault,
+    InputFault, Noted, OutputFile, Status, put, read_input, report_fault, report_input_fault,
     report_outcome, report_write_fault,
 };
 use raw_region::Region;
@@ -37,7 +37,14 @@ fn run<R: Env + Files + Print + Eprint + AllocGlobal>(rt: &R) -> Status {
     match command_line::parse(rt.alloc(), words.as_slice()) {
         Ok(Request::New { size, slots, out }) => new(rt, size, slots, out),
         Ok(Request::Check { image }) => check(rt, image),
-        Ok(Request::Run { image, script, out }) => run_script(rt, image, script, out),
+        Ok(
+            Request::Run {
+                image,
+                script,
+                out,
+                files,
+            },
+        ) => run_script(rt, image, script, out, files.as_slice()),
         Err(error) => answer(rt, &error),
     }
 }
@@ -109,12 +116,14 @@ fn check<R: Files + Print + Eprint + AllocGlobal>(rt: &R, path: &str) -> Status 
     status
 }
 
-/// Runs `run`. Both files are read before the image is looked at.
+/// Runs `run`. All input files are read before the image is looked at, and the exported files are written
+/// once all else is done.
 fn run_script<R: Files + Print + Eprint + AllocGlobal>(
     rt: &R,
     image: &str,
     script: &str,
     path: &str,
+    inputs: &[&str],
 ) -> Status {
     let image = match read_image(rt, image) {
         Ok(image) => image,
@@ -124,19 +133,38 @@ fn run_script<R: Files + Print + Eprint + AllocGlobal>(
         Ok(script) => script,
         Err(status) => return status,
     };
+    let inputs = match read_files(rt, inputs) {
+        Ok(inputs) => inputs,
+        Err(status) => return status,
+    };
+    match run_to(rt, image, script.as_slice(), inputs.as_slice(), path) {
+        Ok(files) => write_files(rt, path, files.as_slice()),
+        Err(status) => status,
+    }
+}
+
+/// Runs a script on an image, writes the image that comes of it, and answers the files that it exports.
+/// What broke it off is on standard error then.
+fn run_to<R: Files + Print + Eprint + AllocGlobal>(
+    rt: &R,
+    image: Region,
+    script: &[u8],
+    inputs: &[Bytes],
+    path: &str,
+) -> Result<Vec<Bytes>, Status> {
     let Ok(out) = BufWriter::new(rt.alloc(), Noted::new(io::writer(rt))) else {
-        return fail(rt, Status::NoMemory);
+        return Err(fail(rt, Status::NoMemory));
     };
     let Ok(image_out) = OutputFile::new(rt, path) else {
-        return fail(rt, Status::NoMemory);
+        return Err(fail(rt, Status::NoMemory));
     };
     let (mut image_out, mut out) = (Counted::new(Noted::new(image_out)), Counted::new(out));
     let mut files = Vec::new(rt.alloc());
     let status = run_region(
         rt.alloc(),
         image,
-        script.as_slice(),
-        &[],
+        script,
+        inputs,
         &mut image_out,
         &mut files,
         &mut out,
@@ -147,7 +175,56 @@ fn run_script<R: Files + Print + Eprint + AllocGlobal>(
     let (out, _) = out.into_inner().into_parts();
     let (_, fault) = out.into_parts();
     report_outcome(rt, status, &[(path, image_fault), (STANDARD_OUTPUT, fault)]);
+    if status == Status::Done {
+        Ok(files)
+    } else {
+        Err(status)
+    }
+}
+
+/// Writes each exported file beside the image, the first one to the image's path with `.1` behind it. Those
+/// behind one that can't be written aren't written.
+fn write_files<R: Files + Eprint + AllocGlobal>(rt: &R, path: &str, files: &[Bytes]) -> Status {
+    for (index, file) in files.iter().enumerate() {
+        let number = index + 1;
+        let Ok(path) = format!(in rt.alloc(); "{path}.{number}") else {
+            return fail(rt, Status::NoMemory);
+        };
+        let status = write_file(rt, path.as_str(), file.as_slice());
+        if status != Status::Done {
+            return status;
+        }
+    }
+    Status::Done
+}
+
+/// Writes a file as a whole or not at all.
+fn write_file<R: Files + Eprint + AllocGlobal>(rt: &R, path: &str, bytes: &[u8]) -> Status {
+    let Ok(out) = OutputFile::new(rt, path) else {
+        return fail(rt, Status::NoMemory);
+    };
+    let mut out = Counted::new(Noted::new(out));
+    let status = match put(&mut out, bytes) {
+        Ok(()) => Status::Done,
+        Err(_) => Status::WriteFault,
+    };
+    let (out, fault) = out.into_inner().into_parts();
+    out.close();
+    report_outcome(rt, status, &[(path, fault)]);
     status
+}
+
+/// All of some files. What keeps one from being read is on standard error then.
+fn read_files<R: Files + Eprint + AllocGlobal>(
+    rt: &R,
+    paths: &[&str],
+) -> Result<Vec<Bytes>, Status> {
+    let mut files = Vec::new(rt.alloc());
+    for path in paths {
+        let file = Bytes::of(read_file(rt, path)?);
+        files.push(file).map_err(|_| fail(rt, Status::NoMemory))?;
+    }
+    Ok(files)
 }
 
 /// All of a file, in a region. What keeps it from being read is on standard error then.

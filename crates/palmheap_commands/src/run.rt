@@ -1,6 +1,6 @@
 //! The command `run`: a script, run on an image.
 
-ghost use Rattle.std.specs.Prelude.{◌≡◌, ◌≢◌, ◌⊎◌, Ok, Err, IfOk, IfErr, OnOk, [], true, false};
+ghost use Rattle.std.specs.Prelude.{◌≡◌, ◌≢◌, ◌⊎◌, Ok, Err, IfOk, IfErr, OnOk, true, false};
 ghost use Rattle.heap_model.specs.Store.{Accepted};
 ghost use Rattle.script_lines.specs.Reading.{read_script};
 ghost use Rattle.palmheap_commands.specs.Runs.{EndsEarly, PrintingFails, PutsRefusal, RunBreaksOff};
@@ -31,7 +31,6 @@ pub fn cmd_run<W: Write, V: Write>(
 ) -> Status
     ensures done { result ≡ Status.Done → RunsScript image.now script.now inputs.now
         V.contents out.old out.new W.contents image_out.old image_out.new files.new.items true }
-    ensures no_file { result ≡ Status.Done → files.new.items ≡ [] }
     ensures files_kept { result ≢ Status.Done → files.new ≡ files.old }
     ensures refused { result ≡ Status.Refused
         → PutsRefusal image.now script.now V.contents out.old out.new true }
@@ -61,7 +60,6 @@ pub fn run_region<W: Write, V: Write>(
 ) -> Status
     ensures done { result ≡ Status.Done → RunsScript region.bytes script.now inputs.now
         V.contents out.old out.new W.contents image_out.old image_out.new files.new.items true }
-    ensures no_file { result ≡ Status.Done → files.new.items ≡ [] }
     ensures files_kept { result ≢ Status.Done → files.new ≡ files.old }
     ensures refused { result ≡ Status.Refused
         → PutsRefusal region.bytes script.now V.contents out.old out.new true }
@@ -131,7 +129,6 @@ fn run_script<W: Write, V: Write>(
         ⊎ (result ≡ Status.NoMemory) }
     ensures done { result ≡ Status.Done → RunsAndWrites inputs.now script.now store
         V.contents out.old out.new W.contents image_out.old image_out.new files.new.items true }
-    ensures no_file { result ≡ Status.Done → files.new.items ≡ [] }
     ensures files_kept { result ≢ Status.Done → files.new ≡ files.old }
     ensures write_fault { result ≡ Status.WriteFault → EndsEarly inputs.now script.now store
         V.contents out.old out.new W.contents image_out.old image_out.new }
@@ -161,7 +158,6 @@ fn print_replies<V: Write>(
 ) -> Result<Vec<Bytes>, Status>
     ensures ok { IfOk result (λ files. RunsAndFlushes V.contents inputs.now script.now
         store.old out.old store.new out.new files.items true) }
-    ensures files { IfOk result (λ files. files.items ≡ []) }
     ensures faults { IfErr result (λ status.
         (status ≡ Status.WriteFault) ⊎ (status ≡ Status.NoMemory)) }
     ensures write { result ≡ Err Status.WriteFault → PrintingFails V.contents inputs.now script.now

@@ -1,6 +1,5 @@
 -- What is known of a file without fault: it has its header and its entries, and its blocks begin within it.
-use Rattle.std.proofs.Common.{◌≡◌, ℕ, zero, suc, ◌+◌, ◌<◌, ◌≤◌, Bool, true, false, List, length, get_or, map, refl, ap, subst, ◌∙◌, arith, inl, inr}
-use Rattle.std.specs.List.{range_with_len}
+use Rattle.std.proofs.Common.{◌≡◌, ℕ, zero, suc, ◌+◌, ◌<◌, ◌≤◌, Bool, true, false, List, length, get_or, refl, ap, subst, ◌∙◌, arith, inl, inr}
 use Rattle.std.proofs.lemmas.Bool.{cases_eq, cases_lt}
 use Rattle.std.proofs.lemmas.List.{length-map, get_or-map}
 use Rattle.std.proofs.lemmas.List.FromFn.{length-map-range_with_len, get_or-map-range_with_len}
@@ -9,7 +8,7 @@ use Rattle.heap_model.specs.Lists.{numbered}
 use Rattle.heap_model.specs.DatabaseFields.{header_size, app_info_at, sort_info_at}
 use Rattle.heap_model.specs.Database.{Entry, a_record, a_resource, entry_data, resources_in, entry_count_in, entry_offset, entry_in, database_in}
 use Rattle.heap_model.specs.Files.{entries_end, IsOutside, IsBadInfo, HasBadOffset, HasFault, HasNoFault, offsets_in}
-use Rattle.heap_model.specs.declared.file_fault.FileFault.TheVariants.{Truncated, BadInfo, BadOffset}
+use Rattle.heap_model.specs.declared.file_fault.FileFault.TheVariants.{Truncated, BadOffset}
 
 pub not_truncated : (file : List ℕ) → HasNoFault file → (header_size ≤ length file) × (entries_end file ≤ length file)
 not_truncated file good =

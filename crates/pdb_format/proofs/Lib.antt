@@ -1,5 +1,6 @@
 pub mod FaultLaws
 pub mod GoodFiles
+pub mod NamedSizes
 pub mod PlacedBlocks
 pub mod SortedStarts
 pub mod WrittenBlocks

@@ -1,18 +1,18 @@
 -- Blocks that are put down at their ranks, one start after the other.
 use Rattle.std.proofs.Common.{◌≡◌, ℕ, ◌+◌, ◌<◌, ◌≤◌, List, length, get_or, set, map, Option, Some, None, sym, ap, subst, ◌∙◌, arith, inl, inr}
 use Rattle.std.specs.Prelude.{◌^◌, min, slice_range, slice_index}
-use Rattle.std.specs.List.{fold}
+use Rattle.std.specs.List.{All, fold}
 use Rattle.std.specs.List.Sorted.{IsPermutation, IsNonDecreasingBy}
 use Rattle.std.proofs.lemmas.Bool.{cases_eq, cases_lt}
-use Rattle.std.proofs.lemmas.List.{length-map, length-set, get_or-map, get_or-set_same, get_or-set_other}
+use Rattle.std.proofs.lemmas.List.{length-map, length-set, get_or-map, get_or_past, get_or_default, get_or-set_same, get_or-set_other}
 use Rattle.std.proofs.lemmas.List.FromFn.{fill_by_all}
 use Rattle.heap_model.specs.Files.{starts_behind, offsets_in, block_end, block_at, blocks_in, HasNoFault}
 use Rattle.pdb_format.specs.declared.starts.Start.{Start}
 use Rattle.pdb_format.specs.declared.blocks.Block.{Block}
 use Rattle.pdb_format.specs.Starts.{starts_in, order, begins}
-use Rattle.pdb_format.specs.Blocks.{bytes_at}
+use Rattle.pdb_format.specs.Blocks.{bytes_at, IsWithin}
 use Rattle.pdb_format.proofs.GoodFiles.{offset_inside_file}
-use Rattle.pdb_format.proofs.SortedStarts.{none, AreSorted, items_are, ranks_apart, start_found, sorted_end}
+use Rattle.pdb_format.proofs.SortedStarts.{none, AreSorted, items_are, ranks_apart, start_found, begins_inside, sorted_end}
 use Rattle.pdb_format.proofs.WrittenBlocks.{block_there}
 
 -- the block of an index among sorted starts
@@ -77,6 +77,48 @@ all_put file items blocks sorted are =
           ∙ ap (λ (o : ℕ). Some (slice_range file o (begins (length file) items (found.0 + 1)))) at
           ∙ ap (λ (e : ℕ). Some (slice_range file (get_or offsets rank 0) e)) end_is
           ∙ sym (block_there file rank (get_or offsets rank 0) (omega arith))
+    ])
+
+-- ---- they lie within the file
+
+placed_within : (offsets : List ℕ) (last : ℕ) (items : List Start) → AreSorted offsets last items → (index : ℕ) → index < length items → IsWithin last (Some (placed last items index))
+placed_within offsets last items sorted index inside =
+    let own = (items_are offsets last items sorted index inside).0 in
+    let own_inside = own.0 in
+    let own_at = own.1 in
+    let own_most = sorted.most (get_or items index none).rank own_inside in
+    elim (cases_lt (index + 1) (length items)) [
+      | inl next ↦
+          let is = begins_inside last items (index + 1) next in
+          let other = (items_are offsets last items sorted (index + 1) next).0 in
+          let other_inside = other.0 in
+          let other_at = other.1 in
+          let most = sorted.most (get_or items (index + 1) none).rank other_inside in
+          let few = sorted.few in
+          let rises = sorted.rising index (index + 1) none (omega arith) next in
+          (omega arith, omega arith)
+      | inr none_next ↦
+          let long = length-map items (λ (start : Start). start.at) in
+          let is : begins last items (index + 1) ≡ last = get_or_past (map (λ (start : Start). start.at) items) (index + 1) last (omega arith) in
+          (omega arith, omega arith)
+    ]
+
+pub all_within : (offsets : List ℕ) (last : ℕ) (items : List Start) (blocks : List (Option Block)) → AreSorted offsets last items → ArePut offsets last items blocks (length items) → All (IsWithin last) blocks
+all_within offsets last items blocks sorted are = λ rank d inside.
+    let room = are.room in
+    let same = get_or_default blocks rank d None inside in
+    subst (IsWithin last) (sym same) (elim (cases_eq (get_or offsets rank 0) 0) [
+      | inl absent ↦
+          let no_start : (j : ℕ) → j < length items → (get_or items j none).rank ≡ rank → ⊥ = λ j less e.
+          let own = items_are offsets last items sorted j less in
+          let some = own.1 in
+          let at = own.0.1 ∙ ap (λ (r : ℕ). get_or offsets r 0) e in
+          omega arith in
+          subst (IsWithin last) (sym (are.rest rank no_start)) tt
+      | inr there ↦
+          let found = start_found offsets last items sorted rank (omega arith) (omega arith) in
+          let block = ap (λ (r : ℕ). get_or blocks r None) (sym found.2) ∙ are.put found.0 found.1 in
+          subst (IsWithin last) (sym block) (placed_within offsets last items sorted found.0 found.1)
     ])
 
 -- the sorted starts of a file without fault

@@ -1,7 +1,7 @@
 -- Where the starts of blocks are sorted, each block ends where the next one begins.
 use Rattle.std.proofs.Common.{◌≡◌, ℕ, zero, suc, ◌+◌, ◌-◌, ◌<◌, ◌≤◌, Bool, true, false, cond, List, [], ◌∷◌, ◌++◌, length, get_or, take, drop, map, refl, sym, ap, subst, ◌∙◌, arith, inl, inr}
 use Rattle.std.specs.Prelude.{◌⊎◌, ◌^◌, min, nat_lt, nat_le, filter, slice_index}
-use Rattle.std.specs.List.{All, fold, range_with_len, sum_by}
+use Rattle.std.specs.List.{All, fold, sum_by}
 use Rattle.std.specs.List.Sorted.{IsPermutation, IsNonDecreasingBy}
 use Rattle.std.proofs.lemmas.Bool.{cases_eq, cases_lt, lt-ltb, le-ltb, ltb-true, leb-true}
 use Rattle.std.proofs.lemmas.List.Elements.{All-filter, filter_passes}

@@ -34,7 +34,7 @@ same_bit attributes =
     let small = bit_at-lt attributes 7 in
     both ∙ omega arith
 
-still_deleted : (attributes : ℕ) → is_deleted (idle_attributes attributes) ≡ is_deleted attributes
+pub still_deleted : (attributes : ℕ) → is_deleted (idle_attributes attributes) ≡ is_deleted attributes
 still_deleted attributes = ap (λ (bit : ℕ). bit == 1) (same_bit attributes)
 
 same_data : (es : List (Entry (Option (List ℕ)))) → map entry_data (map idle_entry es) ≡ map entry_data es

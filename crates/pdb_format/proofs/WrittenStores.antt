@@ -1,22 +1,24 @@
--- The content of a database of an accepted image is written, where its file is short enough.
-use Rattle.std.proofs.Common.{◌≡◌, ◌≢◌, ℕ, zero, suc, ◌^◌, ◌<◌, Bool, true, false, cond, Option, Some, None, List, [], ◌∷◌, get_or, map, refl, sym, ap, subst, arith, inl, inr}
+-- The content of a database of an accepted image can be written, and its file is short.
+use Rattle.std.proofs.Common.{◌≡◌, ◌≢◌, ℕ, zero, suc, ◌+◌, ◌^◌, ◌<◌, ◌≤◌, Bool, true, false, cond, Option, Some, None, List, [], ◌∷◌, length, get_or, map, refl, sym, ap, subst, arith, inl, inr}
 use Rattle.std.specs.Prelude.{All, ◌==◌}
-use Rattle.std.specs.List.{filter_map}
+use Rattle.std.specs.List.{Contains, filter_map, flat_map}
 use Rattle.std.proofs.lemmas.List.{length-map}
-use Rattle.std.proofs.lemmas.List.Elements.{All-cons, All-map}
+use Rattle.std.proofs.lemmas.List.Elements.{All-cons, All-map, All-contains}
 use Rattle.heap_model.specs.Bytes.{AreBytes}
 use Rattle.heap_model.specs.Lists.{Distinct}
 use Rattle.heap_model.specs.Heap.{HeapAccepted}
 use Rattle.heap_model.specs.Meaning.{LiveChunk, ChunkMap}
 use Rattle.heap_model.specs.Reading.{held}
 use Rattle.heap_model.specs.Maps.{not_owned, callers_map}
-use Rattle.heap_model.specs.Database.{Database, Entry, a_record, a_resource, entry_data, data_in, entry_with, has_resources, EntryFits}
-use Rattle.heap_model.specs.Store.{StoredDatabase, bytes_of, bytes_under, bytes_named, content, HasData, unique_id, IsDatabase}
+use Rattle.heap_model.specs.Database.{Database, Entry, a_record, a_resource, entry_data, data_in, entry_with, has_resources, entry_offset, EntryFits}
+use Rattle.heap_model.specs.Store.{StoredDatabase, bytes_of, bytes_under, bytes_named, content, databases, HasData, unique_id, IsDatabase, Accepted}
 use Rattle.heap_model.specs.Files.{block_bytes}
 use Rattle.laws_heap.proofs.Deciding.{none_some}
+use Rattle.laws_heap.proofs.Finding.{read_heap}
 use Rattle.laws_store.proofs.Bodies.{held_bytes}
 use Rattle.laws_store.proofs.Owners.{owned_some}
-use Rattle.pdb_format.specs.Writable.{IsWritableEntry, file_size, IsWritable}
+use Rattle.pdb_format.specs.Writable.{IsWritableEntry, file_size, most_front, IsWritable}
+use Rattle.pdb_format.proofs.NamedSizes.{named_length, database_once}
 
 -- ---- entries
 
@@ -78,10 +80,41 @@ content_bytes image d heap bytes =
     All-cons HasBytes (named d.app_info) (named d.sort_info ∷ map entry_data (map (entry_with named) es)) (block_is_bytes image d.app_info heap bytes)
     (All-cons HasBytes (named d.sort_info) (map entry_data (map (entry_with named) es)) (block_is_bytes image d.sort_info heap bytes) rest)
 
-pub content_writable : (image : List ℕ) (stored : StoredDatabase) → AreBytes image → HeapAccepted image → IsDatabase image stored → file_size (content (callers_map image) stored.database) < 2 ^ 32 → IsWritable (content (callers_map image) stored.database)
-content_writable image stored bytes heap is size =
+-- ---- the size of its file
+
+blocks_named : (chunks : ChunkMap) (d : Database ℕ) → data_in (content chunks d) ≡ map (bytes_named chunks) (data_in d)
+blocks_named chunks d =
+    let named : ℕ → Option (List ℕ) = bytes_named chunks in
+    ap (λ (blocks : List (Option (List ℕ))). named d.app_info ∷ named d.sort_info ∷ blocks) (data_with named d.entries)
+
+front_most : (r : Bool) (count : ℕ) → count < 2 ^ 16 → entry_offset r count + 2 ≤ most_front
+front_most true count few = omega arith
+front_most false count few = omega arith
+
+stored_is : (image : List ℕ) (stored : StoredDatabase) → Accepted image → Contains (databases image) stored → IsDatabase image stored
+stored_is image stored a there = All-contains (IsDatabase image) (databases image) stored a.each there
+
+pub content_short : (image : List ℕ) (stored : StoredDatabase) → Accepted image → Contains (databases image) stored
+    → (file_size (content (callers_map image) stored.database) ≤ length image + most_front) × (file_size (content (callers_map image) stored.database) < 2 ^ 32)
+content_short image stored a there =
     let d : Database ℕ = stored.database in
     let named : ℕ → Option (List ℕ) = bytes_named (callers_map image) in
+    let long = length-map d.entries (entry_with named) in
+    let few = (stored_is image stored a there).spelled.fits.entry_count in
+    let front = front_most (has_resources d.header.attributes) (length (map (entry_with named) d.entries)) (omega arith) in
+    let blocks = named_length image (data_in d) a.heap (database_once image stored a there) in
+    let same = ap (λ (bs : List (Option (List ℕ))). length (flat_map block_bytes bs)) (blocks_named (callers_map image) d) in
+    let most = (read_heap image a.heap).tiles.head.most in
+    let size : file_size (content (callers_map image) d) ≤ length image + most_front = omega arith in
+    (size, omega arith)
+
+-- ---- whether it can be written
+
+pub content_writable : (image : List ℕ) (stored : StoredDatabase) → AreBytes image → Accepted image → Contains (databases image) stored → IsWritable (content (callers_map image) stored.database)
+content_writable image stored bytes a there =
+    let d : Database ℕ = stored.database in
+    let named : ℕ → Option (List ℕ) = bytes_named (callers_map image) in
+    let is = stored_is image stored a there in
     let fits = is.spelled.fits in
     let few = fits.entry_count in
     let long = length-map d.entries (entry_with named) in
@@ -90,10 +123,10 @@ content_writable image stored bytes heap is size =
       name = fits.name;
       header = fits.header;
       entries = All-map (IsWritableEntry (has_resources d.header.attributes)) (entry_with named) d.entries
-          (λ k e below. entry_writable image (has_resources d.header.attributes) (get_or d.entries k e) heap (fits.entries k e below) (is.entries k e below));
+          (λ k e below. entry_writable image (has_resources d.header.attributes) (get_or d.entries k e) a.heap (fits.entries k e below) (is.entries k e below));
       entry_count = omega arith;
       none_zero = subst (λ (ids : List ℕ). All (λ id. id ≢ 0) ids) (sym same) is.ids.none_zero;
       distinct = subst (λ (ids : List ℕ). Distinct ids) (sym same) is.ids.distinct;
-      blocks = content_bytes image d heap bytes;
-      size = size;
+      blocks = content_bytes image d a.heap bytes;
+      size = (content_short image stored a there).1;
     }

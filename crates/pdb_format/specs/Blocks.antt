@@ -1,8 +1,13 @@
 -- Where the blocks of a file stand.
-use Rattle.std.specs.Prelude.{ℕ, List, slice_range, Option, Some, None}
+use Rattle.std.specs.Prelude.{◌≤◌, ℕ, List, slice_range, Option, Some, None}
 use Rattle.pdb_format.specs.declared.blocks.Block.{Block}
 
 -- the bytes of a block of a file, if it is there
 abbrev pub bytes_at : List ℕ → Option Block → Option (List ℕ)
 bytes_at file None = None
 bytes_at file (Some block) = Some (slice_range file block.start block.end)
+
+-- the block, if it is there, lies within so many bytes
+abbrev pub IsWithin : ℕ → Option Block → Type 0
+IsWithin length None = Unit {0}
+IsWithin length (Some block) = (block.start ≤ block.end) × (block.end ≤ length)

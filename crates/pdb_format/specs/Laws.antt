@@ -1,21 +1,31 @@
 -- What the definitions of files promise together: the statements of the laws.
-use Rattle.std.specs.Prelude.{◌<◌, ◌^◌, ℕ, List, Option}
+use Rattle.std.specs.Prelude.{◌≡◌, ◌≤◌, ◌<◌, ◌+◌, ◌^◌, ℕ, List, length, Option}
+use Rattle.std.specs.List.{Contains}
 use Rattle.heap_model.specs.Bytes.{AreBytes}
-use Rattle.heap_model.specs.Heap.{HeapAccepted}
 use Rattle.heap_model.specs.Maps.{callers_map}
 use Rattle.heap_model.specs.Database.{Database}
-use Rattle.heap_model.specs.Store.{StoredDatabase, IsDatabase, content}
+use Rattle.heap_model.specs.Store.{StoredDatabase, content, databases, Accepted}
 use Rattle.heap_model.specs.Files.{Reads, idle, file_of}
-use Rattle.pdb_format.specs.Writable.{file_size, IsWritable}
+use Rattle.pdb_format.specs.Writable.{file_size, most_front, IsWritable}
 
 -- the file of a database that can be written is read as that database, of which no record is busy
 abbrev pub WrittenFilesAreRead : Type 0
 WrittenFilesAreRead = (database : Database (Option (List ℕ))) → IsWritable database → Reads (file_of database) (idle database)
 
--- The content of a database in an accepted heap of bytes can be written, where its file is short enough for
--- offsets of four bytes.
+-- that file is as long as `file_size` says
+abbrev pub WrittenFilesHaveTheirSize : Type 0
+WrittenFilesHaveTheirSize = (database : Database (Option (List ℕ))) → IsWritable database → length (file_of database) ≡ file_size database
+
+-- the content of each database of an accepted image of bytes can be written
 abbrev pub ContentsAreWritable : Type 0
 ContentsAreWritable =
-    (image : List ℕ) (stored : StoredDatabase) → AreBytes image → HeapAccepted image → IsDatabase image stored
-    → file_size (content (callers_map image) stored.database) < 2 ^ 32
+    (image : List ℕ) (stored : StoredDatabase) → AreBytes image → Accepted image → Contains (databases image) stored
     → IsWritable (content (callers_map image) stored.database)
+
+-- The blocks of such a content take no more than the image, in which each is a chunk of its own. So its file
+-- is short enough for offsets of four bytes, whatever the image holds.
+abbrev pub ContentsAreShort : Type 0
+ContentsAreShort =
+    (image : List ℕ) (stored : StoredDatabase) → Accepted image → Contains (databases image) stored
+    → (file_size (content (callers_map image) stored.database) ≤ length image + most_front)
+    × (file_size (content (callers_map image) stored.database) < 2 ^ 32)

@@ -1,9 +1,9 @@
 -- Which databases are written to files: those whose content can stand in an accepted image.
-use Rattle.std.specs.Prelude.{◌≡◌, ◌≢◌, ◌<◌, ◌+◌, ◌^◌, ℕ, Bool, true, false, List, length, Option, None, All}
+use Rattle.std.specs.Prelude.{◌≡◌, ◌≢◌, ◌<◌, ◌+◌, ◌-◌, ◌^◌, ℕ, Bool, true, false, List, length, Option, None, All}
 use Rattle.std.specs.List.{flat_map}
 use Rattle.heap_model.specs.Bytes.{AreBytes}
 use Rattle.heap_model.specs.Lists.{Distinct}
-use Rattle.heap_model.specs.Database.{Database, Entry, a_record, a_resource, data_in, has_resources, is_deleted, IsDatabaseName, HeaderFits}
+use Rattle.heap_model.specs.Database.{Database, Entry, a_record, a_resource, data_in, has_resources, is_deleted, IsDatabaseName, HeaderFits, entry_offset}
 use Rattle.heap_model.specs.Store.{unique_ids}
 use Rattle.heap_model.specs.Files.{block_bytes, first_block}
 
@@ -18,6 +18,11 @@ IsWritableEntry true (a_resource kind id block) = (kind < 2 ^ 32) × (id < 2 ^ 1
 -- the bytes that the file of a database takes: what stands in front of its first block, and its blocks
 abbrev pub file_size : Database (Option (List ℕ)) → ℕ
 file_size database = first_block database + length (flat_map block_bytes (data_in database))
+
+-- the most that stands in front of a first block: a header, as many entries of resources as two bytes can
+-- count, and two bytes
+abbrev pub most_front : ℕ
+most_front = entry_offset true (2 ^ 16 - 1) + 2
 
 -- The name is one, the numbers of the header and of the entries have room in their fields, and the entries
 -- are of the kind that the attributes say. No two records have the same ID, and none has 0. The blocks are

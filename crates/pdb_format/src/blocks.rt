@@ -4,9 +4,10 @@ ghost use Rattle.std.specs.Prelude.{◌≡◌, ◌<◌, ◌≤◌, ◌+◌, leng
 ghost use Rattle.std.specs.List.Sorted.{IsPermutation, IsNonDecreasingBy};
 ghost use Rattle.heap_model.specs.Files.{offsets_in, blocks_in, HasNoFault};
 ghost use Rattle.pdb_format.specs.Starts.{starts_in, order, begins};
-ghost use Rattle.pdb_format.specs.Blocks.{bytes_at};
+ghost use Rattle.pdb_format.specs.Blocks.{bytes_at, IsWithin};
 
 use crate::starts::{Start, rank_count, sorted_starts};
+use heap_model::Allowance;
 use std::alloc::{AllocError, Global};
 
 /// Where a block of a file stands: from its offset up to where the next one begins, in bytes from the file's start.
@@ -37,7 +38,8 @@ fn put_blocks(file: &[u8], starts: &[Start], blocks: &mut [Option<Block>])
     requires room { length blocks.old ≡ length (offsets_in file.now) }
     requires few { length (offsets_in file.now) ≤ 65537 }
     requires empty { All (λ block. block ≡ None) blocks.old }
-    ensures { map (bytes_at file.now) blocks.new ≡ blocks_in file.now }
+    ensures are { map (bytes_at file.now) blocks.new ≡ blocks_in file.now }
+    ensures inside { All (IsWithin (length file.now)) blocks.new }
 {
     for index in 0..starts.len() {
         let start = starts[index];
@@ -52,11 +54,23 @@ fn put_blocks(file: &[u8], starts: &[Start], blocks: &mut [Option<Block>])
 /// order. Memory for them can be refused. One sort.
 pub fn find_blocks(alloc: Global, file: &[u8]) -> Result<Vec<Option<Block>>, AllocError>
     requires { HasNoFault file.now }
-    ensures { IfOk result (λ blocks. map (bytes_at file.now) blocks.items ≡ blocks_in file.now) }
+    ensures are { IfOk result (λ blocks. map (bytes_at file.now) blocks.items ≡ blocks_in file.now) }
+    ensures inside { IfOk result (λ blocks. All (IsWithin (length file.now)) blocks.items) }
 {
-    let starts = sorted_starts(alloc, file)?;
-    let mut blocks = Vec::new(alloc);
-    blocks.resize(rank_count(file) as usize, None)?;
+    find_blocks_from(&alloc, file)
+}
+
+/// `find_blocks`, where each growth asks for a grant.
+pub fn find_blocks_from<A: Allowance>(
+    memory: &A,
+    file: &[u8],
+) -> Result<Vec<Option<Block>>, AllocError>
+    requires { HasNoFault file.now }
+    ensures are { IfOk result (λ blocks. map (bytes_at file.now) blocks.items ≡ blocks_in file.now) }
+    ensures inside { IfOk result (λ blocks. All (IsWithin (length file.now)) blocks.items) }
+{
+    let starts = sorted_starts(memory, file)?;
+    let mut blocks = vec![in memory.grant()?; None; rank_count(file) as usize]?;
     put_blocks(file, &starts, &mut blocks);
     Ok(blocks)
 }

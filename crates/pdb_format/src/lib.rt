@@ -15,6 +15,9 @@ mod faults;
 mod laws;
 mod starts;
 
-pub use blocks::{Block, find_blocks};
+pub use blocks::{Block, find_blocks, find_blocks_from};
 pub use faults::check_file;
-pub use laws::{contents_are_writable, written_files_are_read};
+pub use laws::{
+    contents_are_short, contents_are_writable, written_files_are_read,
+    written_files_have_their_size,
+};

@@ -6,7 +6,8 @@ ghost use Rattle.heap_model.specs.Files.{offsets_in, HasNoFault};
 ghost use Rattle.pdb_format.specs.Starts.{starts_in, order};
 
 use db_format::{app_info, entry_count, entry_slot, has_resources, sort_info};
-use std::alloc::{AllocError, Global};
+use heap_model::Allowance;
+use std::alloc::AllocError;
 
 /// Where a block begins in a file, and its rank: 0 for the AppInfo block, 1 for the SortInfo block, and 2 more than its
 /// index for the data of an entry.
@@ -49,14 +50,15 @@ fn offset_of(file: &[u8], rank: u32) -> u32
 }
 
 /// Where the blocks of a file begin that are there, by their rank.
-fn starts_of(alloc: Global, file: &[u8]) -> Result<Vec<Start>, AllocError>
+fn starts_of<A: Allowance>(memory: &A, file: &[u8]) -> Result<Vec<Start>, AllocError>
     requires { HasNoFault file.now }
     ensures { IfOk result (λ starts. starts.items ≡ starts_in (offsets_in file.now)) }
 {
-    let mut starts = Vec::new(alloc);
+    let mut starts = Vec::new(memory.allocator());
     for rank in 0..rank_count(file) {
         let at = offset_of(file, rank);
         if at != 0 {
+            memory.grant()?;
             starts.push(Start { at, rank })?;
         }
     }
@@ -64,13 +66,13 @@ fn starts_of(alloc: Global, file: &[u8]) -> Result<Vec<Start>, AllocError>
 }
 
 /// The same in the order in which the blocks stand in the file.
-pub(crate) fn sorted_starts(alloc: Global, file: &[u8]) -> Result<Vec<Start>, AllocError>
+pub(crate) fn sorted_starts<A: Allowance>(memory: &A, file: &[u8]) -> Result<Vec<Start>, AllocError>
     requires { HasNoFault file.now }
     ensures all { IfOk result (λ starts.
         IsPermutation (starts_in (offsets_in file.now)) starts.items) }
     ensures rising { IfOk result (λ starts. IsNonDecreasingBy order starts.items) }
 {
-    let mut starts = starts_of(alloc, file)?;
+    let mut starts = starts_of(memory, file)?;
     starts.sort_unstable_by_key(|start| start.order());
     Ok(starts)
 }

@@ -24,7 +24,7 @@ use Rattle.script_lines.specs.declared.command.Command.TheVariants.{Memory, Data
 use Rattle.script_lines.specs.declared.memory_command.MemoryCommand.{MemoryCommand}
 use Rattle.script_lines.specs.declared.memory_command.MemoryCommand.TheVariants.{Bind, New, PtrNew, Free, Resize, SetOwner, Lock, Unlock, Size, Owner, Locks, Read, Write, Set, StrCopy, FreeByOwner, FreeBytes, Largest, Compact}
 use Rattle.script_lines.specs.declared.database_command.DatabaseCommand.{DatabaseCommand}
-use Rattle.script_lines.specs.declared.database_command.DatabaseCommand.TheVariants.{Create, Find, Nth, Count, Delete, Info, SetInfo, SetInfoBlock, TakeInfoBlock, InfoBlock}
+use Rattle.script_lines.specs.declared.database_command.DatabaseCommand.TheVariants.{Create, Find, Nth, Count, Delete, Info, SetInfo, SetInfoBlock, TakeInfoBlock, InfoBlock, Import, Export}
 use Rattle.script_lines.specs.declared.record_command.RecordCommand.{RecordCommand}
 use Rattle.script_lines.specs.declared.record_command.RecordCommand.TheVariants as records
 use Rattle.script_lines.specs.declared.resource_command.ResourceCommand.{ResourceCommand}
@@ -157,6 +157,8 @@ database_row SetInfo = row (codes "dbset") info_kinds info_set
 database_row SetInfoBlock = row (codes "infoset") (kinds.Database ∷ kinds.Which ∷ kinds.Chunk ∷ []) (λ db which name. Print (on_databases (database.SetInfoBlock db which name)))
 database_row TakeInfoBlock = row (codes "infotake") (kinds.Database ∷ kinds.Which ∷ kinds.Byte ∷ kinds.Chunk ∷ []) (λ db which owner label. BindChunk label (on_databases (database.TakeInfoBlock db which owner)))
 database_row InfoBlock = row (codes "info") (kinds.Database ∷ kinds.Which ∷ kinds.Chunk ∷ []) (λ db which label. BindChunk label (on_databases (database.InfoBlock db which)))
+database_row Import = row (codes "import") (kinds.Database ∷ kinds.Number ∷ []) (λ label file. lines.Import label file)
+database_row Export = row (codes "export") (kinds.Database ∷ []) (λ db. lines.Export db)
 
 abbrev pub record_row : RecordCommand → CommandRow
 record_row records.New = row (codes "recnew") (kinds.Database ∷ kinds.Number ∷ kinds.Number ∷ kinds.Chunk ∷ []) (λ db at size label. BindChunk label (on_records (record_calls.New db at size)))
@@ -214,7 +216,7 @@ abbrev pub memory_commands : List MemoryCommand
 memory_commands = Bind ∷ New ∷ PtrNew ∷ Free ∷ Resize ∷ SetOwner ∷ Lock ∷ Unlock ∷ Size ∷ Owner ∷ Locks ∷ Read ∷ Write ∷ Set ∷ StrCopy ∷ FreeByOwner ∷ FreeBytes ∷ Largest ∷ Compact ∷ []
 
 abbrev pub database_commands : List DatabaseCommand
-database_commands = Create ∷ Find ∷ Nth ∷ Count ∷ Delete ∷ Info ∷ SetInfo ∷ SetInfoBlock ∷ TakeInfoBlock ∷ InfoBlock ∷ []
+database_commands = Create ∷ Find ∷ Nth ∷ Count ∷ Delete ∷ Info ∷ SetInfo ∷ SetInfoBlock ∷ TakeInfoBlock ∷ InfoBlock ∷ Import ∷ Export ∷ []
 
 abbrev pub record_commands : List RecordCommand
 record_commands = records.New ∷ records.Delete ∷ records.Archive ∷ records.Remove ∷ records.Move ∷ records.Get ∷ records.Query ∷ records.Release ∷ records.Info ∷ records.Resize ∷ records.Count ∷ records.Attach ∷ records.AttachReplacing ∷ records.Detach ∷ records.SetInfo ∷ records.Find ∷ records.CountInCategory ∷ records.NextInCategory ∷ records.PositionInCategory ∷ records.MoveCategory ∷ records.DeleteCategory ∷ []

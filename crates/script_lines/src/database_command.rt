@@ -1,4 +1,4 @@
-//! The commands of databases.
+//! The commands of databases, and of their files.
 
 ghost use Rattle.std.specs.Prelude.{◌≡◌, ◌<◌, length};
 ghost use Rattle.heap_model.specs.declared.call.Call.TheVariants as calls;
@@ -14,7 +14,7 @@ use crate::value::Value::{Byte, Chunk, Database, Flag, FourBytes, Number, Short,
 use crate::value::{Kind, Value};
 use heap_model::{Call, DatabaseCall, DbInfo, DbName};
 
-/// A command of databases.
+/// A command of databases or of their files.
 #[derive(Clone, Copy)]
 pub(crate) enum DatabaseCommand {
     Create,
@@ -27,10 +27,12 @@ pub(crate) enum DatabaseCommand {
     SetInfoBlock,
     TakeInfoBlock,
     InfoBlock,
+    Import,
+    Export,
 }
 
 /// Every one of them.
-pub(crate) const DATABASE_COMMANDS: [Command; 10] = [
+pub(crate) const DATABASE_COMMANDS: [Command; 12] = [
     Command::Database(DatabaseCommand::Create),
     Command::Database(DatabaseCommand::Find),
     Command::Database(DatabaseCommand::Nth),
@@ -41,6 +43,8 @@ pub(crate) const DATABASE_COMMANDS: [Command; 10] = [
     Command::Database(DatabaseCommand::SetInfoBlock),
     Command::Database(DatabaseCommand::TakeInfoBlock),
     Command::Database(DatabaseCommand::InfoBlock),
+    Command::Database(DatabaseCommand::Import),
+    Command::Database(DatabaseCommand::Export),
 ];
 
 // What the words behind a command may be.
@@ -95,6 +99,8 @@ pub(crate) fn database_row(command: DatabaseCommand) -> CommandRow
         DatabaseCommand::SetInfoBlock => row(b"infoset", DATABASE_WHICH_CHUNK),
         DatabaseCommand::TakeInfoBlock => row(b"infotake", DATABASE_WHICH_BYTE_CHUNK),
         DatabaseCommand::InfoBlock => row(b"info", DATABASE_WHICH_CHUNK),
+        DatabaseCommand::Import => row(b"import", DATABASE_NUMBER),
+        DatabaseCommand::Export => row(b"export", DATABASE),
     }
 }
 
@@ -207,5 +213,8 @@ pub(crate) fn make_database_line(
         DatabaseCommand::InfoBlock => line_if!(values,
             &[Database(db), Which(which), Chunk(label)] =>
             bound_to_chunk(label, DatabaseCall::InfoBlock(db, which))),
+        DatabaseCommand::Import =>
+            line_if!(values, &[Database(label), Number(file)] => Line::Import { label, file }),
+        DatabaseCommand::Export => line_if!(values, &[Database(db)] => Line::Export(db)),
     }
 }

@@ -1,6 +1,6 @@
 //! A line of a script, and scripts as lists of lines.
 
-ghost use Rattle.std.specs.Prelude.{◌≡◌, ◌++◌, ◌∷◌, [], OnOk, IfSome};
+ghost use Rattle.std.specs.Prelude.{◌≡◌, ◌++◌, ◌∷◌, [], OnOk, IfSome, count_by};
 ghost use Rattle.script_lines.specs.Labels.{HasLabelsBelow, label_count};
 ghost use Rattle.script_lines.specs.Labels as labels;
 
@@ -33,6 +33,10 @@ pub enum Line {
     BindChunk(ChunkLabel, LineCall),
     /// The call answers a database, and the label then stands for it.
     BindDatabase(DatabaseLabel, LineCall),
+    /// Imports the input file of a number, counted from 1, and the label then stands for its database.
+    Import { label: DatabaseLabel, file: u32 },
+    /// Exports the file of a database. Its length is printed.
+    Export(DatabaseLabel),
 }
 
 impl Line {
@@ -42,7 +46,11 @@ impl Line {
     {
         match self {
             Line::Bind { label, .. } | Line::BindChunk(label, _) => label.0.checked_add(1),
-            Line::Print(_) | Line::Silent(_) | Line::BindDatabase(..) => Some(0),
+            Line::Print(_)
+            | Line::Silent(_)
+            | Line::BindDatabase(..)
+            | Line::Import { .. }
+            | Line::Export(_) => Some(0),
         }
     }
 
@@ -51,9 +59,20 @@ impl Line {
         ensures { IfSome result (λ end. end ≡ labels.database_label_end self.now) }
     {
         match self {
-            Line::BindDatabase(label, _) => label.0.checked_add(1),
-            Line::Bind { .. } | Line::Print(_) | Line::Silent(_) | Line::BindChunk(..) => Some(0),
+            Line::BindDatabase(label, _) | Line::Import { label, .. } => label.0.checked_add(1),
+            Line::Bind { .. }
+            | Line::Print(_)
+            | Line::Silent(_)
+            | Line::BindChunk(..)
+            | Line::Export(_) => Some(0),
         }
+    }
+
+    /// Whether the line exports a file, where it is accepted.
+    fn is_export(&self) -> bool
+        ensures { result ≡ labels.is_export self.now }
+    {
+        matches!(self, Line::Export(_))
     }
 }
 
@@ -104,14 +123,10 @@ impl Script {
             return Err(AllocError);
         };
         memory.grant()?;
-        match self.lines.push(line) {
-            Ok(()) => {
-                self.chunk_label_count = self.chunk_label_count.max(chunk_end);
-                self.database_label_count = self.database_label_count.max(database_end);
-                Ok(())
-            }
-            Err(_) => Err(AllocError),
-        }
+        self.lines.push(line)?;
+        self.chunk_label_count = self.chunk_label_count.max(chunk_end);
+        self.database_label_count = self.database_label_count.max(database_end);
+        Ok(())
     }
 
     /// The lines, in order.
@@ -136,4 +151,23 @@ impl Script {
     {
         self.database_label_count
     }
+
+    /// How many lines export a file, where they are accepted.
+    pub fn export_count(&self) -> usize
+        ensures { result ≡ count_by labels.is_export self.now }
+    {
+        count_exports(&self.lines)
+    }
+}
+
+fn count_exports(lines: &[Line]) -> usize
+    ensures { result ≡ count_by labels.is_export lines.now }
+{
+    let mut count = 0;
+    for line in lines {
+        if line.is_export() {
+            count += 1;
+        }
+    }
+    count
 }

@@ -21,7 +21,7 @@ const NAMES: [&[u8]; 10] = [
     b"0123456789012345678901234567890123456789",
 ];
 
-fn any_db_name(random: &mut Pcg32) -> DbName {
+pub(crate) fn any_db_name(random: &mut Pcg32) -> DbName {
     match NAMES.choose(random) {
         Some(name) => DbName::of(name),
         None => DbName::of(b""),

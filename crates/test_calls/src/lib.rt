@@ -4,11 +4,13 @@
 #![tactic(auto)]
 
 mod database;
+mod file;
 mod memory;
 mod record;
 mod resource;
 
 pub use database::database_call;
+pub use file::file_call;
 pub use memory::memory_call;
 pub use record::record_call;
 pub use resource::resource_call;

@@ -212,8 +212,13 @@ fn wanted_at(values: &[(usize, usize, usize)], at: usize) -> usize {
     1
 }
 
-/// An image in which this byte has a value.
-fn with_byte(alloc: Global, image: &[u8], at: usize, value: u8) -> Result<Vec<u8>, Fail> {
+/// An image, or a file, in which this byte has a value.
+pub(crate) fn with_byte(
+    alloc: Global,
+    image: &[u8],
+    at: usize,
+    value: u8,
+) -> Result<Vec<u8>, Fail> {
     let mut changed = Vec::from_slice(alloc, image)?;
     match changed.get_mut(at) {
         Some(byte) => *byte = value,

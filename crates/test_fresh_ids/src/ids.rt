@@ -6,7 +6,7 @@ use std::alloc::{AllocError, Global};
 use std::test::*;
 
 /// The bytes of a database of records with this field of a seed, and these IDs.
-fn database(alloc: Global, seed: u32, ids: &[u32]) -> Result<Vec<u8>, AllocError> {
+pub(crate) fn database(alloc: Global, seed: u32, ids: &[u32]) -> Result<Vec<u8>, AllocError> {
     let mut bytes = Vec::new(alloc);
     bytes.push(b'A')?;
     bytes.extend_from_slice(&[0; 67])?;
@@ -51,7 +51,7 @@ fn run_behind(alloc: Global, seed: u32, count: u32) -> Result<Vec<u32>, AllocErr
 }
 
 /// The ID so many steps behind a seed.
-fn nth_behind(seed: u32, steps: u32) -> u32 {
+pub(crate) fn nth_behind(seed: u32, steps: u32) -> u32 {
     ((seed as u64 + steps as u64) % 0xFF_FFFF) as u32 + 1
 }
 

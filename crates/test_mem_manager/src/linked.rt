@@ -12,7 +12,7 @@ use test_model::Image;
 /// How many classes of sizes there are.
 const CLASSES: u32 = 21;
 
-/// How many chunks of a list are looked at, at most, for one that a resize takes.
+/// How many chunks of a list are looked at, at most, for one that a chunk grows over.
 const PROBES: usize = 64;
 
 /// A free chunk: where its header stands, the class of its size, and its second word.
@@ -23,9 +23,9 @@ struct FreeChunk {
     next: u32,
 }
 
-/// Whether the lists are built behind a call, by the call and what it left. Where a stretch was packed for a
-/// new chunk, and where chunks moved or all of an owner were freed, they are dropped; and where a resize takes
-/// several free chunks, or one of a long list. A chunk that is made else, or is freed, builds them.
+/// Whether the lists are built behind a call, by the call and what it left. They are dropped where a resize takes
+/// several free chunks, or grows over one of a long list, and where a stretch was packed that isn't all of the
+/// heap. A chunk that is made else, or is freed, builds them, and so do compaction and the end of an owner.
 pub(crate) fn are_built(
     were_built: bool,
     call: &MemoryCall,
@@ -36,14 +36,45 @@ pub(crate) fn are_built(
     let has_moved = before.moved_bytes(after) > 0;
     match (call, reply) {
         (_, Reply::Refused(_)) => were_built,
-        (MemoryCall::HandleNew { .. } | MemoryCall::PtrNew { .. }, _) => !has_moved,
-        (MemoryCall::Free(_), _) => true,
-        (MemoryCall::FreeByOwner(_) | MemoryCall::Compact, _) => false,
-        (MemoryCall::Resize { name, .. }, _) => {
-            were_built && !has_moved && takes_one_at_most(before, *name)
+        (MemoryCall::HandleNew { .. } | MemoryCall::PtrNew { .. }, _) => {
+            !has_moved || is_one_stretch(before)
         }
+        (MemoryCall::Free(_) | MemoryCall::FreeByOwner(_) | MemoryCall::Compact, _) => true,
+        (MemoryCall::Resize { name, .. }, _) if has_moved => {
+            match free_where_it_went(before, after, *name) {
+                Some(is_one) => were_built && is_one,
+                None => is_one_stretch(before),
+            }
+        }
+        (MemoryCall::Resize { name, .. }, _) => were_built && takes_one_at_most(before, *name),
         _ => were_built,
     }
+}
+
+/// Whether no chunk stays where it is.
+fn is_one_stretch(image: &Image) -> bool {
+    image.pieces.iter().all(|piece| !piece.stays())
+}
+
+/// Whether the chunk of a name went to the front of one free chunk that has the room, and not of several. None
+/// where there was no room at its place.
+fn free_where_it_went(before: &Image, after: &Image, name: Name) -> Option<bool> {
+    let went = after.piece(name)?;
+    let mut run = 0u32;
+    let mut count = 0u32;
+    for piece in &before.pieces {
+        if count > 0 || piece.place == went.place {
+            if piece.live.is_some() {
+                return None;
+            }
+            run = run.saturating_add(piece.size);
+            count = count.saturating_add(1);
+            if run >= went.size {
+                return Some(count == 1);
+            }
+        }
+    }
+    None
 }
 
 /// Whether at most one free chunk stands directly behind that of a name, and few at all.

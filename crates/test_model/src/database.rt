@@ -6,7 +6,7 @@ use heap_model::{Db, Name};
 use std::alloc::{AllocError, Global};
 
 /// The bytes in front of the entries.
-const HEADER_LENGTH: usize = 78;
+pub(crate) const HEADER_LENGTH: usize = 78;
 
 /// The bit of a database's attributes that says that it has resources.
 pub(crate) const OF_RESOURCES: u16 = 0x0001;
@@ -73,15 +73,25 @@ impl Database {
         if number_in(&front[72..76]) != 0 {
             return Err(shape);
         }
-        let header = Header::decode(alloc, db, front)?;
-        let entries = entries_in(alloc, header.attributes, count, listed)?.ok_or(shape)?;
-        Ok(Database {
+        let name = name_in(alloc, db, &front[..32])?;
+        let entries = entries_in(alloc, attributes_in(front), count, listed)?.ok_or(shape)?;
+        Ok(Database::of(db, name, front, entries))
+    }
+
+    /// The database of a number, a name and entries, of which all else is spelled in front of the entries.
+    pub(crate) fn of(
+        db: Db,
+        name: Vec<u8>,
+        front: &[u8; HEADER_LENGTH],
+        entries: Entries,
+    ) -> Database {
+        Database {
             db,
-            header,
+            header: Header::of(name, front),
             app_info: name_of(number_in(&front[52..56])),
             sort_info: name_of(number_in(&front[56..60])),
             entries,
-        })
+        }
     }
 
     /// How many entries there are.
@@ -138,12 +148,17 @@ pub(crate) fn is_name(name: &[u8]) -> bool {
     !name.is_empty() && name.len() <= 31 && !name.contains(&0)
 }
 
+/// The attributes of a database, in front of the entries.
+pub(crate) fn attributes_in(front: &[u8; HEADER_LENGTH]) -> u16 {
+    u16::from_be_bytes([front[32], front[33]])
+}
+
 impl Header {
-    /// The header that the bytes in front of the entries spell.
-    fn decode(alloc: Global, db: Db, front: &[u8; HEADER_LENGTH]) -> Result<Header, Unaccepted> {
-        Ok(Header {
-            name: name_in(alloc, db, &front[..32])?,
-            attributes: u16::from_be_bytes([front[32], front[33]]),
+    /// The header of a name, of which all else is spelled in front of the entries.
+    fn of(name: Vec<u8>, front: &[u8; HEADER_LENGTH]) -> Header {
+        Header {
+            name,
+            attributes: attributes_in(front),
             version: u16::from_be_bytes([front[34], front[35]]),
             creation_date: number_in(&front[36..40]),
             modification_date: number_in(&front[40..44]),
@@ -152,12 +167,12 @@ impl Header {
             kind: number_in(&front[60..64]),
             creator: number_in(&front[64..68]),
             seed: number_in(&front[68..72]),
-        })
+        }
     }
 }
 
 /// The number that bytes spell, the first of them the highest; of more than four bytes the last four count.
-fn number_in(bytes: &[u8]) -> u32 {
+pub(crate) fn number_in(bytes: &[u8]) -> u32 {
     let mut number = 0u32;
     for byte in bytes {
         number = number.wrapping_mul(256).wrapping_add(u32::from(*byte));
@@ -171,7 +186,7 @@ fn name_of(word: u32) -> Option<Name> {
 }
 
 /// So many entries, which take all of the bytes; none where they take others.
-fn entries_in(
+pub(crate) fn entries_in(
     alloc: Global,
     attributes: u16,
     count: u32,

@@ -2,16 +2,13 @@
 //! and what it answers.
 
 use crate::accepted::MOST_DATABASES;
-use crate::database::{Database, Entries, Header, OF_RESOURCES, is_name};
+use crate::database::{Database, Entries, HEADER_LENGTH, Header, OF_RESOURCES, is_name};
 use crate::image::Image;
 use crate::memory_calls::number;
 use crate::parts::{Part, can_run_out};
 use crate::store::PlainStore;
 use heap_model::{DatabaseCall, Db, DbInfo, DbName, Name, Refusal, Reply};
 use std::alloc::{AllocError, Global};
-
-/// What a header has without entries, in bytes.
-const HEADER_LENGTH: u32 = 78;
 
 impl PlainStore {
     /// Does a call on databases.
@@ -30,7 +27,7 @@ impl PlainStore {
                 resources,
                 date,
             } => {
-                let db = self.number_for(alloc, name.as_slice(), before, reply)?;
+                let db = self.number_for(alloc, name.as_slice(), &[HEADER_LENGTH], before, reply)?;
                 match Database::new(alloc, db, name, *kind, *creator, *resources, *date) {
                     Ok(database) => self.add(database),
                     Err(_) => Err(Refusal::OutOfMemory),
@@ -50,11 +47,13 @@ impl PlainStore {
         }
     }
 
-    /// The number of a database that is made, which is that of a free slot.
-    fn number_for(
+    /// The number of a database that is made, which is that of a free slot. There may be no room for its chunks,
+    /// its header and then what it names, of these sizes.
+    pub(crate) fn number_for(
         &self,
         alloc: Global,
         name: &[u8],
+        sizes: &[usize],
         before: &Image,
         reply: &Reply,
     ) -> Result<Db, Refusal> {
@@ -64,7 +63,7 @@ impl PlainStore {
         }
         let first = before.first_free_slot().ok_or(Refusal::NotEnoughSpace)?;
         match reply {
-            Reply::Refused(Refusal::NotEnoughSpace) if may_lack_room(alloc, before)? => {
+            Reply::Refused(Refusal::NotEnoughSpace) if may_lack_room(alloc, sizes, before)? => {
                 Err(Refusal::NotEnoughSpace)
             }
             Reply::Database(db) if before.is_free_slot(Name(db.0)) => Ok(*db),
@@ -73,7 +72,7 @@ impl PlainStore {
     }
 
     /// Adds a database behind the others.
-    fn add(&mut self, database: Database) -> Result<Reply, Refusal> {
+    pub(crate) fn add(&mut self, database: Database) -> Result<Reply, Refusal> {
         let db = database.db;
         match self.databases.push(database) {
             Ok(()) => Ok(Reply::Database(db)),
@@ -208,20 +207,25 @@ impl Database {
     }
 }
 
-/// Whether a new database may find no slot or no room: for its header, and for the directory, which is made
-/// with one slot or takes one more.
-fn may_lack_room(alloc: Global, before: &Image) -> Result<bool, Refusal> {
-    let header = Part::making(HEADER_LENGTH);
+/// Whether a new database may find no slot or no room: for chunks of these sizes, and for the directory, which is
+/// made with one slot or takes one more.
+fn may_lack_room(alloc: Global, sizes: &[usize], before: &Image) -> Result<bool, Refusal> {
+    let mut parts = Vec::new(alloc);
+    for size in sizes {
+        let size = u32::try_from(*size).unwrap_or(u32::MAX);
+        parts.push(Part::making(size)).map_err(no_memory)?;
+    }
     let (slots, listing) = match before.directory() {
-        None => (2, Part::making(4)),
-        Some(directory) => (1, Part::growth(before, directory, 4)),
+        None => (1, Part::making(4)),
+        Some(directory) => (0, Part::growth(before, directory, 4)),
     };
-    if before.free_slots() < slots {
+    parts.push(listing).map_err(no_memory)?;
+    if before.free_slots() < sizes.len().saturating_add(slots) {
         return Ok(true);
     }
-    can_run_out(alloc, before, &[header, listing]).map_err(no_memory)
+    can_run_out(alloc, before, &parts).map_err(no_memory)
 }
 
-fn no_memory<E: Drop>(_: E) -> Refusal {
+pub(crate) fn no_memory<E: Drop>(_: E) -> Refusal {
     Refusal::OutOfMemory
 }

@@ -17,6 +17,8 @@ mod category_calls;
 mod database;
 mod database_calls;
 mod entry_calls;
+mod file;
+mod file_calls;
 mod giving_calls;
 mod heap;
 mod image;

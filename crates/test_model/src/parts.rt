@@ -40,6 +40,9 @@ pub(crate) fn can_run_out(
     image: &Image,
     parts: &[Part],
 ) -> Result<bool, AllocError> {
+    if needed(parts) > u64::from(image.free_bytes()) {
+        return Ok(true);
+    }
     let mut choices = Vec::new(alloc);
     choices.push(image.rooms(alloc)?)?;
     for part in parts {
@@ -54,6 +57,16 @@ pub(crate) fn can_run_out(
     Ok(false)
 }
 
+/// The bytes that parts take together, beyond those that chunks which grow leave.
+fn needed(parts: &[Part]) -> u64 {
+    let mut all = 0u64;
+    for part in parts {
+        let left = part.leaves.map_or(0, |(_, size)| size);
+        all = all.saturating_add(part.need.saturating_sub(left));
+    }
+    all
+}
+
 /// Adds the rooms that are left behind each choice of a stretch for a part. Answers whether there is one.
 fn place(
     alloc: Global,
@@ -64,7 +77,9 @@ fn place(
     let mut has_room = false;
     for stretch in 0..rooms.len() {
         if let Some(left) = left_behind(alloc, rooms, part, stretch)? {
-            choices.push(left)?;
+            if !choices.contains(&left) {
+                choices.push(left)?;
+            }
             has_room = true;
         }
     }

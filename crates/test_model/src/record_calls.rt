@@ -15,10 +15,10 @@ pub(crate) const RECORD_LENGTH: u32 = 8;
 /// The bits of a record's attributes that say that it was changed, and that it is in use.
 pub(crate) const DIRTY: u8 = 0x40;
 
-const BUSY: u8 = 0x20;
+pub(crate) const BUSY: u8 = 0x20;
 
 /// The greatest unique ID.
-const GREATEST_ID: u32 = 0xFF_FFFF;
+pub(crate) const GREATEST_ID: u32 = 0xFF_FFFF;
 
 impl PlainStore {
     /// Does a call on records.
@@ -334,12 +334,17 @@ impl PlainStore {
 fn fresh_id(records: &[Record], seed: u32) -> u32 {
     let mut id = seed;
     for _ in 0..=records.len() {
-        id = if id < GREATEST_ID { id + 1 } else { 1 };
+        id = next_id(id);
         if !records.iter().any(|record| record.id == id) {
             return id;
         }
     }
     id
+}
+
+/// The ID behind another; 1 follows on the greatest.
+pub(crate) fn next_id(id: u32) -> u32 {
+    if id < GREATEST_ID { id + 1 } else { 1 }
 }
 
 fn data_of(record: Record) -> Result<Reply, Refusal> {

@@ -2,7 +2,9 @@
 
 use crate::image::{Image, Piece, u32_at};
 use crate::memory_calls::need;
-use heap_model::{Call, DatabaseCall, MemoryCall, Name, RecordCall, Refusal, Reply, ResourceCall};
+use heap_model::{
+    Call, DatabaseCall, FileCall, MemoryCall, Name, RecordCall, Refusal, Reply, ResourceCall,
+};
 
 /// What a call did that it may not do.
 #[derive(Clone, Copy, Debug, PartialEq, Eq)]
@@ -38,7 +40,7 @@ pub fn broken_rule(
     broken_in_area(asks(call), movable_by(call, before), reply, before, after)
 }
 
-/// The first rule that a call on a store broke. One on databases, records or resources may move all chunks
+/// The first rule that a call on a store broke. One on databases, records, resources or files may move all chunks
 /// that it may move at all, and the first database that is made makes the directory.
 pub fn broken_store_rule(
     call: &Call,
@@ -60,11 +62,13 @@ pub fn broken_store_rule(
 
 /// Whether a call has made a database.
 fn is_created(call: &Call, reply: &Reply) -> bool {
-    matches!(call, Call::Database(DatabaseCall::Create { .. }))
-        && matches!(reply, Reply::Database(_))
+    matches!(
+        call,
+        Call::Database(DatabaseCall::Create { .. }) | Call::File(FileCall::Import(_))
+    ) && matches!(reply, Reply::Database(_))
 }
 
-/// Whether a call on databases, records or resources only asks.
+/// Whether a call on databases, records, resources or files only asks.
 fn asks_in_store(call: &Call) -> bool {
     matches!(
         call,
@@ -87,7 +91,7 @@ fn asks_in_store(call: &Call) -> bool {
                 | ResourceCall::Find { .. }
                 | ResourceCall::FindType { .. }
                 | ResourceCall::Count(_)
-        )
+        ) | Call::File(FileCall::Export(_))
     )
 }
 

@@ -79,6 +79,9 @@ impl PlainStore {
             Call::Resource(call) => self
                 .resource_call(alloc, call, before, reply)
                 .unwrap_or_else(Reply::Refused),
+            Call::File(call) => self
+                .file_call(alloc, call, before, after, reply)
+                .unwrap_or_else(Reply::Refused),
         }
     }
 

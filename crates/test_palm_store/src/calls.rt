@@ -1,9 +1,10 @@
 //! Calls done on a store.
 
 use heap_model::{
-    Bytes, Call, DatabaseCall, MemoryCall, Name, RecordCall, Refusal, Reply, ResourceCall,
+    Bytes, Call, DatabaseCall, FileCall, MemoryCall, Name, RecordCall, Refusal, Reply, ResourceCall,
 };
 use palm_store::{Locked, Store};
+use pdb_files::{exported, import};
 use record_db::{
     archive, attach, attach_replacing, delete, delete_category, detach, find_by_id, get,
     move_category, move_record, new_record, next_in_category, num_in_category, num_records,
@@ -22,6 +23,7 @@ pub(crate) fn do_call(alloc: Global, store: &mut Store, call: &Call) -> Reply {
         Call::Database(call) => database_call(store, call),
         Call::Record(call) => record_call(store, call),
         Call::Resource(call) => resource_call(store, call),
+        Call::File(call) => file_call(alloc, store, call),
     };
     answer.unwrap_or_else(Reply::Refused)
 }
@@ -139,6 +141,13 @@ fn resource_call(store: &mut Store, call: &ResourceCall) -> Result<Reply, Refusa
             find_type(store, *db, *kind, *nth).map(Reply::Number)
         }
         ResourceCall::Count(db) => num_resources(store, *db).map(Reply::Number),
+    }
+}
+
+fn file_call(alloc: Global, store: &mut Store, call: &FileCall) -> Result<Reply, Refusal> {
+    match call {
+        FileCall::Import(file) => import(alloc, store, file.as_slice()).map(Reply::Database),
+        FileCall::Export(db) => exported(&alloc, store, *db).map(Reply::Data),
     }
 }
 

@@ -1,6 +1,8 @@
 //! How often each call was accepted, and refused for which reason.
 
-use heap_model::{Call, DatabaseCall, MemoryCall, RecordCall, Refusal, Reply, ResourceCall};
+use heap_model::{
+    Call, DatabaseCall, FileCall, MemoryCall, RecordCall, Refusal, Reply, ResourceCall,
+};
 use std::alloc::Global;
 use std::process::Abort;
 use std::test::*;
@@ -84,6 +86,8 @@ fn name_of(call: &Call) -> &'static str {
         Call::Database(call) => database_name(call),
         Call::Record(call) => record_name(call),
         Call::Resource(call) => resource_name(call),
+        Call::File(FileCall::Import(_)) => "import",
+        Call::File(FileCall::Export(_)) => "export",
     }
 }
 

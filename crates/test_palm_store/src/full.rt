@@ -4,11 +4,13 @@ use crate::beside::{Beside, bytes_of, store_of};
 use crate::calls::do_call;
 use crate::images::{blank_image, crowded_program, full_database};
 use heap_model::{
-    Call, DatabaseCall, Db, DbName, MemoryCall, Name, RecordCall, Refusal, Reply, ResourceCall,
+    Bytes, Call, DatabaseCall, Db, DbName, FileCall, MemoryCall, Name, RecordCall, Refusal, Reply,
+    ResourceCall,
 };
 use std::alloc::Global;
 use std::process::Abort;
 use std::test::*;
+use test_images::bytes_of as listed;
 
 /// Makes a database whose name is a number.
 fn create(alloc: Global, number: u32) -> Result<DatabaseCall, Fail> {
@@ -39,6 +41,13 @@ fn call(
     call: DatabaseCall,
 ) -> Result<Reply, Fail> {
     beside.call(rt, "full", &Call::Database(call))
+}
+
+/// Reads a database of this name, a character in hex, from a file without entries, beside the plain model.
+fn import(rt: &(impl Abort + AllocGlobal), beside: &mut Beside, name: &str) -> Result<Reply, Fail> {
+    let listing = format!(in rt.alloc(); "{name} 00*77")?;
+    let file = Bytes::of(listed(rt.alloc(), listing.as_str())?);
+    beside.call(rt, "full", &Call::File(FileCall::Import(file)))
 }
 
 /// Makes an empty record in front, beside the plain model.
@@ -77,6 +86,9 @@ fn databases_are_at_most_1024(rt: HostRuntime) -> Result<(), Fail> {
         Reply::Database(Db(first))
     );
     assert_eq!(rt; call(&rt, &mut beside, create(alloc, 1)?)?, too_many);
+    assert_eq!(rt; import(&rt, &mut beside, "61")?, too_many);
+    let taken = Reply::Refused(Refusal::AlreadyExists);
+    assert_eq!(rt; import(&rt, &mut beside, "32")?, taken);
     Ok(())
 }
 

@@ -13,6 +13,8 @@ mod counts;
 #[cfg(test)]
 mod examples;
 #[cfg(test)]
+mod files;
+#[cfg(test)]
 mod full;
 #[cfg(test)]
 mod images;

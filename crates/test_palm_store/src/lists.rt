@@ -3,19 +3,19 @@
 use crate::beside::{Beside, store_of};
 use crate::counts::Counts;
 use crate::images::{MIXED, blank_image};
-use heap_model::{Call, Refusal};
+use heap_model::{Call, FileFault, Refusal, Which};
 use rand::RngExt;
 use rand_pcg::Pcg32;
 use std::alloc::Global;
 use std::process::Abort;
 use std::test::*;
-use test_calls::{database_call, memory_call, record_call, resource_call};
+use test_calls::{database_call, file_call, memory_call, record_call, resource_call};
 use test_images::{DATABASE, TWO_DATABASES, bytes_of as listed};
 use test_model::Image;
 
 /// Each call with the refusals that it must have met, beside being accepted. That there are too many
 /// databases or records has tests of its own; a heap has too few slots for too many resources.
-const OUTCOMES: [(&str, &[Refusal]); 60] = [
+const OUTCOMES: [(&str, &[Refusal]); 62] = [
     (
         "handle_new",
         &[Refusal::InvalidOwner, Refusal::NotEnoughSpace],
@@ -365,6 +365,21 @@ const OUTCOMES: [(&str, &[Refusal]); 60] = [
         "num_resources",
         &[Refusal::NoSuchDatabase, Refusal::NotResourceDatabase],
     ),
+    (
+        "import",
+        &[
+            Refusal::BadFile(FileFault::Truncated),
+            Refusal::BadFile(FileFault::ChainedList),
+            Refusal::BadFile(FileFault::EmptyName),
+            Refusal::BadFile(FileFault::BadInfo(Which::App)),
+            Refusal::BadFile(FileFault::BadInfo(Which::Sort)),
+            Refusal::BadFile(FileFault::BadOffset(0)),
+            Refusal::BadFile(FileFault::BadOffset(3)),
+            Refusal::AlreadyExists,
+            Refusal::NotEnoughSpace,
+        ],
+    ),
+    ("export", &[Refusal::NoSuchDatabase]),
 ];
 
 const SEARCHED: [Refusal; 3] = [
@@ -396,11 +411,12 @@ const WRITES: [Refusal; 3] = [
 fn any_call(random: &mut Pcg32, alloc: Global, beside: &Beside) -> Result<Call, Fail> {
     let image = Image::decode(alloc, &beside.image)?;
     let databases = beside.plain.databases();
-    let call = match random.random_range(0u32..13) {
+    let call = match random.random_range(0u32..14) {
         0..=2 => Call::Memory(memory_call(random, alloc, &image)?),
         3..=5 => Call::Database(database_call(random, &image, databases)),
         6..=9 => Call::Record(record_call(random, &image, databases)),
-        _ => Call::Resource(resource_call(random, &image, databases)),
+        10..=12 => Call::Resource(resource_call(random, &image, databases)),
+        _ => Call::File(file_call(random, alloc, &image, databases)?),
     };
     Ok(call)
 }

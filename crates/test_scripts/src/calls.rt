@@ -9,7 +9,7 @@ use std::alloc::{AllocError, Global};
 use std::test::Fail;
 
 /// A store of 128 bytes with 4 slots, and one free chunk of 96.
-fn small_store(alloc: Global) -> Result<Store, Fail> {
+pub(crate) fn small_store(alloc: Global) -> Result<Store, Fail> {
     blank_store(alloc, 128)
 }
 
@@ -27,7 +27,7 @@ fn run_without(
     alloc: Global,
     store: &mut Store,
     before: u32,
-) -> Result<(Result<(), RunFault>, Vec<u8>), Fail> {
+) -> Result<(Result<Vec<Bytes>, RunFault>, Vec<u8>), Fail> {
     let script = parse(alloc, SCRIPT).ok().ok_or("no script")?;
     let mut out = Counted::new(Vec::new(alloc));
     let memory = RefusesOne::behind(alloc, before);
@@ -43,11 +43,13 @@ fn told_without(alloc: Global, before: u32) -> Result<String, Fail> {
     Ok(format!(in alloc; "{ran:?} {} {printed}", store.free_bytes())?)
 }
 
-/// How many growths are granted, and what comes of the script: nothing but the tables of labels grows.
-const RUNS: [(u32, &str); 3] = [
+/// How many growths are granted, and what comes of the script: nothing but the tables of labels and the list of
+/// files grows.
+const RUNS: [(u32, &str); 4] = [
     (0, "Err(OutOfMemory) 96 "),
     (1, "Err(OutOfMemory) 96 "),
-    (2, "Ok(()) 72 ok\nok 1\nok 0000\n"),
+    (2, "Err(OutOfMemory) 96 "),
+    (3, "Ok([]) 72 ok\nok 1\nok 0000\n"),
 ];
 
 #[test]

@@ -496,6 +496,36 @@ fn lines_on_databases(rt: HostRuntime) -> Result<(), Fail> {
     check(&rt, &DATABASE_CASES)
 }
 
+const FILE_CASES: [(&[u8], &str); 18] = [
+    (b"import d 1", "import 0 1;"),
+    (b"import d 0", "import 0 0;"),
+    (b"import d 0xFFFFFFFF", "import 0 4294967295;"),
+    (b"export d", "export 0;"),
+    // their labels are those of databases
+    (
+        b"nth a 0\nimport b 1\nexport a\nfree b",
+        "nth 0 0;import 1 1;export 0;free 0;",
+    ),
+    (b"import d", "line 1 WrongCount"),
+    (b"import d 1 2", "line 1 WrongCount"),
+    (b"export", "line 1 WrongCount"),
+    (b"export d 1", "line 1 WrongCount"),
+    (b"import 1 1", "line 1 BadWord 2"),
+    (b"import \"d\" 1", "line 1 BadWord 2"),
+    (b"import d x", "line 1 BadWord 3"),
+    (b"import d \"1\"", "line 1 BadWord 3"),
+    (b"import d 4294967296", "line 1 BadWord 3"),
+    (b"export 1", "line 1 BadWord 2"),
+    (b"export \"d", "line 1 BadWord 2"),
+    (b"Import d 1", "line 1 UnknownCommand"),
+    (b"exports d", "line 1 UnknownCommand"),
+];
+
+#[test]
+fn lines_on_files(rt: HostRuntime) -> Result<(), Fail> {
+    check(&rt, &FILE_CASES)
+}
+
 const LINE_CASES: [(&[u8], &str); 21] = [
     // no lines, and lines that are passed over
     (b"", ""),
@@ -623,10 +653,12 @@ fn database_label_count(alloc: Global, script: &[u8]) -> Option<usize> {
     }
 }
 
-const DATABASE_COUNT_CASES: [(&[u8], Option<usize>); 4] = [
+const DATABASE_COUNT_CASES: [(&[u8], Option<usize>); 6] = [
     (b"free a\nfree b\ndbcount", Some(0)),
     (b"free a\nfree b\ndbinfo a\nfind a \"\"", Some(1)),
     (b"nth a 0\nnth b 0\nnth a 1", Some(2)),
+    (b"import a 1\nexport b", Some(1)),
+    (b"export b\nimport a 1", Some(2)),
     (b"nth a 0\nnth b", None),
 ];
 
@@ -634,6 +666,26 @@ const DATABASE_COUNT_CASES: [(&[u8], Option<usize>); 4] = [
 fn labels_of_databases_are_counted(rt: HostRuntime) {
     for (script, want) in &DATABASE_COUNT_CASES {
         assert_eq!(rt; database_label_count(rt.alloc(), script), *want);
+    }
+}
+
+/// How many lines of a script export a file, if it is one.
+fn export_count(alloc: Global, script: &[u8]) -> Option<usize> {
+    match parse(alloc, script) {
+        Ok(script) => Some(script.export_count()),
+        Err(_) => None,
+    }
+}
+
+#[test]
+fn exports_are_counted(rt: HostRuntime) {
+    for (script, want) in [
+        (b"".as_slice(), Some(0)),
+        (b"import d 1\nfreebytes", Some(0)),
+        (b"export d\nimport d 1\nexport d\n# export d", Some(2)),
+        (b"export d\nexport", None),
+    ] {
+        assert_eq!(rt; export_count(rt.alloc(), script), want);
     }
 }
 

@@ -3,6 +3,8 @@
 #![tactic(auto)]
 
 #[cfg(test)]
+mod call_lists;
+#[cfg(test)]
 mod calls;
 #[cfg(test)]
 mod categories;
@@ -14,6 +16,8 @@ mod databases;
 mod fakes;
 #[cfg(test)]
 mod files;
+#[cfg(test)]
+mod files_in_scripts;
 #[cfg(test)]
 mod giving;
 #[cfg(test)]

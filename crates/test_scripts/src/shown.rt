@@ -49,7 +49,12 @@ fn put_line(text: &mut String, line: &Line) -> Result<(), AllocError> {
             put_bytes(text, name.as_slice())
         }
         Line::BindDatabase(label, Call::Database(call)) => put_creation(text, label.0, call),
-        Line::Silent(_) | Line::BindChunk(..) | Line::BindDatabase(..) => write!(text, "no line"),
+        Line::Import { label, file } => write!(text, "import {} {file}", label.0),
+        Line::Export(db) => write!(text, "export {}", db.0),
+        Line::Print(Call::File(_))
+        | Line::Silent(_)
+        | Line::BindChunk(..)
+        | Line::BindDatabase(..) => write!(text, "no line"),
     }
 }
 

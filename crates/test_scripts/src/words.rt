@@ -26,13 +26,24 @@ fn shown(alloc: Global, request: Request) -> Result<String, AllocError> {
     match request {
         Request::New { size, slots, out } => format!(in alloc; "new {size} {slots} {out}\n"),
         Request::Check { image } => format!(in alloc; "check {image}\n"),
-        Request::Run { image, script, out } => format!(in alloc; "run {image} {script} {out}\n"),
+        Request::Run {
+            image,
+            script,
+            out,
+            files,
+        } => {
+            let mut line = format!(in alloc; "run {image} {script} {out}")?;
+            for file in &files {
+                line = format!(in alloc; "{line} {file}")?;
+            }
+            format!(in alloc; "{line}\n")
+        }
     }
 }
 
 /// Words, and how what comes of them begins, and what stands in it: commands, words that are refused,
 /// and help.
-const CASES: [(&str, &str, &str); 20] = [
+const CASES: [(&str, &str, &str); 22] = [
     ("palmheap new 128 4 a.img", "new 128 4 a.img\n", ""),
     (
         "palmheap new 4294967295 65535 --  -a",
@@ -43,6 +54,16 @@ const CASES: [(&str, &str, &str); 20] = [
     (
         "palmheap run a.img calls.txt b.img",
         "run a.img calls.txt b.img\n",
+        "",
+    ),
+    (
+        "palmheap run a.img calls.txt b.img memo.pdb tool.prc memo.pdb",
+        "run a.img calls.txt b.img memo.pdb tool.prc memo.pdb\n",
+        "",
+    ),
+    (
+        "palmheap run a.img calls.txt b.img memo.pdb --fast",
+        "2 error: unexpected argument '--fast' found\n",
         "",
     ),
     (
@@ -106,7 +127,7 @@ const CASES: [(&str, &str, &str); 20] = [
     (
         "palmheap run --help",
         "0 ",
-        "Usage: palmheap run <IMAGE> <SCRIPT> <OUT>",
+        "Usage: palmheap run <IMAGE> <SCRIPT> <OUT> [FILE]...",
     ),
     ("palmheap run --help", "0 ", "strcopy A AT \"TEXT\""),
 ];

@@ -10,7 +10,8 @@ ghost use Rattle.heap_model.specs.Database.{DatabaseFits, EntryFits, entry_bytes
 ghost use Rattle.heap_model.specs.Database as databases;
 ghost use Rattle.heap_model.specs.Store.{Accepted, managers_owner, bytes_under, owner_under, directory_bytes};
 ghost use Rattle.heap_model.specs.Leaving.{Leaves, rewritten};
-ghost use Rattle.palm_store.specs.WholeDatabases.{data_sizes, numbers_in, makings, listing_part, listing_slots, whole_parts, whole_slots, RunsOut, MakesAndLists, ListsWhole, CanBeWhole, CanCome, entries_named, whole_database, whole_size};
+ghost use Rattle.heap_model.specs.FileSteps.{makings, listing_part, listing_slots, whole_parts, whole_slots};
+ghost use Rattle.palm_store.specs.WholeDatabases.{data_sizes, numbers_in, RunsOut, MakesAndLists, ListsWhole, CanBeWhole, CanCome, entries_named, whole_database, whole_size};
 
 use crate::databases::creating::list_last;
 use crate::databases::gaining::{free_named, make_data};

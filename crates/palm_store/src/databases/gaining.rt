@@ -5,7 +5,8 @@ ghost use Rattle.heap_model.specs.Heap.{HeapAccepted};
 ghost use Rattle.heap_model.specs.Reading.{held};
 ghost use Rattle.heap_model.specs.Leaving.{Leaves};
 ghost use Rattle.heap_model.specs.StoreWords.{all_gone};
-ghost use Rattle.palm_store.specs.WholeDatabases.{data_sizes, numbers_in, makings, RunsOut, MakesAll, AreOwnChunks};
+ghost use Rattle.heap_model.specs.FileSteps.{makings};
+ghost use Rattle.palm_store.specs.WholeDatabases.{data_sizes, numbers_in, RunsOut, MakesAll, AreOwnChunks};
 
 use crate::chunks::free_chunk_of;
 use crate::databases::whole::{BlockSizes, WholeEntry, size_at};

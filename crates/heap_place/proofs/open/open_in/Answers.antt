@@ -1,6 +1,9 @@
-use Rattle.std.proofs.Common.{◌-◌, ◌+◌, arith}
+use Rattle.std.proofs.Common.{◌-◌, ◌+◌, ap, arith}
+use Rattle.heap_model.specs.Memory.{Memory}
 use Rattle.heap_model.specs.Packing.{lives}
+use Rattle.heap_place.proofs.ExactLaws.{exactly_linked}
 use Rattle.heap_place.proofs.StretchLaws.{stretch_run, among_stretch, moves_few, packed_frame, slot_then, table_then, numbers, room_behind, opened_some, opened_none}
+use Rattle.heap_place.proofs.LiftLaws.{lifted_room}
 use Rattle.heap_place.proofs.open.open_in.Goals as goal
 
 pub pack-room-requires-clause-run : goal.pack-room-requires-clause-run
@@ -48,9 +51,9 @@ lift-requires-clause-behind c =
 
 pub returns-then-room-gt0-clause-opened : goal.returns-then-room-gt0-clause-opened
 returns-then-room-gt0-clause-opened c =
-    (opened_some c.args.region.now.bytes c.pack-room.new.region.bytes (c.args.found.place.0 - 8) c.args.found.name.0 c.args.found.length c.args.stretch c.pack-room.result.room c.requires.accepted c.requires.among c.pack-room.ensures.packed c.pack-room.ensures.room c.lift.new.region.bytes (omega arith)
-    (c.lift.ensures.lifted _ _ _ (room_behind c.args.region.now.bytes c.pack-room.new.region.bytes (c.args.found.place.0 - 8) c.args.found.name.0 c.args.found.length c.args.stretch c.pack-room.result.room c.requires.accepted c.requires.among c.pack-room.ensures.packed c.pack-room.ensures.room (c.word_of-place.result - 8 + c.size_of_body.result) (omega arith)
-    (let place = c.word_of-place.ensures in let size = c.size_of_body.ensures in omega (arith, place, size))))).opened_behind
+    (opened_some c.args.region.now.bytes c.pack-room.new.region.bytes (c.args.found.place.0 - 8) c.args.found.name.0 c.args.found.length c.args.stretch c.pack-room.result.room c.requires.accepted c.requires.among c.pack-room.ensures.packed c.pack-room.ensures.room c.push_alone.new.region.bytes (omega arith)
+    (exactly_linked c.pack-room.new.region.bytes c.lift.new.region.bytes c.push_alone.new.region.bytes _ (c.lift.ensures.lifted _ _ _ (room_behind c.args.region.now.bytes c.pack-room.new.region.bytes (c.args.found.place.0 - 8) c.args.found.name.0 c.args.found.length c.args.stretch c.pack-room.result.room c.requires.accepted c.requires.among c.pack-room.ensures.packed c.pack-room.ensures.room (c.word_of-place.result - 8 + c.size_of_body.result) (omega arith)
+    (let place = c.word_of-place.ensures in let size = c.size_of_body.ensures in omega (arith, place, size)))) c.push_alone.ensures.same)).opened_behind
 
 pub returns-else-room-gt0-clause-opened : goal.returns-else-room-gt0-clause-opened
 returns-else-room-gt0-clause-opened c =
@@ -58,9 +61,9 @@ returns-else-room-gt0-clause-opened c =
 
 pub returns-then-room-gt0-clause-exact : goal.returns-then-room-gt0-clause-exact
 returns-then-room-gt0-clause-exact c =
-    (opened_some c.args.region.now.bytes c.pack-room.new.region.bytes (c.args.found.place.0 - 8) c.args.found.name.0 c.args.found.length c.args.stretch c.pack-room.result.room c.requires.accepted c.requires.among c.pack-room.ensures.packed c.pack-room.ensures.room c.lift.new.region.bytes (omega arith)
-    (c.lift.ensures.lifted _ _ _ (room_behind c.args.region.now.bytes c.pack-room.new.region.bytes (c.args.found.place.0 - 8) c.args.found.name.0 c.args.found.length c.args.stretch c.pack-room.result.room c.requires.accepted c.requires.among c.pack-room.ensures.packed c.pack-room.ensures.room (c.word_of-place.result - 8 + c.size_of_body.result) (omega arith)
-    (let place = c.word_of-place.ensures in let size = c.size_of_body.ensures in omega (arith, place, size))))).exact
+    (opened_some c.args.region.now.bytes c.pack-room.new.region.bytes (c.args.found.place.0 - 8) c.args.found.name.0 c.args.found.length c.args.stretch c.pack-room.result.room c.requires.accepted c.requires.among c.pack-room.ensures.packed c.pack-room.ensures.room c.push_alone.new.region.bytes (omega arith)
+    (exactly_linked c.pack-room.new.region.bytes c.lift.new.region.bytes c.push_alone.new.region.bytes _ (c.lift.ensures.lifted _ _ _ (room_behind c.args.region.now.bytes c.pack-room.new.region.bytes (c.args.found.place.0 - 8) c.args.found.name.0 c.args.found.length c.args.stretch c.pack-room.result.room c.requires.accepted c.requires.among c.pack-room.ensures.packed c.pack-room.ensures.room (c.word_of-place.result - 8 + c.size_of_body.result) (omega arith)
+    (let place = c.word_of-place.ensures in let size = c.size_of_body.ensures in omega (arith, place, size)))) c.push_alone.ensures.same)).exact
 
 pub returns-else-room-gt0-clause-exact : goal.returns-else-room-gt0-clause-exact
 returns-else-room-gt0-clause-exact c =
@@ -68,9 +71,9 @@ returns-else-room-gt0-clause-exact c =
 
 pub returns-then-room-gt0-clause-frame : goal.returns-then-room-gt0-clause-frame
 returns-then-room-gt0-clause-frame c =
-    (opened_some c.args.region.now.bytes c.pack-room.new.region.bytes (c.args.found.place.0 - 8) c.args.found.name.0 c.args.found.length c.args.stretch c.pack-room.result.room c.requires.accepted c.requires.among c.pack-room.ensures.packed c.pack-room.ensures.room c.lift.new.region.bytes (omega arith)
-    (c.lift.ensures.lifted _ _ _ (room_behind c.args.region.now.bytes c.pack-room.new.region.bytes (c.args.found.place.0 - 8) c.args.found.name.0 c.args.found.length c.args.stretch c.pack-room.result.room c.requires.accepted c.requires.among c.pack-room.ensures.packed c.pack-room.ensures.room (c.word_of-place.result - 8 + c.size_of_body.result) (omega arith)
-    (let place = c.word_of-place.ensures in let size = c.size_of_body.ensures in omega (arith, place, size))))).frame
+    (opened_some c.args.region.now.bytes c.pack-room.new.region.bytes (c.args.found.place.0 - 8) c.args.found.name.0 c.args.found.length c.args.stretch c.pack-room.result.room c.requires.accepted c.requires.among c.pack-room.ensures.packed c.pack-room.ensures.room c.push_alone.new.region.bytes (omega arith)
+    (exactly_linked c.pack-room.new.region.bytes c.lift.new.region.bytes c.push_alone.new.region.bytes _ (c.lift.ensures.lifted _ _ _ (room_behind c.args.region.now.bytes c.pack-room.new.region.bytes (c.args.found.place.0 - 8) c.args.found.name.0 c.args.found.length c.args.stretch c.pack-room.result.room c.requires.accepted c.requires.among c.pack-room.ensures.packed c.pack-room.ensures.room (c.word_of-place.result - 8 + c.size_of_body.result) (omega arith)
+    (let place = c.word_of-place.ensures in let size = c.size_of_body.ensures in omega (arith, place, size)))) c.push_alone.ensures.same)).frame
 
 pub returns-else-room-gt0-clause-frame : goal.returns-else-room-gt0-clause-frame
 returns-else-room-gt0-clause-frame c =
@@ -78,9 +81,9 @@ returns-else-room-gt0-clause-frame c =
 
 pub returns-then-room-gt0-clause-plain : goal.returns-then-room-gt0-clause-plain
 returns-then-room-gt0-clause-plain c =
-    (opened_some c.args.region.now.bytes c.pack-room.new.region.bytes (c.args.found.place.0 - 8) c.args.found.name.0 c.args.found.length c.args.stretch c.pack-room.result.room c.requires.accepted c.requires.among c.pack-room.ensures.packed c.pack-room.ensures.room c.lift.new.region.bytes (omega arith)
-    (c.lift.ensures.lifted _ _ _ (room_behind c.args.region.now.bytes c.pack-room.new.region.bytes (c.args.found.place.0 - 8) c.args.found.name.0 c.args.found.length c.args.stretch c.pack-room.result.room c.requires.accepted c.requires.among c.pack-room.ensures.packed c.pack-room.ensures.room (c.word_of-place.result - 8 + c.size_of_body.result) (omega arith)
-    (let place = c.word_of-place.ensures in let size = c.size_of_body.ensures in omega (arith, place, size))))).plain
+    (opened_some c.args.region.now.bytes c.pack-room.new.region.bytes (c.args.found.place.0 - 8) c.args.found.name.0 c.args.found.length c.args.stretch c.pack-room.result.room c.requires.accepted c.requires.among c.pack-room.ensures.packed c.pack-room.ensures.room c.push_alone.new.region.bytes (omega arith)
+    (exactly_linked c.pack-room.new.region.bytes c.lift.new.region.bytes c.push_alone.new.region.bytes _ (c.lift.ensures.lifted _ _ _ (room_behind c.args.region.now.bytes c.pack-room.new.region.bytes (c.args.found.place.0 - 8) c.args.found.name.0 c.args.found.length c.args.stretch c.pack-room.result.room c.requires.accepted c.requires.among c.pack-room.ensures.packed c.pack-room.ensures.room (c.word_of-place.result - 8 + c.size_of_body.result) (omega arith)
+    (let place = c.word_of-place.ensures in let size = c.size_of_body.ensures in omega (arith, place, size)))) c.push_alone.ensures.same)).plain
 
 pub returns-else-room-gt0-clause-plain : goal.returns-else-room-gt0-clause-plain
 returns-else-room-gt0-clause-plain c =
@@ -92,12 +95,23 @@ returns-then-room-gt0-clause-few c =
     let moved = moves_few c.args.region.now.bytes c.args.stretch c.pack-room.result.slid (among_stretch _ _ _ _ _ c.requires.among) c.pack-room.ensures.moved in
     let first = c.pack-room.ensures.slid in
     let second = c.lift.ensures.slid in
+    let third = ap (λ (m : Memory). m.slid) c.push_alone.ensures.rest in
     let place = c.word_of-place.ensures in
     let from = n.from in
-    omega (arith, moved, first, second, place, from)
+    omega (arith, moved, first, second, third, place, from)
 
 pub returns-else-room-gt0-clause-few : goal.returns-else-room-gt0-clause-few
 returns-else-room-gt0-clause-few c =
     let moved = moves_few c.args.region.now.bytes c.args.stretch c.pack-room.result.slid (among_stretch _ _ _ _ _ c.requires.among) c.pack-room.ensures.moved in
     let first = c.pack-room.ensures.slid in
     omega (arith, moved, first)
+
+pub push_alone-requires-clause-accepted : goal.push_alone-requires-clause-accepted
+push_alone-requires-clause-accepted c =
+    (c.lift.ensures.lifted _ _ _ (room_behind c.args.region.now.bytes c.pack-room.new.region.bytes (c.args.found.place.0 - 8) c.args.found.name.0 c.args.found.length c.args.stretch c.pack-room.result.room c.requires.accepted c.requires.among c.pack-room.ensures.packed c.pack-room.ensures.room (c.word_of-place.result - 8 + c.size_of_body.result) (omega arith) (let place = c.word_of-place.ensures in let size = c.size_of_body.ensures in omega (arith, place, size)))).frame.accepted
+
+pub push_alone-requires-clause-free : goal.push_alone-requires-clause-free
+push_alone-requires-clause-free c =
+    lifted_room c.pack-room.new.region.bytes c.lift.new.region.bytes _ _ _ (c.word_of-place.result - 8 + c.size_of_body.result) (c.args.stretch.end - c.pack-room.result.room) c.pack-room.result.room
+    (room_behind c.args.region.now.bytes c.pack-room.new.region.bytes (c.args.found.place.0 - 8) c.args.found.name.0 c.args.found.length c.args.stretch c.pack-room.result.room c.requires.accepted c.requires.among c.pack-room.ensures.packed c.pack-room.ensures.room (c.word_of-place.result - 8 + c.size_of_body.result) (omega arith) (let place = c.word_of-place.ensures in let size = c.size_of_body.ensures in omega (arith, place, size)))
+    c.lift.ensures.lifted

@@ -39,9 +39,16 @@ set-requires-clause-slot c =
 
 pub returns-in-Movable-clause-dropped : goal.returns-in-Movable-clause-dropped
 returns-in-Movable-clause-dropped c = λ before bytes lock owner slot after d.
-    dropped_read c.args.region.now.bytes c.slide.new.self.bytes c.write.new.region.bytes c.write-in-Movable.new.region.bytes c.set.new.region.bytes before bytes lock owner slot after c.args.at c.args.room (c.args.at - c.args.room) c.args.size _ _ _ c.in-Movable.slot (headers.Movable c.in-Movable.length c.in-Movable.lock c.in-Movable.owner c.in-Movable.slot)
+    (dropped_read c.args.region.now.bytes c.slide.new.self.bytes c.write.new.region.bytes c.write-in-Movable.new.region.bytes c.set.new.region.bytes before bytes lock owner slot after c.args.at c.args.room (c.args.at - c.args.room) c.args.size _ _ _ c.in-Movable.slot (headers.Movable c.in-Movable.length c.in-Movable.lock c.in-Movable.owner c.in-Movable.slot)
     (drop_facts c.args.region.now.bytes before bytes lock owner slot after c.args.at c.args.room (c.args.at - c.args.room) c.requires.accepted d refl) (subst (λ (h : Header). HasHeader c.args.region.now.bytes c.args.at h) c.in-Movable.is c.requires.header) (c.requires.size ∙ ap size_by c.in-Movable.is) refl
-    c.slide.ensures.bytes (ap (λ (m : Memory). m.bytes) c.write.ensures.after) c.write.ensures.spelled (ap (λ (m : Memory). m.bytes) c.write-in-Movable.ensures.after) c.write-in-Movable.ensures.spelled (ap (λ (m : Memory). m.bytes) c.set.ensures.after)
+    c.slide.ensures.bytes (ap (λ (m : Memory). m.bytes) c.write.ensures.after) c.write.ensures.spelled (ap (λ (m : Memory). m.bytes) c.write-in-Movable.ensures.after) c.write-in-Movable.ensures.spelled (ap (λ (m : Memory). m.bytes) c.set.ensures.after)).0
+
+pub returns-in-Movable-clause-keeps : goal.returns-in-Movable-clause-keeps
+returns-in-Movable-clause-keeps c =
+    let d = c.requires.drops in
+    (dropped_read c.args.region.now.bytes c.slide.new.self.bytes c.write.new.region.bytes c.write-in-Movable.new.region.bytes c.set.new.region.bytes d.before d.bytes d.lock d.owner d.slot d.after c.args.at c.args.room (c.args.at - c.args.room) c.args.size _ _ _ c.in-Movable.slot (headers.Movable c.in-Movable.length c.in-Movable.lock c.in-Movable.owner c.in-Movable.slot)
+    (asked c.args.region.now.bytes c.args.at c.args.room (c.args.at - c.args.room) c.requires.accepted d refl) (subst (λ (h : Header). HasHeader c.args.region.now.bytes c.args.at h) c.in-Movable.is c.requires.header) (c.requires.size ∙ ap size_by c.in-Movable.is) refl
+    c.slide.ensures.bytes (ap (λ (m : Memory). m.bytes) c.write.ensures.after) c.write.ensures.spelled (ap (λ (m : Memory). m.bytes) c.write-in-Movable.ensures.after) c.write-in-Movable.ensures.spelled (ap (λ (m : Memory). m.bytes) c.set.ensures.after)).1
 
 pub returns-in_default-clause-dropped : goal.returns-in_default-clause-dropped
 returns-in_default-clause-dropped c = λ before bytes lock owner slot after d.
@@ -50,6 +57,12 @@ returns-in_default-clause-dropped c = λ before bytes lock owner slot after d.
 
 pub returns-in_default-clause-slid : goal.returns-in_default-clause-slid
 returns-in_default-clause-slid c =
+    let d = c.requires.drops in
+    let f = asked c.args.region.now.bytes c.args.at c.args.room (c.args.at - c.args.room) c.requires.accepted d refl in
+    absurd (c.in_default.not-Movable _ _ _ _ (same_header c.args.region.now.bytes d.before d.bytes d.lock d.owner d.slot d.after c.args.at c.args.room (c.args.at - c.args.room) c.args.header f c.requires.header))
+
+pub returns-in_default-clause-keeps : goal.returns-in_default-clause-keeps
+returns-in_default-clause-keeps c =
     let d = c.requires.drops in
     let f = asked c.args.region.now.bytes c.args.at c.args.room (c.args.at - c.args.room) c.requires.accepted d refl in
     absurd (c.in_default.not-Movable _ _ _ _ (same_header c.args.region.now.bytes d.before d.bytes d.lock d.owner d.slot d.after c.args.at c.args.room (c.args.at - c.args.room) c.args.header f c.requires.header))

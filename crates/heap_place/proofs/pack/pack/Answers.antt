@@ -1,9 +1,14 @@
-use Rattle.std.proofs.Common.{arith}
-use Rattle.heap_place.proofs.PackLaws.{packing_start, packing_more, packing_accepted, packing_next, packing_on, packing_done}
+use Rattle.std.proofs.Common.{◌-◌, ◌++◌, ap, ◌∙◌, arith}
+use Rattle.heap_model.specs.Memory.{Memory}
+use Rattle.heap_model.specs.Packing.{packed}
+use Rattle.heap_place.specs.Gathers.{Before}
+use Rattle.heap_place.proofs.ExactLaws.{exactly_linked}
+use Rattle.heap_place.proofs.ListLaws.{new_lists, lists_any}
+use Rattle.heap_place.proofs.PackLaws.{packing_start, packing_more, packing_accepted, packing_next, packing_on, packing_done, room_packed}
 use Rattle.heap_place.proofs.pack.pack.Goals as goal
 
 pub loop-at-init : goal.loop-at-init
-loop-at-init c = (packing_start c.args.region.now.bytes c.args.start c.args.end c.requires.accepted, omega arith)
+loop-at-init c = (packing_start c.args.region.now.bytes c.args.start c.args.end c.requires.accepted, omega arith, new_lists (Before (c.args.start - 0)) c.args.region.now.bytes)
 
 pub pack_one-step-requires-clause-accepted : goal.pack_one-step-requires-clause-accepted
 pack_one-step-requires-clause-accepted c = packing_accepted c.args.region.now.bytes c.loop-at.region.bytes c.args.start c.args.end c.loop-at.at c.loop-at.slid c.loop-at.room c.loop-at.invariant.0 c.requires.run
@@ -38,10 +43,28 @@ loop-at-preserved c =
     let before = c.loop-at.invariant.1 in (
       packing_more c.args.region.now.bytes c.loop-at.region.bytes c.pack_one-step.new.region.bytes c.args.start c.args.end c.loop-at.at c.loop-at.slid c.loop-at.room c.pack_one-step.result.size c.pack_one-step.result.slid c.pack_one-step.result.room c.loop-at.invariant.0 (omega arith) c.pack_one-step.ensures.packed,
       omega (arith, slid, before),
+      c.pack_one-step.ensures.lists,
     )
 
+pub push_room-requires-clause-accepted : goal.push_room-requires-clause-accepted
+push_room-requires-clause-accepted c = packing_accepted c.args.region.now.bytes c.loop-at.region.bytes c.args.start c.args.end c.loop-at.at c.loop-at.slid c.loop-at.room c.loop-at.invariant.0 c.requires.run
+
+pub push_room-requires-clause-within : goal.push_room-requires-clause-within
+push_room-requires-clause-within c = (room_packed c.args.region.now.bytes c.loop-at.region.bytes c.args.start c.args.end c.loop-at.at c.loop-at.slid c.loop-at.room c.loop-at.invariant.0 c.requires.run).0
+
+pub push_room-requires-clause-free : goal.push_room-requires-clause-free
+push_room-requires-clause-free c = (room_packed c.args.region.now.bytes c.loop-at.region.bytes c.args.start c.args.end c.loop-at.at c.loop-at.slid c.loop-at.room c.loop-at.invariant.0 c.requires.run).1
+
+pub returns-clause-lists : goal.returns-clause-lists
+returns-clause-lists c = lists_any (Before c.loop-at.at) c.push_room.new.region.bytes c.push_room.new.heads c.push_room.ensures.lists
+
+pub returns-clause-slid : goal.returns-clause-slid
+returns-clause-slid c = ap (λ (m : Memory). m.slid) c.push_room.ensures.rest ∙ c.loop-at.invariant.1
+
 pub returns-clause-packed : goal.returns-clause-packed
-returns-clause-packed c = λ before mid after run. (packing_done c.args.region.now.bytes c.loop-at.region.bytes c.args.start c.args.end c.loop-at.at c.loop-at.slid c.loop-at.room c.loop-at.invariant.0 (omega arith) before mid after run).becomes
+returns-clause-packed c = λ before mid after run.
+    exactly_linked c.args.region.now.bytes c.loop-at.region.bytes c.push_room.new.region.bytes (before ++ (packed mid ++ after))
+    (packing_done c.args.region.now.bytes c.loop-at.region.bytes c.args.start c.args.end c.loop-at.at c.loop-at.slid c.loop-at.room c.loop-at.invariant.0 (omega arith) before mid after run).becomes c.push_room.ensures.same
 
 pub returns-clause-moved : goal.returns-clause-moved
 returns-clause-moved c = λ before mid after run. (packing_done c.args.region.now.bytes c.loop-at.region.bytes c.args.start c.args.end c.loop-at.at c.loop-at.slid c.loop-at.room c.loop-at.invariant.0 (omega arith) before mid after run).moved_is

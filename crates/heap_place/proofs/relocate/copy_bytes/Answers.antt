@@ -1,6 +1,6 @@
 use Rattle.std.proofs.Common.{take, arith}
 use Rattle.heap_place.proofs.FoundLaws.{bytes_inside}
-use Rattle.heap_place.proofs.RelocateLaws.{copied_there, copy_keeps, copy_stands, taken_fits}
+use Rattle.heap_place.proofs.RelocateLaws.{copied_there, copied_keeps, copy_keeps, copy_stands, taken_fits}
 use Rattle.heap_place.proofs.relocate.copy_bytes.Goals as goal
 
 pub slide-requires-clause-from : goal.slide-requires-clause-from
@@ -24,3 +24,6 @@ returns-clause-to c =
 
 pub returns-clause-plain : goal.returns-clause-plain
 returns-clause-plain c = (copied_there c.args.region.now.bytes c.slide.new.self.bytes c.args.from c.args.to c.min-count.result c.requires.accepted c.requires.from c.requires.to c.min-count.ensures c.slide.ensures.bytes).1
+
+pub returns-clause-keeps : goal.returns-clause-keeps
+returns-clause-keeps c = copied_keeps c.args.region.now.bytes c.slide.new.self.bytes c.args.from c.args.to c.min-count.result c.requires.accepted c.requires.from c.requires.to c.min-count.ensures c.slide.ensures.bytes

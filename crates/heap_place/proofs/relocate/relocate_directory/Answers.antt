@@ -1,6 +1,8 @@
 use Rattle.std.proofs.Common.{◌∙◌, inl, inr, refl}
 use Rattle.laws_heap.proofs.Plain.{plain_then}
 use Rattle.laws_heap.proofs.Directory.{named_room, relocated_again}
+use Rattle.heap_place.specs.Lists.{Any}
+use Rattle.heap_place.proofs.ListLaws.{lists_kept}
 use Rattle.heap_place.proofs.DirectoryLaws.{named_one, some_name, moved_owner}
 use Rattle.heap_place.proofs.relocate.relocate_directory.Goals as goal
 
@@ -40,3 +42,9 @@ pub returns-clause-plain : goal.returns-clause-plain
 returns-clause-plain c =
     plain_then c.args.region.now.bytes c.relocate_other.new.region.bytes c.name_directory-2.new.region.bytes
     (plain_then c.args.region.now.bytes c.name_directory.new.region.bytes c.relocate_other.new.region.bytes c.name_directory.ensures.plain c.relocate_other.ensures.plain) c.name_directory-2.ensures.plain
+
+pub relocate_other-requires-clause-lists : goal.relocate_other-requires-clause-lists
+relocate_other-requires-clause-lists c = lists_kept Any c.args.region.now.bytes c.name_directory.new.region.bytes c.args.heads.now c.name_directory.ensures.keeps c.requires.lists
+
+pub returns-clause-lists : goal.returns-clause-lists
+returns-clause-lists c = lists_kept Any c.relocate_other.new.region.bytes c.name_directory-2.new.region.bytes c.relocate_other.new.heads c.name_directory-2.ensures.keeps c.relocate_other.ensures.lists

@@ -27,3 +27,8 @@ pub returns-clause-plain : goal.returns-clause-plain
 returns-clause-plain c =
     (named_there c.args.region.now.bytes c.write.new.region.bytes c.set.new.region.bytes c.args.there c.args.owner c.args.slot.0 c.requires.accepted c.requires.found c.requires.fixed c.requires.slot c.requires.empty
     (ap (λ (m : Memory). m.bytes) c.write.ensures.after) c.write.ensures.spelled (ap (λ (m : Memory). m.bytes) c.set.ensures.after)).1
+
+pub returns-clause-keeps : goal.returns-clause-keeps
+returns-clause-keeps c =
+    (named_there c.args.region.now.bytes c.write.new.region.bytes c.set.new.region.bytes c.args.there c.args.owner c.args.slot.0 c.requires.accepted c.requires.found c.requires.fixed c.requires.slot c.requires.empty
+    (ap (λ (m : Memory). m.bytes) c.write.ensures.after) c.write.ensures.spelled (ap (λ (m : Memory). m.bytes) c.set.ensures.after)).2

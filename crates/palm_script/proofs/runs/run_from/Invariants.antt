@@ -1,14 +1,17 @@
-use Rattle.std.proofs.Common.{◌≡◌, ℕ, List, [], length, take, true}
+use Rattle.std.proofs.Common.{◌≡◌, ◌≤◌, ℕ, List, length, take, true}
+use Rattle.std.specs.Prelude.{count_by, vec_capacity, vec_len}
 use Rattle.heap_model.specs.Counted.{Writes}
-use Rattle.script_lines.specs.Labels.{chunk_label_end, database_label_end, label_count}
+use Rattle.script_lines.specs.Labels.{chunk_label_end, database_label_end, is_export, label_count}
 use Rattle.palm_script.specs.Lines.{Lines, unbound, tables}
 use Rattle.palm_script.proofs.runs.run_from.Given as goal
 
 abbrev pub invariant-loop-line : goal.invariant-loop-line
 invariant-loop-line g l = record {
   text : List ℕ;
-  ran : Lines l.inputs l.fn.store unbound (take l.line-index l.script) text [] l.store (tables l.names l.databases);
+  ran : Lines l.inputs l.fn.store unbound (take l.line-index l.script) text l.files.items l.store (tables l.names l.databases);
   written : Writes g.W.Write.contents l.fn.out l.out text true;
+  room : vec_capacity l.files ≡ count_by is_export l.script;
+  used : vec_len l.files ≤ count_by is_export (take l.line-index l.script);
   chunk_labels : length l.names ≡ label_count chunk_label_end l.script;
   database_labels : length l.databases ≡ label_count database_label_end l.script;
 }

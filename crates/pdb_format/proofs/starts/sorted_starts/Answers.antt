@@ -4,4 +4,4 @@ use Rattle.pdb_format.specs.Starts.{order}
 use Rattle.pdb_format.proofs.starts.sorted_starts.Goals as goal
 
 pub returns-clause-rising : goal.returns-clause-rising
-returns-clause-rising c = IsNonDecreasingBy-from_sort_by_key order _ c.sort_unstable_by_key.ensures.sorted (λ a r q k. search rules)
+returns-clause-rising g c = IsNonDecreasingBy-from_sort_by_key order _ c.sort_unstable_by_key.ensures.sorted (λ a r q k. search rules)

@@ -5,7 +5,7 @@ use Rattle.heap_place.specs.Relocation.{RelocatesToRun}
 use Rattle.heap_place.proofs.RelocateLaws.{had_run}
 use Rattle.heap_place.proofs.space.Space.relocate.Goals as goal
 
-pub returns-then-moved-clause-had_run : goal.returns-then-moved-clause-had_run
-returns-then-moved-clause-had_run c =
+pub returns-clause-had_run : goal.returns-clause-had_run
+returns-clause-had_run c =
     had_run c.args.self.now.bytes c.relocate-moved.new.region.bytes c.args.found c.args.count c.relocate-moved.result
     (subst (λ (m : Memory). OnTrue c.relocate-moved.result (RelocatesToRun m.bytes c.relocate-moved.new.region.bytes c.args.found c.args.count)) c.self.view_is c.relocate-moved.ensures.moved)

@@ -5,7 +5,8 @@ use Rattle.heap_model.specs.Leaving.{Leaves}
 use Rattle.heap_model.specs.Reading.{held}
 use Rattle.heap_model.specs.StoreWords.{all_gone}
 use Rattle.laws_heap.proofs.Results.{on_err}
-use Rattle.palm_store.specs.WholeDatabases.{data_sizes, numbers_in, makings, listing_part, listing_slots, AreOwnChunks}
+use Rattle.heap_model.specs.FileSteps.{makings, listing_part, listing_slots}
+use Rattle.palm_store.specs.WholeDatabases.{data_sizes, numbers_in, AreOwnChunks}
 use Rattle.palm_store.proofs.GainedChunks.{own_chunks, taken_back}
 use Rattle.palm_store.proofs.WholeRooms.{runs_more}
 use Rattle.palm_store.proofs.WholeListing.{keeps_makes, same_bytes, no_listing_then}

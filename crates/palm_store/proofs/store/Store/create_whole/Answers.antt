@@ -8,7 +8,8 @@ use Rattle.heap_model.specs.DatabaseSteps.{IsTaken}
 use Rattle.heap_model.specs.declared.names.Name.{Name}
 use Rattle.laws_heap.proofs.Results.{on_err, if_err}
 use Rattle.laws_store.proofs.Editing.{same_steps}
-use Rattle.palm_store.specs.WholeDatabases.{data_sizes, numbers_in, whole_database, whole_parts, whole_slots, RunsOut, MakesWhole, checks_of_whole}
+use Rattle.heap_model.specs.FileSteps.{whole_parts, whole_slots}
+use Rattle.palm_store.specs.WholeDatabases.{data_sizes, numbers_in, whole_database, RunsOut, MakesWhole, checks_of_whole}
 use Rattle.palm_store.proofs.Maps.{bytes_held, owner_held}
 use Rattle.palm_store.proofs.ListedSlots.{chunk_of}
 use Rattle.palm_store.proofs.Creation.{below_most, most_there}

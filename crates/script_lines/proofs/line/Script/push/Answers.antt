@@ -3,9 +3,9 @@ use Rattle.script_lines.specs.Labels.{chunk_label_end, database_label_end}
 use Rattle.script_lines.proofs.LabelLaws.{label_count-push}
 use Rattle.script_lines.proofs.line.Script.push.Goals as goal
 
-pub invariant_of-self : goal.invariant_of-self
-invariant_of-self g c =
+pub invariant_of-self-2 : goal.invariant_of-self-2
+invariant_of-self-2 g c =
     let chunks = label_count-push chunk_label_end c.self.inside.lines.items c.args.line in
     let databases = label_count-push database_label_end c.self.inside.lines.items c.args.line in
-    let items : c.push.new.self.items ≡ c.self.inside.lines.items ++ c.args.line ∷ [] = c.in-Ok.ensures.items in
+    let items : c.push.new.self.items ≡ c.self.inside.lines.items ++ c.args.line ∷ [] = c.in_ok-push.ensures.items in
     rw items (omega (arith, chunks), omega (arith, databases))

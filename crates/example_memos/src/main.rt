@@ -1,0 +1,46 @@
+//! A use of the crates as libraries, to be copied: reads a database of memos from a PDB file into a blank image,
+//! adds a memo by a list of calls, and writes the database to a file again.
+//!
+//! `write_memo` of `memos.rt` has a contract of its own: start there.
+#![tactic(auto)]
+
+mod memos;
+
+use anyhow::{Result, bail};
+use chunk_format::blank;
+use heap_model::Reply;
+use memos::{Memo, write_memo};
+use palm_store::Store;
+use pdb_files::{exported, import};
+use record_db::new_record;
+
+/// A PDB file with one memo, `Buy milk`, of category 1: a header of 78 bytes, an entry of 8 bytes, two zeros, and
+/// the text.
+const FILE: &[u8] =
+    b"MemoDB\0\0\0\0\0\0\0\0\0\0\0\0\0\0\0\0\0\0\0\0\0\0\0\0\0\0\0\0\0\0\0\0\0\0\0\0\0\0\0\0\0\0\
+    \0\0\0\0\0\0\0\0\0\0\0\0DATAmemo\0\0\0\0\0\0\0\0\0\x01\0\0\0\x58\x01\0\0\x01\0\0Buy milk\0";
+
+/// The memo that is added.
+const TEXT: &[u8] = b"Call Anna";
+
+/// An index behind all records.
+const END: u32 = 0xFFFF;
+
+fn main(rt: HostRuntime) -> Result<()> {
+    let alloc = rt.alloc();
+    let mut store = match Store::check(alloc, blank(alloc, 4096, 64)?) {
+        Ok(store) => store,
+        Err(error) => bail!("{}", error.fault),
+    };
+    let db = import(alloc, &mut store, FILE)?;
+    let (index, name) = new_record(&mut store, db, END, TEXT.len() as u32 + 1)?;
+    for reply in &write_memo(alloc, &mut store, Memo { db, index, name }, TEXT)? {
+        match reply {
+            Reply::Refused(refusal) => println!(rt; "refused: {refusal}")?,
+            _ => println!(rt; "ok")?,
+        }
+    }
+    let file = exported(&alloc, &store, db)?;
+    println!(rt; "a file of {} bytes", file.as_slice().len())?;
+    Ok(())
+}

@@ -1,0 +1,3 @@
+pub mod FreshLaws
+pub mod GivenLaws
+pub mod KeptLaws

@@ -1,0 +1,86 @@
+-- Laws on runs of calls.
+use Rattle.std.proofs.Common.{◌≡◌, ℕ, suc, zero, ◌+◌, ◌<◌, ◌≤◌, List, [], ◌∷◌, ◌++◌, length, drop, get_or, refl, sym, ap, ◌∙◌, subst, append_assoc, append-nil, add-one, drop-cons, arith}
+use Rattle.std.proofs.Math.ListN.{drop_of_length-le}
+use Rattle.std.specs.Prelude.{Some, slice_get}
+use Rattle.heap_model.specs.Memory.{Memory}
+use Rattle.heap_model.specs.Space.{Still}
+use Rattle.heap_model.specs.Store.{Accepted, Means, store_of}
+use Rattle.heap_model.specs.StoreSteps.{Call, DoesInStore, StoreStep}
+use Rattle.heap_model.specs.Runs.{Run}
+use Rattle.heap_model.specs.declared.call.Reply.{Reply}
+use Rattle.laws_store.proofs.Meaning.{read_is_meant}
+use Rattle.palm_script.specs.Headline.{AnswersAsRun}
+
+-- ---- a run that goes on
+
+-- what is a run from here on is one from the start, with these replies in front
+pub record GoesOn (start : Memory) (calls : List Call) (count : ℕ) (replies : List Reply) (here : Memory) : Type 0 where
+  pub run : (rest : List Reply) (last : Memory) → Run here (drop count calls) rest last → Run start calls (replies ++ rest) last
+
+pub goes_on-nothing : (start : Memory) (calls : List Call) → GoesOn start calls 0 [] start
+goes_on-nothing start calls = record { run = λ rest last run. run }
+
+pub goes_on-one : (start : Memory) (calls : List Call) (i : ℕ) (replies : List Reply) (here : Memory) (call : Call) (reply : Reply) (next : Memory)
+    → i < length calls → call ≡ get_or calls i call → GoesOn start calls i replies here → DoesInStore here call reply next → GoesOn start calls (i + 1) (replies ++ reply ∷ []) next
+goes_on-one start calls i replies here call reply next within is so_far does = record {
+  run = λ rest last run.
+      let onto : Run here (call ∷ drop (suc i) calls) (reply ∷ rest) last = (reply, rest, next, refl, does, subst (λ (k : ℕ). Run next (drop k calls) rest last) (add-one i) run) in
+      let split : drop i calls ≡ call ∷ drop (suc i) calls = drop-cons calls i call within ∙ ap (λ (c : Call). c ∷ drop (suc i) calls) (sym is) in
+      rw append_assoc (so_far.run (reply ∷ rest) last (rw split onto));
+}
+
+pub goes_on-end : (start : Memory) (calls : List Call) (i : ℕ) (replies : List Reply) (here : Memory) → length calls ≤ i → GoesOn start calls i replies here → Run start calls replies here
+goes_on-end start calls i replies here all so_far =
+    let none : drop i calls ≡ [] = drop_of_length-le calls all in
+    rw (← append-nil replies) (so_far.run [] here (rw none (refl, refl)))
+
+-- ---- the headline
+
+-- a region, and others behind it
+unfoldable behind : Memory → (ℕ → Memory) → ℕ → Memory
+behind first others zero = first
+behind first others (suc count) = others count
+
+-- one call in front
+one_in_front : (image : Memory) (call : Call) (calls : List Call) (reply : Reply) (replies : List Reply) (mid last : Memory) → Accepted image.bytes → DoesInStore image call reply mid → AnswersAsRun mid calls replies last → AnswersAsRun image (call ∷ calls) (reply ∷ replies) last
+unfolding behind
+one_in_front image call calls reply replies mid last accepted does later = record {
+  region = behind image later.region;
+  first = refl;
+  end = later.end;
+  accepted = accepted_at;
+  means = λ count within. read_is_meant (behind image later.region count).bytes (accepted_at count within);
+  replied = ap suc later.replied;
+  step = λ count one answer found answered. rw add-one (step_at count one answer found answered);
+  still = λ count below. rw add-one (still_at count below);
+}
+  where
+    accepted_at : (count : ℕ) → count ≤ length (call ∷ calls) → Accepted (behind image later.region count).bytes
+    accepted_at zero within = accepted
+    accepted_at (suc count) within = later.accepted count (omega arith)
+
+    step_at : (count : ℕ) (one : Call) (answer : Reply) → slice_get (call ∷ calls) count ≡ Some one → slice_get (reply ∷ replies) count ≡ Some answer → StoreStep (behind image later.region count) one answer (behind image later.region (suc count))
+    step_at zero one answer found answered =
+        let called : call ≡ one = cc in
+        let replied : reply ≡ answer = cc in
+        rw (later.first, ← called, ← replied) does.step
+    step_at (suc count) one answer found answered = subst (λ (k : ℕ). StoreStep (later.region count) one answer (later.region k)) (add-one count) (later.step count one answer found answered)
+
+    still_at : (count : ℕ) → count < length (call ∷ calls) → Still (behind image later.region count).bytes (behind image later.region (suc count)).bytes
+    still_at zero below = rw later.first does.still
+    still_at (suc count) below = subst (λ (k : ℕ). Still (later.region count).bytes (later.region k).bytes) (add-one count) (later.still count (omega arith))
+
+-- a run from an accepted image is answered so
+pub answers_as_run : (image : Memory) (calls : List Call) (replies : List Reply) (last : Memory) → Accepted image.bytes → Run image calls replies last → AnswersAsRun image calls replies last
+answers_as_run image [] replies last accepted (none, same) = record {
+  region = λ _. image;
+  first = refl;
+  end = sym same;
+  accepted = λ count within. accepted;
+  means = λ count within. read_is_meant image.bytes accepted;
+  replied = ap length none;
+  step = λ count call reply found answered. absurd cc;
+  still = λ count below. absurd (omega arith);
+}
+answers_as_run image (call ∷ calls) replies last accepted (reply, rest, mid, are, does, run) =
+    rw are (one_in_front image call calls reply rest mid last accepted does (answers_as_run mid calls rest last does.accepted run))

@@ -1,0 +1,30 @@
+-- What a list of manager calls does to an accepted image.
+use Rattle.std.specs.Prelude.{◌≡◌, ◌<◌, ◌≤◌, ◌+◌, ◌⊎◌, ℕ, List, length, slice_get, Some}
+use Rattle.heap_model.specs.Memory.{Memory}
+use Rattle.heap_model.specs.Space.{Still}
+use Rattle.heap_model.specs.Store.{Accepted, Means, store_of}
+use Rattle.heap_model.specs.StoreSteps.{Call, StoreStep}
+use Rattle.heap_model.specs.declared.call.Reply.{Reply}
+use Rattle.store_check.specs.declared.fault.StoreFault.TheVariants.{OutOfMemory as CheckOutOfMemory}
+use Rattle.palm_script.specs.declared.lists.NotRun.{NotRun}
+use Rattle.palm_script.specs.declared.lists.NotRun.TheVariants.{NotAStore, OutOfMemory}
+
+-- A list of calls, run from an accepted image, is answered as a run of the abstract store answers, which is a map
+-- from names to byte strings beside databases as lists of entries, begun with what the image means. There is a
+-- region behind each so many of the calls: it is an accepted image, and means that run's store; each reply is
+-- that of its call's step from one of these stores to the next; and every chunk that was locked or fixed, and is
+-- still live, is where it was.
+pub record AnswersAsRun (image : Memory) (calls : List Call) (replies : List Reply) (last : Memory) : Type 0 where
+  pub region : ℕ → Memory
+  pub first : region 0 ≡ image
+  pub end : region (length calls) ≡ last
+  pub accepted : (count : ℕ) → count ≤ length calls → Accepted (region count).bytes
+  pub means : (count : ℕ) → count ≤ length calls → Means (region count).bytes (store_of (region count).bytes)
+  pub replied : length replies ≡ length calls
+  pub step : (count : ℕ) (call : Call) (reply : Reply) → slice_get calls count ≡ Some call → slice_get replies count ≡ Some reply → StoreStep (region count) call reply (region (count + 1))
+  pub still : (count : ℕ) → count < length calls → Still (region count).bytes (region (count + 1)).bytes
+
+-- No call was done, and the region is handed back as it was: it is no accepted image, or memory was refused.
+abbrev pub HandsBack : Memory → NotRun → Type 0
+HandsBack region (NotAStore error) = (error.region ≡ region) × ((error.fault ≡ CheckOutOfMemory) ⊎ (Accepted region.bytes → ⊥))
+HandsBack region (OutOfMemory store) = store ≡ region

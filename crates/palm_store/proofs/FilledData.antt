@@ -1,0 +1,78 @@
+-- Data that is written whole, and what callers see of the bytes of a chunk.
+use Rattle.std.proofs.Common.{◌≡◌, ◌≢◌, ℕ, List, [], length, Option, Some, None, refl, sym, ap, subst, ◌∙◌, inl, inr}
+use Rattle.std.proofs.lemmas.Bool.{cases_eq}
+use Rattle.std.specs.Prelude.{IsSome}
+use Rattle.std.specs.Option.{is_some}
+use Rattle.heap_model.specs.Bytes.{overwritten}
+use Rattle.heap_model.specs.Meaning.{LiveChunk}
+use Rattle.heap_model.specs.Reading.{held}
+use Rattle.heap_model.specs.Maps.{updated, changed, put, not_owned}
+use Rattle.heap_model.specs.Leaving.{Leaves, rewritten}
+use Rattle.heap_model.specs.MemorySteps.{Of}
+use Rattle.heap_model.specs.Store.{managers_owner, data_owner, bytes_of, bytes_under, owner_under, Accepted, store_of}
+use Rattle.heap_model.specs.EntrySteps.{LeavesStore}
+use Rattle.laws_store.proofs.Edited.{hidden, shown}
+use Rattle.laws_store.proofs.Editing.{change_steps}
+use Rattle.palm_store.specs.Files.{HasDataOf, data_filled}
+use Rattle.palm_store.proofs.Maps.{owner_held, bytes_held}
+use Rattle.palm_store.proofs.ListedSlots.{all_written}
+
+-- ---- what callers see
+
+-- nothing where there is no chunk
+pub none_seen : (image : List ℕ) (name : ℕ) → held image name ≡ None → [] ≡ bytes_of ((store_of image).map name)
+unfolding store_of
+none_seen image name none = sym (ap (λ (o : Option LiveChunk). bytes_of (not_owned 0 o)) none)
+
+-- nor of the manager's
+pub managers_unseen : (image : List ℕ) (name : ℕ) → owner_under image name ≡ managers_owner → [] ≡ bytes_of ((store_of image).map name)
+unfolding store_of owner_under
+managers_unseen image name own = sym (ap bytes_of (hidden (held image name) own))
+
+pub others_seen : (image : List ℕ) (name : ℕ) → owner_under image name ≢ managers_owner → bytes_under image name ≡ bytes_of ((store_of image).map name)
+unfolding store_of owner_under bytes_under
+others_seen image name own = sym (ap bytes_of (shown (held image name) own))
+
+-- ---- a chunk for data of so many bytes
+
+pub record HoldsDataOf (image : List ℕ) (name count : ℕ) : Type 0 where
+  pub live : LiveChunk
+  pub there : held image name ≡ Some live
+  pub own : live.owner ≡ data_owner
+  pub long : length live.bytes ≡ count
+
+pub data_held : (image : List ℕ) (name count : ℕ) → HasDataOf image name count → HoldsDataOf image name count
+unfolding store_of
+data_held image name count has = by (held image name) refl has where
+  by : (o : Option LiveChunk) → held image name ≡ o → Of (not_owned 0 o) (λ live. (live.owner ≡ data_owner) × (length live.bytes ≡ count)) → HoldsDataOf image name count
+  by None e is = absurd is
+  by (Some live) e is = elim (cases_eq live.owner 0) [
+    | inl managers ↦ absurd (subst (λ (o : Option LiveChunk). Of o (λ one. (one.owner ≡ data_owner) × (length one.bytes ≡ count))) (hidden (Some live) managers) is)
+    | inr callers ↦
+        let is_data : (live.owner ≡ data_owner) × (length live.bytes ≡ count) = subst (λ (o : Option LiveChunk). Of o (λ one. (one.owner ≡ data_owner) × (length one.bytes ≡ count))) (shown (Some live) callers) is in
+        record { live = live; there = e; own = is_data.0; long = is_data.1 }
+  ]
+
+pub data_there : (image : List ℕ) (name count : ℕ) → HasDataOf image name count → IsSome (held image name)
+data_there image name count has = ap is_some (data_held image name count has).there
+
+pub data_long : (image : List ℕ) (name count : ℕ) → HasDataOf image name count → length (bytes_under image name) ≡ count
+data_long image name count has = (let d = data_held image name count has in ap length (bytes_held image name d.live d.there) ∙ d.long)
+
+-- ---- bytes over all of it
+
+-- all of it is what was written
+pub put_whole : (old new : List ℕ) (name : ℕ) (bytes : List ℕ) (live : LiveChunk) → held old name ≡ Some live → length bytes ≡ length live.bytes → Leaves old new (put (held old) name 0 bytes) → Leaves old new (rewritten (held old) name bytes)
+put_whole old new name bytes live there long l =
+    let over : LiveChunk → LiveChunk = λ one. record one { bytes = overwritten one.bytes 0 bytes } in
+    let now : LiveChunk → LiveChunk = λ one. record one { bytes = bytes } in
+    let same : changed over (held old name) ≡ changed now (held old name) =
+    ap (changed over) there ∙ ap (λ (all : List ℕ). Some (record live { bytes = all })) (all_written live.bytes bytes long) ∙ sym (ap (changed now) there) in
+    subst (λ (o : Option LiveChunk). Leaves old new (updated (held old) name o)) same l
+
+pub filled_steps : (old new : List ℕ) (name : ℕ) (bytes : List ℕ) → Accepted old → HasDataOf old name (length bytes) → Leaves old new (put (held old) name 0 bytes) → LeavesStore old new (data_filled (store_of old) name bytes)
+unfolding store_of
+filled_steps old new name bytes accepted has l =
+    let d = data_held old name (length bytes) has in
+    change_steps old new name (λ live. record live { bytes = bytes }) (λ live. refl) (λ live. refl) accepted
+    (put_whole old new name bytes d.live d.there (sym d.long) l) (owner_held old name d.live d.there ∙ d.own)

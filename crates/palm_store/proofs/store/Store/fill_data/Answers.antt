@@ -1,0 +1,31 @@
+use Rattle.std.proofs.Common.{length, arith}
+use Rattle.heap_model.specs.Store.{store_of}
+use Rattle.palm_store.specs.Files.{HasDataOf}
+use Rattle.palm_store.proofs.FilledData.{data_there, data_long, filled_steps}
+use Rattle.palm_store.proofs.KnownIds.{stand_still}
+use Rattle.palm_store.proofs.store.Store.fill_data.Goals as goal
+
+pub sys_write-requires-clause-there : goal.sys_write-requires-clause-there
+sys_write-requires-clause-there c =
+    let has : HasDataOf c.self.inside.heap.bytes c.args.name.0 (length c.args.bytes.now) = rw c.self.view_is c.requires in
+    data_there c.self.inside.heap.bytes c.args.name.0 (length c.args.bytes.now) has
+
+pub sys_write-requires-clause-within : goal.sys_write-requires-clause-within
+sys_write-requires-clause-within c =
+    let has : HasDataOf c.self.inside.heap.bytes c.args.name.0 (length c.args.bytes.now) = rw c.self.view_is c.requires in
+    let long = data_long c.self.inside.heap.bytes c.args.name.0 (length c.args.bytes.now) has in
+    omega (arith, long)
+
+pub invariant_of-self : goal.invariant_of-self
+invariant_of-self c =
+    let has : HasDataOf c.self.inside.heap.bytes c.args.name.0 (length c.args.bytes.now) = rw c.self.view_is c.requires in
+    let left = filled_steps c.self.inside.heap.bytes c.sys_write.new.self.bytes c.args.name.0 c.args.bytes.now c.self.invariant.accepted has c.sys_write.ensures.leaves in
+    record { accepted = left.accepted; free = stand_still (store_of c.self.inside.heap.bytes) (store_of c.sys_write.new.self.bytes) c.self.inside.known left.same.databases c.self.invariant.free }
+
+pub returns-clause-filled : goal.returns-clause-filled
+returns-clause-filled c =
+    let has : HasDataOf c.self.inside.heap.bytes c.args.name.0 (length c.args.bytes.now) = rw c.self.view_is c.requires in
+    rw (← c.self.view_is) (filled_steps c.self.inside.heap.bytes c.sys_write.new.self.bytes c.args.name.0 c.args.bytes.now c.self.invariant.accepted has c.sys_write.ensures.leaves)
+
+pub returns-clause-unmoved : goal.returns-clause-unmoved
+returns-clause-unmoved c = rw (← c.self.view_is) c.sys_write.ensures.unmoved

@@ -1,0 +1,14 @@
+-- What the calls for files ask and promise of the store that an image means.
+use Rattle.std.specs.Prelude.{◌≡◌, ℕ, List, length}
+use Rattle.heap_model.specs.Leaving.{rewritten}
+use Rattle.heap_model.specs.MemorySteps.{Of}
+use Rattle.heap_model.specs.Store.{Store, data_owner, store_of}
+use Rattle.heap_model.specs.EntrySteps.{with_chunks}
+
+-- a name stands for a chunk for data of so many bytes
+abbrev pub HasDataOf : List ℕ → ℕ → ℕ → Type 0
+HasDataOf image name count = Of ((store_of image).map name) (λ live. (live.owner ≡ data_owner) × (length live.bytes ≡ count))
+
+-- a store where the chunk under a name has these bytes
+abbrev pub data_filled : Store → ℕ → List ℕ → Store
+data_filled store name bytes = with_chunks store (rewritten store.map name bytes)

@@ -1,0 +1,53 @@
+//! Calls for a crate that reads databases from files and writes them to files. They refuse nothing: what they
+//! ask their callers show.
+
+ghost use Rattle.std.specs.Prelude.{◌≡◌, None, length, IfSome, IfNone};
+ghost use Rattle.heap_model.specs.Space.{MovesNothing};
+ghost use Rattle.heap_model.specs.Database.{HasShape, IsSpelled, database_in};
+ghost use Rattle.heap_model.specs.Store.{Accepted, bytes_of, store_of};
+ghost use Rattle.heap_model.specs.StoreWords.{with_number};
+ghost use Rattle.palm_store.specs.Databases.{HasDatabase};
+ghost use Rattle.palm_store.specs.EntryCalls.{LeavesChanged};
+ghost use Rattle.palm_store.specs.Files.{HasDataOf, data_filled};
+
+use crate::lookup::find_header;
+use crate::store::Store;
+use heap_model::{Db, Name};
+use mem_manager::MANAGERS_OWNER;
+
+impl Store {
+    /// The bytes of the database of a number, as they lie in the image: its header, and its entries behind
+    /// that. `None` where there is no such database.
+    pub fn database_bytes(&self, db: Db) -> Option<&[u8]>
+        ensures accepted { Accepted self.now.bytes }
+        ensures none { IfNone result (with_number (store_of self.now.bytes) db.0 ≡ None) }
+        ensures is { IfSome result
+            (λ bytes. HasDatabase self.now.bytes db.0 (database_in bytes.now)) }
+        ensures spelled { IfSome result (λ bytes. IsSpelled (database_in bytes.now) bytes.now) }
+        ensures shape { IfSome result (λ bytes. HasShape bytes.now) }
+    {
+        find_header(&self.heap, db).ok()
+    }
+
+    /// The bytes of a chunk that callers may name, as they lie in the image. There are none where nothing has
+    /// the name; so it is with `Name(0)`.
+    pub fn chunk_bytes(&self, name: Name) -> &[u8]
+        ensures { result.now ≡ bytes_of ((store_of self.now.bytes).map name.0) }
+    {
+        let Some((owner, bytes)) = self.heap.sys_chunk(name) else {
+            return &[];
+        };
+        if owner == MANAGERS_OWNER { &[] } else { bytes }
+    }
+
+    /// Writes bytes over all of a chunk for data: an info block of a database, or the data of an entry.
+    pub fn fill_data(&mut self, name: Name, bytes: &[u8])
+        requires { HasDataOf self.old.bytes name.0 (length bytes.now) }
+        ensures filled { LeavesChanged self.old self.new
+            (λ store. data_filled store name.0 bytes.now) }
+        ensures unmoved { MovesNothing self.old.bytes self.new.bytes }
+        ensures rest { self.new ≡ record self.old { bytes = self.new.bytes } }
+    {
+        self.heap.sys_write(name, 0, bytes);
+    }
+}

@@ -1,0 +1,38 @@
+-- The header that is read off a file, with another seed.
+use Rattle.std.proofs.Common.{◌≡◌, ℕ, ◌+◌, ◌*◌, ◌/◌, List, refl, sym, ap, ◌∙◌, arith}
+use Rattle.std.proofs.lemmas.List.FromFn.{length-map-range_with_len}
+use Rattle.heap_model.specs.UniqueIds.{with_seed}
+use Rattle.heap_model.specs.Database.{DatabaseHeader, name_in, header_in, entry_count_in, entry_in, database_in}
+use Rattle.db_format.specs.declared.header.DbHeader.{DbHeader}
+use Rattle.db_format.specs.Headers.{header_of, HasHeader}
+use Rattle.pdb_files.specs.Plans.{header_read}
+
+values_are : (file : List ℕ) (header : DbHeader) → HasHeader (database_in file) header → header_of header ≡ header_in file
+unfolding database_in
+values_are file header has = has.values
+
+named : (file : List ℕ) → (header_in file).name ≡ name_in file
+unfolding header_in
+named file = refl
+
+pub name_is : (file : List ℕ) (header : DbHeader) → HasHeader (database_in file) header → header.name ≡ name_in file
+name_is file header has = ap (λ (h : DatabaseHeader). h.name) (values_are file header has) ∙ named file
+
+pub count_is : (file : List ℕ) (header : DbHeader) → HasHeader (database_in file) header → header.entry_count ≡ entry_count_in file
+unfolding database_in
+count_is file header has = has.entry_count ∙ length-map-range_with_len (entry_in file) 0 (entry_count_in file)
+
+seed_set : (field seed : ℕ) → field / 16777216 * 16777216 + seed ≡ with_seed field seed
+seed_set field seed = omega arith
+
+-- a header with this name and this seed
+with_both : DatabaseHeader → List ℕ → ℕ → DatabaseHeader
+with_both header name seed = record header { name = name; seed = seed }
+
+pub header_is : (file : List ℕ) (header : DbHeader) (name : List ℕ) (seed : ℕ) → HasHeader (database_in file) header → name ≡ name_in file
+    → record (header_of header) { name = name; seed = header.seed / 16777216 * 16777216 + seed } ≡ header_read file seed
+unfolding with_both
+header_is file header name seed has is =
+    ap (λ (n : List ℕ). with_both (header_of header) n (header.seed / 16777216 * 16777216 + seed)) (is ∙ sym (named file))
+    ∙ ap (λ (s : ℕ). with_both (header_of header) (header_in file).name s) (seed_set header.seed seed)
+    ∙ ap (λ (h : DatabaseHeader). with_both h (header_in file).name (with_seed h.seed seed)) (values_are file header has)

@@ -1,0 +1,14 @@
+pub mod FileTexts
+pub mod FileLengths
+pub mod Contents
+pub mod Databases
+pub mod Zips
+pub mod FileNames
+pub mod Headers
+pub mod FileBlocks
+pub mod Planned
+pub mod Plans
+pub mod Filling
+pub mod Refusing
+pub mod Reading
+pub mod LongBlocks

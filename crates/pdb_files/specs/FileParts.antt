@@ -1,0 +1,45 @@
+-- The parts of the file of a database, which is given by its bytes as they lie in an image.
+use Rattle.std.specs.Prelude.{◌≡◌, ◌+◌, ◌<◌, ◌^◌, ℕ, List, map, Option}
+use Rattle.std.specs.List.{flat_map}
+use Rattle.heap_model.specs.Meaning.{ChunkMap}
+use Rattle.heap_model.specs.Database.{Database, Entry, entry_data, entry_with, header_bytes, entry_bytes, database_in, IsSpelled, HasShape}
+use Rattle.heap_model.specs.Store.{bytes_named, content, store_of}
+use Rattle.heap_model.specs.Files.{idle_entry, idle, block_bytes, block_size, block_offset, entries_with_offsets, with_offsets, first_block}
+use Rattle.pdb_format.specs.Writable.{file_size}
+use Rattle.pdb_files.specs.declared.exporting.places.Places.{Places}
+
+-- what a slot stands for in an image
+abbrev pub block_under : List ℕ → ℕ → Option (List ℕ)
+block_under image slot = bytes_named (store_of image).map slot
+
+-- the content of the database that these bytes spell
+abbrev pub content_of : List ℕ → List ℕ → Database (Option (List ℕ))
+content_of image bytes = content (store_of image).map (database_in bytes)
+
+-- the bytes are those of a database, whose file is short enough for offsets of four bytes
+pub record IsExportable (image bytes : List ℕ) : Type 0 where
+  pub shape : HasShape bytes
+  pub spelled : IsSpelled (database_in bytes) bytes
+  pub short : file_size (content_of image bytes) < 2 ^ 32
+
+-- the offsets in the header of a database's file, and where the data of its entries begins
+pub record ArePlaces (database : Database (Option (List ℕ))) (places : Places) : Type 0 where
+  pub app_info : places.app_info ≡ block_offset (first_block database) database.app_info
+  pub sort_info : places.sort_info ≡ block_offset (first_block database + block_size database.app_info) database.sort_info
+  pub «data» : places.«data» ≡ first_block database + block_size database.app_info + block_size database.sort_info
+
+-- an entry as a file has it, whose data stands at an offset
+abbrev pub file_entry : ChunkMap → ℕ → Entry ℕ → Entry ℕ
+file_entry chunks at entry = entry_with (block_offset at) (idle_entry (entry_with (bytes_named chunks) entry))
+
+-- the header
+abbrev pub header_text : Database (Option (List ℕ)) → List ℕ
+header_text database = header_bytes (with_offsets (first_block database) (idle database))
+
+-- the entries, whose data stands from an offset on
+abbrev pub entries_text : ℕ → List (Entry (Option (List ℕ))) → List ℕ
+entries_text first entries = flat_map entry_bytes (entries_with_offsets first (map idle_entry entries))
+
+-- their data
+abbrev pub data_text : List (Entry (Option (List ℕ))) → List ℕ
+data_text entries = flat_map block_bytes (map entry_data entries)

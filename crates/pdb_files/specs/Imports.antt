@@ -1,0 +1,16 @@
+-- What refuses the call that reads a database from a file, before memory or room is asked for.
+use Rattle.std.specs.Prelude.{◌≤◌, ℕ, List, [], ◌∷◌, length}
+use Rattle.heap_model.specs.Database.{name_in}
+use Rattle.heap_model.specs.Store.{most_databases, store_of}
+use Rattle.heap_model.specs.Refusals.{Check, ◌brings◌}
+use Rattle.heap_model.specs.Files.{file_faults}
+use Rattle.heap_model.specs.FileSteps.{fault_checks}
+use Rattle.heap_model.specs.DatabaseSteps.{taken}
+use Rattle.heap_model.specs.declared.refusal.Refusal.TheVariants.{TooManyEntries}
+
+abbrev pub checks_in_front : List ℕ → List ℕ → List Check
+checks_in_front image file =
+    fault_checks file (file_faults file)
+    (taken (store_of image) 0 (name_in file)
+    ∷ ((most_databases ≤ length (store_of image).databases) brings TooManyEntries)
+    ∷ [])

@@ -1,0 +1,4 @@
+pub mod FileParts
+pub mod Plans
+pub mod Filling
+pub mod Imports

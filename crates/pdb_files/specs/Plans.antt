@@ -1,0 +1,73 @@
+-- What is planned of the database that a file is read as, before any of it is made.
+use Rattle.std.specs.Prelude.{◌≡◌, ◌≤◌, ◌<◌, ◌+◌, ◌-◌, ◌^◌, ℕ, Bool, true, false, List, length, map, slice_index, slice_index_or, Option, Some, None, All}
+use Rattle.std.specs.List.{AllZip, filter_map}
+use Rattle.heap_model.specs.UniqueIds.{greatest_id, seed_in, with_seed}
+use Rattle.heap_model.specs.Database.{DatabaseHeader, Entry, a_record, a_resource, header_in, resources_in, entry_count_in, entry_in, database_in}
+use Rattle.heap_model.specs.Store.{unique_ids}
+use Rattle.heap_model.specs.Files.{HaveIds, idle_attributes, blocks_in}
+use Rattle.heap_model.specs.FileSteps.{size_of_block, block_sizes}
+use Rattle.pdb_format.specs.Blocks.{bytes_at, IsWithin}
+use Rattle.pdb_format.specs.declared.blocks.Block.{Block}
+use Rattle.palm_store.specs.declared.databases.whole.WholeEntry.{WholeEntry}
+use Rattle.palm_store.specs.declared.databases.whole.WholeEntry.TheVariants as whole
+use Rattle.palm_store.specs.WholeDatabases.{size_of_data, data_sizes, CanCome, id_asked, CanBeWhole, header_asked}
+use Rattle.pdb_files.specs.declared.importing.plan.Plan.{Plan}
+
+-- the header of the database of a file, with the last seed that was given
+abbrev pub header_read : List ℕ → ℕ → DatabaseHeader
+header_read file seed = record (header_in file) { seed = with_seed (header_in file).seed seed }
+
+-- how many bytes a block has, if it is there
+abbrev pub size_within : Option Block → Option ℕ
+size_within None = None
+size_within (Some block) = Some (block.end - block.start)
+
+-- it has less than 4 GiB, if it is there
+abbrev pub IsShort : Option Block → Type 0
+IsShort None = Unit {0}
+IsShort (Some block) = block.end - block.start < 2 ^ 32
+
+-- ---- entries
+
+-- an entry of a file is planned as this one, whatever the ID of a record is then, and whatever the data is
+abbrev pub IsPlannedAs : Entry ℕ → WholeEntry → Type 0
+IsPlannedAs (a_record attributes id at) (whole.Record other_attributes other_id size) = other_attributes ≡ idle_attributes attributes
+IsPlannedAs (a_record attributes id at) (whole.Resource other_kind other_id size) = ⊥
+IsPlannedAs (a_resource kind id at) (whole.Record other_attributes other_id size) = ⊥
+IsPlannedAs (a_resource kind id at) (whole.Resource other_kind other_id size) = (other_kind ≡ kind) × (other_id ≡ id)
+
+-- these can be the IDs of the records of a file: there is one for each, and none is 0
+pub record HasIdsFor (file ids : List ℕ) : Type 0 where
+  pub count : resources_in file ≡ false → length ids ≡ entry_count_in file
+  pub fit : All (λ id. (0 < id) × (id ≤ greatest_id)) ids
+
+-- the ID of the entry of an index, which a resource doesn't have
+abbrev pub id_planned : Bool → List ℕ → ℕ → Option ℕ
+id_planned false ids index = Some (slice_index ids index)
+id_planned true ids index = None
+
+-- this is planned of the entry of an index, with these IDs for records: it can come to a database
+pub record IsPlannedOf (file ids : List ℕ) (index : ℕ) (entry : WholeEntry) : Type 0 where
+  pub planned : IsPlannedAs (entry_in file index) entry
+  pub size : size_of_data entry ≡ size_of_block (slice_index_or (blocks_in file) (2 + index) None)
+  pub id : id_asked entry ≡ id_planned (resources_in file) ids index
+  pub can : CanCome (resources_in file) entry
+
+-- the same of each of the first entries
+pub record ArePlannedOf (file ids : List ℕ) (entries : List WholeEntry) (count : ℕ) : Type 0 where
+  pub long : length entries ≡ count
+  pub each : (index : ℕ) (default : WholeEntry) → index < count → IsPlannedOf file ids index (slice_index_or entries index default)
+
+-- ---- all of it
+
+-- A database can be made by the plan, and read from the file: its header and its entries are those of the file, with the
+-- IDs that the records get, and the sizes are those of its blocks, which stand where the plan says.
+pub record IsPlan (file : List ℕ) (plan : Plan) : Type 0 where
+  pub can : CanBeWhole plan.info plan.entries.items
+  pub last_seed : ℕ
+  pub ids : HaveIds (seed_in (header_in file).seed) (unique_ids (database_in file)) (filter_map id_asked plan.entries.items) last_seed
+  pub header : header_asked plan.info ≡ header_read file last_seed
+  pub entries : AllZip IsPlannedAs (database_in file).entries plan.entries.items
+  pub sizes : data_sizes plan.sizes plan.entries.items ≡ block_sizes file
+  pub blocks : map (bytes_at file) plan.blocks.items ≡ blocks_in file
+  pub inside : All (IsWithin (length file)) plan.blocks.items

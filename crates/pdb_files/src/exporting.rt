@@ -1,0 +1,88 @@
+//! Writing the file of a database.
+
+ghost use Rattle.std.specs.Prelude.{◌≡◌, ◌↔◌, ℕ, None, Err, is_ok, length, IfOk};
+ghost use Rattle.heap_model.specs.Counted.{Writes};
+ghost use Rattle.heap_model.specs.Database.{Database};
+ghost use Rattle.heap_model.specs.Store.{store_of, content};
+ghost use Rattle.heap_model.specs.StoreWords.{with_number};
+ghost use Rattle.heap_model.specs.Files.{file_of};
+ghost use Rattle.heap_model.specs.MemorySteps.{reply_of};
+ghost use Rattle.heap_model.specs.StoreSteps.{DoesInStore};
+ghost use Rattle.heap_model.specs.declared.call.Call as calls;
+ghost use Rattle.heap_model.specs.declared.call.FileCall.{FileCall};
+ghost use Rattle.heap_model.specs.declared.call.Reply.{Reply};
+ghost use Rattle.palm_store.specs.Databases.{HasDatabase};
+ghost use Rattle.pdb_files.specs.FileParts.{content_of, IsExportable};
+
+mod parts;
+mod places;
+
+use crate::exporting::parts::put_file;
+use crate::exporting::places::file_size;
+use heap_model::{Allowance, Bytes, Counted, Db, Refusal};
+use palm_store::Store;
+use std::alloc::AllocError;
+use std::io::Write;
+use thiserror::Error;
+
+/// Why no file was written.
+#[derive(Clone, Copy, Debug, PartialEq, Eq, Error)]
+pub enum ExportFault {
+    /// The store has no database of this number.
+    #[error("NoSuchDatabase")]
+    NoSuchDatabase,
+    /// A write failed, or took 0 bytes.
+    #[error("a write failed")]
+    Write,
+}
+
+/// Writes the file of a database, PDB or PRC, and answers how many bytes it has. Takes no memory. Where
+/// a write fails or takes 0 bytes, a front of the file was written.
+pub fn export<W: Write>(store: &Store, db: Db, out: &mut Counted<W>) -> Result<u32, ExportFault>
+    ensures unknown { (result ≡ Err ExportFault.NoSuchDatabase)
+        ↔ (with_number (store_of store.now.bytes) db.0 ≡ None) }
+    ensures untouched { result ≡ Err ExportFault.NoSuchDatabase → out.new ≡ out.old }
+    ensures written { (database : Database ℕ) → HasDatabase store.now.bytes db.0 database
+        → Writes W.contents out.old out.new
+        (file_of (content (store_of store.now.bytes).map database)) (is_ok result) }
+    ensures size { IfOk result (λ count.
+        (database : Database ℕ) → HasDatabase store.now.bytes db.0 database
+        → count ≡ length (file_of (content (store_of store.now.bytes).map database))) }
+{
+    let Some(bytes) = store.database_bytes(db) else {
+        return Err(ExportFault::NoSuchDatabase);
+    };
+    match put_file(store, bytes, out) {
+        Ok(()) => Ok(file_size(store, bytes)),
+        Err(_) => Err(ExportFault::Write),
+    }
+}
+
+/// The file of a database as bytes, for which memory is taken once.
+///
+/// Refused: `NoSuchDatabase`, `OutOfMemory`.
+pub fn exported<A: Allowance>(memory: &A, store: &Store, db: Db) -> Result<Bytes, Refusal>
+    ensures { DoesInStore store.now (calls.Call.File (FileCall.Export db))
+        (reply_of (λ bytes. Reply.Data bytes) result) store.now }
+{
+    let Some(bytes) = store.database_bytes(db) else {
+        return Err(Refusal::NoSuchDatabase);
+    };
+    match file_bytes(memory, store, bytes) {
+        Ok(file) => Ok(file),
+        Err(AllocError) => Err(Refusal::OutOfMemory),
+    }
+}
+
+/// The file of a database, given by its bytes.
+fn file_bytes<A: Allowance>(memory: &A, store: &Store, bytes: &[u8]) -> Result<Bytes, AllocError>
+    requires { IsExportable store.now.bytes bytes.now }
+    ensures { IfOk result (λ file. file ≡ file_of (content_of store.now.bytes bytes.now)) }
+{
+    let size = file_size(store, bytes) as usize;
+    let mut out = Counted::new(Vec::with_capacity(memory.grant()?, size)?);
+    match put_file(store, bytes, &mut out) {
+        Ok(()) => Ok(Bytes::of(out.into_inner())),
+        Err(_) => Err(AllocError),
+    }
+}

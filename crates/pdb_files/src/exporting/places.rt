@@ -1,0 +1,87 @@
+//! Where the blocks of a database stand in its file, and how long that is.
+
+ghost use Rattle.std.specs.Prelude.{◌≡◌, ◌<◌, ◌^◌, length};
+ghost use Rattle.heap_model.specs.Meaning.{ChunkMap};
+ghost use Rattle.heap_model.specs.Store.{bytes_named};
+ghost use Rattle.heap_model.specs.Files as files;
+ghost use Rattle.pdb_format.specs.Writable as sizes;
+ghost use Rattle.pdb_files.specs.FileParts.{block_under, content_of, IsExportable, ArePlaces};
+
+use db_format::{app_info, entries_end, entry_count, entry_slot, has_resources, sort_info};
+use heap_model::Name;
+use palm_store::Store;
+
+/// The offsets that a header has in a file, 0 where there is no block, and where the data of the entries
+/// begins.
+#[derive(Clone, Copy, Debug, PartialEq, Eq)]
+pub(crate) struct Places {
+    pub(crate) app_info: u32,
+    pub(crate) sort_info: u32,
+    pub(crate) data: u32,
+}
+
+/// The block that a slot stands for; no bytes, where there is none.
+#[inline]
+pub(crate) fn block(store: &Store, slot: u32) -> &[u8]
+    ensures { result.now ≡ files.block_bytes (block_under store.now.bytes slot) }
+{
+    if slot == 0 {
+        &[]
+    } else {
+        store.chunk_bytes(Name(slot))
+    }
+}
+
+/// How many bytes it has.
+#[inline]
+pub(crate) fn block_size(store: &Store, slot: u32) -> u32
+    requires { files.block_size (block_under store.now.bytes slot) < 2 ^ 32 }
+    ensures { result ≡ files.block_size (block_under store.now.bytes slot) }
+{
+    block(store, slot).len() as u32
+}
+
+/// The offset of a block that stands at one, or 0 where the slot stands for none.
+#[inline]
+pub(crate) fn block_offset(at: u32, slot: u32) -> u32
+    ensures { (chunks : ChunkMap) → result ≡ files.block_offset at (bytes_named chunks slot) }
+{
+    if slot == 0 { 0 } else { at }
+}
+
+/// Where the first block stands in the file of a database: behind the entries and two bytes.
+fn first_block(store: &Store, bytes: &[u8]) -> u32
+    requires { IsExportable store.now.bytes bytes.now }
+    ensures { result ≡ files.first_block (content_of store.now.bytes bytes.now) }
+{
+    (entries_end(bytes) + 2) as u32
+}
+
+/// Where the blocks stand in the file of a database, given by its bytes.
+pub(crate) fn find_places(store: &Store, bytes: &[u8]) -> Places
+    requires { IsExportable store.now.bytes bytes.now }
+    ensures { ArePlaces (content_of store.now.bytes bytes.now) result }
+{
+    let app_at = first_block(store, bytes);
+    let app_info = app_info(bytes);
+    let sort_at = app_at + block_size(store, app_info);
+    let sort_info = sort_info(bytes);
+    Places {
+        app_info: block_offset(app_at, app_info),
+        sort_info: block_offset(sort_at, sort_info),
+        data: sort_at + block_size(store, sort_info),
+    }
+}
+
+/// How many bytes the file of a database has, given by its bytes.
+pub(crate) fn file_size(store: &Store, bytes: &[u8]) -> u32
+    requires { IsExportable store.now.bytes bytes.now }
+    ensures { result ≡ length (files.file_of (content_of store.now.bytes bytes.now)) }
+{
+    let resources = has_resources(bytes);
+    let mut size = find_places(store, bytes).data;
+    for index in 0..entry_count(bytes) {
+        size += block_size(store, entry_slot(bytes, resources, index));
+    }
+    size
+}

@@ -1,0 +1,110 @@
+//! The call that reads a database from a file.
+
+ghost use Rattle.std.specs.Prelude.{◌≡◌, ◌<◌, ◌+◌, length, IfOk, OnOk, IfErr};
+ghost use Rattle.heap_model.specs.Store.{Accepted, most_databases, store_of};
+ghost use Rattle.heap_model.specs.Refusals.{FirstBrings};
+ghost use Rattle.heap_model.specs.MemorySteps.{reply_of};
+ghost use Rattle.heap_model.specs.Database as databases;
+ghost use Rattle.heap_model.specs.DatabaseSteps.{IsTaken};
+ghost use Rattle.heap_model.specs.Files.{HasNoFault};
+ghost use Rattle.heap_model.specs.StoreSteps.{DoesInStore};
+ghost use Rattle.heap_model.specs.declared.call.Call as calls;
+ghost use Rattle.heap_model.specs.declared.call.FileCall.{FileCall};
+ghost use Rattle.heap_model.specs.declared.call.Reply.{Reply};
+ghost use Rattle.pdb_files.specs.Plans.{IsPlan};
+ghost use Rattle.pdb_files.specs.Imports.{checks_in_front};
+
+mod filling;
+mod plan;
+
+use db_format::{MOST_DATABASES, name_in};
+use filling::fill_blocks;
+use heap_model::{Allowance, Db, DbName, Name, Refusal};
+use palm_store::Store;
+use pdb_format::{Block, check_file, find_blocks_from};
+use plan::{Plan, are_short, read_plan};
+use std::alloc::{AllocError, Global};
+
+/// Reads a database from a PDB or PRC file: it comes behind the others. Its records get the IDs that they have in the
+/// file, but a fresh one each where that is 0 or an earlier record has it, and none of them is busy.
+///
+/// Refused, in this order: `BadFile`, with the first fault of the file; `AlreadyExists`, where a database has the name;
+/// `TooManyEntries`, where there are 1,024 databases; `OutOfMemory`, where memory is refused for what the file says of
+/// its blocks and entries; `NotEnoughSpace`, where slots or room can run out for its header, its blocks and the
+/// directory, one after the other. Then nothing is left of it.
+pub fn import(alloc: Global, store: &mut Store, file: &[u8]) -> Result<Db, Refusal>
+    ensures { DoesInStore store.old (calls.Call.File (FileCall.Import file.now))
+        (reply_of (λ db. Reply.Database db) result) store.new }
+{
+    import_from(&alloc, store, file)
+}
+
+/// `import`, where each growth asks for a grant.
+pub fn import_from<A: Allowance>(memory: &A, store: &mut Store, file: &[u8]) -> Result<Db, Refusal>
+    ensures { DoesInStore store.old (calls.Call.File (FileCall.Import file.now))
+        (reply_of (λ db. Reply.Database db) result) store.new }
+{
+    check_import(store, file)?;
+    let Ok(blocks) = find_blocks_from(memory, file) else {
+        return Err(Refusal::OutOfMemory);
+    };
+    if !are_short(&blocks) {
+        return Err(Refusal::NotEnoughSpace);
+    }
+    let Ok(plan) = read_plan(memory, file, blocks) else {
+        return Err(Refusal::OutOfMemory);
+    };
+    let Ok(mut names) = no_names(memory, &plan.blocks) else {
+        return Err(Refusal::OutOfMemory);
+    };
+    make(store, file, &plan, &mut names)
+}
+
+/// Looks whether the database of a file can come to a store, but for memory and room.
+///
+/// Refused: `BadFile`, `AlreadyExists`, `TooManyEntries`.
+fn check_import(store: &Store, file: &[u8]) -> Result<(), Refusal>
+    ensures accepted { Accepted store.now.bytes }
+    ensures good { OnOk result (HasNoFault file.now) }
+    ensures free { OnOk result
+        (IsTaken (store_of store.now.bytes) 0 (databases.name_in file.now) → ⊥) }
+    ensures few { OnOk result (length (store_of store.now.bytes).databases < most_databases) }
+    ensures why { IfErr result (FirstBrings (checks_in_front store.now.bytes file.now)) }
+{
+    let count = store.count();
+    if let Err(fault) = check_file(file) {
+        return Err(Refusal::BadFile(fault));
+    }
+    if store.find(&DbName::of(name_in(file))).is_ok() {
+        return Err(Refusal::AlreadyExists);
+    }
+    if count >= MOST_DATABASES {
+        return Err(Refusal::TooManyEntries);
+    }
+    Ok(())
+}
+
+/// Makes the database that a file is planned to become, and fills its blocks. Names of these are put down in `names`.
+///
+/// Refused: `NotEnoughSpace`.
+fn make(store: &mut Store, file: &[u8], plan: &Plan, names: &mut [Name]) -> Result<Db, Refusal>
+    requires accepted { Accepted store.old.bytes }
+    requires good { HasNoFault file.now }
+    requires free { IsTaken (store_of store.old.bytes) 0 (databases.name_in file.now) → ⊥ }
+    requires few { length (store_of store.old.bytes).databases < most_databases }
+    requires plan { IsPlan file.now plan.now }
+    requires names { length names.old ≡ 2 + length plan.now.entries.items }
+    ensures { DoesInStore store.old (calls.Call.File (FileCall.Import file.now))
+        (reply_of (λ db. Reply.Database db) result) store.new }
+{
+    let db = store.create_whole(&plan.info, plan.sizes, &plan.entries, names)?;
+    fill_blocks(store, file, &plan.blocks, names);
+    Ok(db)
+}
+
+/// A name for each block, which names nothing yet.
+fn no_names<A: Allowance>(memory: &A, blocks: &[Option<Block>]) -> Result<Vec<Name>, AllocError>
+    ensures { IfOk result (λ names. length names.items ≡ length blocks.now) }
+{
+    vec![in memory.grant()?; Name(0); blocks.len()]
+}

@@ -1,0 +1,33 @@
+//! The bytes of a file's blocks, written into the chunks of the database that was made of it.
+
+ghost use Rattle.std.specs.Prelude.{◌≡◌, ◌<◌, ◌≤◌, ℕ, length, map, All};
+ghost use Rattle.heap_model.specs.Lists.{times};
+ghost use Rattle.heap_model.specs.Store.{Accepted, store_of};
+ghost use Rattle.pdb_format.specs.Blocks.{bytes_at, IsWithin};
+ghost use Rattle.palm_store.specs.WholeDatabases.{numbers_in};
+ghost use Rattle.pdb_files.specs.Filling.{AreFilled, AreOnce, Refills};
+
+use heap_model::Name;
+use palm_store::Store;
+use pdb_format::Block;
+
+/// Fills the chunks of a file's blocks, which are zeros, each under the name at its index. `Name(0)` stands where there is
+/// no block.
+pub(super) fn fill_blocks(store: &mut Store, file: &[u8], blocks: &[Option<Block>], names: &[Name])
+    requires accepted { Accepted store.old.bytes }
+    requires long { length names.now ≡ length blocks.now }
+    requires inside { All (IsWithin (length file.now)) blocks.now }
+    requires once { AreOnce (numbers_in names.now) }
+    requires zeros { AreFilled (store_of store.old.bytes).map
+        (map (bytes_at file.now) blocks.now) (numbers_in names.now) 0 }
+    ensures filled { AreFilled (store_of store.new.bytes).map
+        (map (bytes_at file.now) blocks.now) (numbers_in names.now) (length names.now) }
+    ensures refills { Refills store.old.bytes store.new.bytes (numbers_in names.now) }
+    ensures rest { store.new ≡ record store.old { bytes = store.new.bytes } }
+{
+    for index in 0..names.len() {
+        if let Some(block) = blocks[index] {
+            store.fill_data(names[index], &file[block.start..block.end]);
+        }
+    }
+}

@@ -1,0 +1,182 @@
+//! What a file says of the database that it is read as, before any of that is made.
+
+ghost use Rattle.std.specs.Prelude.{◌≡◌, ◌<◌, ◌≤◌, ◌+◌, ◌↔◌, None, IsTrue, length, map, IfOk, All, slice_index_or};
+ghost use Rattle.heap_model.specs.Database.{entry_count_in, IsDatabaseName};
+ghost use Rattle.heap_model.specs.EntrySteps.{most_entries};
+ghost use Rattle.heap_model.specs.UniqueIds.{greatest_id};
+ghost use Rattle.heap_model.specs.Files.{HasNoFault, blocks_in, idle_attributes};
+ghost use Rattle.heap_model.specs.FileSteps.{size_of_block};
+ghost use Rattle.pdb_format.specs.Blocks.{bytes_at, IsWithin};
+ghost use Rattle.palm_store.specs.WholeDatabases.{header_asked};
+ghost use Rattle.pdb_files.specs.Plans.{IsShort, HasIdsFor, size_within, IsPlannedOf, ArePlannedOf, IsPlan, header_read};
+
+use bitflags::Flags;
+use db_format::{DbEntry, DbHeader, GREATEST_ID, RecordAttrs, entry_count};
+use file_ids::give_ids_from;
+use heap_model::{Allowance, DbInfo, DbName};
+use palm_store::{BlockSizes, WholeEntry};
+use pdb_format::Block;
+use std::alloc::AllocError;
+
+/// How many seeds there are; a multiple of it stands above one in the field of a seed.
+const SEEDS: u32 = GREATEST_ID + 1;
+
+/// What a file says of its database: the header, the sizes of the info blocks, the entries with the sizes of their data,
+/// and where the blocks stand.
+#[derive(Drop)]
+pub(super) struct Plan {
+    pub(super) info: DbInfo,
+    pub(super) sizes: BlockSizes,
+    pub(super) entries: Vec<WholeEntry>,
+    pub(super) blocks: Vec<Option<Block>>,
+}
+
+/// Reads off a file what its database is to be. Memory for it can be refused.
+pub(super) fn read_plan<A: Allowance>(
+    memory: &A,
+    file: &[u8],
+    blocks: Vec<Option<Block>>,
+) -> Result<Plan, AllocError>
+    requires good { HasNoFault file.now }
+    requires blocks { map (bytes_at file.now) blocks.items ≡ blocks_in file.now }
+    requires within { All (IsWithin (length file.now)) blocks.items }
+    requires short { All IsShort blocks.items }
+    ensures { IfOk result (IsPlan file.now) }
+{
+    let given = give_ids_from(memory, file)?;
+    let entries = plan_entries(memory, file, &blocks, &given.ids)?;
+    Ok(Plan {
+        info: header_of(file, given.seed),
+        sizes: sizes_of(&blocks),
+        entries,
+        blocks,
+    })
+}
+
+/// Whether a block has less than 4 GiB, if it is there.
+fn is_short(block: Option<Block>) -> bool
+    requires { IsWithin usize.MAX block }
+    ensures { IsTrue result ↔ IsShort block }
+{
+    match block {
+        Some(block) => block.end - block.start <= u32::MAX as usize,
+        None => true,
+    }
+}
+
+/// Whether each of these blocks has less than 4 GiB: no heap has room for more.
+pub(super) fn are_short(blocks: &[Option<Block>]) -> bool
+    requires { All (IsWithin usize.MAX) blocks.now }
+    ensures { IsTrue result ↔ All IsShort blocks.now }
+{
+    for index in 0..blocks.len() {
+        if !is_short(blocks[index]) {
+            return false;
+        }
+    }
+    true
+}
+
+/// The header of the database of a file, whose last ID by the seed was this one.
+fn header_of(file: &[u8], seed: u32) -> DbInfo
+    requires good { HasNoFault file.now }
+    requires seed { seed ≤ greatest_id }
+    ensures header { header_asked result ≡ header_read file.now seed }
+    ensures entry_count { result.entry_count ≡ entry_count_in file.now }
+    ensures few { result.entry_count ≤ most_entries }
+    ensures name { IsDatabaseName result.name }
+{
+    let header = DbHeader::read(file);
+    DbInfo {
+        name: DbName::of(header.name.name()),
+        attributes: header.attributes,
+        version: header.version,
+        creation_date: header.creation_date,
+        modification_date: header.modification_date,
+        backup_date: header.backup_date,
+        modification_number: header.modification_number,
+        kind: header.kind,
+        creator: header.creator,
+        seed: header.seed / SEEDS * SEEDS + seed,
+        entry_count: header.entry_count,
+    }
+}
+
+/// How many bytes a block has, if it is there.
+fn size_of(block: Option<Block>) -> Option<u32>
+    requires within { IsWithin usize.MAX block }
+    requires short { IsShort block }
+    ensures { result ≡ size_within block }
+{
+    match block {
+        Some(block) => Some((block.end - block.start) as u32),
+        None => None,
+    }
+}
+
+/// How many bytes the info blocks have, which are the first of these.
+fn sizes_of(blocks: &[Option<Block>]) -> BlockSizes
+    requires within { All (IsWithin usize.MAX) blocks.now }
+    requires short { All IsShort blocks.now }
+    requires inside { 2 ≤ length blocks.now }
+    ensures app_info { result.app_info ≡ size_within (slice_index_or blocks.now 0 None) }
+    ensures sort_info { result.sort_info ≡ size_within (slice_index_or blocks.now 1 None) }
+{
+    BlockSizes {
+        app_info: size_of(blocks[0]),
+        sort_info: size_of(blocks[1]),
+    }
+}
+
+/// The attributes of a record that isn't busy.
+fn idle(attributes: RecordAttrs) -> u8
+    ensures { result ≡ idle_attributes attributes.0 }
+{
+    attributes.difference(RecordAttrs::BUSY).bits()
+}
+
+/// The entry that comes of one of a file, with this ID if it is a record, and data of this size.
+fn plan_entry(file: &[u8], index: u16, ids: &[u32], size: Option<u32>) -> WholeEntry
+    requires good { HasNoFault file.now }
+    requires inside { index < entry_count_in file.now }
+    requires ids { HasIdsFor file.now ids.now }
+    requires size { size ≡ size_of_block (slice_index_or (blocks_in file.now) (2 + index) None) }
+    ensures { IsPlannedOf file.now ids.now index result }
+{
+    match DbEntry::read(file, index) {
+        DbEntry::Record(record) => WholeEntry::Record {
+            attributes: idle(record.attributes),
+            id: ids[index as usize],
+            size,
+        },
+        DbEntry::Resource(resource) => WholeEntry::Resource {
+            kind: resource.kind,
+            id: resource.id,
+            size: size.unwrap_or(0),
+        },
+    }
+}
+
+/// The entries that come of those of a file, in their order.
+fn plan_entries<A: Allowance>(
+    memory: &A,
+    file: &[u8],
+    blocks: &[Option<Block>],
+    ids: &[u32],
+) -> Result<Vec<WholeEntry>, AllocError>
+    requires good { HasNoFault file.now }
+    requires blocks { map (bytes_at file.now) blocks.now ≡ blocks_in file.now }
+    requires within { All (IsWithin (length file.now)) blocks.now }
+    requires short { All IsShort blocks.now }
+    requires ids { HasIdsFor file.now ids.now }
+    ensures { IfOk result (λ entries.
+        ArePlannedOf file.now ids.now entries.items (entry_count_in file.now)) }
+{
+    let mut entries = Vec::new(memory.allocator());
+    for index in 0..entry_count(file) {
+        let size = size_of(blocks[2 + index as usize]);
+        memory.grant()?;
+        entries.push(plan_entry(file, index, ids, size))?;
+    }
+    Ok(entries)
+}

@@ -1,0 +1,5 @@
+use Rattle.pdb_format.proofs.WrittenFiles.{length-file}
+use Rattle.pdb_format.proofs.laws.written_files_have_their_size.Goals as goal
+
+pub returns : goal.returns
+returns c = length-file

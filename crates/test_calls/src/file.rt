@@ -1,0 +1,159 @@
+//! Calls on files, and the bytes of files for them.
+
+use crate::database::{any_db, any_db_name};
+use heap_model::{Bytes, FileCall};
+use rand::RngExt;
+use rand::seq::IndexedRandom;
+use rand_pcg::Pcg32;
+use std::alloc::{AllocError, Global};
+use test_model::{Database, Image};
+
+/// IDs of records, few enough that many have the same, and the greatest ones.
+const IDS: [u32; 7] = [0, 1, 2, 3, 4, 0xFF_FFFE, 0xFF_FFFF];
+
+/// Seeds: before small IDs, and before the greatest.
+const SEEDS: [u32; 6] = [0, 1, 0x0700_0002, 0xFF_FFFD, 0xABFF_FFFE, 0xFFFF_FFFF];
+
+/// A call that imports a file, most often one without fault, or exports a database.
+pub fn file_call(
+    random: &mut Pcg32,
+    alloc: Global,
+    image: &Image,
+    databases: &[Database],
+) -> Result<FileCall, AllocError> {
+    match random.random_range(0u32..3) {
+        0 => Ok(FileCall::Export(any_db(random, image, databases))),
+        _ => Ok(FileCall::Import(Bytes::of(any_file(random, alloc)?))),
+    }
+}
+
+/// A file: sometimes one of which a byte is another, or the end is missing.
+fn any_file(random: &mut Pcg32, alloc: Global) -> Result<Vec<u8>, AllocError> {
+    let mut file = whole_file(random, alloc)?;
+    match random.random_range(0u32..16) {
+        0 => file.truncate(random.random_range(0u32..150) as usize),
+        1..=2 => {
+            let at = random.random_range(0u32..150) as usize;
+            if let Some(byte) = file.get_mut(at) {
+                *byte = random.random_range(0u8..=255);
+            }
+        }
+        _ => {}
+    }
+    Ok(file)
+}
+
+/// Where blocks may begin: from the end of the entries up to the end of the file.
+#[derive(Clone, Copy)]
+struct Area {
+    from: u32,
+    to: u32,
+}
+
+impl Area {
+    /// An offset: most often one of these, seldom the one in front of the first, the one behind the last, or 0.
+    fn any(self, random: &mut Pcg32) -> u32 {
+        match random.random_range(0u32..48) {
+            0 => self.from.saturating_sub(1),
+            1 => self.to.saturating_add(1),
+            2 => 0,
+            3..=8 => self.from,
+            _ => random.random_range(self.from..=self.to.max(self.from)),
+        }
+    }
+
+    /// The same, and as often 0.
+    fn any_of_info(self, random: &mut Pcg32) -> u32 {
+        if random.random_range(0u32..2) == 0 {
+            0
+        } else {
+            self.any(random)
+        }
+    }
+}
+
+/// A file of a few records or resources, whose blocks begin anywhere.
+fn whole_file(random: &mut Pcg32, alloc: Global) -> Result<Vec<u8>, AllocError> {
+    let resources = random.random_range(0u32..3) == 0;
+    let count = random.random_range(0u16..5);
+    let from = 78 + u32::from(count) * if resources { 10 } else { 8 };
+    let area = Area {
+        from,
+        to: from + random.random_range(0u32..64),
+    };
+    let mut file = any_header(random, alloc, resources, area)?;
+    file.extend_from_slice(&count.to_be_bytes())?;
+    for _ in 0..count {
+        if resources {
+            put_resource(random, &mut file, area)?;
+        } else {
+            put_record(random, &mut file, area)?;
+        }
+    }
+    for _ in area.from..area.to {
+        file.push(random.random_range(0u8..=255))?;
+    }
+    Ok(file)
+}
+
+/// The header of a file, in front of the number of entries. Behind the zero that ends its name anything may stand.
+fn any_header(
+    random: &mut Pcg32,
+    alloc: Global,
+    resources: bool,
+    area: Area,
+) -> Result<Vec<u8>, AllocError> {
+    let mut file = Vec::from_slice(alloc, any_db_name(random).as_slice())?;
+    if file.len() < 31 && random.random_range(0u32..4) == 0 {
+        file.extend_from_slice(&[0, 65])?;
+    }
+    file.resize(32, 0)?;
+    file.extend_from_slice(&any_attributes(random, resources).to_be_bytes())?;
+    file.extend_from_slice(&random.random_range(0u16..u16::MAX).to_be_bytes())?;
+    for _ in 0..4u32 {
+        put_any_word(random, &mut file)?;
+    }
+    file.extend_from_slice(&area.any_of_info(random).to_be_bytes())?;
+    file.extend_from_slice(&area.any_of_info(random).to_be_bytes())?;
+    put_any_word(random, &mut file)?;
+    put_any_word(random, &mut file)?;
+    let seed = SEEDS.choose(random).map_or(0, |seed| *seed);
+    file.extend_from_slice(&seed.to_be_bytes())?;
+    let chained = u32::from(random.random_range(0u32..40) == 0);
+    file.extend_from_slice(&chained.to_be_bytes())?;
+    Ok(file)
+}
+
+/// The attributes of a database of records or of resources, seldom of one that may only be read.
+fn any_attributes(random: &mut Pcg32, resources: bool) -> u16 {
+    let read_only = if random.random_range(0u32..16) == 0 {
+        2
+    } else {
+        0
+    };
+    random.random_range(0u16..16) * 16 | read_only | u16::from(resources)
+}
+
+fn put_any_word(random: &mut Pcg32, file: &mut Vec<u8>) -> Result<(), AllocError> {
+    file.extend_from_slice(&random.random_range(0u32..u32::MAX).to_be_bytes())
+}
+
+/// Adds the entry of a record; one that is deleted often has no data.
+fn put_record(random: &mut Pcg32, file: &mut Vec<u8>, area: Area) -> Result<(), AllocError> {
+    let id = IDS.choose(random).map_or(0, |id| *id);
+    let attributes = random.random_range(0u32..128);
+    let (start, deleted) = match random.random_range(0u32..5) {
+        0 => (0, 0x80),
+        1 => (area.any(random), 0x80),
+        _ => (area.any(random), 0),
+    };
+    file.extend_from_slice(&start.to_be_bytes())?;
+    file.extend_from_slice(&((attributes | deleted) << 24 | id).to_be_bytes())
+}
+
+/// Adds the entry of a resource.
+fn put_resource(random: &mut Pcg32, file: &mut Vec<u8>, area: Area) -> Result<(), AllocError> {
+    file.extend_from_slice(b"code")?;
+    file.extend_from_slice(&random.random_range(0u16..4).to_be_bytes())?;
+    file.extend_from_slice(&area.any(random).to_be_bytes())
+}

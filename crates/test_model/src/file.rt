@@ -1,0 +1,301 @@
+//! Files of databases, PDB and PRC, taken apart and put together by their bytes (docs/FORMAT.md).
+//!
+//! The header and the entries of a file are read as those of a heap are, so the names of a database that a file
+//! has are the offsets of its blocks.
+
+use crate::database::{
+    DELETED, Database, Entries, HEADER_LENGTH, Header, OF_RESOURCES, Record, Resource,
+    attributes_in, entries_in, number_in,
+};
+use crate::database_calls::no_memory;
+use crate::image::up_to_zero;
+use crate::record_calls::{BUSY, GREATEST_ID, next_id};
+use heap_model::{Db, FileFault, Name, Refusal, Which};
+use std::alloc::{AllocError, Global};
+use std::slice::Iter;
+
+/// The database of a file, with the IDs and the attributes that the file has. Refused where the file has a fault.
+pub(crate) fn database_in(alloc: Global, file: &[u8]) -> Result<Database, Refusal> {
+    let truncated = Refusal::BadFile(FileFault::Truncated);
+    let (front, listed) = fronts(file).ok_or(truncated)?;
+    if number_in(&front[72..76]) != 0 {
+        return Err(Refusal::BadFile(FileFault::ChainedList));
+    }
+    let name = up_to_zero(&front[..31]);
+    if name.is_empty() {
+        return Err(Refusal::BadFile(FileFault::EmptyName));
+    }
+    let name = Vec::from_slice(alloc, name).map_err(no_memory)?;
+    let count = number_in(&front[76..]);
+    let entries = entries_in(alloc, attributes_in(front), count, listed).map_err(no_memory)?;
+    let database = Database::of(Db(0), name, front, entries.ok_or(truncated)?);
+    let area = Area {
+        from: HEADER_LENGTH.saturating_add(listed.len()),
+        to: file.len(),
+    };
+    area.check(&database).map_err(Refusal::BadFile)?;
+    Ok(database)
+}
+
+/// The header of a file, and the bytes of its entries.
+fn fronts(file: &[u8]) -> Option<(&[u8; HEADER_LENGTH], &[u8])> {
+    let (front, behind) = file.split_first_chunk::<HEADER_LENGTH>()?;
+    let count = number_in(&front[76..]) as usize;
+    let length = count.saturating_mul(entry_length(attributes_in(front)));
+    let listed = behind.get(..length)?;
+    Some((front, listed))
+}
+
+/// What an entry takes, by the attributes of its database.
+fn entry_length(attributes: u16) -> usize {
+    if attributes & OF_RESOURCES == 0 {
+        8
+    } else {
+        10
+    }
+}
+
+/// Where blocks may begin: from the end of the entries up to the end of the file.
+#[derive(Clone, Copy)]
+struct Area {
+    from: usize,
+    to: usize,
+}
+
+impl Area {
+    fn has(self, start: Name) -> bool {
+        let start = start.0 as usize;
+        self.from <= start && start <= self.to
+    }
+
+    /// Whether there is no block, or it begins here.
+    fn may_have(self, start: Option<Name>) -> bool {
+        start.is_none_or(|start| self.has(start))
+    }
+
+    /// Whether all blocks begin here, and there are none but of deleted records that have no data.
+    fn check(self, database: &Database) -> Result<(), FileFault> {
+        if !self.may_have(database.app_info) {
+            return Err(FileFault::BadInfo(Which::App));
+        }
+        if !self.may_have(database.sort_info) {
+            return Err(FileFault::BadInfo(Which::Sort));
+        }
+        let bad = match &database.entries {
+            Entries::Records(records) => self.bad_record(records),
+            Entries::Resources(resources) => self.bad_resource(resources),
+        };
+        match bad {
+            None => Ok(()),
+            Some(index) => Err(FileFault::BadOffset(u32::try_from(index).unwrap_or(u32::MAX))),
+        }
+    }
+
+    /// The index of the first record whose data doesn't begin here.
+    fn bad_record(self, records: &[Record]) -> Option<usize> {
+        for (index, record) in records.iter().enumerate() {
+            let may_lack = record.attributes & DELETED != 0;
+            if !self.may_have(record.data) || record.data.is_none() && !may_lack {
+                return Some(index);
+            }
+        }
+        None
+    }
+
+    /// The index of the first resource whose data doesn't begin here.
+    fn bad_resource(self, resources: &[Resource]) -> Option<usize> {
+        for (index, resource) in resources.iter().enumerate() {
+            if !self.has(resource.data) {
+                return Some(index);
+            }
+        }
+        None
+    }
+}
+
+/// The blocks of a file, which begin at these offsets, in their order: AppInfo, SortInfo and the data of the
+/// entries. Each goes up to the next start, and is empty where a later one begins with it.
+pub(crate) fn blocks_in<'a>(
+    alloc: Global,
+    file: &'a [u8],
+    starts: &[Name],
+) -> Result<Vec<&'a [u8]>, AllocError> {
+    let mut blocks = Vec::new(alloc);
+    let mut later = starts;
+    for start in starts {
+        later = later.get(1..).unwrap_or(&[]);
+        let end = if later.contains(start) {
+            start.0 as usize
+        } else {
+            next_start(starts, *start, file.len())
+        };
+        let block = file.get(start.0 as usize..end).unwrap_or(&[]);
+        blocks.push(block)?;
+    }
+    Ok(blocks)
+}
+
+/// The least start above one, or the end of the file.
+fn next_start(starts: &[Name], start: Name, length: usize) -> usize {
+    let mut next = length;
+    for other in starts {
+        if other.0 > start.0 {
+            next = next.min(other.0 as usize);
+        }
+    }
+    next
+}
+
+/// No record is in use, and each has an ID of its own: the first that has one keeps it, and the others get those
+/// behind the seed, which is answered as it is then.
+pub(crate) fn settle(alloc: Global, records: &mut [Record], seed: u32) -> Result<u32, AllocError> {
+    let mut taken: Vec<u32> = Vec::new(alloc);
+    for record in records.iter_mut() {
+        record.attributes &= !BUSY;
+        if taken.contains(&record.id) {
+            record.id = 0;
+        } else {
+            taken.push(record.id)?;
+        }
+    }
+    let mut last = seed & GREATEST_ID;
+    for record in records.iter_mut() {
+        if record.id == 0 {
+            last = free_id(&taken, last);
+            taken.push(last)?;
+            record.id = last;
+        }
+    }
+    Ok(seed & !GREATEST_ID | last)
+}
+
+/// The first ID behind another that isn't taken.
+fn free_id(taken: &[u32], behind: u32) -> u32 {
+    let mut id = next_id(behind);
+    for _ in taken {
+        if taken.contains(&id) {
+            id = next_id(id);
+        }
+    }
+    id
+}
+
+/// One of some names for another, where there is one; 0 behind the last.
+fn replaced(name: Option<Name>, names: &mut Iter<Name>) -> Option<Name> {
+    match name {
+        None => None,
+        Some(_) => Some(names.next().map_or(Name(0), |name| *name)),
+    }
+}
+
+/// The word of a name, 0 for none.
+fn word(name: Option<Name>) -> u32 {
+    name.map_or(0, |name| name.0)
+}
+
+impl Database {
+    /// Other names, in their order, stand for those that it has.
+    pub(crate) fn rename(&mut self, names: &[Name]) {
+        let mut names = names.iter();
+        self.app_info = replaced(self.app_info, &mut names);
+        self.sort_info = replaced(self.sort_info, &mut names);
+        match &mut self.entries {
+            Entries::Records(records) => {
+                for record in records {
+                    record.data = replaced(record.data, &mut names);
+                }
+            }
+            Entries::Resources(resources) => {
+                for (resource, name) in resources.iter_mut().zip(names) {
+                    resource.data = *name;
+                }
+            }
+        }
+    }
+
+    /// Where the blocks of its file begin: behind the header, the entries and two zeros.
+    pub(crate) fn blocks_start(&self) -> usize {
+        self.header_length().saturating_add(2)
+    }
+
+    /// What its header takes with the entries.
+    pub(crate) fn header_length(&self) -> usize {
+        let entry = entry_length(self.header.attributes);
+        HEADER_LENGTH.saturating_add(self.entry_count().saturating_mul(entry))
+    }
+
+    /// The header and the entries of its file, whose blocks begin at these offsets, and the two zeros.
+    pub(crate) fn to_front(&self, alloc: Global, starts: &[Name]) -> Result<Vec<u8>, AllocError> {
+        let mut starts = starts.iter();
+        let app_info = word(replaced(self.app_info, &mut starts));
+        let sort_info = word(replaced(self.sort_info, &mut starts));
+        let mut file = self.header.to_bytes(alloc, app_info, sort_info)?;
+        let count = u16::try_from(self.entry_count()).unwrap_or(u16::MAX);
+        file.extend_from_slice(&count.to_be_bytes())?;
+        match &self.entries {
+            Entries::Records(records) => put_records(&mut file, records, starts)?,
+            Entries::Resources(resources) => put_resources(&mut file, resources, starts)?,
+        }
+        file.extend_from_slice(&[0, 0])?;
+        Ok(file)
+    }
+}
+
+impl Header {
+    /// The bytes of a header in front of the number of entries.
+    fn to_bytes(
+        &self,
+        alloc: Global,
+        app_info: u32,
+        sort_info: u32,
+    ) -> Result<Vec<u8>, AllocError> {
+        let mut file = Vec::from_slice(alloc, &self.name)?;
+        file.resize(32, 0)?;
+        file.extend_from_slice(&self.attributes.to_be_bytes())?;
+        file.extend_from_slice(&self.version.to_be_bytes())?;
+        for word in [
+            self.creation_date,
+            self.modification_date,
+            self.backup_date,
+            self.modification_number,
+            app_info,
+            sort_info,
+            self.kind,
+            self.creator,
+            self.seed,
+            0,
+        ] {
+            file.extend_from_slice(&word.to_be_bytes())?;
+        }
+        Ok(file)
+    }
+}
+
+/// Adds the entries of records, none of which is in use. Their data begins at these offsets.
+fn put_records(
+    file: &mut Vec<u8>,
+    records: &[Record],
+    mut starts: Iter<Name>,
+) -> Result<(), AllocError> {
+    for record in records {
+        let start = word(replaced(record.data, &mut starts));
+        let attributes = u32::from(record.attributes & !BUSY);
+        file.extend_from_slice(&start.to_be_bytes())?;
+        file.extend_from_slice(&(attributes << 24 | record.id).to_be_bytes())?;
+    }
+    Ok(())
+}
+
+/// Adds the entries of resources, whose data begins at these offsets.
+fn put_resources(
+    file: &mut Vec<u8>,
+    resources: &[Resource],
+    starts: Iter<Name>,
+) -> Result<(), AllocError> {
+    for (resource, start) in resources.iter().zip(starts) {
+        file.extend_from_slice(&resource.kind.to_be_bytes())?;
+        file.extend_from_slice(&resource.id.to_be_bytes())?;
+        file.extend_from_slice(&start.0.to_be_bytes())?;
+    }
+    Ok(())
+}

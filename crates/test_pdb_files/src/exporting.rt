@@ -1,0 +1,215 @@
+//! Files of databases that were made by calls, byte for byte.
+
+use chunk_format::blank;
+use heap_model::{Allowance, Counted, Db, DbName, Name, Refusal, Which};
+use palm_store::Store;
+use pdb_files::{ExportFault, export, exported};
+use record_db::{archive, delete, get, new_record, release};
+use resource_db::new_resource;
+use std::alloc::{AllocError, Global};
+use std::io;
+use std::io::{ErrorKind, Write};
+use std::process::Abort;
+use std::test::*;
+use test_images::bytes_of;
+
+/// The file of `make_records`. Its blocks stand at 0x70, 0x73, 0x75 and 0x7a.
+const RECORDS: &str = "4e6f746573 00*27 \
+    0000 0000 c0000001 c0000001 00000000 00000008 00000070 00000073 44415441 54657374 00000004 00000000 0004 \
+    00000075 40 000001 0000007a c0 000002 00000000 c0 000003 0000007e 40 000004 0000 \
+    616263 0102 6669727374 6b657074";
+
+/// The file of `make_resources`.
+const RESOURCES: &str = "50 00*31 \
+    0001 0000 00000005 00000005 00000000 00000002 00000000 00000000 6170706c 54657374 00000000 00000000 0002 \
+    636f6465 0001 00000064 74535452 03e8 00000067 0000 \
+    72756e";
+
+fn blank_store(alloc: Global) -> Result<Store, Fail> {
+    match Store::check(alloc, blank(alloc, 1024, 32)?) {
+        Ok(store) => Ok(store),
+        Err(_) => Err("no store")?,
+    }
+}
+
+/// Writes bytes over a chunk while it is locked.
+fn fill(store: &mut Store, name: Name, bytes: &[u8]) -> Result<(), Refusal> {
+    store.lock(name)?;
+    store.write(name, 0, bytes)?;
+    store.unlock(name)?;
+    Ok(())
+}
+
+/// Makes an info block of a database.
+fn make_block(store: &mut Store, db: Db, which: Which, bytes: &[u8]) -> Result<(), Refusal> {
+    let name = store.handle_new(bytes.len().min(9) as u32, 1)?;
+    fill(store, name, bytes)?;
+    store.set_info_block(db, which, name)
+}
+
+/// Makes a record behind the others.
+fn make_record(store: &mut Store, db: Db, bytes: &[u8]) -> Result<(), Refusal> {
+    let (_, name) = new_record(store, db, 9, bytes.len().min(9) as u32)?;
+    fill(store, name, bytes)
+}
+
+/// Makes a database with both info blocks and four records: of the first a caller holds the data, the second is
+/// archived and still in use, the third has no data any more, and the last has no byte.
+fn make_records(store: &mut Store) -> Result<Db, Refusal> {
+    let db = store.create(
+        &DbName::of(b"Notes"),
+        0x4441_5441,
+        0x5465_7374,
+        false,
+        0xC000_0001,
+    )?;
+    make_record(store, db, b"first")?;
+    make_record(store, db, b"kept")?;
+    make_record(store, db, b"gone")?;
+    make_record(store, db, b"")?;
+    archive(store, db, 1)?;
+    delete(store, db, 2)?;
+    release(store, db, 0, false)?;
+    get(store, db, 0)?;
+    make_block(store, db, Which::Sort, &[1, 2])?;
+    make_block(store, db, Which::App, b"abc")?;
+    Ok(db)
+}
+
+/// Makes a database with two resources, the second of which has no byte.
+fn make_resources(store: &mut Store) -> Result<Db, Refusal> {
+    let db = store.create(&DbName::of(b"P"), 0x6170_706C, 0x5465_7374, true, 5)?;
+    let (_, code) = new_resource(store, db, 0x636F_6465, 1, 3)?;
+    fill(store, code, b"run")?;
+    new_resource(store, db, 0x7453_5452, 1000, 0)?;
+    Ok(db)
+}
+
+/// A writer with room for so many bytes, of which a write takes 3 at most. Then it fails.
+#[derive(Drop)]
+struct Narrow {
+    taken: Vec<u8>,
+    room: usize,
+}
+
+impl Write for Narrow {
+    fn write(&mut self, bytes: &[u8]) -> io::Result<usize> {
+        let n = bytes.len().min(3).min(self.room);
+        if n == 0 && !bytes.is_empty() {
+            return Err(io::Error::from(ErrorKind::StorageFull));
+        }
+        self.taken.extend_from_slice(&bytes[..n])?;
+        self.room -= n;
+        Ok(n)
+    }
+
+    fn flush(&mut self) -> io::Result<()> {
+        Ok(())
+    }
+}
+
+/// What an export answers to a writer with room for so many bytes, and what that took.
+fn export_cut(
+    alloc: Global,
+    store: &Store,
+    db: Db,
+    room: usize,
+) -> (Result<u32, ExportFault>, Vec<u8>) {
+    let narrow = Narrow {
+        taken: Vec::new(alloc),
+        room,
+    };
+    let mut out = Counted::new(narrow);
+    let answer = export(store, db, &mut out);
+    let Narrow { taken, .. } = out.into_inner();
+    (answer, taken)
+}
+
+/// A database has this file, and a writer that breaks off has a front of it.
+fn check_file(
+    rt: &(impl Abort + AllocGlobal),
+    store: &Store,
+    db: Db,
+    listing: &str,
+) -> Result<(), Fail> {
+    let alloc = rt.alloc();
+    let file = bytes_of(alloc, listing)?;
+    assert_eq!(rt; exported(&alloc, store, db)?.as_slice(), file.as_slice());
+    let (answer, taken) = export_cut(alloc, store, db, file.len());
+    assert_eq!(rt; answer, Ok(file.len().min(9_999) as u32));
+    assert_eq!(rt; taken.as_slice(), file.as_slice());
+    for room in 0..file.len() {
+        let (answer, taken) = export_cut(alloc, store, db, room);
+        assert_eq!(rt; answer, Err(ExportFault::Write), "{room}");
+        assert_eq!(rt; taken.as_slice(), &file[..room]);
+    }
+    Ok(())
+}
+
+#[test]
+fn records_have_their_file(rt: HostRuntime) -> Result<(), Fail> {
+    let mut store = blank_store(rt.alloc())?;
+    let db = make_records(&mut store)?;
+    check_file(&rt, &store, db, RECORDS)
+}
+
+#[test]
+fn resources_have_their_file(rt: HostRuntime) -> Result<(), Fail> {
+    let mut store = blank_store(rt.alloc())?;
+    make_records(&mut store)?;
+    let db = make_resources(&mut store)?;
+    check_file(&rt, &store, db, RESOURCES)
+}
+
+/// A number of no database has no file, also where a chunk has it.
+#[test]
+fn no_database_has_no_file(rt: HostRuntime) -> Result<(), Fail> {
+    let alloc = rt.alloc();
+    let mut store = blank_store(alloc)?;
+    let Name(chunk) = store.handle_new(200, 1)?;
+    for number in [0, chunk, 9_999] {
+        let (answer, taken) = export_cut(alloc, &store, Db(number), 99);
+        assert_eq!(rt; answer, Err(ExportFault::NoSuchDatabase));
+        assert!(rt; taken.is_empty());
+        assert_eq!(rt;
+            exported(&alloc, &store, Db(number)).err(),
+            Some(Refusal::NoSuchDatabase)
+        );
+    }
+    Ok(())
+}
+
+/// Grants nothing.
+struct NoMemory(Global);
+
+impl Drop for NoMemory {
+    fn drop(self) {
+        let NoMemory(_) = self;
+    }
+}
+
+impl Allowance for NoMemory {
+    fn allocator(&self) -> Global {
+        self.0
+    }
+
+    fn grant(&self) -> Result<Global, AllocError> {
+        Err(AllocError)
+    }
+}
+
+#[test]
+fn a_file_takes_memory(rt: HostRuntime) -> Result<(), Fail> {
+    let mut store = blank_store(rt.alloc())?;
+    let db = make_resources(&mut store)?;
+    let memory = NoMemory(rt.alloc());
+    assert_eq!(rt;
+        exported(&memory, &store, db).err(),
+        Some(Refusal::OutOfMemory)
+    );
+    assert_eq!(rt;
+        exported(&memory, &store, Db(0)).err(),
+        Some(Refusal::NoSuchDatabase)
+    );
+    Ok(())
+}

@@ -1,0 +1,109 @@
+#!/bin/sh
+# Files of other programs: each is imported into a blank image, exported again, and read back by the program that
+# made it. What it reads has to be the same. docs/FORMAT.md says what may differ byte by byte.
+#
+#   tests/peers.sh [PROGRAM]
+#
+# PROGRAM is ../palmheap, if none is given. It needs Debian's packages libpalm-perl and libpalm-pdb-perl (the
+# modules Palm::PDB, Palm::Memo and Palm::Address), txt2pdbdoc, and imgvtopgm. For each file it prints how many
+# bytes there were and are, and how many of them differ where both have one. Each case that fails has a line on
+# standard error; the status is 1 then. The gate runs none of this.
+top=$(cd -- "$(dirname -- "$0")/.." && pwd)
+program=${1:-$top/palmheap}
+case $program in /*) ;; *) program=$PWD/$program ;; esac
+for needed in perl txt2pdbdoc pgmtoimgv imgvtopnm; do
+    command -v "$needed" >/dev/null || { printf '%s is missing\n' "$needed" >&2; exit 2; }
+done
+perl -MPalm::PDB -MPalm::Memo -MPalm::Address -e 1 || exit 2
+folder=$(mktemp -d) || exit 1
+trap 'rm -rf -- "$folder"' EXIT
+cd -- "$folder" || exit 1
+failed=0
+
+# is NAME FILE OTHER: two files have the same bytes
+is() {
+    cmp -s "$2" "$3" && return
+    printf '%s: %s and %s differ\n' "$1" "$2" "$3" >&2
+    failed=1
+}
+
+# through FILE: imports a file and exports it, to FILE.out
+through() {
+    printf 'import d 1\nexport d\n' >calls.txt
+    if ! "$program" run blank.img calls.txt after.img "$1" >printed 2>&1 || grep -q refused printed; then
+        printf '%s: %s\n' "$1" "$(cat printed)" >&2
+        failed=1
+    fi
+    mv after.img.1 "$1.out" || exit 1
+    printf '%-12s %7s bytes, %7s written, %s of them others\n' "$1" "$(wc -c <"$1")" "$(wc -c <"$1.out")" \
+        "$(cmp -l "$1" "$1.out" 2>/dev/null | wc -l)"
+}
+
+# Prints all that Palm::PDB reads from a file.
+cat >show.pl <<'END'
+use strict; use warnings; use Palm::PDB; use Palm::Raw;
+Palm::PDB::RegisterPDBHandlers('Palm::Raw', ['', '']);
+Palm::PDB::RegisterPRCHandlers('Palm::Raw', ['', '']);
+my $pdb = Palm::PDB->new; $pdb->Load($ARGV[0]);
+print "$_ ", $pdb->{$_} // '', "\n" for qw(name version ctime mtime baktime modnum type creator);
+print "attributes ", join(' ', grep { $pdb->{attributes}{$_} } sort keys %{$pdb->{attributes}}), "\n";
+print "$_ ", unpack('H*', $pdb->{$_} // ''), "\n" for qw(appinfo sort);
+for my $record (@{$pdb->{records} // []}) {
+    my $attributes = join ' ', grep { $record->{attributes}{$_} } sort keys %{$record->{attributes}};
+    print "record $record->{id} category ", $record->{category} // '', " $attributes ", unpack('H*', $record->{data} // ''), "\n";
+}
+print "resource $_->{type} $_->{id} ", unpack('H*', $_->{data}), "\n" for @{$pdb->{resources} // []};
+END
+
+# Databases of Palm::PDB's own modules: memos in categories, addresses, and resources.
+cat >make.pl <<'END'
+use strict; use warnings; use Palm::PDB; use Palm::Memo; use Palm::Address; use Palm::Raw;
+my $memos = Palm::Memo->new; $memos->{name} = 'MemoDB';
+for my $number (1 .. 50) {
+    my $record = $memos->append_Record;
+    $record->{data} = "Memo $number\n" . 'text ' x $number;
+    $record->{category} = $number % 5;
+}
+$memos->Write('memos.pdb');
+my $addresses = Palm::Address->new; $addresses->{name} = 'AddressDB';
+for my $number (1 .. 20) {
+    my $record = $addresses->append_Record;
+    $record->{fields}{name} = "Name$number"; $record->{fields}{firstName} = 'First';
+    $record->{fields}{phone1} = sprintf '+1 555 %04d', $number;
+}
+$addresses->Write('people.pdb');
+my $tool = Palm::PDB->new;
+$tool->{attributes}{resource} = 1; $tool->{name} = 'Tool'; $tool->{type} = 'appl'; $tool->{creator} = 'Test';
+bless $tool, 'Palm::Raw';
+for my $number (0 .. 9) {
+    my $resource = $tool->append_Resource;
+    @$resource{qw(type id data)} = ('code', $number, chr(65 + $number) x (100 * $number));
+}
+$tool->Write('tool.prc');
+END
+
+"$program" new 1048576 1000 blank.img >printed || exit 1
+perl make.pl || exit 1
+for file in memos.pdb people.pdb tool.prc; do
+    through "$file"
+    perl show.pl "$file" >before.txt && perl show.pl "$file.out" >after.txt || failed=1
+    grep -Eq '^re(cord|source) ' before.txt || { printf '%s: nothing was read\n' "$file" >&2; failed=1; }
+    is "$file" before.txt after.txt
+done
+
+# A document of compressed text.
+perl -e 'print "Line $_ of a text that is long enough for several records.\n" for 1 .. 400' >text.txt
+txt2pdbdoc 'A text' text.txt text.pdb || exit 1
+through text.pdb
+txt2pdbdoc -d text.pdb.out >text.out || failed=1
+is text.pdb text.txt text.out
+
+# A picture.
+perl -e 'print "P5\n160 160\n255\n"; print chr(85 * (int($_ / 3) % 4)) for 1 .. 160 * 160' >picture.pgm
+pgmtoimgv -t Picture picture.pgm picture.pdb 2>complained || { cat complained >&2; exit 1; }
+through picture.pdb
+imgvtopnm picture.pdb >before.pnm 2>complained || { cat complained >&2; failed=1; }
+imgvtopnm picture.pdb.out >after.pnm 2>complained || { cat complained >&2; failed=1; }
+is picture.pdb before.pnm after.pnm
+
+exit "$failed"
