@@ -222,14 +222,14 @@ const RELOCATIONS: [(&str, u32, &str); 3] = [
         IN_FRONT,
         12,
         "50484931 00000080 0004 0000 00000000 00000050 00000040 00*8 \
-            80000018 01FFFFF8 4142434445464748494A FFFFFFFFFFFF 00000010 02FFFFEE 6162636465666768 \
+            80000018 00000000 4142434445464748494A FFFFFFFFFFFF 00000010 02FFFFEE 6162636465666768 \
             04000018 01FFFFE4 4142434445464748494A 00*6 80000020 00*28",
     ),
     (
         IN_FRONT,
         3,
         "50484931 00000080 0004 0000 00000000 00000050 00000040 00*8 \
-            80000018 01FFFFF8 4142434445464748494A FFFFFFFFFFFF 00000010 02FFFFEE 6162636465666768 \
+            80000018 00000000 4142434445464748494A FFFFFFFFFFFF 00000010 02FFFFEE 6162636465666768 \
             05000010 01FFFFE4 414243 00*5 80000028 00*36",
     ),
     (
@@ -237,13 +237,13 @@ const RELOCATIONS: [(&str, u32, &str); 3] = [
         24,
         "50484931 00000080 0004 0000 00000000 00000028 00000048 00*8 \
             00000020 01FFFFF8 4142434445464748494A 00*14 \
-            00000010 02FFFFEA 6162636465666768 80000030 01FFFFE0 4142434445464748494A FFFFFFFFFFFF \
+            00000010 02FFFFEA 6162636465666768 80000018 00000000 4142434445464748494A FFFFFFFFFFFF \
             80000018 00*20",
     ),
 ];
 
 /// A chunk that is relocated has its first bytes, and zeros behind them; its slot holds the new place, and
-/// its old header is that of a free chunk, joined with one behind it.
+/// its old header is that of a free chunk, the last of its list; a free one behind it isn't joined.
 #[test]
 fn a_chunk_goes_to_room_elsewhere(rt: HostRuntime) -> Result<(), Fail> {
     for (before, count, after) in &RELOCATIONS {
@@ -258,7 +258,7 @@ fn a_chunk_goes_to_room_elsewhere(rt: HostRuntime) -> Result<(), Fail> {
 fn the_directory_goes_to_room_elsewhere(rt: HostRuntime) -> Result<(), Fail> {
     let [(_, count, after), ..] = RELOCATIONS;
     let before = (IN_FRONT, "12: 00000010, 36: 00FFFFF8");
-    let after = (after, "12: 00000010, 36: 00FFFFF8, 76: 00FFFFE4");
+    let after = (after, "12: 00000010, 76: 00FFFFE4");
     assert_eq!(rt; relocated(rt.alloc(), before, count, after)?, (true, true));
     Ok(())
 }
