@@ -4,7 +4,7 @@ ghost use Rattle.std.specs.Prelude.{◌≡◌, ◌≤◌, ◌-◌, ℕ, IsSome, 
 ghost use Rattle.heap_model.specs.Chunk.{HasChunk};
 ghost use Rattle.heap_model.specs.Heap.{HeapAccepted};
 ghost use Rattle.heap_model.specs.Reading.{held};
-ghost use Rattle.master_table.specs.Table.{HoldsPlace};
+ghost use Rattle.master_table.specs.Table.{HoldsNothing, HoldsPlace};
 ghost use Rattle.heap_place.specs.Found.{IsFound, IsOne, IsFixed, NothingAt, NoSlotHolds};
 
 use crate::found::{Found, as_fixed, as_movable};
@@ -21,9 +21,22 @@ pub(crate) fn find_named(region: &Region, name: Name) -> Option<Found>
     ensures found { IfSome result (IsFound region.now.bytes name.0) }
     ensures none { IfNone result (held region.now.bytes name.0 ≡ None) }
 {
+    match in_slot(region, name) {
+        Some(found) => Some(found),
+        None => find_fixed(region, name),
+    }
+}
+
+/// The chunk of a name that is a slot's, at the same cost however large the heap is.
+#[inline]
+pub(crate) fn in_slot(region: &Region, name: Name) -> Option<Found>
+    requires accepted { HeapAccepted region.now.bytes }
+    ensures found { IfSome result (IsFound region.now.bytes name.0) }
+    ensures none { IfNone result (HoldsNothing region.now.bytes name.0) }
+{
     match resolve(region, name) {
         Some(place) => movable_at(region, place),
-        None => find_fixed(region, name),
+        None => None,
     }
 }
 
@@ -34,8 +47,8 @@ pub(crate) fn chunk_named(region: &Region, name: Name) -> Found
     requires there { IsSome (held region.now.bytes name.0) }
     ensures { IsFound region.now.bytes name.0 result }
 {
-    match resolve(region, name) {
-        Some(place) => movable_at(region, place).unwrap(),
+    match in_slot(region, name) {
+        Some(found) => found,
         None => fixed_at(region, name),
     }
 }

@@ -15,6 +15,7 @@ ghost use Rattle.heap_model.specs.Store.{managers_owner, owner_under};
 ghost use Rattle.heap_model.specs.Leaving.{NamesDirectory};
 ghost use Rattle.heap_model.specs.Layout.{Becomes, layout_of, owned_freed, Alters, freed, with_lock, with_owner, with_bytes, FreeUpTo, IsSpot, Claims, WritesPlain};
 ghost use Rattle.heap_place.specs.ByteChanges.{ChangesEvery};
+ghost use Rattle.master_table.specs.Table.{HoldsNothing};
 ghost use Rattle.heap_place.specs.Found.{IsFound, IsOne, NothingAt, CanGoTo, SlidesWithin, header_at};
 ghost use Rattle.heap_place.specs.Resizes.{TellsWhetherInPlace};
 ghost use Rattle.heap_place.specs.Relocation.{RelocatesToRun};
@@ -26,7 +27,7 @@ use crate::directory::{directory_name, name_directory};
 use crate::found::Found;
 use crate::gather::{build, gather};
 use crate::lists::{ABOVE_SIZES, CLASSES, find_listed, take};
-use crate::lookup::{chunk_named, find_named, find_placed};
+use crate::lookup::{chunk_named, find_named, find_placed, in_slot};
 use crate::open::open_in;
 use crate::owned::release_owned;
 use crate::pack::{compact, pack_stretch};
@@ -105,6 +106,16 @@ impl Space {
         ensures none { IfNone result (held self.now.bytes name.0 ≡ None) }
     {
         find_named(&self.region, name)
+    }
+
+    /// The chunk of a name that is a slot's, whoever owns it, at the same cost however large the heap is.
+    #[inline]
+    pub fn in_slot(&self, name: Name) -> Option<Found>
+        requires accepted { HeapAccepted self.now.bytes }
+        ensures found { IfSome result (IsFound self.now.bytes name.0) }
+        ensures none { IfNone result (HoldsNothing self.now.bytes name.0) }
+    {
+        in_slot(&self.region, name)
     }
 
     /// The chunk of a name that stands for one, as `find` answers it. It costs the same however large the heap

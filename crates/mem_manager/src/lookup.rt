@@ -16,10 +16,22 @@ use chunk_format::{DATA_OWNER, FIXED_LOCK, MANAGERS_OWNER};
 use heap_model::{Name, Place, Refusal};
 use heap_place::{Found, Space};
 
-/// The chunk that a name stands for, whoever owns it. Where the name isn't remembered, one that is no slot's is
-/// looked for among all chunks.
+/// The chunk that a name stands for, whoever owns it. That of a slot is looked up first.
 #[inline]
 pub(crate) fn named(space: &Space, known: &KnownNames, name: Name) -> Option<Found>
+    requires accepted { HeapAccepted space.now.bytes }
+    requires known { KnowsHeld space.now.bytes known.now.names }
+    ensures found { IfSome result (IsFound space.now.bytes name.0) }
+    ensures none { IfNone result (held space.now.bytes name.0 ≡ None) }
+{
+    match space.in_slot(name) {
+        Some(found) => Some(found),
+        None => in_no_slot(space, known, name),
+    }
+}
+
+/// The same of a name that is no slot's. Where it isn't remembered, it is looked for among all chunks.
+fn in_no_slot(space: &Space, known: &KnownNames, name: Name) -> Option<Found>
     requires accepted { HeapAccepted space.now.bytes }
     requires known { KnowsHeld space.now.bytes known.now.names }
     ensures found { IfSome result (IsFound space.now.bytes name.0) }

@@ -30,6 +30,7 @@ mod runs;
 
 pub use calls::{do_call, do_call_from};
 pub use lists::{NotRun, OutOfMemory, check_and_run, run_calls, run_calls_from};
+pub use palm_store::{WriteFault, put_all};
 pub use runs::{RunFault, run, run_from};
 pub use script_lines::{
     ChunkLabel, DatabaseLabel, Line, LineCall, LineFault, Script, ScriptFault, parse,

@@ -1,16 +1,5 @@
-use Rattle.std.proofs.Common.{MatchOption, Option, subst}
-use Rattle.heap_model.specs.declared.names.Place.{Place}
-use Rattle.master_table.specs.Table.{HoldsPlace, HoldsNothing}
-use Rattle.heap_place.proofs.LookupLaws.{slot_behind, slot_chunk, unheld}
+use Rattle.heap_place.proofs.LookupLaws.{unheld}
 use Rattle.heap_place.proofs.lookup.find_named.Goals as goal
 
-pub movable_at-requires-clause-behind_header : goal.movable_at-requires-clause-behind_header
-movable_at-requires-clause-behind_header c = slot_behind c.args.region.now.bytes c.args.name.0 c.resolve.result c.in-Some.place c.requires.accepted c.resolve.ensures c.in-Some.is
-
-pub movable_at-requires-clause-chunk : goal.movable_at-requires-clause-chunk
-movable_at-requires-clause-chunk c = slot_chunk c.args.region.now.bytes c.args.name.0 c.resolve.result c.in-Some.place c.requires.accepted c.resolve.ensures c.in-Some.is
-
 pub returns-in-None-clause-none : goal.returns-in-None-clause-none
-returns-in-None-clause-none c =
-    unheld c.args.region.now.bytes c.args.name.0 c.find_fixed.result c.requires.accepted
-    (subst (λ (place : Option Place). MatchOption place (HoldsNothing c.args.region.now.bytes c.args.name.0) (λ place. HoldsPlace c.args.region.now.bytes c.args.name.0 place.0)) c.in-None.is c.resolve.ensures) c.find_fixed.ensures.none
+returns-in-None-clause-none c = unheld c.args.region.now.bytes c.args.name.0 c.find_fixed.result c.requires.accepted c.in-None.ensures.none c.find_fixed.ensures.none
