@@ -23,7 +23,7 @@ data_kept change [] = refl
 data_kept change (a_record attributes id slot ∷ entries) = ap (λ (names : List ℕ). slot ∷ names) (data_kept change entries)
 data_kept change (a_resource kind id slot ∷ entries) = ap (λ (names : List ℕ). slot ∷ names) (data_kept change entries)
 
-ids_kept : (change : ℕ → ℕ) (entries : List (Entry ℕ)) → filter_map unique_id (map (with_attributes change) entries) ≡ filter_map unique_id entries
+pub ids_kept : (change : ℕ → ℕ) (entries : List (Entry ℕ)) → filter_map unique_id (map (with_attributes change) entries) ≡ filter_map unique_id entries
 ids_kept change [] = refl
 ids_kept change (a_record attributes id slot ∷ entries) = ap (λ (ids : List ℕ). id ∷ ids) (ids_kept change entries)
 ids_kept change (a_resource kind id slot ∷ entries) = ids_kept change entries

@@ -21,12 +21,14 @@ use Rattle.laws_store.proofs.Naming.{has_id, times-ids}
 use Rattle.laws_store.proofs.Numbered.{entries_here}
 use Rattle.fresh_ids.specs.FreeIds.{IsAmong, AreFree, IsWithout}
 use Rattle.fresh_ids.specs.declared.stretch.FreeIds.{FreeIds}
+use Rattle.database_edits.specs.Recorded.{attributes_changed}
 use Rattle.palm_store.specs.Databases.{HasNumber}
 use Rattle.palm_store.specs.declared.entries.infos.EntryInfo.TheVariants as infos
 use Rattle.palm_store.specs.EntryInfos.{with_info}
 use Rattle.palm_store.specs.EntryCalls.{raised_if}
 use Rattle.palm_store.specs.KnownIds.{ids_in, StandFree, StandFreeBeside, GetsNone, IsStore}
 use Rattle.palm_store.specs.declared.entries.known.KnownIds.{KnownIds}
+use Rattle.palm_store.proofs.AttributeChanges.{ids_kept}
 
 -- no ID at all is known to be free
 pub none_free : (ids : List ℕ) → AreFree ids (record { first = 0; end = 0 })
@@ -240,6 +242,17 @@ move_free old new db from to known is free = λ id among.
     ap (λ (stored : List StoredDatabase). times id (ids_found stored known.db.0)) is
     ∙ changed_lacks id db known.db.0 (λ database. record database { header = raised_header database.header }) (with_changed old.databases db (with_move from to)) (λ database none. none)
     (changed_lacks id db known.db.0 (with_move from to) old.databases (move_lacks id from to) (free id among))
+
+-- ---- all records get other attributes
+
+attributes_lack : (id : ℕ) (change : ℕ → ℕ) → LacksStill id (attributes_changed change)
+unfolding LacksStill
+attributes_lack id change database none = ap (times id) (ids_kept change database.entries) ∙ none
+
+pub attributes_free : (old new : Store) (db : ℕ) (change : ℕ → ℕ) (known : KnownIds) → new.databases ≡ with_changed old.databases db (attributes_changed change) → StandFree old known → StandFree new known
+unfolding ids_found LacksStill
+attributes_free old new db change known is free = λ id among.
+    ap (λ (stored : List StoredDatabase). times id (ids_found stored known.db.0)) is ∙ changed_lacks id db known.db.0 (attributes_changed change) old.databases (attributes_lack id change) (free id among)
 
 -- ---- known IDs without one
 

@@ -16,6 +16,7 @@ pub struct WriteFault;
 pub fn put_all<W: Write>(out: &mut Counted<W>, bytes: &[u8]) -> Result<(), WriteFault>
     ensures text { Writes W.contents out.old out.new bytes.now (is_ok result) }
     ensures unflushed { OnErr result (out.new.flushed ≡ None) }
+    ensures no_flush { out.old.flushed ≡ None → out.new.flushed ≡ None }
 {
     let mut rest = bytes;
     while !rest.is_empty() {

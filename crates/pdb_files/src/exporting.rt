@@ -36,8 +36,8 @@ pub enum ExportFault {
     Write,
 }
 
-/// Writes the file of a database, PDB or PRC, and answers how many bytes it has. Takes no memory. Where
-/// a write fails or takes 0 bytes, a front of the file was written.
+/// Writes the file of a database, PDB or PRC, and answers how many bytes it has. Takes no memory, and
+/// flushes nothing. Where a write fails or takes 0 bytes, a front of the file was written.
 pub fn export<W: Write>(store: &Store, db: Db, out: &mut Counted<W>) -> Result<u32, ExportFault>
     ensures unknown { (result ≡ Err ExportFault.NoSuchDatabase)
         ↔ (with_number (store_of store.now.bytes) db.0 ≡ None) }
@@ -45,6 +45,7 @@ pub fn export<W: Write>(store: &Store, db: Db, out: &mut Counted<W>) -> Result<u
     ensures written { (database : Database ℕ) → HasDatabase store.now.bytes db.0 database
         → Writes W.contents out.old out.new
         (file_of (content (store_of store.now.bytes).map database)) (is_ok result) }
+    ensures no_flush { out.old.flushed ≡ None → out.new.flushed ≡ None }
     ensures size { IfOk result (λ count.
         (database : Database ℕ) → HasDatabase store.now.bytes db.0 database
         → count ≡ length (file_of (content (store_of store.now.bytes).map database))) }

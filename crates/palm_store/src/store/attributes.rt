@@ -6,7 +6,6 @@ ghost use Rattle.palm_store.specs.AttributeChanges.{MayChange};
 ghost use Rattle.palm_store.specs.Databases.{HasNumber};
 ghost use Rattle.palm_store.specs.EntryCalls.{resources_of_image, LeavesChanged};
 
-use crate::entries::NOTHING_KNOWN;
 use crate::store::Store;
 use database_edits::change_attributes;
 use heap_model::Db;
@@ -25,6 +24,5 @@ impl Store {
         ensures rest { self.new ≡ record self.old { bytes = self.new.bytes } }
     {
         change_attributes(&mut self.heap, db, change);
-        self.known = NOTHING_KNOWN;
     }
 }

@@ -10,6 +10,7 @@ loop-rest-preserved g c =
     record {
       gone = (done ++ take n rest, moves_on _ done rest n split, Appends-trans _ _ _ _ _ appended c.in-Ok.ensures.bytes);
       quiet = omega (arith, c.in-Ok.ensures.faults, c.loop-rest.invariant.quiet, no_fault n (not (length rest == 0)) c.if-n-gt0.true);
+      no_flush = λ none. c.in-Ok.ensures.flushed;
     }
 
 pub returns-in_default-clause-text : goal.returns-in_default-clause-text

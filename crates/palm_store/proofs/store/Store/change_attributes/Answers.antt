@@ -5,7 +5,7 @@ use Rattle.laws_store.proofs.Numbered.{accepted_spells}
 use Rattle.palm_store.specs.Databases.{HasNumber}
 use Rattle.palm_store.proofs.EntryChanges.{respelled_none}
 use Rattle.palm_store.proofs.AttributeChanges.{attributes_steps, kind_of_records}
-use Rattle.palm_store.proofs.KnownIds.{nothing_known}
+use Rattle.palm_store.proofs.KnownIds.{attributes_free}
 use Rattle.palm_store.proofs.store.Store.change_attributes.Goals as goal
 
 pub change_attributes-requires-clause-spells : goal.change_attributes-requires-clause-spells
@@ -22,8 +22,11 @@ change_attributes-requires-clause-records g c =
 pub invariant_of-self : goal.invariant_of-self
 invariant_of-self g c =
     let number : HasNumber c.self.inside.heap.bytes c.args.db.0 = rw c.self.view_is c.requires.number in
-    nothing_known c.change_attributes.new.heap.bytes
-    (attributes_steps c.self.inside.heap.bytes c.change_attributes.new.heap.bytes c.args.db (g.C.ByteChange.made c.args.change) c.requires.change c.self.invariant.accepted number c.change_attributes.ensures.changed).accepted
+    let left = attributes_steps c.self.inside.heap.bytes c.change_attributes.new.heap.bytes c.args.db (g.C.ByteChange.made c.args.change) c.requires.change c.self.invariant.accepted number c.change_attributes.ensures.changed in
+    record {
+      accepted = left.accepted;
+      free = attributes_free (store_of c.self.inside.heap.bytes) (store_of c.change_attributes.new.heap.bytes) c.args.db.0 (g.C.ByteChange.made c.args.change) c.self.inside.known left.same.databases c.self.invariant.free;
+    }
 
 pub returns-clause-changed : goal.returns-clause-changed
 returns-clause-changed g c =

@@ -10,8 +10,8 @@ use Rattle.pdb_files.proofs.Contents.{app_block, sort_block}
 use Rattle.pdb_files.proofs.FileTexts.{blocks_text, failed, as_blocks}
 use Rattle.pdb_files.proofs.exporting.parts.put_blocks.Goals as goal
 
-pub returns-in_err-put_all : goal.returns-in_err-put_all
-returns-in_err-put_all g c =
+pub returns-in_err-put_all-clause-text : goal.returns-in_err-put_all-clause-text
+returns-in_err-put_all-clause-text g c =
     let chunks : ChunkMap = (store_of c.args.store.now.bytes).map in
     let d : Database (Option (List ℕ)) = content_of c.args.store.now.bytes c.args.bytes.now in
     let app = c.block.ensures ∙ ap block_bytes (sym (app_block chunks c.args.bytes.now c.app_info.result c.app_info.ensures)) in
@@ -19,8 +19,8 @@ returns-in_err-put_all g c =
     (as_blocks g.W.Write.contents c.args.out.now c.put_all.new.out d c.block.result.now (block_bytes d.sort_info) false app refl
     (stops g.W.Write.contents c.args.out.now c.put_all.new.out c.block.result.now (block_bytes d.sort_info ++ data_text d.entries) c.in_err-put_all.ensures.text))
 
-pub returns-in_err-put_all-2 : goal.returns-in_err-put_all-2
-returns-in_err-put_all-2 g c =
+pub returns-in_err-put_all-2-clause-text : goal.returns-in_err-put_all-2-clause-text
+returns-in_err-put_all-2-clause-text g c =
     let chunks : ChunkMap = (store_of c.args.store.now.bytes).map in
     let d : Database (Option (List ℕ)) = content_of c.args.store.now.bytes c.args.bytes.now in
     let app = c.block.ensures ∙ ap block_bytes (sym (app_block chunks c.args.bytes.now c.app_info.result c.app_info.ensures)) in
@@ -30,8 +30,8 @@ returns-in_err-put_all-2 g c =
     (then g.W.Write.contents c.args.out.now c.put_all.new.out c.put_all-2.new.out c.block.result.now (c.block-2.result.now ++ data_text d.entries) false c.in_ok-put_all.ensures.text
     (stops g.W.Write.contents c.put_all.new.out c.put_all-2.new.out c.block-2.result.now (data_text d.entries) c.in_err-put_all-2.ensures.text)))
 
-pub returns : goal.returns
-returns g c =
+pub returns-clause-text : goal.returns-clause-text
+returns-clause-text g c =
     let chunks : ChunkMap = (store_of c.args.store.now.bytes).map in
     let d : Database (Option (List ℕ)) = content_of c.args.store.now.bytes c.args.bytes.now in
     let app = c.block.ensures ∙ ap block_bytes (sym (app_block chunks c.args.bytes.now c.app_info.result c.app_info.ensures)) in
@@ -39,4 +39,4 @@ returns g c =
     let ok = is_ok c.put_data.result in
     as_blocks g.W.Write.contents c.args.out.now c.put_data.new.out d c.block.result.now c.block-2.result.now ok app sort
     (then g.W.Write.contents c.args.out.now c.put_all.new.out c.put_data.new.out c.block.result.now (c.block-2.result.now ++ data_text d.entries) ok c.in_ok-put_all.ensures.text
-    (then g.W.Write.contents c.put_all.new.out c.put_all-2.new.out c.put_data.new.out c.block-2.result.now (data_text d.entries) ok c.in_ok-put_all-2.ensures.text c.put_data.ensures))
+    (then g.W.Write.contents c.put_all.new.out c.put_all-2.new.out c.put_data.new.out c.block-2.result.now (data_text d.entries) ok c.in_ok-put_all-2.ensures.text c.put_data.ensures.text))

@@ -19,8 +19,8 @@ overflow_add-at g c =
     let left = size_from (store_of c.args.store.now.bytes).map c.args.bytes.now c.loop-index.index c.slot.result below (c.slot.ensures ∙ ap entry_data c.read-entry.ensures.is) in
     omega (arith, left, c.loop-index.invariant.left)
 
-pub returns-in_err-put_all : goal.returns-in_err-put_all
-returns-in_err-put_all g c =
+pub returns-in_err-put_all-clause-text : goal.returns-in_err-put_all-clause-text
+returns-in_err-put_all-clause-text g c =
     let bytes = c.args.bytes.now in
     let chunks : ChunkMap = (store_of c.args.store.now.bytes).map in
     let i = c.loop-index.index in
@@ -45,9 +45,10 @@ loop-index-preserved g c =
       completed = λ new ok behind.
           c.loop-index.invariant.completed new ok
           (then_entry g.W.Write.contents c.loop-index.out c.put_all.new.out new chunks bytes c.loop-index.at i c.block_size-size.result c.as_slice.result.now ok below is long c.in_ok-put_all.ensures.text behind);
+      no_flush = λ none. c.in_ok-put_all.ensures.no_flush (c.loop-index.invariant.no_flush none);
     }
 
-pub returns : goal.returns
-returns g c =
+pub returns-clause-text : goal.returns-clause-text
+returns-clause-text g c =
     let past : entry_count_in c.args.bytes.now ≤ c.loop-index.index = omega arith in
     c.loop-index.invariant.completed c.loop-index.out true (no_entry g.W.Write.contents c.loop-index.out (store_of c.args.store.now.bytes).map c.args.bytes.now c.loop-index.at c.loop-index.index past)
