@@ -111,13 +111,3 @@ missing_in_byte seen index byte is small h = record {
       let quotient : (8 * index + k) / 8 ≡ index = omega arith in
       let rest : (8 * index + k) % 8 ≡ k = omega arith in
       bit_of seen index (8 * index + k) quotient ∙ ap (λ (b : ℕ). bit_at b ((8 * index + k) % 8)) is ∙ ap (bit_at byte) rest
-
--- where there is none among those that have room, it is the first behind them
-pub missing_behind : (seen : List ℕ) → HasBelow seen (8 * length seen) → IsFirstMissing seen (8 * length seen)
-missing_behind seen h = record {
-  here = λ one. (
-      let past : length seen ≤ 8 * length seen / 8 = omega arith in
-      let zero_bit = ap (λ (byte : ℕ). bit_at byte (8 * length seen % 8)) (get_or_past seen (8 * length seen / 8) 0 past) ∙ bit_at-zero (8 * length seen % 8) in
-      omega arith);
-  none_below = λ number below no. no (h.all number below);
-}

@@ -1,6 +1,5 @@
 -- Entries searched for in the order of their indexes, and those of a database that is read.
-use Rattle.std.proofs.Common.{◌≡◌, ℕ, ◌+◌, ◌<◌, ◌≤◌, Bool, true, false, List, length, Option, Some, None, sym, ap, subst, ◌∙◌, arith, rules, inl, inr}
-use Rattle.std.proofs.lemmas.Bool.{cases_lt}
+use Rattle.std.proofs.Common.{◌≡◌, ℕ, ◌+◌, ◌<◌, ◌≤◌, Bool, true, false, List, length, Option, Some, None, sym, ap, subst, ◌∙◌, arith, rules}
 use Rattle.std.proofs.lemmas.List.{take_all}
 use Rattle.std.proofs.lemmas.List.Sums.{count_by_more_yes, count_by_more_no}
 use Rattle.std.proofs.lemmas.Option.{slice_get_within, get_or_from_slice_get}
@@ -8,34 +7,15 @@ use Rattle.std.specs.Prelude.{◌↔◌, IsSome, IsTrue, IfSome, IfNone, slice_g
 use Rattle.std.specs.Option.{is_some}
 use Rattle.heap_model.specs.Database.{Entry, Database, has_resources}
 use Rattle.heap_model.specs.Store.{StoredDatabase, store_of}
-use Rattle.heap_model.specs.StoreWords.{OfDatabase}
 use Rattle.heap_model.specs.EntrySteps.{entries_of, entries_in, OfEntry, kind_of, resources_under}
 use Rattle.heap_model.specs.declared.names.Db.{Db}
 use Rattle.palm_store.specs.Databases.{HasNumber, HasDatabase}
-use Rattle.palm_store.specs.EntryCalls.{HasDbAttributes}
 use Rattle.database_access.specs.Search.{NoneBehind, SomeHas}
-use Rattle.database_access.proofs.OpeningChecks.{inside}
-
--- ---- an entry of an index
-
-pub found_at : (entries : List (Entry ℕ)) (index : ℕ) (entry : Entry ℕ) (P : Entry ℕ → Type 0) → slice_get entries index ≡ Some entry → P entry → OfEntry (slice_get entries index) P
-found_at entries index entry P at p = subst (λ (x : Option (Entry ℕ)). OfEntry x P) (sym at) p
 
 -- ---- none that was passed is such
 
 abbrev pub NoneUntil : List (Entry ℕ) → ℕ → ℕ → (Entry ℕ → Type 0) → Type 0
 NoneUntil entries from end P = (at : ℕ) → from ≤ at → at < end → OfEntry (slice_get entries at) P → ⊥
-
-pub none_yet : (entries : List (Entry ℕ)) (from index : ℕ) (P : Entry ℕ → Type 0) → NoneUntil entries from index P → (OfEntry (slice_get entries index) P → ⊥) → NoneUntil entries from (index + 1) P
-none_yet entries from index P before here at low below p = elim (cases_lt at index) [
-  | inl less ↦ before at low less p
-  | inr most ↦ here (subst (λ (n : ℕ). OfEntry (slice_get entries n) P) (omega arith) p)
-]
-
-pub none_left : (entries : List (Entry ℕ)) (from end : ℕ) (P : Entry ℕ → Type 0) → length entries ≤ end → NoneUntil entries from end P → NoneBehind entries from P
-none_left entries from end P all before at low p =
-    let below = inside entries at P p in
-    before at low (omega (arith, all, below)) p
 
 -- whether one was found says whether there is one
 pub found_or_none : (entries : List (Entry ℕ)) (P : Entry ℕ → Type 0) (found : Option ℕ) (result : Bool) → result ≡ is_some found → IfSome found (λ index. OfEntry (slice_get entries index) P) → IfNone found (NoneBehind entries 0 P) → IsTrue result ↔ SomeHas entries P
@@ -52,9 +32,6 @@ number_read image db database is = subst (λ (x : Option StoredDatabase). IsSome
 
 pub kind_read : (image : List ℕ) (db : Db) (database : Database ℕ) → HasDatabase image db.0 database → resources_under (store_of image) db ≡ has_resources database.header.attributes
 kind_read image db database is = ap kind_of is
-
-pub attributes_read : (image : List ℕ) (db : Db) (database : Database ℕ) (attributes : ℕ) → HasDatabase image db.0 database → attributes ≡ database.header.attributes → HasDbAttributes image db attributes
-attributes_read image db database attributes is said = subst (λ (x : Option StoredDatabase). OfDatabase x (λ one. one.header.attributes ≡ attributes)) (sym is) (sym said)
 
 -- ---- entries counted
 

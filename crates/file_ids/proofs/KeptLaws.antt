@@ -3,7 +3,7 @@ use Rattle.std.proofs.Common.{◌≡◌, ◌≢◌, ℕ, zero, suc, ◌+◌, ◌
 use Rattle.std.specs.Prelude.{◌==◌, ◌&&◌, ◌⊎◌, ◌↔◌, not, slice_index, All}
 use Rattle.std.proofs.Math.Seq.{take-suc, take-suc-set, drop-cons}
 use Rattle.std.proofs.lemmas.Bool.{cases_eq, cases_lt, eq-eqb, ne_eqb}
-use Rattle.std.proofs.lemmas.List.{append-nil, append_assoc, take_all, drop_all, get_or-set_other, length-set}
+use Rattle.std.proofs.lemmas.List.{append_assoc, take_all, get_or-set_other, length-set}
 use Rattle.std.proofs.lemmas.List.Elements.{All-get_or, All-set}
 use Rattle.heap_model.specs.Lists.{times}
 use Rattle.heap_model.specs.UniqueIds.{greatest_id}
@@ -246,12 +246,6 @@ kept_not all taken ids index id inside is already k =
     }
 
 -- ---- all records
-
-pub kept_all : (all taken ids : List ℕ) → KeptTo all taken ids (length all) → ids ≡ kept_or_none [] all
-kept_all all taken ids k =
-    let end : List ℕ → List ℕ = λ xs. take (length all) ids ++ kept_or_none (earlier_ids all (length all)) xs in
-    let long = k.long in
-    sym (k.front ∙ ap end (drop_all (length all) all (omega arith)) ∙ append-nil (take (length all) ids) ∙ take_all (length all) ids (omega arith))
 
 pub kept_taken : (all taken ids : List ℕ) → KeptTo all taken ids (length all) → HasIds taken (kept_ids [] all)
 kept_taken all taken ids k = has_same taken (earlier_ids all (length all)) (kept_ids [] all) (λ q some. (

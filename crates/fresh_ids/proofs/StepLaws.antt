@@ -14,7 +14,7 @@ use Rattle.laws_store.proofs.Fresh.{id_behind_is, id_behind_fits, fresh_exists}
 use Rattle.laws_store.proofs.RecordIds.{ids_upto, ids_index, index_ids}
 use Rattle.laws_store.proofs.Shapes.{spelled_shape}
 use Rattle.db_format.specs.Headers.{IsWhole}
-use Rattle.bit_sets.specs.Sets.{HasNumber, AddsNumber, IsFirstMissing, HasNone}
+use Rattle.bit_sets.specs.Sets.{HasNumber, AddsNumber, IsFirstMissing}
 use Rattle.fresh_ids.specs.Steps.{IsTakenBefore, HasTaken, IsFree, IsFirstFree}
 
 -- ---- one ID
@@ -42,9 +42,6 @@ more_earlier body seed index steps none t = elim (cases_lt t.0 index) [
       let e : t.0 ≡ index = omega arith in
       absurd (none (sym (ap (λ (i : ℕ). unique_id (entry_in body i)) e) ∙ t.2))
 ]
-
-pub taken_first : (body taken : List ℕ) (seed : ℕ) → HasNone taken → HasTaken body seed taken 0
-taken_first body taken seed none = record { are = λ steps room. (λ has. absurd (none steps has), λ t. (let below = t.1 in absurd (omega arith))) }
 
 -- it has no ID for which the set has room
 taken_none : (body taken : List ℕ) (seed index : ℕ) → ((steps : ℕ) → steps < 8 * length taken → unique_id (entry_in body index) ≡ Some (id_behind seed steps) → ⊥) → HasTaken body seed taken index → HasTaken body seed taken (index + 1)

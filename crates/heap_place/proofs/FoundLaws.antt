@@ -1,6 +1,5 @@
 -- A live chunk that was found: its chunk, its header, and where its bytes lie.
-use Rattle.std.proofs.Common.{◌≡◌, ◌≢◌, ℕ, ◌+◌, ◌-◌, ◌%◌, ◌≤◌, List, [], ◌∷◌, ◌++◌, length, Option, Some, None, refl, sym, ap, subst, ◌∙◌, arith}
-use Rattle.std.specs.Prelude.{IsSome, IfSome, IfNone}
+use Rattle.std.proofs.Common.{◌≡◌, ◌≢◌, ℕ, ◌+◌, ◌-◌, ◌%◌, ◌≤◌, List, [], ◌∷◌, ◌++◌, length, Some, refl, sym, ap, subst, ◌∙◌, arith}
 use Rattle.heap_model.specs.Chunk.{Chunk, need, free, movable, fixed, fixed_lock, size_of, total, SpelledAll}
 use Rattle.heap_model.specs.Slots.{IsSlot, area_start}
 use Rattle.heap_model.specs.Heap.{BodyHere, IsHeap, HeapAccepted}
@@ -113,12 +112,3 @@ bytes_inside image found h f =
     let len = f.count in
     let inside = body_inside image (found.place.0 - 8) found.name.0 f.live f.chunk h f.finds in
     omega arith
-
--- ---- a name that stands for a chunk
-
-pub some_found : (image : List ℕ) (name : ℕ) (result : Option Found) → IfNone result (held image name ≡ None) → IsSome (held image name) → IsSome result
-some_found image name None none some = subst (λ (x : Option LiveChunk). IsSome x) none some
-some_found image name (Some found) none some = refl
-
-pub found_of : (image : List ℕ) (name : ℕ) (result : Option Found) (found : Found) → result ≡ Some found → IfSome result (IsFound image name) → IsFound image name found
-found_of image name result found e h = subst (λ (x : Option Found). IfSome x (IsFound image name)) e h

@@ -1,14 +1,12 @@
 -- The walk that joins free neighbours and puts each free chunk into its list.
 use Rattle.std.proofs.Common.{◌≡◌, ℕ, ◌+◌, ◌-◌, ◌%◌, ◌<◌, ◌≤◌, List, [], ◌∷◌, ◌++◌, length, refl, sym, ap, subst, ◌∙◌, arith, inl, append_assoc}
-use Rattle.std.specs.Prelude.{slice_index}
 use Rattle.heap_model.specs.Chunk.{Chunk, free, size_of, total, Spelled, HasChunk}
 use Rattle.heap_model.specs.Slots.{area_start}
 use Rattle.heap_model.specs.Heap.{HeapAccepted}
 use Rattle.heap_model.specs.Reading.{chunks_of}
-use Rattle.heap_model.specs.Layout.{Becomes, WritesPlain, IsSpot}
+use Rattle.heap_model.specs.Layout.{Becomes, IsSpot}
 use Rattle.laws_heap.proofs.Chunks.{total-append, Spelled-size, SpelledAll-end, SpelledAll-split}
-use Rattle.laws_heap.proofs.Becoming.{frame_then, same_frame}
-use Rattle.laws_heap.proofs.Plain.{plain_same, plain_then}
+use Rattle.laws_heap.proofs.Becoming.{frame_then}
 use Rattle.laws_heap.proofs.Resizings.{front_parts}
 use Rattle.chunk_format.specs.declared.header.Header.{Header}
 use Rattle.chunk_format.specs.Header.{HasHeader, size_by}
@@ -17,7 +15,7 @@ use Rattle.heap_place.specs.Lists.{class_count, AreLists, HasLists, Any, ButAt, 
 use Rattle.heap_place.specs.Resizes.{IsBound, BeginsWithFree}
 use Rattle.heap_place.specs.Gathers.{Before, Gathering}
 use Rattle.heap_place.proofs.FoundLaws.{heap_in_parts}
-use Rattle.heap_place.proofs.ListLaws.{lists_kept, lists_weaker, push_lists, no_lists}
+use Rattle.heap_place.proofs.ListLaws.{lists_kept, lists_weaker, push_lists}
 use Rattle.heap_place.proofs.WithinLaws.{first_size}
 use Rattle.heap_place.proofs.CutLaws.{room_facts}
 use Rattle.heap_place.proofs.RunLaws.{from_bound, a_chunk_there}
@@ -100,31 +98,8 @@ alone_lists old new heads after at len a p = push_lists (ButAt at) Any old new h
 
 -- ---- the walk
 
-pub becomes_same : (image : List ℕ) → HeapAccepted image → Becomes image image (chunks_of image)
-becomes_same image h = record { frame = same_frame image h; layout = refl }
-
 pub becomes_twice : (old mid new : List ℕ) (cs : List Chunk) → Becomes old mid cs → Becomes mid new (chunks_of mid) → Becomes old new cs
 becomes_twice old mid new cs a b = record { frame = frame_then old mid new a.frame b.frame; layout = b.layout ∙ a.layout }
-
-pub gathering_start : (image heads : List ℕ) (at : ℕ) → HeapAccepted image → at ≡ area_start image → ((class : ℕ) → class < class_count → slice_index heads class ≡ 0) → Gathering image image heads at
-gathering_start image heads at h is none =
-    let fits = h.1.tiles.head.a_chunk_fits in
-    record {
-      same = becomes_same image h;
-      bound = record { before = []; after = chunks_of image; ends = record { chunks = refl; there = let e : at ≡ area_start image + 0 = omega arith in e } };
-      inside = omega arith;
-      lists = no_lists (Before at) image heads none;
-      plain = plain_same image;
-    }
-
-pub gathering_more : (old mid new heads after : List ℕ) (at size : ℕ) → Gathering old mid heads at → Becomes mid new (chunks_of mid) → IsBound new (at + size) → at + size ≤ length new → AreLists (Before (at + size)) new after → WritesPlain mid new → Gathering old new after (at + size)
-gathering_more old mid new heads after at size g same bound inside lists plain = record {
-  same = becomes_twice old mid new (chunks_of old) g.same same;
-  bound = bound;
-  inside = inside;
-  lists = lists;
-  plain = plain_then old mid new g.plain plain;
-}
 
 pub gathered : (old new heads : List ℕ) (at : ℕ) → Gathering old new heads at → HasLists new heads
 gathered old new heads at g = lists_weaker (Before at) Any new heads (λ x b before. tt) g.lists

@@ -1,5 +1,5 @@
 -- Chains of free chunks: their length is determined, they visit no chunk twice, and what keeps them.
-use Rattle.std.proofs.Common.{◌≡◌, ◌≢◌, ℕ, zero, suc, ◌+◌, ◌^◌, ◌<◌, ◌≤◌, List, length, replicate, get_or, refl, sym, ap, subst, ◌∙◌, arith, inl, inr}
+use Rattle.std.proofs.Common.{◌≡◌, ◌≢◌, ℕ, zero, suc, ◌+◌, ◌^◌, ◌<◌, ◌≤◌, List, length, replicate, get_or, refl, sym, ap, subst, arith, inl, inr}
 use Rattle.std.specs.Prelude.{◌⊎◌, slice_index}
 use Rattle.std.proofs.Math.ListN.{set}
 use Rattle.std.proofs.Math.Nat.{pow-le-pow_right}
@@ -154,17 +154,3 @@ push_lists P Q old new heads after at a each here len p =
     let kept : AreLists (λ x. Q x × (x ≢ at)) new heads = lists_kept (λ x. Q x × (x ≢ at)) old new heads (λ x q b. p.links.keeps x q.1 b) both in
     let q : AreLists Q new heads = lists_weaker (λ x. Q x × (x ≢ at)) Q new heads (λ x b q. q.0) kept in
     subst (λ (hs : List ℕ). AreLists Q new hs) (sym p.is_head) (pushed Q new heads p.class at q p.below len p.free here p.links.second)
-
--- ---- relations
-
-pub keeps_then : (P Q : ℕ → Type 0) (old mid new : List ℕ) → KeepsFree P old mid → KeepsFree Q mid new → ((at : ℕ) → P at → Q at) → KeepsFree P old new
-keeps_then P Q old mid new one two same at p b =
-    let first = one at p b in
-    let second = two at (same at p) first.begins in
-    record { begins = second.begins; first = second.first ∙ first.first; second = second.second ∙ first.second }
-
-pub keeps_all : (P : ℕ → Type 0) (image : List ℕ) → KeepsFree P image image
-keeps_all P image at p b = record { begins = b; first = refl; second = refl }
-
-pub keeps_weaker : (P Q : ℕ → Type 0) (old new : List ℕ) → ((at : ℕ) → BeginsFree old at → P at → Q at) → KeepsFree Q old new → KeepsFree P old new
-keeps_weaker P Q old new each keeps at p b = keeps at (each at b p) b

@@ -108,9 +108,6 @@ owned_one image P at owner header found h some p has is =
     let finds : Finds image found.name.0 o.live has.chunk at = record { before = p.front; after = parts.0; chunks = parts.1; there = passed_at image P at p; named = o.named some } in
     record { live = o.live; chunk = has.chunk; finds = subst (λ (n : ℕ). Finds image found.name.0 o.live has.chunk n) (sym back) finds; behind_header = omega arith; name_is = refl; count = o.count; lock_is = o.lock_is; owner_is = o.owner_is }
 
-pub owned_place : (image : List ℕ) (at owner : ℕ) (header : Header) (found : Found) → HasHeader image at header → owned_by header (placed (at + 8)) owner ≡ Some found → found.place.0 ≡ at + 8
-owned_place image at owner header found has is = (owned_named at owner header has.chunk found has.header_is is).place
-
 -- and is not the directory
 pub owned_apart : (image : List ℕ) (at owner : ℕ) (header : Header) (found : Found) → HeapAccepted image → (f : IsOne image found) → HasHeader image at header → owned_by header (placed (at + 8)) owner ≡ Some found → 0 < owner → found.name.0 ≢ directory_of image
 owned_apart image at owner header found h f has is some =

@@ -115,9 +115,6 @@ not_listed image heads class at a below s at_is = record {
 
 -- ---- the search
 
-pub look_start : (image heads : List ℕ) (class at : ℕ) → HasLists image heads → class < class_count → slice_index heads class ≢ at → Looking image heads class (slice_index heads class) at
-look_start image heads class at a below other = let l = a.lists class below in record { steps = 0; walked = refl; other = other; left = l.count; rest = l.chain }
-
 pub look_more : (image heads : List ℕ) (class here at : ℕ) → Looking image heads class here at → here ≢ 0 → second_of image here ≢ at → Looking image heads class (second_of image here) at
 look_more image heads class here at s some other = by_left s.left s.rest where
   by_left : (n : ℕ) → Chain image class n here → Looking image heads class (second_of image here) at

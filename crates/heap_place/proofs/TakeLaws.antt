@@ -1,6 +1,6 @@
 -- Room that is taken from the lists.
 use Rattle.std.proofs.Common.{◌≡◌, ◌≢◌, ℕ, zero, suc, ◌+◌, ◌-◌, ◌<◌, ◌≤◌, List, [], ◌∷◌, ◌++◌, length, refl, sym, ap, subst, ◌∙◌, arith, inl, inr}
-use Rattle.std.specs.Prelude.{slice_index, slice_set}
+use Rattle.std.specs.Prelude.{slice_index}
 use Rattle.heap_model.specs.Bytes.{u32_at}
 use Rattle.heap_model.specs.Chunk.{Chunk, free, movable, fixed, total}
 use Rattle.heap_model.specs.Slots.{area_start}
@@ -10,10 +10,10 @@ use Rattle.heap_model.specs.Space.{AllFree}
 use Rattle.heap_model.specs.Layout.{merged, layout_of, Becomes, BeginsFree, IsFreeAt, gap, IsSpot}
 use Rattle.laws_heap.proofs.Becoming.{frame_start, frame_then}
 use Rattle.laws_heap.proofs.Placed.{PlacedParts, AnyPlaced-parts}
-use Rattle.heap_place.specs.Lists.{class_count, second_of, AreLists, HasLists, ButAt, Outside, KeepsFree, IsFreeChunk, Links, Pushes, CutsRoom}
+use Rattle.heap_place.specs.Lists.{class_count, AreLists, HasLists, ButAt, Outside, KeepsFree, IsFreeChunk, Links, Pushes, CutsRoom}
 use Rattle.heap_place.proofs.FoundLaws.{heap_in_parts, middle_of}
-use Rattle.heap_place.proofs.ListLaws.{popped, head_free, lists_weaker, lists_kept, push_lists}
-use Rattle.heap_place.proofs.KeepLaws.{free_there, others_outside}
+use Rattle.heap_place.proofs.ListLaws.{head_free, lists_weaker, lists_kept, push_lists}
+use Rattle.heap_place.proofs.KeepLaws.{free_there}
 
 -- ---- a free chunk of a list
 
@@ -49,12 +49,6 @@ spot_front image at size h some r = by_run r.run r.all_free r.sums r.chunks wher
   by_run (free n ∷ run) f sums e =
       let c : IsFreeChunk image at n = record { before = r.before; after = run ++ r.after; chunks = e; there = r.there } in
       subst (λ (k : ℕ). IsFreeChunk image at k) (sym (free_there image at n h c).size_field) c
-
-pub unlinked : (image heads : List ℕ) (at size class : ℕ) → HeapAccepted image → IsFreeChunk image at size → HasLists image heads → class < class_count → length heads ≡ class_count → slice_index heads class ≡ at → AreLists (Outside at size) image (slice_set heads class (second_of image at))
-unlinked image heads at size class h f a below len is =
-    let positive : 0 < at = (let there = f.there in omega arith) in
-    lists_weaker (ButAt at) (Outside at size) image (slice_set heads class (second_of image at)) (λ x b apart. others_outside image f.before size f.after at x h f.chunks f.there b apart)
-    (popped image heads class at a below len (sym is) positive)
 
 -- ---- what is left is put in its list
 

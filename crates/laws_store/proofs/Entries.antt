@@ -106,9 +106,6 @@ raised_sound d s =
       seed = h.seed;
     })
 
-pub raised_names : (q : ℕ) (d : Database ℕ) → times q (data_in (record d { header = raised_header d.header })) ≡ times q (data_in d)
-raised_names q d = refl
-
 -- ---- an entry replaced
 
 pub replaced_is : (entries : List (Entry ℕ)) (index : ℕ) (change : Entry ℕ → Entry ℕ) (e : Entry ℕ) → slice_get entries index ≡ Some e → replaced entries index change ≡ set entries index (change e)

@@ -1,10 +1,10 @@
 -- How often a number stands in a list, and what this says of its elements.
-use Rattle.std.proofs.Common.{◌≡◌, ◌≢◌, ℕ, zero, suc, ◌+◌, ◌<◌, ◌≤◌, cond, List, [], ◌∷◌, ◌++◌, length, map, get_or, set, refl, sym, arith, inl, inr}
+use Rattle.std.proofs.Common.{◌≡◌, ◌≢◌, ℕ, zero, suc, ◌+◌, ◌<◌, ◌≤◌, cond, List, [], ◌∷◌, ◌++◌, length, map, get_or, refl, sym, arith, inl, inr}
 use Rattle.std.proofs.lemmas.Bool.{cases_eq, cases_order, eq-eqb, ne_eqb}
 use Rattle.std.proofs.lemmas.List.Elements.{All-nil, All-cons, All-head, All-tail, All-append, All-contains}
 use Rattle.std.proofs.lemmas.List.Kept.{AllPairs-cons}
-use Rattle.std.proofs.lemmas.List.Sums.{sum_by-cons, sum_by-append, sum_by-set, sum_by-insert, sum_by-remove, get_or-le-sum_by}
-use Rattle.std.specs.Prelude.{◌==◌, All, insert}
+use Rattle.std.proofs.lemmas.List.Sums.{sum_by-cons, sum_by-append, sum_by-remove, get_or-le-sum_by}
+use Rattle.std.specs.Prelude.{◌==◌, All}
 use Rattle.std.specs.List.{Contains, flat_map, remove}
 use Rattle.heap_model.specs.Lists.{same, times, Distinct, Least, LeastPair}
 use Rattle.laws_heap.proofs.Deciding.{cond-true, cond-false}
@@ -23,14 +23,8 @@ times-cons q x xs = sum_by-cons (λ (y : ℕ). cond (y == q) 1 0) x xs
 pub times-append : (q : ℕ) (xs ys : List ℕ) → times q (xs ++ ys) ≡ times q xs + times q ys
 times-append q xs ys = sum_by-append (λ (y : ℕ). cond (y == q) 1 0) xs ys
 
-pub times-insert : (q : ℕ) (xs : List ℕ) (i x : ℕ) → times q (insert xs i x) ≡ times q xs + same x q
-times-insert q xs i x = sum_by-insert (λ (y : ℕ). cond (y == q) 1 0) xs i x
-
 pub times-remove : (q : ℕ) (xs : List ℕ) (i d : ℕ) → i < length xs → times q (remove xs i) + same (get_or xs i d) q ≡ times q xs
 times-remove q xs i d below = sum_by-remove (λ (y : ℕ). cond (y == q) 1 0) xs i d below
-
-pub times-set : (q : ℕ) (xs : List ℕ) (i x d : ℕ) → i < length xs → times q (set xs i x) + same (get_or xs i d) q ≡ times q xs + same x q
-times-set q xs i x d below = sum_by-set (λ (y : ℕ). cond (y == q) 1 0) xs i x d below
 
 -- ---- what stands in a list
 

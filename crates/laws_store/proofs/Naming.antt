@@ -3,8 +3,7 @@
 use Rattle.std.proofs.Common.{◌≡◌, ◌≢◌, ℕ, ◌+◌, ◌<◌, ◌≤◌, List, [], ◌∷◌, length, map, get_or, set, refl, ap, arith, inl, inr}
 use Rattle.std.proofs.lemmas.Bool.{cases_lt}
 use Rattle.std.proofs.lemmas.List.Elements.{All-contains}
-use Rattle.std.proofs.lemmas.List.Sums.{sum_by-cons, sum_by-set, sum_by-insert, sum_by-remove}
-use Rattle.std.specs.Prelude.{insert}
+use Rattle.std.proofs.lemmas.List.Sums.{sum_by-cons, sum_by-set, sum_by-remove}
 use Rattle.std.specs.List.{sum_by, flat_map, filter_map, remove}
 use Rattle.heap_model.specs.Lists.{same, times}
 use Rattle.heap_model.specs.Database.{Database, Entry, a_record, a_resource, entry_data, data_in}
@@ -46,13 +45,6 @@ named-set q stored i one d below =
     let new = times-named q (set stored i one) in
     let old = times-named q stored in
     let sums = sum_by-set (λ (s : StoredDatabase). times q (data_in s.database)) stored i one d below in
-    omega arith
-
-pub named-insert : (q : ℕ) (stored : List StoredDatabase) (i : ℕ) (one : StoredDatabase) → times q (named_by (insert stored i one)) ≡ times q (named_by stored) + times q (data_in one.database)
-named-insert q stored i one =
-    let new = times-named q (insert stored i one) in
-    let old = times-named q stored in
-    let sums = sum_by-insert (λ (s : StoredDatabase). times q (data_in s.database)) stored i one in
     omega arith
 
 pub named-remove : (q : ℕ) (stored : List StoredDatabase) (i : ℕ) (d : StoredDatabase) → i < length stored → times q (named_by (remove stored i)) + times q (data_in (get_or stored i d).database) ≡ times q (named_by stored)

@@ -7,7 +7,7 @@
 //! |---|---|
 //! | `Numbers` | numbers and the bytes that they stand in, both ways; lists by index |
 //! | `Listing` | how often a number stands in a list, and what this says of its elements; least numbers |
-//! | `Moving` | an element of a list moved: what stands where |
+//! | `Moving` | an element of a list moved: it is taken out and put in again, and the length and sums stay |
 //! | `Fresh`, `RecordIds` | fresh unique IDs: there is one, and one alone; those of records, by the indexes of their entries |
 //! | `Names` | names in their fields |
 //! | `Spellings` | what spells a database is read as that one |

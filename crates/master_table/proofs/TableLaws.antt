@@ -26,10 +26,6 @@ first_empty image number free e used =
     let stands : StandsBehind image free.name.0 free.before = subst (λ (k : ℕ). StandsBehind image free.name.0 k) (sym e.count) e.stands in
     record { stands = stands; is_slot = stands_slot image free.name.0 free.before stands; empty = e.empty; used = subst (λ (k : ℕ). UsedBefore image k) (sym e.count) used }
 
--- none is asked to be in use
-pub used_none : (image : List ℕ) → UsedBefore image 0
-used_none image = tt
-
 -- one more is in use
 pub used_more : (image : List ℕ) (k : ℕ) → k < slots_total image → UsedBefore image k → IsUsedAt image k → UsedBefore image (k + 1)
 used_more image k below used here =

@@ -1,20 +1,18 @@
 -- Lines behind one another.
-use Rattle.std.proofs.Common.{◌≡◌, ℕ, ◌+◌, ◌<◌, ◌≤◌, arith, cond, List, [], ◌∷◌, ◌++◌, length, take, get_or, refl, sym, ap, ◌∙◌, subst, append_assoc, append-nil, add-one, take-suc, Option, Some, true, false}
+use Rattle.std.proofs.Common.{◌≡◌, ℕ, ◌+◌, ◌<◌, ◌≤◌, arith, cond, List, [], ◌∷◌, ◌++◌, length, take, get_or, refl, sym, ap, ◌∙◌, subst, append_assoc, append-nil, add-one, take-suc, Option, Some, true}
 use Rattle.std.specs.Prelude.{count_by, Err}
 use Rattle.std.proofs.lemmas.List.Sums.{sum_by-append, sum_by-take-le}
 use Rattle.std.proofs.lemmas.Option.{slice_get-get_or}
 use Rattle.std.proofs.KnownBytes.{Appends-trans}
 use Rattle.heap_model.specs.Memory.{Memory}
 use Rattle.heap_model.specs.Counted.{Writing, Writes}
-use Rattle.heap_model.specs.MemorySteps.{MemoryCall}
-use Rattle.heap_model.specs.declared.call.Call.TheVariants.{Memory as OnMemory}
 use Rattle.heap_model.specs.declared.call.Reply.{Reply}
 use Rattle.heap_model.specs.declared.call.Reply.TheVariants.{Data}
 use Rattle.palm_text.specs.declared.output.WriteFault.{WriteFault}
 use Rattle.script_lines.specs.Labels.{is_export}
 use Rattle.script_lines.specs.declared.line.Line.{Line}
-use Rattle.script_lines.specs.declared.line.Line.TheVariants.{Bind, Export}
-use Rattle.palm_script.specs.Lines.{Bindings, BreaksOff, DoesLine, LineStep, Lines, bound_after, call_of, exported, reply_line, unbound}
+use Rattle.script_lines.specs.declared.line.Line.TheVariants.{Export}
+use Rattle.palm_script.specs.Lines.{Bindings, BreaksOff, DoesLine, LineStep, Lines, bound_after, exported, reply_line, unbound}
 
 -- ---- the lines up to one of them
 
@@ -22,12 +20,6 @@ pub take_one : (lines : List Line) (i : ℕ) (d : Line) → i < length lines →
 take_one lines i d within = rw add-one (take-suc lines i d within)
 
 -- ---- what lines export
-
--- a line whose call is one of the memory manager exports none
-pub memory_exports_none : (inputs : List (List ℕ)) (bound : Bindings) (line : Line) (call : MemoryCall) (reply : Reply) → call_of inputs bound line ≡ OnMemory call → exported line reply ≡ []
-memory_exports_none inputs bound (Export label) call reply is = cc
-memory_exports_none inputs bound (Bind label name) call reply is = refl
-memory_exports_none inputs bound line call reply is = refl
 
 -- no line exports more than one, and only one that is counted
 exports_one : (line : Line) (reply : Reply) → length (exported line reply) ≤ count_by is_export (line ∷ [])

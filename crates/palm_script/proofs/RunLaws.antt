@@ -4,7 +4,7 @@ use Rattle.std.proofs.Math.ListN.{drop_of_length-le}
 use Rattle.std.specs.Prelude.{Some, slice_get}
 use Rattle.heap_model.specs.Memory.{Memory}
 use Rattle.heap_model.specs.Space.{Still}
-use Rattle.heap_model.specs.Store.{Accepted, Means, store_of}
+use Rattle.heap_model.specs.Store.{Accepted}
 use Rattle.heap_model.specs.StoreSteps.{Call, DoesInStore, StoreStep}
 use Rattle.heap_model.specs.Runs.{Run}
 use Rattle.heap_model.specs.declared.call.Reply.{Reply}
@@ -16,9 +16,6 @@ use Rattle.palm_script.specs.Headline.{AnswersAsRun}
 -- what is a run from here on is one from the start, with these replies in front
 pub record GoesOn (start : Memory) (calls : List Call) (count : ℕ) (replies : List Reply) (here : Memory) : Type 0 where
   pub run : (rest : List Reply) (last : Memory) → Run here (drop count calls) rest last → Run start calls (replies ++ rest) last
-
-pub goes_on-nothing : (start : Memory) (calls : List Call) → GoesOn start calls 0 [] start
-goes_on-nothing start calls = record { run = λ rest last run. run }
 
 pub goes_on-one : (start : Memory) (calls : List Call) (i : ℕ) (replies : List Reply) (here : Memory) (call : Call) (reply : Reply) (next : Memory)
     → i < length calls → call ≡ get_or calls i call → GoesOn start calls i replies here → DoesInStore here call reply next → GoesOn start calls (i + 1) (replies ++ reply ∷ []) next

@@ -3,7 +3,7 @@ use Rattle.std.proofs.Common.{◌≡◌, ℕ, ◌+◌, ◌<◌, ◌≤◌, ◌^�
 use Rattle.std.specs.Prelude.{slice_get, IfSome, IfNone}
 use Rattle.heap_model.specs.Bytes.{u16_at}
 use Rattle.heap_model.specs.DatabaseFields.{header_size, attributes_at}
-use Rattle.heap_model.specs.Database.{Entry, Database, database_in, entry_in, entry_count_in, resources_in, entry_offset, has_resources, EntryFits, HasShape}
+use Rattle.heap_model.specs.Database.{Entry, Database, database_in, entry_in, entry_count_in, resources_in, entry_offset, has_resources, EntryFits}
 use Rattle.heap_model.specs.Store.{bytes_under, Accepted, store_of}
 use Rattle.heap_model.specs.StoreWords.{In}
 use Rattle.heap_model.specs.Leaving.{database_here}
@@ -80,12 +80,6 @@ read_here image body db database has body_is is =
     number_here image db.0 has ∙ ap (λ (d : Database ℕ). Some (record { db = db.0; database = d })) (ap database_in (sym body_is) ∙ sym is)
 
 -- ---- what is heard of an index
-
-pub offset_inside : (body : List ℕ) (index : ℕ) → HasShape body → index < entry_count_in body → entry_offset (resources_in body) (index + 1) ≤ length body
-offset_inside body index shape below =
-    let ends = shape.ends in
-    let least = offset_below (resources_in body) index (entry_count_in body) below in
-    omega (arith, ends, least)
 
 pub told_at : (body : List ℕ) (index : ℕ) (entry : Entry ℕ) (P : Entry ℕ → Type 0) → index < entry_count_in body → entry ≡ entry_in body index → P entry → OfEntry (slice_get (database_in body).entries index) P
 told_at body index entry P below is p =

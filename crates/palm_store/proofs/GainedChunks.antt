@@ -20,7 +20,7 @@ use Rattle.heap_model.specs.declared.names.Name.{Name}
 use Rattle.heap_model.specs.declared.refusal.Refusal.{Refusal}
 use Rattle.palm_store.specs.declared.databases.whole.WholeEntry.{WholeEntry}
 use Rattle.palm_store.specs.declared.databases.whole.BlockSizes.{BlockSizes}
-use Rattle.laws_heap.proofs.Becoming.{same_frame, frame_then}
+use Rattle.laws_heap.proofs.Becoming.{frame_then}
 use Rattle.laws_heap.proofs.Meanings.{held-zero}
 use Rattle.laws_store.proofs.Listing.{same-yes, same-no, times-cons, times-append}
 use Rattle.laws_store.proofs.Owners.{directory_owner}
@@ -167,29 +167,6 @@ makes_one old new name size h m lowers =
       one_at_most name other =
           let cons = times-cons other name [] in
           elim (cases_eq name other) [ inl e ↦ (let one = same-yes name other e in omega arith) | inr ne ↦ (let no = same-no name other ne in omega arith) ]
-
-no_times : (other : ℕ) → 0 < other → times other (0 ∷ []) ≡ 0
-no_times other some = (let cons = times-cons other 0 [] in let no = same-no 0 other (λ e. omega arith) in omega arith)
-
-pub makes_none : (image : List ℕ) → HeapAccepted image → MakesAll image image (None ∷ []) (0 ∷ [])
-makes_none image h = record {
-  gains = record { each = (refl, tt); once = λ name some. (let none = no_times name some in omega arith); others = λ name none. refl };
-  frame = same_frame image h;
-  still = λ name live e locked there. refl;
-  spends = refl;
-  stretches = λ name there now. refl;
-  slots = omega arith;
-}
-
-pub makes_nothing : (image : List ℕ) → HeapAccepted image → MakesAll image image [] []
-makes_nothing image h = record {
-  gains = record { each = tt; once = λ name some. omega arith; others = λ name none. refl };
-  frame = same_frame image h;
-  still = λ name live e locked there. refl;
-  spends = refl;
-  stretches = λ name there now. refl;
-  slots = omega arith;
-}
 
 -- ---- freed again
 

@@ -274,10 +274,6 @@ pub left_gets : (known : KnownIds) (left : FreeIds) (attributes one : ℕ) → I
 left_gets known left attributes one without id among (a_record old_attributes other slot) has = absurd ((left_among known.ids left one id without among).1 cc)
 left_gets known left attributes one without id among (a_resource kind other slot) has = has
 
-pub resource_gets : (known : KnownIds) (kind one : ℕ) → GetsNone known (with_info (infos.Resource kind one))
-resource_gets known kind one id among (a_record attributes other slot) has = has
-resource_gets known kind one id among (a_resource old_kind other slot) has = absurd cc
-
 -- ---- a new entry
 
 pub same_number : (store : Store) (one other : Db) → one.0 ≡ other.0 → ids_in store one ≡ ids_in store other

@@ -15,7 +15,7 @@ use Rattle.heap_model.specs.Space.{Still, place_under, free_slots, free_behind, 
 use Rattle.heap_model.specs.Maps.{changed, gone, put, sized}
 use Rattle.heap_model.specs.Store.{bytes_under, directory_bytes, owner_under, Accepted, listed}
 use Rattle.heap_model.specs.Leaving.{Leaves, NamesDirectory}
-use Rattle.laws_heap.proofs.Becoming.{same_frame, frame_then}
+use Rattle.laws_heap.proofs.Becoming.{frame_then}
 use Rattle.laws_heap.proofs.Directory.{named_start}
 use Rattle.laws_heap.proofs.Frames.{length-u32_bytes}
 use Rattle.mem_manager.specs.Lookup.{MakesNew}
@@ -30,7 +30,7 @@ use Rattle.heap_model.specs.MemorySteps.{Of, IsLocked, growth_checks}
 use Rattle.heap_model.specs.declared.refusal.Refusal.{Refusal}
 use Rattle.heap_model.specs.declared.refusal.Refusal.TheVariants.{NotEnoughSpace}
 use Rattle.laws_store.proofs.Parts.{made_then_short}
-use Rattle.mem_manager.specs.Lookup.{HasNoRoomFor, IsMovable}
+use Rattle.mem_manager.specs.Lookup.{IsMovable}
 use Rattle.palm_store.specs.Directory.{ListsLast, ListsNew, HasNoRoomToList}
 use Rattle.laws_store.proofs.Edited.{here as updated_here, apart as updated_apart}
 use Rattle.palm_store.proofs.Numbers.{no_directory}
@@ -51,9 +51,6 @@ pub made_kept : (old new : List ℕ) (name size : ℕ) → MakesNew old new name
 made_kept old new name size m = kept_apart old new name (made_apart old new name size m) (none_loose (held old name) m.fresh)
 
 -- ---- what was written
-
-written : List ℕ → ℕ → List ℕ → LiveChunk → LiveChunk
-written bytes at part live = record live { bytes = overwritten live.bytes at part }
 
 pub put_here : (old new : List ℕ) (name at : ℕ) (part : List ℕ) (live : LiveChunk) → Leaves old new (put (held old) name at part) → held old name ≡ Some live → held new name ≡ Some (record live { bytes = overwritten live.bytes at part })
 put_here old new name at part live l e =
@@ -206,9 +203,6 @@ few_bytes image a =
 
 -- ---- what a refusal leaves
 
-pub left_alone : (old new : List ℕ) → HeapAccepted old → new ≡ old → Leaves old new (held old)
-left_alone old new h e = subst (λ (image : List ℕ). Leaves old image (held old)) (sym e) (record { map = λ name. refl; frame = same_frame old h; still = λ name live is locked there. refl })
-
 -- a chunk that was made is freed again
 pub given_back : (old mid new : List ℕ) (slot size : ℕ) → MakesNew old mid slot size 0 → Leaves mid new (gone (held mid) slot) → Leaves old new (held old)
 given_back old mid new slot size m g = record {
@@ -243,12 +237,6 @@ parts_if image none =
 -- the call may have run out of room
 abbrev RunsOut : List ℕ → Bool → Type 0
 RunsOut image none = (free_slots image < slots_if none) ⊎ Stuck (rooms image) (parts_if image none)
-
-pub no_header : (image : List ℕ) → HasNoRoomFor image header_size → (free_slots image < create_slots image) ⊎ Stuck (rooms image) (create_parts image)
-no_header image lacks = by (directory_of image == 0) where
-  by : (none : Bool) → RunsOut image none
-  by true = elim lacks [ inl slots ↦ inl (omega arith) | inr short ↦ inr (inl short) ]
-  by false = elim lacks [ inl slots ↦ inl (omega arith) | inr short ↦ inr (inl short) ]
 
 pub no_listing : (old mid : List ℕ) (slot : ℕ) → HeapAccepted old → MakesNew old mid slot header_size 0 → Lowers old mid (need header_size) → HasNoRoomToList mid → (free_slots old < create_slots old) ⊎ Stuck (rooms old) (create_parts old)
 unfolding directory_bytes

@@ -1,7 +1,7 @@
 -- A new entry that came to a database with a chunk for its data, or found no room.
-use Rattle.std.proofs.Common.{◌≡◌, ◌≢◌, ℕ, ◌+◌, ◌<◌, ◌≤◌, Bool, List, [], ◌∷◌, length, replicate, Option, Some, None, refl, sym, ap, subst, ◌∙◌, arith, rules, inl, inr}
+use Rattle.std.proofs.Common.{◌≡◌, ◌≢◌, ℕ, ◌+◌, ◌<◌, ◌≤◌, Bool, List, [], ◌∷◌, length, replicate, Option, Some, None, refl, sym, ap, subst, ◌∙◌, arith, inl, inr}
 use Rattle.std.proofs.lemmas.Bool.{cases_eq}
-use Rattle.std.specs.Prelude.{◌⊎◌, IsSome}
+use Rattle.std.specs.Prelude.{◌⊎◌}
 use Rattle.heap_model.specs.Memory.{Memory}
 use Rattle.heap_model.specs.Chunk.{need}
 use Rattle.heap_model.specs.Heap.{HeapAccepted, directory_of}
@@ -71,10 +71,6 @@ database_still old mid db name size s m = database_kept old mid db (db_kept old 
 made_here : (old mid : List ℕ) (name size : ℕ) → MakesNew old mid name size 15 → held mid name ≡ chunk_made size
 unfolding chunk_made
 made_here old mid name size m = m.leaves.map name ∙ updated_here (held old) name (chunk_made size) name refl
-
-pub made_there : (old mid : List ℕ) (name size : ℕ) → MakesNew old mid name size 15 → IsSome (held mid name)
-unfolding chunk_made
-made_there old mid name size m = subst (λ (o : Option LiveChunk). IsSome o) (sym (made_here old mid name size m)) (search rules)
 
 pub made_no_directory : (old mid : List ℕ) (name size : ℕ) → HeapAccepted old → MakesNew old mid name size 15 → name ≢ directory_of mid
 unfolding owner_under chunk_made

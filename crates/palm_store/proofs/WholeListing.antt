@@ -19,7 +19,7 @@ use Rattle.laws_store.proofs.Creating.{managers_loose, slots_made}
 use Rattle.laws_store.proofs.Keeping.{directory_like}
 use Rattle.laws_store.proofs.Parts.{one_grown}
 use Rattle.laws_store.proofs.Edited.{here as updated_here, apart as updated_apart}
-use Rattle.mem_manager.specs.Lookup.{MakesNew, HasNoRoomFor}
+use Rattle.mem_manager.specs.Lookup.{MakesNew}
 use Rattle.palm_store.specs.Directory.{HasNoRoomToList}
 use Rattle.heap_model.specs.FileSteps.{makings, listing_part, listing_slots, whole_parts, whole_slots}
 use Rattle.palm_store.specs.WholeDatabases.{IsGained, RunsOut, MakesAll, MakesAndLists, ListsWhole}
@@ -104,10 +104,6 @@ keeps_made old mid slot size m lowers = record {
   stretches = lowers.kept;
   kept = λ name live e. made_apart old mid slot size m name (λ same. no_both (held old name) live (ap (held old) same ∙ m.fresh) e) ∙ e;
 }
-
--- no room for the header, or none for what is made after it
-pub no_header_room : (image : List ℕ) (size : ℕ) (sizes : List (Option ℕ)) → HasNoRoomFor image size → RunsOut image (whole_slots image sizes) (whole_parts image size sizes)
-no_header_room image size sizes lacks = elim lacks [ inl slots ↦ inl (omega arith) | inr short ↦ inr (inl short) ]
 
 pub no_rest_room : (old mid : List ℕ) (slot size : ℕ) (sizes : List (Option ℕ)) → HeapAccepted old → MakesNew old mid slot size 0 → Lowers old mid (need size)
     → RunsOut mid (length (makings sizes) + listing_slots mid) (makings sizes ++ listing_part mid ∷ []) → RunsOut old (whole_slots old sizes) (whole_parts old size sizes)

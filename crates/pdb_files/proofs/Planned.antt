@@ -12,9 +12,6 @@ use Rattle.pdb_format.proofs.WrittenFiles.{still_deleted}
 use Rattle.pdb_files.specs.Plans.{IsPlannedAs, HasIdsFor, id_planned, IsPlannedOf, ArePlannedOf}
 use Rattle.pdb_files.proofs.FileBlocks.{none_planned, record_block, resource_block}
 
-abbrev size_in : List ℕ → ℕ → Option ℕ
-size_in file index = size_of_block (get_or (blocks_in file) (2 + index) None)
-
 pub record_planned : (file ids : List ℕ) (index attributes id at given idle : ℕ) (size : Option ℕ) → HasNoFault file → index < entry_count_in file → HasIdsFor file ids → a_record attributes id at ≡ entry_in file index → false ≡ resources_in file
     → size ≡ size_of_block (get_or (blocks_in file) (2 + index) None) → idle ≡ idle_attributes attributes → given ≡ get_or ids index 0 → IsPlannedOf file ids index (whole.Record idle given size)
 record_planned file ids index attributes id at given idle size good inside have is kind sized clear gives =
@@ -49,9 +46,6 @@ resource_planned file ids index kind id at bytes size good inside is resources s
 }
 
 -- ---- one after the other
-
-pub none_yet : (file ids : List ℕ) → ArePlannedOf file ids [] 0
-none_yet file ids = record { long = refl; each = λ index d below. absurd (omega arith) }
 
 pub one_more : (file ids : List ℕ) (entries : List WholeEntry) (count : ℕ) (entry : WholeEntry) → ArePlannedOf file ids entries count → IsPlannedOf file ids count entry → ArePlannedOf file ids (entries ++ entry ∷ []) (count + 1)
 one_more file ids entries count entry are is =

@@ -5,11 +5,8 @@ use Rattle.heap_model.specs.Heap.{HeapAccepted}
 use Rattle.heap_model.specs.Store.{listed, Accepted}
 use Rattle.laws_store.proofs.Listing.{no_least, no_least_pair}
 use Rattle.heap_check.specs.Faults.{FirstBrought}
-use Rattle.heap_check.specs.Faults as heaps
-use Rattle.heap_check.specs.declared.fault.HeapFault.{HeapFault}
 use Rattle.heap_check.proofs.CheckLaws as laws_heap
 use Rattle.store_check.specs.declared.fault.StoreFault.{StoreFault}
-use Rattle.store_check.specs.declared.fault.StoreFault.TheVariants.{Heap}
 use Rattle.store_check.specs.Listing.{listed_count, IsListing}
 use Rattle.store_check.specs.Faults.{IsBadSlot, IsBadHeader, IsBadEntry, slot_faults, header_faults, entry_faults, store_faults, NoneBrought}
 use Rattle.store_check.specs.Naming.{AreNamed}
@@ -53,12 +50,6 @@ own_first image fault n f = elim f [ inl none ↦ inl none | inr first ↦ inr (
 
 pub none_accepted : (image : List ℕ) → HeapAccepted image → AreBytes image → NoneBrought (marked_faults image) → NoneBrought (own_faults image) → Accepted image
 none_accepted image h b n o = (accepted_none image h b).1 (none_both (marked_faults image) (own_faults image) n o)
-
-pub heap_first : (image : List ℕ) (first : HeapFault) → heaps.IsFirstFault image first → IsAnswered image (Heap first)
-heap_first image first f = inr (inl (first, f, refl))
-
-pub heap_refused : (image : List ℕ) (first : HeapFault) → heaps.IsFirstFault image first → Accepted image → ⊥
-heap_refused image first f a = laws_heap.refuses image first f a.heap
 
 pub store_first : (image : List ℕ) (fault : StoreFault) → HeapAccepted image → IsFirstOr (store_faults image) fault → IsAnswered image fault
 store_first image fault h f = elim f [ inl none ↦ inl (none, h) | inr first ↦ inr (inr (λ other row. laws_heap.refuses image row.0 row.1 h, first)) ]

@@ -1,8 +1,8 @@
 -- What passes over the headers and the entries find.
-use Rattle.std.proofs.Common.{◌≡◌, ℕ, ◌+◌, ◌<◌, List, sym, subst, arith, inl, inr}
+use Rattle.std.proofs.Common.{◌≡◌, ℕ, ◌+◌, ◌<◌, List, subst, arith, inl, inr}
 use Rattle.std.proofs.lemmas.Bool.{cases_lt}
 use Rattle.store_check.specs.Listing.{header_at}
-use Rattle.store_check.specs.Faults.{HasHeader, IsBadHeader, HasBadEntry, IsBadEntry}
+use Rattle.store_check.specs.Faults.{HasHeader, IsBadHeader}
 
 -- none so far, and not this one
 pub none_more : (P : ℕ → Type 0) (n : ℕ) → (P n → ⊥) → ((k : ℕ) → k < n → P k → ⊥) → (k : ℕ) → k < n + 1 → P k → ⊥
@@ -10,6 +10,3 @@ none_more P n good none k below bad = elim (cases_lt k n) [ inl less ↦ none k 
 
 pub header_good : (image bytes : List ℕ) (db : ℕ) → bytes ≡ header_at image db → HasHeader image bytes → IsBadHeader image db → ⊥
 header_good image bytes db is has bad = bad.1 (subst (HasHeader image) is has)
-
-pub entries_good : (image bytes : List ℕ) (db : ℕ) → bytes ≡ header_at image db → ((index : ℕ) → HasBadEntry image bytes index → ⊥) → (index : ℕ) → IsBadEntry image db index → ⊥
-entries_good image bytes db is none index bad = none index (subst (λ (b : List ℕ). HasBadEntry image b index) (sym is) bad.1)

@@ -1,19 +1,16 @@
 -- What a pass over the directory finds.
-use Rattle.std.proofs.Common.{◌≡◌, ℕ, zero, suc, ◌+◌, ◌*◌, ◌<◌, ◌≤◌, List, [], ◌∷◌, ◌++◌, length, refl, sym, ap, subst, ◌∙◌, arith, inl, inr}
+use Rattle.std.proofs.Common.{◌≡◌, ℕ, zero, suc, ◌+◌, ◌*◌, ◌<◌, ◌≤◌, List, [], ◌∷◌, ◌++◌, length, sym, ap, subst, ◌∙◌, arith, inl, inr}
 use Rattle.std.proofs.lemmas.Bool.{cases_eq, cases_lt}
 use Rattle.std.specs.Prelude.{◌⊎◌, ◌↔◌}
-use Rattle.heap_model.specs.Heap.{HeapAccepted, directory_of}
+use Rattle.heap_model.specs.Heap.{directory_of}
 use Rattle.heap_model.specs.Lists.{same, times, numbered}
 use Rattle.heap_model.specs.Store.{managers_owner, owner_under, directory_bytes, listed, most_databases, IsHeaderSlot}
-use Rattle.heap_check.specs.Faults.{FirstBrought}
 use Rattle.laws_store.proofs.Listing.{same-yes, same-no, times-cons}
 use Rattle.laws_store.proofs.Numbers.{numbered_more}
-use Rattle.store_check.specs.declared.fault.StoreFault.TheVariants.{BadDirectorySlot}
-use Rattle.store_check.specs.Listing.{listed_at, listed_count, IsListing}
-use Rattle.store_check.specs.Faults.{IsBadSlot, slot_faults, NoneBrought}
+use Rattle.store_check.specs.Listing.{listed_at, listed_count}
+use Rattle.store_check.specs.Faults.{IsBadSlot}
 use Rattle.store_check.specs.Naming.{met, AreMarks}
 use Rattle.store_check.proofs.Indexing.{times_index, index_times}
-use Rattle.store_check.proofs.FaultLaws.{SlotsRight, few_listed, header_slot}
 
 -- a complete word of the directory, by its owner and its mark
 pub word_bad : (image : List ℕ) (index slot : ℕ) → 4 * index + 4 ≤ length (directory_bytes image) → index < most_databases → slot ≡ listed_at image index
@@ -60,12 +57,6 @@ pub record SlotsSoFar (image marks : List ℕ) (index : ℕ) : Type 0 where
   pub marked : AreMarks image (met image index) marks
   pub few : index ≤ most_databases
 
-pub slots_begin : (image marks : List ℕ) → AreMarks image (directory_of image ∷ []) marks → SlotsSoFar image marks 0
-slots_begin image marks m = record { none_bad = λ earlier below bad. omega arith; marked = m; few = omega arith }
-
-pub slots_first : (image marks : List ℕ) (index : ℕ) → SlotsSoFar image marks index → IsBadSlot image index → FirstBrought (slot_faults image) (BadDirectorySlot index)
-slots_first image marks index g bad = inl (index, record { here = bad; none_below = g.none_bad }, refl)
-
 -- a word that isn't bad is complete, and one of the first 1,024
 good_word : (image : List ℕ) (index : ℕ) → 4 * index < length (directory_bytes image) → (IsBadSlot image index → ⊥) → (4 * index + 4 ≤ length (directory_bytes image)) × (index < most_databases)
 good_word image index inside good = (
@@ -89,18 +80,6 @@ slots_more image marks new index slot e inside good m g = record {
 }
 
 -- ---- at the end
-
-pub all_right : (image marks : List ℕ) (index : ℕ) → length (directory_bytes image) ≤ 4 * index → SlotsSoFar image marks index → SlotsRight image
-all_right image marks index all g k bad = let inside = bad.0 in g.none_bad k (omega arith) bad
-
-pub slots_none : (image : List ℕ) → SlotsRight image → NoneBrought (slot_faults image)
-slots_none image right = (λ fault row. right row.0 row.1.here, tt)
-
-pub slots_listing : (image directory : List ℕ) → HeapAccepted image → directory ≡ directory_bytes image → SlotsRight image → IsListing image directory
-slots_listing image directory h e right =
-    let len = ap length e in
-    let few = few_listed image right in
-    record { heap = h; bytes = e; count = omega arith; few = omega arith; headers = header_slot image right }
 
 -- the last word was complete
 pub slots_marked : (image marks : List ℕ) (index : ℕ) → length (directory_bytes image) ≤ 4 * index → 4 * index < length (directory_bytes image) + 4 → SlotsSoFar image marks index → AreMarks image (directory_of image ∷ listed image) marks

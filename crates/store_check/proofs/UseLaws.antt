@@ -1,10 +1,9 @@
 -- Marks of what one entry, one database more names.
-use Rattle.std.proofs.Common.{◌≡◌, ℕ, suc, ◌+◌, List, [], ◌∷◌, ◌++◌, map, refl, sym, ap, ◌∙◌, arith, append_assoc}
+use Rattle.std.proofs.Common.{◌≡◌, ℕ, suc, ◌+◌, List, [], ◌∷◌, ◌++◌, map, sym, ap, ◌∙◌, arith, append_assoc}
 use Rattle.std.proofs.lemmas.List.{map-append, append-nil}
 use Rattle.std.proofs.lemmas.Grind.{flat_map-append}
 use Rattle.std.specs.List.{flat_map}
 use Rattle.heap_model.specs.Bytes.{u32_at}
-use Rattle.heap_model.specs.Heap.{directory_of}
 use Rattle.heap_model.specs.Lists.{numbered}
 use Rattle.heap_model.specs.Database.{entry_data, data_in, entry_in, entry_count_in, database_in}
 use Rattle.heap_model.specs.Store.{StoredDatabase, listed, database_under, databases, named_by, named}
@@ -61,8 +60,3 @@ named_more image xs bytes db e =
 pub named_all : (image xs : List ℕ) (db : ℕ) → db ≡ listed_count image → xs ++ named_below image db ≡ xs ++ named image
 unfolding named databases listed
 named_all image xs db e = ap (λ (n : ℕ). xs ++ named_below image n) e
-
--- ---- all that is accounted for
-
-pub all_accounted : (image : List ℕ) → (directory_of image ∷ listed image) ++ named image ≡ directory_of image ∷ (listed image ++ named image)
-all_accounted image = refl
