@@ -11,10 +11,9 @@
  * chunk, the first stretch that has it is packed, by one move for each chunk that goes down over the free
  * one in front of it; that drops the lists, and puts what is free behind the packed chunks into its own. Where
  * the stretch isn't the whole heap, they are not built with this chunk, so that no walk follows the packing. A
- * chunk that is to be larger than it and the free chunks behind it goes to a free run that
- * has the room, which is looked for from the first chunk on; else its stretch is packed, and what is behind
- * it is lifted in one move; else another stretch is packed. No chunk here is fixed, so that a name of no
- * slot names nothing.
+ * chunk that is to be larger than it and the free chunks behind it goes where a new one would go; else its
+ * stretch is packed, and what is behind it is lifted in one move; else another stretch is packed. No chunk here is
+ * fixed, so that a name of no slot names nothing.
  */
 #ifndef HEAP_H
 #define HEAP_H
@@ -205,6 +204,12 @@ static bool find_listed(const struct heap *heap, uint32_t size, uint32_t *at, ui
     return false;
 }
 
+/* Finds a free chunk at the front of a list or a run of free chunks that has `size` bytes. */
+static bool find_room(const struct heap *heap, uint32_t size, uint32_t *at, uint32_t *found)
+{
+    return find_listed(heap, size, at, found) || find_run(heap, size, at, found);
+}
+
 /* Takes a free chunk out of its list. Where it isn't among the first `probes`, the lists are dropped. */
 static void take_out(struct heap *heap, uint32_t at, uint32_t size, size_t probes)
 {
@@ -356,7 +361,7 @@ static void lift(struct heap *heap, uint32_t start, uint32_t end, uint32_t gap)
 static bool make_room(struct heap *heap, uint32_t size, uint32_t *run_at, uint32_t *run_size)
 {
     uint32_t start, end, room;
-    if (find_listed(heap, size, run_at, run_size) || find_run(heap, size, run_at, run_size))
+    if (find_room(heap, size, run_at, run_size))
         return true;
     if (!find_stretch(heap, size, &start, &end))
         return false;
@@ -488,7 +493,7 @@ static bool resize_by_moving(struct heap *heap, uint32_t name, const struct foun
     uint32_t at, run, start, end;
     if (size == 0)
         return false;
-    if (find_run(heap, size, &at, &run)) {
+    if (find_room(heap, size, &at, &run)) {
         relocate(heap, name, length, at, run);
         return true;
     }

@@ -10,14 +10,14 @@ use Rattle.heap_model.specs.Meaning.{LiveChunk}
 use Rattle.heap_model.specs.Reading.{chunks_of, held}
 use Rattle.heap_model.specs.Maps.{changed}
 use Rattle.heap_model.specs.Space.{NoRun, ShortFor, Short, FitsInPlace, MovesAlone, MovesOneStretchAnd, free_front, room_of}
-use Rattle.heap_model.specs.Layout.{IsRoom}
+use Rattle.heap_model.specs.Layout.{IsSpot}
 use Rattle.heap_model.specs.Packing.{SlidesOneStretch, OpensBehind}
 use Rattle.heap_model.specs.Resizing.{with_length, GrowsInPlace, Relocates}
 use Rattle.laws_heap.proofs.Becoming.{frame_then}
 use Rattle.laws_heap.proofs.Exchanging.{ChangesName}
 use Rattle.laws_heap.proofs.Resizings.{live_sized, grow_changes, finds_behind, opened_behind}
 use Rattle.laws_heap.proofs.Relocation.{relocate_changes}
-use Rattle.laws_heap.proofs.Fits.{room_not_short_for}
+use Rattle.laws_heap.proofs.Fits.{spot_not_short_for}
 use Rattle.laws_heap.proofs.Compacting.{slides_alike, slides_move_one, opens_one}
 use Rattle.laws_heap.proofs.Stretches.{short_for_parts, room_of-middle}
 use Rattle.laws_heap.proofs.ChangedName.{held_updated}
@@ -81,14 +81,14 @@ grown_resized old new found count told h f unlocked fits tells grows =
     (grow_changes old new found.name.0 found.place.0 count f.live (movable bytes lock owner slot) h f.behind_header g reaches (OnTrue_at (tell.1 reaches) grows)))
     (tells f)
 
-relocated_resized : (old new : List ℕ) (found : Found) (at size count : ℕ) → HeapAccepted old → IsOne old found → found.lock ≡ 0 → IsRoom old at size → need count ≤ size → RelocatesFound old new found at count → ChangedAlone old new found.name.0 count
+relocated_resized : (old new : List ℕ) (found : Found) (at size count : ℕ) → HeapAccepted old → IsOne old found → found.lock ≡ 0 → IsSpot old at size → need count ≤ size → RelocatesFound old new found at size count → ChangedAlone old new found.name.0 count
 relocated_resized old new found at size count h f unlocked r fits moved =
-    when_movable old found.name.0 found f (λ c g. Relocates old new (found.place.0 - 8) at (with_length count c) → ChangedAlone old new found.name.0 count) (λ e. omega arith)
+    when_movable old found.name.0 found f (λ c g. Relocates old new (found.place.0 - 8) at size (with_length count c) → ChangedAlone old new found.name.0 count) (λ e. omega arith)
     (λ bytes lock owner slot g x. changed_alone old new found.name.0 count f.live (Some (at + 8)) (one_held old found h f) (sym f.lock_is ∙ unlocked)
-    (relocate_changes old new found.name.0 (found.place.0 - 8) at size count f.live bytes lock owner slot h g (omega arith) r fits x))
+    (relocate_changes old new found.name.0 (found.place.0 - 8) at size count f.live bytes lock owner slot h g r fits x))
     (moved f)
 
--- of a free run that has the room, where there is one
+-- of room that has the size, where there is any
 pub run_resized : (old new : List ℕ) (found : Found) (count : ℕ) → HeapAccepted old → IsOne old found → found.lock ≡ 0 → RelocatesToRun old new found count → ChangedAlone old new found.name.0 count
 run_resized old new found count h f unlocked r = relocated_resized old new found r.at r.size count h f unlocked r.room r.enough r.moved
 
@@ -98,7 +98,7 @@ moved_resized old new found count true h f unlocked has none moved = run_resized
 moved_resized old new found count false h f unlocked has none moved = absurd (has none)
 
 pub run_not_short : (old new : List ℕ) (found : Found) (count : ℕ) → RelocatesToRun old new found count → ShortFor old found.name.0 (need count) → ⊥
-run_not_short old new found count r = room_not_short_for old found.name.0 r.at r.size (need count) (omega arith) r.room r.enough
+run_not_short old new found count r = spot_not_short_for old found.name.0 r.at r.size (need count) (omega arith) r.room r.enough
 
 -- ---- a stretch has slid before
 

@@ -4,7 +4,7 @@ use Rattle.heap_model.specs.Bytes.{sized_to}
 use Rattle.heap_model.specs.Chunk.{Chunk, free, movable, fixed, size_of}
 use Rattle.heap_model.specs.Slots.{area_start}
 use Rattle.heap_model.specs.Space.{free_front}
-use Rattle.heap_model.specs.Layout.{layout_of, Becomes, Exchanges, gap, in_front, freed}
+use Rattle.heap_model.specs.Layout.{layout_of, Becomes, Exchanges, gap, in_front, freed, IsSpot}
 
 -- with so many bytes, if it is live: its first ones, or all of its own and zeros behind them
 abbrev pub with_length : ℕ → Chunk → Chunk
@@ -47,5 +47,6 @@ unfoldable pub relocated : ℕ → ℕ → Chunk → ℕ → List Chunk → List
 relocated here there moved at [] = []
 relocated here there moved at (chunk ∷ chunks) = (if at == here then freed chunk ∷ [] else if at == there then in_front moved chunk else chunk ∷ []) ++ relocated here there moved (at + size_of chunk) chunks
 
-abbrev pub Relocates : List ℕ → List ℕ → ℕ → ℕ → Chunk → Type 0
-Relocates old new here there moved = Becomes old new (relocated here there moved (area_start old) (layout_of old))
+-- A chunk goes from one offset to the front of room at another, as this one. The free chunks of the room count as one.
+abbrev pub Relocates : List ℕ → List ℕ → ℕ → ℕ → ℕ → Chunk → Type 0
+Relocates old new here there room moved = (r : IsSpot old there room) → Becomes old new (relocated here there moved (area_start old) (r.before ++ free room ∷ r.after))

@@ -3,7 +3,7 @@ use Rattle.std.proofs.Common.{◌≡◌, ◌≢◌, ℕ, ◌-◌, ◌≤◌, Lis
 use Rattle.heap_model.specs.Chunk.{need}
 use Rattle.heap_model.specs.Heap.{HeapAccepted, directory_of}
 use Rattle.heap_model.specs.Reading.{held}
-use Rattle.heap_model.specs.Layout.{IsRoom}
+use Rattle.heap_model.specs.Layout.{IsSpot}
 use Rattle.heap_model.specs.Resizing.{with_length, Relocates}
 use Rattle.heap_model.specs.Store.{managers_owner, owner_of, owner_under}
 use Rattle.heap_model.specs.Leaving.{NamesDirectory}
@@ -33,12 +33,12 @@ pub some_name : (image : List ℕ) (found : Found) → HeapAccepted image → Is
 some_name image found h f none = let nothing = sym (one_held image found h f) ∙ ap (held image) none ∙ held-zero image h in absurd cc
 
 -- the directory's chunk is the manager's once it was moved
-pub moved_owner : (old mid new : List ℕ) (found : Found) (at size count : ℕ) → HeapAccepted old → IsOne old found → found.lock ≡ 0 → found.name.0 ≡ directory_of old → NamesDirectory old mid 0 → IsRoom mid at size → need count ≤ size → RelocatesFound mid new found at count
+pub moved_owner : (old mid new : List ℕ) (found : Found) (at size count : ℕ) → HeapAccepted old → IsOne old found → found.lock ≡ 0 → found.name.0 ≡ directory_of old → NamesDirectory old mid 0 → IsSpot mid at size → need count ≤ size → RelocatesFound mid new found at size count
     → owner_under new found.name.0 ≡ managers_owner
 unfolding owner_under
 moved_owner old mid new found at size count h f unlocked is n r fits moved =
     let g : IsOne mid found = named_one old mid 0 found n f in
     let owned : f.live.owner ≡ managers_owner = directory_owned old f.live h (sym (ap (held old) is) ∙ one_held old found h f) in
-    when_movable mid found.name.0 found g (λ c k. Relocates mid new (found.place.0 - 8) at (with_length count c) → owner_of (held new found.name.0) ≡ managers_owner) (λ e. omega arith)
-    (λ bytes lock owner slot k x. ap owner_of (relocate_changes mid new found.name.0 (found.place.0 - 8) at size count f.live bytes lock owner slot n.accepted k (omega arith) r fits x).here ∙ owned)
+    when_movable mid found.name.0 found g (λ c k. Relocates mid new (found.place.0 - 8) at size (with_length count c) → owner_of (held new found.name.0) ≡ managers_owner) (λ e. omega arith)
+    (λ bytes lock owner slot k x. ap owner_of (relocate_changes mid new found.name.0 (found.place.0 - 8) at size count f.live bytes lock owner slot n.accepted k r fits x).here ∙ owned)
     (moved g)

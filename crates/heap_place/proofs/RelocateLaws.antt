@@ -12,16 +12,16 @@ use Rattle.heap_model.specs.Meaning.{LiveChunk, NamedHere}
 use Rattle.heap_model.specs.Reading.{chunks_of, held}
 use Rattle.heap_model.specs.Space.{NoRun, place_of}
 use Rattle.heap_model.specs.Placing.{Finds}
-use Rattle.heap_model.specs.Layout.{Becomes, Exchanges, Alters, in_front, freed, with_bytes, IsRoom, WritesPlain}
+use Rattle.heap_model.specs.Layout.{Becomes, Alters, freed, with_bytes, IsSpot, Claims, WritesPlain}
 use Rattle.heap_model.specs.Resizing.{with_length, Relocates}
 use Rattle.laws_heap.proofs.Finding.{held_finds, finds_spelled, finds_body}
 use Rattle.laws_heap.proofs.Altering.{finds_place, body_stays}
 use Rattle.laws_heap.proofs.Exchanging.{ChangesName}
 use Rattle.laws_heap.proofs.FixedNames.{fixed_name, fixed_live, fixed_has_name, fixed_live_is}
-use Rattle.laws_heap.proofs.Changing.{claim_changes, room_unheld, bytes_changes, freed_changes}
+use Rattle.laws_heap.proofs.Changing.{bytes_changes, freed_changes}
+use Rattle.laws_heap.proofs.Spots.{claims_change, spot_unheld, spot_is_run}
 use Rattle.laws_heap.proofs.Resizings.{length-sized_to}
 use Rattle.laws_heap.proofs.Relocation.{relocates}
-use Rattle.laws_heap.proofs.Fits.{room_is_run}
 use Rattle.laws_heap.proofs.Compacting.{slot_unheld}
 use Rattle.laws_heap.proofs.Chunks.{Spelled-same}
 use Rattle.laws_heap.proofs.Frames.{u32_at-written, length-overwritten}
@@ -80,26 +80,26 @@ found_kept old new name now there found h ch apart f =
 abbrev pub zeros_live : ℕ → LiveChunk
 zeros_live count = fixed_live (replicate count 0) 1
 
-pub stand_changes : (old new : List ℕ) (at size count : ℕ) → HeapAccepted old → IsRoom old at size → need count ≤ size → Exchanges old new at (in_front (fixed (replicate count 0) 1)) → ChangesName old new (fixed_name at) (Some (zeros_live count)) (Some (at + 8))
+pub stand_changes : (old new : List ℕ) (at size count : ℕ) → HeapAccepted old → IsSpot old at size → need count ≤ size → Claims old new at size (fixed (replicate count 0) 1) → ChangesName old new (fixed_name at) (Some (zeros_live count)) (Some (at + 8))
 stand_changes old new at size count h r fits x =
     let many : length (replicate {A = ℕ} count 0) ≡ count = length-replicate count 0 in
     let takes : need (length (replicate {A = ℕ} count 0)) ≡ need count = ap need many in
-    claim_changes old new at size (fixed_name at) (zeros_live count) (fixed (replicate count 0) 1) h (omega arith) r (room_unheld old at size h (omega arith) r) x (omega arith) (fixed_has_name at (replicate count 0) 1 (omega arith))
+    claims_change old new at size (fixed_name at) (zeros_live count) (fixed (replicate count 0) 1) h (omega arith) r (spot_unheld old at size h (omega arith) r) x (omega arith) (fixed_has_name at (replicate count 0) 1 (omega arith))
 
-pub stands_there : (old new : List ℕ) (at size count : ℕ) → HeapAccepted old → IsRoom old at size → need count ≤ size → Exchanges old new at (in_front (fixed (replicate count 0) 1)) → IsOne new (stand_in at count)
+pub stands_there : (old new : List ℕ) (at size count : ℕ) → HeapAccepted old → IsSpot old at size → need count ≤ size → Claims old new at size (fixed (replicate count 0) 1) → IsOne new (stand_in at count)
 stands_there old new at size count h r fits x =
     let ch = stand_changes old new at size count h r fits x in
     found_held new (stand_in at count) (zeros_live count) ch.frame.accepted ch.here ch.place (sym (length-replicate count 0)) refl refl
 
 -- nothing else has its name
-pub stand_apart : (old : List ℕ) (at size count : ℕ) (found : Found) → HeapAccepted old → IsRoom old at size → need count ≤ size → IsOne old found → found.name.0 ≢ fixed_name at
+pub stand_apart : (old : List ℕ) (at size count : ℕ) (found : Found) → HeapAccepted old → IsSpot old at size → need count ≤ size → IsOne old found → found.name.0 ≢ fixed_name at
 stand_apart old at size count found h r fits f e =
-    let none = room_unheld old at size h (omega arith) r in
+    let none = spot_unheld old at size h (omega arith) r in
     absurd (no f.live (sym (one_held old found h f) ∙ ap (held old) e ∙ none)) where
       no : (live : LiveChunk) → Some live ≡ None → ⊥
       no live x = absurd cc
 
-pub stand_keeps : (old new : List ℕ) (at size count : ℕ) → HeapAccepted old → IsRoom old at size → need count ≤ size → Exchanges old new at (in_front (fixed (replicate count 0) 1)) → KeepsFound old new
+pub stand_keeps : (old new : List ℕ) (at size count : ℕ) → HeapAccepted old → IsSpot old at size → need count ≤ size → Claims old new at size (fixed (replicate count 0) 1) → KeepsFound old new
 stand_keeps old new at size count h r fits x found f = found_kept old new (fixed_name at) _ _ found h (stand_changes old new at size count h r fits x) (stand_apart old at size count found h r fits f) f
 
 -- ---- a fixed chunk gets the name of a slot
@@ -246,9 +246,9 @@ same_found old new found h k e f g = same f.live g.live (sym (one_held new found
   same : (x y : LiveChunk) → Some y ≡ Some x → y ≡ x
   same x y e = cc
 
-pub relocated_found : (s0 s1 s2 s3 s4 : List ℕ) (found there : Found) (at size count : ℕ) → HeapAccepted s0 → (f : IsOne s0 found) → found.lock ≡ 0 → IsRoom s0 at size → need count ≤ size → there ≡ stand_in at count → Exchanges s0 s1 at (in_front (fixed (replicate count 0) 1)) → KeepsFound s0 s1 → Copies s1 s2 found there
-    → Alters s2 s3 (found.place.0 - 8) freed → Alters s3 s4 (there.place.0 - 8) (with_name found.owner found.name.0) → Relocates s0 s4 (found.place.0 - 8) at (with_length count f.chunk)
-relocated_found s0 s1 s2 s3 s4 found there at size count h f unlocked r fits is made keeps copied gone named = when_movable s0 found.name.0 found f (λ c g. Relocates s0 s4 (found.place.0 - 8) at (with_length count c)) (λ e. omega arith) of_movable where
+pub relocated_found : (s0 s1 s2 s3 s4 : List ℕ) (found there : Found) (at size count : ℕ) → HeapAccepted s0 → (f : IsOne s0 found) → found.lock ≡ 0 → IsSpot s0 at size → need count ≤ size → there ≡ stand_in at count → Claims s0 s1 at size (fixed (replicate count 0) 1) → KeepsFound s0 s1 → Copies s1 s2 found there
+    → Alters s2 s3 (found.place.0 - 8) freed → Alters s3 s4 (there.place.0 - 8) (with_name found.owner found.name.0) → Relocates s0 s4 (found.place.0 - 8) at size (with_length count f.chunk)
+relocated_found s0 s1 s2 s3 s4 found there at size count h f unlocked r fits is made keeps copied gone named = when_movable s0 found.name.0 found f (λ c g. Relocates s0 s4 (found.place.0 - 8) at size (with_length count c)) (λ e. omega arith) of_movable where
   first : ChangesName s0 s1 (at + 8) (Some (zeros_live count)) (Some (at + 8))
   first = stand_changes s0 s1 at size count h r fits made
 
@@ -264,7 +264,7 @@ relocated_found s0 s1 s2 s3 s4 found there at size count h f unlocked r fits is 
   part_is : again.live ≡ f.live
   part_is = same_found s0 s1 found h first.frame.accepted (first.others found.name.0 (stand_apart s0 at size count found h r fits f)) f again
 
-  of_movable : (bytes : List ℕ) (lock owner slot : ℕ) (g : Finds s0 found.name.0 f.live (movable bytes lock owner slot) (found.place.0 - 8)) → Relocates s0 s4 (found.place.0 - 8) at (movable (sized_to bytes count) lock owner slot)
+  of_movable : (bytes : List ℕ) (lock owner slot : ℕ) (g : Finds s0 found.name.0 f.live (movable bytes lock owner slot) (found.place.0 - 8)) → Relocates s0 s4 (found.place.0 - 8) at size (movable (sized_to bytes count) lock owner slot)
   of_movable bytes lock owner slot g =
       let zeros : List ℕ = replicate count 0 in
       let part : List ℕ = take count again.live.bytes in
@@ -278,7 +278,7 @@ relocated_found s0 s1 s2 s3 s4 found there at size count h f unlocked r fits is 
       let d_takes : size_of d ≡ need count = ap need sized in
       let f_takes : size_of (fixed zeros 1) ≡ need count = ap need many in
       let e_takes : size_of (fixed (overwritten zeros 0 part) 1) ≡ need count = ap (λ (x : List ℕ). need (length x)) padded_are ∙ d_takes in
-      relocates s0 s1 s2 s3 s4 (found.place.0 - 8) at size g.before bytes lock owner slot g.after (fixed zeros 1) (fixed (overwritten zeros 0 part) 1) d (with_bytes 0 part) (with_name found.owner found.name.0) h g.chunks g.there (omega arith) r (omega arith) tt tt (f_takes ∙ sym d_takes) (e_takes ∙ sym d_takes) refl
+      relocates s0 s1 s2 s3 s4 (found.place.0 - 8) at size g.before bytes lock owner slot g.after (fixed zeros 1) (fixed (overwritten zeros 0 part) 1) d (with_bytes 0 part) (with_name found.owner found.name.0) h g.chunks g.there (omega arith) (omega arith) tt tt (f_takes ∙ sym d_takes) (e_takes ∙ sym d_takes) refl
       (ap (λ (x : List ℕ). movable x 0 found.owner found.name.0) padded_are ∙ ap (λ (n : ℕ). movable (sized_to bytes count) n found.owner found.name.0) lock_zero ∙ ap (λ (n : ℕ). movable (sized_to bytes count) lock n found.name.0) owner_same ∙ ap (λ (n : ℕ). movable (sized_to bytes count) lock owner n) (sym g.named.0))
       made (subst (λ (n : ℕ). Alters s1 s2 n (with_bytes 0 part)) place (subst (λ (n : ℕ). Alters s1 s2 (there.place.0 - 8) (with_bytes 0 (take n again.live.bytes))) taken (copied again))) gone (subst (λ (n : ℕ). Alters s3 s4 n (with_name found.owner found.name.0)) place named)
 
@@ -312,4 +312,4 @@ owner_fits image found h f = by_chunk f.live f.chunk f.finds f.owner_is where
 -- ---- a run that had the room
 
 pub had_run : (old new : List ℕ) (found : Found) (count : ℕ) (told : Bool) → OnTrue told (RelocatesToRun old new found count) → OnTrue told (NoRun (chunks_of old) (need count) → ⊥)
-had_run old new found count told h = OnTrue_from told (NoRun (chunks_of old) (need count) → ⊥) (λ e none. let r = OnTrue_at e h in room_is_run old r.at r.size (need count) r.room r.enough none)
+had_run old new found count told h = OnTrue_from told (NoRun (chunks_of old) (need count) → ⊥) (λ e none. let r = OnTrue_at e h in spot_is_run old r.at r.size (need count) r.room r.enough none)

@@ -1,15 +1,10 @@
--- Room for a chunk, whatever stands in front of it: room that is known to stand at the front of a run is
--- such room, and what a claim of it does.
-use Rattle.std.proofs.Common.{◌≡◌, ℕ, ◌+◌, ◌-◌, ◌≤◌, List, [], ◌∷◌, ◌++◌, length, sym, ap, subst, ◌∙◌, arith}
-use Rattle.std.proofs.Common.{replicate}
-use Rattle.std.proofs.lemmas.List.{length-replicate}
-use Rattle.heap_model.specs.Chunk.{Chunk, free, fixed, need, size_of, total}
+-- Room for a chunk, whatever stands in front of it: what a claim of it does.
+use Rattle.std.proofs.Common.{◌≡◌, ℕ, ◌+◌, ◌-◌, List, [], ◌∷◌, ◌++◌, sym, ap, subst, ◌∙◌, arith}
+use Rattle.heap_model.specs.Chunk.{Chunk, free, need, size_of, total}
 use Rattle.heap_model.specs.Memory.{Memory}
-use Rattle.heap_model.specs.Heap.{HeapAccepted}
 use Rattle.heap_model.specs.Reading.{chunks_of}
-use Rattle.heap_model.specs.Layout.{Becomes, Exchanges, in_front, gap, IsRoom, IsSpot, Claims}
+use Rattle.heap_model.specs.Layout.{Becomes, gap, IsSpot, Claims}
 use Rattle.laws_heap.proofs.Becoming.{frame_start, frame_then}
-use Rattle.laws_heap.proofs.Spots.{claims_exchange}
 use Rattle.heap_place.specs.Lists.{IsFreeChunk, CutsRoom, Fills}
 
 pub chunk_spot : (image : List ℕ) (at size : ℕ) → IsFreeChunk image at size → IsSpot image at size
@@ -27,12 +22,6 @@ unfolding cut_chunk
 cut_claims old mid new at room size d takes b cut fills r =
     let made = fills (cut_chunk old mid at room size b r cut) in
     subst (λ (n : ℕ). Becomes old new (r.before ++ ((d ∷ gap (room - n)) ++ r.after))) (sym takes) record { frame = frame_then old mid new b.frame made.frame; layout = made.layout }
-
--- a stand-in at the front of a run
-pub stand_exchange : (old new : List ℕ) (at room count : ℕ) → HeapAccepted old → IsRoom old at room → need count ≤ room → Claims old new at room (fixed (replicate count 0) 1) → Exchanges old new at (in_front (fixed (replicate count 0) 1))
-stand_exchange old new at room count h r fits claims =
-    let takes : need (length (replicate {A = ℕ} count 0)) ≡ need count = ap need (length-replicate count 0) in
-    claims_exchange old new at room (fixed (replicate count 0) 1) h (omega arith) r (omega arith) claims
 
 -- and then free chunks were joined or split
 pub claims_same : (old mid new : List ℕ) (at room : ℕ) (d : Chunk) → Claims old mid at room d → Becomes mid new (chunks_of mid) → Claims old new at room d

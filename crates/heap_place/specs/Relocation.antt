@@ -2,7 +2,7 @@
 -- name once the chunk is free.
 use Rattle.std.specs.Prelude.{◌≤◌, ◌+◌, ℕ, List, take}
 use Rattle.heap_model.specs.Chunk.{Chunk, free, movable, fixed, fixed_lock, need}
-use Rattle.heap_model.specs.Layout.{Alters, with_bytes, IsRoom}
+use Rattle.heap_model.specs.Layout.{Alters, with_bytes, IsSpot}
 use Rattle.heap_model.specs.Resizing.{with_length, Relocates}
 use Rattle.heap_place.specs.declared.found.Found.{Found}
 use Rattle.heap_place.specs.Found.{IsOne, header_at}
@@ -25,14 +25,14 @@ with_name owner slot (free size) = free size
 with_name owner slot (movable bytes lock holder named) = movable bytes lock holder named
 with_name owner slot (fixed bytes holder) = movable bytes 0 owner slot
 
--- the chunk that was found stands at the front of the free one at an offset, with so many bytes
-abbrev pub RelocatesFound : List ℕ → List ℕ → Found → ℕ → ℕ → Type 0
-RelocatesFound old new found there count = (f : IsOne old found) → Relocates old new (header_at found) there (with_length count f.chunk)
+-- the chunk that was found stands at the front of room, with so many bytes
+abbrev pub RelocatesFound : List ℕ → List ℕ → Found → ℕ → ℕ → ℕ → Type 0
+RelocatesFound old new found there room count = (f : IsOne old found) → Relocates old new (header_at found) there room (with_length count f.chunk)
 
--- it stands at the front of a run of neighbouring free chunks that had the room
+-- it stands at the front of neighbouring free chunks that had the room
 pub record RelocatesToRun (old new : List ℕ) (found : Found) (count : ℕ) : Type 0 where
   pub at : ℕ
   pub size : ℕ
-  pub room : IsRoom old at size
+  pub room : IsSpot old at size
   pub enough : need count ≤ size
-  pub moved : RelocatesFound old new found at count
+  pub moved : RelocatesFound old new found at size count

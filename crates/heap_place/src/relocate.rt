@@ -9,7 +9,7 @@ ghost use Rattle.heap_model.specs.Heap.{HeapAccepted, directory_of};
 ghost use Rattle.heap_model.specs.Reading.{chunks_of};
 ghost use Rattle.heap_model.specs.Space.{NoRun};
 ghost use Rattle.heap_model.specs.Placing.{SameFrame};
-ghost use Rattle.heap_model.specs.Layout.{Alters, Exchanges, in_front, IsRoom, WritesPlain};
+ghost use Rattle.heap_model.specs.Layout.{Alters, Claims, IsSpot, WritesPlain};
 ghost use Rattle.heap_place.specs.Found.{IsOne, header_at};
 ghost use Rattle.heap_place.specs.Relocation.{stand_in, KeepsFound, Copies, with_name, RelocatesFound, RelocatesToRun};
 ghost use Rattle.heap_place.specs.Lists.{Any, KeepsFree, HasLists};
@@ -19,7 +19,8 @@ use crate::directory::{directory_name, name_directory};
 use crate::found::Found;
 use crate::lists::{CLASSES, take};
 use crate::release::release_listed;
-use crate::room::{Room, room_for_body};
+use crate::room::Room;
+use crate::search::spot_for_body;
 use chunk_format::{FIXED_LOCK, HEADER_SIZE, Header, size_of_body};
 use heap_model::{Name, Place};
 use raw_region::Region;
@@ -27,9 +28,9 @@ use raw_region::Region;
 /// The owner of a stand-in; any that a fixed chunk may have would do.
 const STAND_IN_OWNER: u8 = 1;
 
-/// Moves a movable chunk without locks to the front of a free run that has the room, and gives it `count`
-/// bytes there: its first ones, or all of them and zeros behind. Answers whether there is such a run. `built`
-/// is false afterwards where lists were dropped.
+/// Moves a movable chunk without locks to the front of neighbouring free chunks that have the room, and gives it
+/// `count` bytes there: its first ones, or all of them and zeros behind. Answers whether there are such. `built` is
+/// false afterwards where lists were dropped.
 pub(crate) fn relocate(
     region: &mut Region,
     heads: &mut [u32; CLASSES],
@@ -49,7 +50,7 @@ pub(crate) fn relocate(
     ensures plain { WritesPlain region.old.bytes region.new.bytes }
     ensures slid { OnTrue result (region.new.slid ≡ region.old.slid + min found.length count) }
 {
-    match room_for_body(region, count) {
+    match spot_for_body(region, heads, count) {
         Some(room) => {
             relocate_to(region, heads, built, found, room, count);
             true
@@ -70,11 +71,11 @@ fn relocate_to(
     requires accepted { HeapAccepted region.old.bytes }
     requires found { IsOne region.old.bytes found }
     requires unlocked { found.lock ≡ 0 }
-    requires room { IsRoom region.old.bytes room.at room.size }
+    requires room { IsSpot region.old.bytes room.at room.size }
     requires enough { need count ≤ room.size }
     requires lists { HasLists region.old.bytes heads.old }
     ensures lists { HasLists region.new.bytes heads.new }
-    ensures moved { RelocatesFound region.old.bytes region.new.bytes found room.at count }
+    ensures moved { RelocatesFound region.old.bytes region.new.bytes found room.at room.size count }
     ensures frame { SameFrame region.old.bytes region.new.bytes }
     ensures plain { WritesPlain region.old.bytes region.new.bytes }
     ensures slid { region.new.slid ≡ region.old.slid + min found.length count }
@@ -99,11 +100,11 @@ fn relocate_directory(
     requires found { IsOne region.old.bytes found }
     requires unlocked { found.lock ≡ 0 }
     requires directory { found.name.0 ≡ directory_of region.old.bytes }
-    requires room { IsRoom region.old.bytes room.at room.size }
+    requires room { IsSpot region.old.bytes room.at room.size }
     requires enough { need count ≤ room.size }
     requires lists { HasLists region.old.bytes heads.old }
     ensures lists { HasLists region.new.bytes heads.new }
-    ensures moved { RelocatesFound region.old.bytes region.new.bytes found room.at count }
+    ensures moved { RelocatesFound region.old.bytes region.new.bytes found room.at room.size count }
     ensures frame { SameFrame region.old.bytes region.new.bytes }
     ensures plain { WritesPlain region.old.bytes region.new.bytes }
     ensures slid { region.new.slid ≡ region.old.slid + min found.length count }
@@ -127,11 +128,11 @@ fn relocate_other(
     requires found { IsOne region.old.bytes found }
     requires unlocked { found.lock ≡ 0 }
     requires no_directory { found.name.0 ≢ directory_of region.old.bytes }
-    requires room { IsRoom region.old.bytes room.at room.size }
+    requires room { IsSpot region.old.bytes room.at room.size }
     requires enough { need count ≤ room.size }
     requires lists { HasLists region.old.bytes heads.old }
     ensures lists { HasLists region.new.bytes heads.new }
-    ensures moved { RelocatesFound region.old.bytes region.new.bytes found room.at count }
+    ensures moved { RelocatesFound region.old.bytes region.new.bytes found room.at room.size count }
     ensures frame { SameFrame region.old.bytes region.new.bytes }
     ensures plain { WritesPlain region.old.bytes region.new.bytes }
     ensures slid { region.new.slid ≡ region.old.slid + min found.length count }
@@ -151,12 +152,12 @@ fn stand_in_at(
     count: u32,
 ) -> Found
     requires accepted { HeapAccepted region.old.bytes }
-    requires room { IsRoom region.old.bytes room.at room.size }
+    requires room { IsSpot region.old.bytes room.at room.size }
     requires enough { need count ≤ room.size }
     requires lists { HasLists region.old.bytes heads.old }
     ensures lists { HasLists region.new.bytes heads.new }
-    ensures made { Exchanges region.old.bytes region.new.bytes room.at
-        (in_front (fixed (replicate count 0) 1)) }
+    ensures made { Claims region.old.bytes region.new.bytes room.at room.size
+        (fixed (replicate count 0) 1) }
     ensures is { result ≡ stand_in room.at count }
     ensures found { IsOne region.new.bytes result }
     ensures others { KeepsFound region.old.bytes region.new.bytes }

@@ -1,7 +1,6 @@
 //! Room for a chunk: the search for a run of neighbouring free chunks.
 
 ghost use Rattle.std.specs.Prelude.{◌≡◌, ◌≤◌, ◌<◌, ◌+◌, ◌^◌, length, IfSome, IfNone};
-ghost use Rattle.heap_model.specs.Chunk.{need};
 ghost use Rattle.heap_model.specs.Heap.{HeapAccepted};
 ghost use Rattle.heap_model.specs.Reading.{chunks_of};
 ghost use Rattle.heap_model.specs.Space.{NoRun};
@@ -9,7 +8,7 @@ ghost use Rattle.heap_model.specs.Layout.{IsRoom};
 ghost use Rattle.heap_place.specs.Search.{run_by};
 ghost use Rattle.chunk_format.specs.Header.{size_by};
 
-use chunk_format::{Header, area_start, chunk_size};
+use chunk_format::{Header, area_start};
 use raw_region::Region;
 
 /// Where a run of neighbouring free chunks begins, as an offset from the image's start, and how many
@@ -43,19 +42,6 @@ pub(crate) fn find_room(region: &Region, size: u32) -> Option<Room>
         }
     }
     None
-}
-
-/// The same for a chunk whose body has `count` bytes.
-pub(crate) fn room_for_body(region: &Region, count: u32) -> Option<Room>
-    requires accepted { HeapAccepted region.now.bytes }
-    ensures room { IfSome result (λ room. IsRoom region.now.bytes room.at room.size) }
-    ensures enough { IfSome result (λ room. need count ≤ room.size) }
-    ensures none { IfNone result (NoRun (chunks_of region.now.bytes) (need count)) }
-{
-    match chunk_size(count) {
-        Some(size) => find_room(region, size),
-        None => None,
-    }
 }
 
 /// The bytes of a run of free chunks, once the chunk behind it is known: it goes on or is broken.

@@ -26,7 +26,7 @@ use crate::claim::{claim_fixed_at, claim_movable};
 use crate::directory::{directory_name, name_directory};
 use crate::found::Found;
 use crate::gather::{build, gather};
-use crate::lists::{ABOVE_SIZES, CLASSES, find_listed, take};
+use crate::lists::{CLASSES, take};
 use crate::lookup::{chunk_named, find_named, find_placed, in_slot};
 use crate::open::open_in;
 use crate::owned::release_owned;
@@ -34,7 +34,8 @@ use crate::pack::{compact, pack_stretch};
 use crate::release::release_listed;
 use crate::relocate::relocate;
 use crate::resize::{grow_in_place_at, resize_listed};
-use crate::room::{Room, find_room};
+use crate::room::Room;
+use crate::search::find_spot;
 use crate::stretch::{
     Stretch, is_whole, largest_room, room_of_stretch, stretch_around, stretch_with_room,
 };
@@ -186,12 +187,7 @@ impl Space {
         ensures enough { IfSome result (λ room. size ≤ room.size) }
         ensures none { IfNone result (NoRun (chunks_of self.now.bytes) size) }
     {
-        if size >= HEADER_SIZE && size < ABOVE_SIZES {
-            if let Some(room) = find_listed(&self.region, &self.heads, size) {
-                return Some(room);
-            }
-        }
-        find_room(&self.region, size)
+        find_spot(&self.region, &self.heads, size)
     }
 
     /// Makes the front of room a movable chunk of `count` zeros and no locks, which the empty slot names.
@@ -495,9 +491,9 @@ impl Space {
         open_in(&mut self.region, &mut self.heads, stretch, found);
     }
 
-    /// Moves a movable chunk without locks to the front of a run of neighbouring free chunks that has the
-    /// room, and gives it `count` bytes there: its first ones, or all of them and zeros behind. Answers
-    /// whether there is such a run. No other chunk moves.
+    /// Moves a movable chunk without locks to the front of neighbouring free chunks that have the room, as `find_room`
+    /// finds it, and gives it `count` bytes there: its first ones, or all of them and zeros behind. Answers
+    /// whether there are such. No other chunk moves.
     pub fn relocate(&mut self, found: Found, count: u32) -> bool
         requires accepted { HeapAccepted self.old.bytes }
         requires found { IsOne self.old.bytes found }

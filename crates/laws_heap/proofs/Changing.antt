@@ -1,5 +1,5 @@
 -- What changes under a name, and where, when its chunk is exchanged.
-use Rattle.std.proofs.Common.{◌≡◌, ◌≢◌, ℕ, ◌+◌, ◌-◌, ◌<◌, ◌≤◌, List, [], ◌∷◌, ◌++◌, length, Option, Some, None, refl, sym, ap, subst, ◌∙◌, arith, inl, inr}
+use Rattle.std.proofs.Common.{◌≡◌, ◌≢◌, ℕ, ◌+◌, List, [], ◌∷◌, length, Option, Some, None, refl, sym, ap, subst, ◌∙◌, arith, inl, inr}
 use Rattle.heap_model.specs.Bytes.{overwritten}
 use Rattle.heap_model.specs.Chunk.{Chunk, free, movable, fixed, fixed_lock, need, size_of, total}
 use Rattle.heap_model.specs.Slots.{area_start}
@@ -7,9 +7,8 @@ use Rattle.heap_model.specs.Heap.{Tiles, IsHeap, HeapAccepted}
 use Rattle.heap_model.specs.Placed.{AnyPlaced}
 use Rattle.heap_model.specs.Meaning.{LiveChunk, NamedHere}
 use Rattle.heap_model.specs.Reading.{chunks_of, held}
-use Rattle.heap_model.specs.Space.{AllFree}
 use Rattle.heap_model.specs.Placing.{Finds}
-use Rattle.heap_model.specs.Layout.{merged, layout_of, Exchanges, Alters, gap, in_front, freed, with_lock, with_owner, with_bytes, IsRoom}
+use Rattle.heap_model.specs.Layout.{merged, Alters, freed, with_lock, with_owner, with_bytes}
 use Rattle.laws_heap.proofs.Frames.{length-overwritten}
 use Rattle.laws_heap.proofs.Placed.{At, one_at, AnyPlaced-mid, SpelledAll-takes}
 use Rattle.laws_heap.proofs.Slots.{slot_beside, slot_no_fixed}
@@ -17,8 +16,8 @@ use Rattle.laws_heap.proofs.Meanings.{live_under-there, with_offset, slot_place,
 use Rattle.laws_heap.proofs.Altering.{named_live, named_place}
 use Rattle.laws_heap.proofs.FixedNames.{fixed_name, fixed_live_is, fixed_once, fixed_with_bytes, fixed_with_owner}
 use Rattle.laws_heap.proofs.Finding.{read_heap}
-use Rattle.laws_heap.proofs.Layouts.{IsNotFree, merged-twice, total-merged}
-use Rattle.laws_heap.proofs.Exchanging.{exchanges_layout, exchanges_parts, gap_free, gap_total, room_in_layout, free_no_other, named_no_other, named_beside, unheld_beside, ChangesName, exchange_changes}
+use Rattle.laws_heap.proofs.Layouts.{IsNotFree}
+use Rattle.laws_heap.proofs.Exchanging.{exchanges_parts, free_no_other, named_no_other, named_beside, ChangesName, exchange_changes}
 
 pub changes_as : (old new : List ℕ) (name : ℕ) (now other : Option LiveChunk) (there place : Option ℕ) → now ≡ other → there ≡ place → ChangesName old new name now there → ChangesName old new name other place
 changes_as old new name now other there place e f ch = subst (λ (p : Option ℕ). ChangesName old new name other p) f (subst (λ (o : Option LiveChunk). ChangesName old new name o there) e ch)
@@ -79,22 +78,7 @@ bytes_changes old new name place at part live (fixed bytes owner) h low f within
     named_changes old new name place live (record live { bytes = overwritten live.bytes at part }) (fixed bytes owner) (with_bytes at part) h low f x (ap need (length-overwritten bytes at part fits))
     (fixed_with_bytes (place - 8) bytes owner (λ (body : List ℕ). overwritten body at part) f.named)
 
--- ---- a chunk of a name that stood for nothing is made at the front of a room
-
-pub claim_changes : (old new : List ℕ) (at size name : ℕ) (now : LiveChunk) (d : Chunk) → HeapAccepted old → 0 < size → IsRoom old at size → held old name ≡ None → Exchanges old new at (in_front d) → size_of d ≤ size → NamedHere name now at d
-    → ChangesName old new name (Some now) (Some (at + 8))
-claim_changes old new at size name now d h some r none x fits is =
-    let room = room_in_layout old at size h some r in
-    let here : ℕ = area_start old + total (merged r.before) in
-    let there : at ≡ here = r.there ∙ ap (λ (n : ℕ). area_start old + n) (sym (total-merged r.before)) in
-    let becomes : NamedHere name now here d = subst (λ (n : ℕ). NamedHere name now n d) there is in
-    let parts : layout_of old ≡ merged (merged r.before ++ free room.more ∷ room.behind) = sym (merged-twice (chunks_of old)) ∙ ap merged room.layout in
-    let within = room.within in
-    let left : ℕ = room.more - size_of d in
-    let sizes : total (d ∷ gap left) ≡ room.more = let e = gap_total left in omega arith in
-    changes_as old new name _ (Some now) _ (Some (at + 8)) (named_live name here now d (gap left) becomes) (named_place name here now d (gap left) becomes ∙ ap (λ (n : ℕ). some_place (n + 8)) (sym there))
-    (exchange_changes old new (merged r.before) (free room.more) (d ∷ gap left) room.behind name h parts ((exchanges_layout old new at (in_front d) (merged r.before) (free room.more) room.behind h room.layout there).0 x) sizes
-    (unheld_beside old (merged r.before) room.more room.behind name parts none) (free_no_other name _ (free room.more ∷ []) tt) (named_no_other name _ now d (gap left) becomes (gap_free left)))
+-- ---- the name of a fixed chunk
 
 -- where a free chunk stands there is no fixed one, so the name of one there names nothing
 pub free_unheld : (image : List ℕ) (before : List Chunk) (size : ℕ) (after : List Chunk) → HeapAccepted image → chunks_of image ≡ before ++ free size ∷ after → held image (fixed_name (area_start image + total before)) ≡ None
@@ -128,12 +112,3 @@ free_unheld image before size after h e = nothing (held image place) refl where
             (subst (λ (n : ℕ). AnyPlaced (At n (NamedHere place live)) (area_start image) (chunks_of image)) same o.there) free_here in
             absurd (not_free live (area_start image + total before) both.0 both.1 both.2)
       ]
-
--- nor does that of a room
-pub room_unheld : (image : List ℕ) (at size : ℕ) → HeapAccepted image → 0 < size → IsRoom image at size → held image (fixed_name at) ≡ None
-room_unheld image at size h some r = by_run r.run r.all_free r.sums r.chunks where
-  by_run : (run : List Chunk) → AllFree run → size ≡ total run → chunks_of image ≡ r.before ++ (run ++ r.after) → held image (fixed_name at) ≡ None
-  by_run [] f sums e = absurd (omega arith)
-  by_run (movable bytes lock owner slot ∷ run) f sums e = absurd f
-  by_run (fixed bytes owner ∷ run) f sums e = absurd f
-  by_run (free n ∷ run) f sums e = ap (λ (k : ℕ). held image (fixed_name k)) r.there ∙ free_unheld image r.before n (run ++ r.after) h e

@@ -1,5 +1,5 @@
 -- The directory word is written: all else of the image is as it was.
-use Rattle.std.proofs.Common.{◌≡◌, ℕ, ◌+◌, ◌<◌, ◌≤◌, ◌^◌, List, ◌∷◌, length, Option, Some, None, refl, sym, ap, subst, ◌∙◌, arith, inl, inr}
+use Rattle.std.proofs.Common.{◌≡◌, ℕ, ◌+◌, ◌<◌, ◌≤◌, ◌^◌, List, ◌∷◌, ◌++◌, length, Option, Some, None, refl, sym, ap, subst, ◌∙◌, arith, inl, inr}
 use Rattle.std.proofs.lemmas.Bool.{cases_eq}
 use Rattle.std.specs.Prelude.{◌⊎◌}
 use Rattle.heap_model.specs.Bytes.{u32_at, u32_bytes, overwritten}
@@ -11,7 +11,7 @@ use Rattle.heap_model.specs.Placed.{EveryPlaced, AnyPlaced}
 use Rattle.heap_model.specs.Meaning.{LiveChunk, NamedHere}
 use Rattle.heap_model.specs.Reading.{chunks_of, held, live_under}
 use Rattle.heap_model.specs.Placing.{Finds}
-use Rattle.heap_model.specs.Layout.{merged, layout_of, Becomes, IsRoom, IsFreeAt, WritesPlain}
+use Rattle.heap_model.specs.Layout.{merged, Becomes, IsSpot, IsFreeAt, WritesPlain}
 use Rattle.heap_model.specs.Resizing.{relocated, Relocates}
 use Rattle.heap_model.specs.Store.{managers_owner, owner_of, owner_under}
 use Rattle.heap_model.specs.Leaving.{NamesDirectory}
@@ -162,8 +162,8 @@ named_start old new word n = start_listed old new n.slots
 pub named_finds : (old new : List ℕ) (word name : ℕ) (live : LiveChunk) (chunk : Chunk) (at : ℕ) → NamesDirectory old new word → Finds old name live chunk at → Finds new name live chunk at
 named_finds old new word name live chunk at n f = record { before = f.before; after = f.after; chunks = n.chunks ∙ f.chunks; there = f.there ∙ ap (λ (k : ℕ). k + total f.before) (sym (named_start old new word n)); named = f.named }
 
-pub named_room : (old new : List ℕ) (word at size : ℕ) → NamesDirectory old new word → IsRoom old at size → IsRoom new at size
-named_room old new word at size n r = record {
+pub named_spot : (old new : List ℕ) (word at size : ℕ) → NamesDirectory old new word → IsSpot old at size → IsSpot new at size
+named_spot old new word at size n r = record {
   before = r.before;
   run = r.run;
   after = r.after;
@@ -171,7 +171,6 @@ named_room old new word at size n r = record {
   all_free = r.all_free;
   there = r.there ∙ ap (λ (k : ℕ). k + total r.before) (sym (named_start old new word n));
   sums = r.sums;
-  front = ap merged n.chunks ∙ r.front;
 }
 
 -- the directory's chunk is the manager's
@@ -185,7 +184,9 @@ named_again old mid later new name cs first b last is = record {
   layout = ap merged last.chunks ∙ b.layout;
 }
 
-pub relocated_again : (old mid later new : List ℕ) (name here there : ℕ) (chunk : Chunk) → NamesDirectory old mid 0 → Relocates mid later here there chunk → NamesDirectory later new name → name ≡ directory_of old → Relocates old new here there chunk
-relocated_again old mid later new name here there chunk first moved last is =
-    subst (λ (cs : List Chunk). Becomes old new cs) (ap (λ (n : ℕ). relocated here there chunk n (layout_of mid)) (named_start old mid 0 first) ∙ ap (λ (cs : List Chunk). relocated here there chunk (area_start old) (merged cs)) first.chunks)
-    (named_again old mid later new name (relocated here there chunk (area_start mid) (layout_of mid)) first moved last is)
+pub relocated_again : (old mid later new : List ℕ) (name here there room : ℕ) (chunk : Chunk) → NamesDirectory old mid 0 → Relocates mid later here there room chunk → NamesDirectory later new name → name ≡ directory_of old → Relocates old new here there room chunk
+unfolding named_spot
+relocated_again old mid later new name here there room chunk first moved last is r =
+    let spot : List Chunk = r.before ++ free room ∷ r.after in
+    subst (λ (cs : List Chunk). Becomes old new cs) (ap (λ (n : ℕ). relocated here there chunk n spot) (named_start old mid 0 first))
+    (named_again old mid later new name (relocated here there chunk (area_start mid) spot) first (moved (named_spot old mid 0 there room first r)) last is)

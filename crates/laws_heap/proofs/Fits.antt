@@ -11,7 +11,7 @@ use Rattle.heap_model.specs.Meaning.{LiveChunk}
 use Rattle.heap_model.specs.Reading.{chunks_of}
 use Rattle.heap_model.specs.Space.{AllFree, NoneStays, NoRun, Short, ShortFor, with_freed, free_front, room_of, rooms_of, stretches, runs_between}
 use Rattle.heap_model.specs.Placing.{Finds}
-use Rattle.heap_model.specs.Layout.{IsRoom}
+use Rattle.heap_model.specs.Layout.{IsSpot}
 use Rattle.heap_model.specs.Packing.{WholeStretch}
 use Rattle.heap_model.specs.Resizing.{behind_front}
 use Rattle.laws_heap.proofs.Freeing.{free_sum}
@@ -23,23 +23,15 @@ use Rattle.laws_heap.proofs.Stretches.{with_freed-append, freed_middle, room_amo
 
 -- ---- a run
 
--- a room that has the size is one
-pub room_is_run : (image : List ℕ) (at room size : ℕ) → IsRoom image at room → size ≤ room → NoRun (chunks_of image) size → ⊥
-room_is_run image at room size r enough none =
-    let short = none r.before r.run r.after r.chunks r.all_free in
-    let sum = free_sum r.run r.all_free in
-    let sums = r.sums in
-    omega arith
-
 free_stays_free : (run : List Chunk) (name : ℕ) → AllFree run → with_freed run name ≡ run
 free_stays_free [] name f = refl
 free_stays_free (free size ∷ run) name f = ap (λ (cs : List Chunk). free size ∷ cs) (free_stays_free run name f)
 free_stays_free (movable bytes lock owner slot ∷ run) name f = absurd f
 free_stays_free (fixed bytes owner ∷ run) name f = absurd f
 
--- and then the image is short of it for no chunk
-pub room_not_short_for : (image : List ℕ) (name at room size : ℕ) → 0 < size → IsRoom image at room → size ≤ room → ShortFor image name size → ⊥
-room_not_short_for image name at room size some r enough short =
+-- where room has the size the image is short of it for no chunk
+pub spot_not_short_for : (image : List ℕ) (name at room size : ℕ) → 0 < size → IsSpot image at room → size ≤ room → ShortFor image name size → ⊥
+spot_not_short_for image name at room size some r enough short =
     let parts : with_freed (chunks_of image) name ≡ with_freed r.before name ++ (r.run ++ with_freed r.after name) =
     ap (λ (cs : List Chunk). with_freed cs name) r.chunks ∙ with_freed-append r.before (r.run ++ r.after) name
     ∙ ap (λ (cs : List Chunk). with_freed r.before name ++ cs) (with_freed-append r.run r.after name ∙ ap (λ (cs : List Chunk). cs ++ with_freed r.after name) (free_stays_free r.run name r.all_free)) in

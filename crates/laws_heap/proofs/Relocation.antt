@@ -1,6 +1,6 @@
--- A chunk that goes to the front of a free one elsewhere: its name alone stands for something else, and
+-- A chunk that goes to the front of room elsewhere: its name alone stands for something else, and
 -- is elsewhere.
-use Rattle.std.proofs.Common.{◌≡◌, ◌≢◌, ◌⊎◌, ℕ, ◌+◌, ◌-◌, ◌<◌, ◌≤◌, List, [], ◌∷◌, ◌++◌, Some, refl, sym, ap, subst, ◌∙◌, append_assoc, append-nil, arith, inl, inr}
+use Rattle.std.proofs.Common.{◌≡◌, ◌≢◌, ◌⊎◌, ℕ, ◌+◌, ◌-◌, ◌<◌, ◌≤◌, List, [], ◌∷◌, ◌++◌, length, Some, refl, sym, ap, subst, ◌∙◌, append_assoc, append-nil, arith, inl, inr}
 use Rattle.std.specs.Prelude.{◌==◌}
 use Rattle.std.proofs.lemmas.Bool.{eq-eqb}
 use Rattle.std.proofs.lemmas.Bool.Decides.{nat_tests}
@@ -10,22 +10,23 @@ use Rattle.heap_model.specs.Heap.{BodyHere, IsBody, HeapAccepted}
 use Rattle.heap_model.specs.Placed.{EveryPlaced, AnyPlaced}
 use Rattle.heap_model.specs.Meaning.{LiveChunk, NamedHere}
 use Rattle.heap_model.specs.Reading.{chunks_of, held, live_under}
-use Rattle.heap_model.specs.Space.{place_under, place_of}
+use Rattle.heap_model.specs.Space.{AllFree, place_under, place_of}
 use Rattle.heap_model.specs.Placing.{Finds}
-use Rattle.heap_model.specs.Layout.{merged, layout_of, Becomes, Exchanges, Alters, gap, in_front, freed, IsRoom}
+use Rattle.heap_model.specs.Layout.{merged, layout_of, Becomes, Alters, gap, in_front, freed, IsSpot, Claims}
 use Rattle.heap_model.specs.Resizing.{with_length, relocated, Relocates}
 use Rattle.laws_heap.proofs.Deciding.{cond-true, cond-false}
 use Rattle.laws_heap.proofs.Chunks.{total-append}
-use Rattle.laws_heap.proofs.Placed.{TakesBytes, EveryPlaced-split, AnyPlaced-right, AnyPlaced-map}
+use Rattle.laws_heap.proofs.Placed.{TakesBytes, SpelledAll-takes, EveryPlaced-append, EveryPlaced-split, AnyPlaced-right, AnyPlaced-map}
 use Rattle.laws_heap.proofs.Replacing.{any_replaced}
 use Rattle.laws_heap.proofs.Meanings.{held-is, live_under-is}
 use Rattle.laws_heap.proofs.Finding.{read_heap}
 use Rattle.laws_heap.proofs.Lives.{live_replaced, place_replaced}
 use Rattle.laws_heap.proofs.Layouts.{IsNotFree, any-layout, merged-front, merged-right, merged-live, merged-twice, total-merged}
 use Rattle.laws_heap.proofs.Becoming.{frame_then, becomes_start, becomes_held, becomes_place, becomes_body, becomes_slot}
-use Rattle.laws_heap.proofs.Exchanging.{exchanges_layout, layout_takes, gap_free, gap_total, RoomInLayout, room_in_layout, NoOther, free_no_other, named_no_other, held_parts, place_parts, ChangesName}
+use Rattle.laws_heap.proofs.Exchanging.{exchanges_layout, gap_free, gap_total, NoOther, free_no_other, named_no_other, held_parts, place_parts, ChangesName}
 use Rattle.laws_heap.proofs.Changing.{changes_as}
 use Rattle.laws_heap.proofs.Compacting.{body_placed}
+use Rattle.laws_heap.proofs.Spots.{spot_layout}
 use Rattle.laws_heap.proofs.Stretches.{heads}
 use Rattle.laws_heap.proofs.Resizings.{live_sized, named_sized, size_of-with_length}
 
@@ -145,32 +146,64 @@ stands old new cs name now place b some there body =
     subst (λ (n : ℕ). AnyPlaced (NamedHere name now) n (chunks_of new)) (sym start) (any-layout (NamedHere name now) (λ at size n. n) (area_start old) cs (chunks_of new) (sym b.layout) there) in
     (held-is new (chunks_of new) name heap ∙ (live_under-is new (chunks_of new) name now heap).1 is, body_placed new name place b.frame.accepted ((becomes_body old new cs name place b).1 body) some)
 
--- ---- a list that is cut at two of its chunks
+-- ---- a live chunk beside a run of free ones
 
-record CutBehind (xs : List Chunk) (c : Chunk) (ys zs : List Chunk) (d : Chunk) (ws : List Chunk) : Type 0 where
+record StandsInFront (xs : List Chunk) (c : Chunk) (zs : List Chunk) : Type 0 where
   mid : List Chunk
-  front : zs ≡ xs ++ c ∷ mid
-  back : ys ≡ mid ++ d ∷ ws
+  is : zs ≡ xs ++ c ∷ mid
 
-behind_more : (x z : Chunk) (xs : List Chunk) (c : Chunk) (ys zs : List Chunk) (d : Chunk) (ws : List Chunk) → x ≡ z → CutBehind xs c ys zs d ws → CutBehind (x ∷ xs) c ys (z ∷ zs) d ws
-behind_more x z xs c ys zs d ws e k = let front = k.front in record { mid = k.mid; front = cc; back = k.back }
+record StandsBehind (xs : List Chunk) (c : Chunk) (ys zs run ws : List Chunk) : Type 0 where
+  mid : List Chunk
+  is : ws ≡ mid ++ c ∷ ys
+  sums : total xs ≡ total zs + total run + total mid
 
-two_cuts : (xs : List Chunk) (c : Chunk) (ys zs : List Chunk) (d : Chunk) (ws : List Chunk) → (c ≡ d → ⊥) → xs ++ c ∷ ys ≡ zs ++ d ∷ ws → CutBehind xs c ys zs d ws ⊎ CutBehind zs d ws xs c ys
-two_cuts [] c ys [] d ws apart e = absurd (apart (heads e).0)
-two_cuts [] c ys (z ∷ zs) d ws apart e = let t = heads e in inl (record { mid = zs; front = ap (λ (x : Chunk). x ∷ zs) (sym t.0); back = t.1 })
-two_cuts (x ∷ xs) c ys [] d ws apart e = let t = heads e in inr (record { mid = xs; front = ap (λ (z : Chunk). z ∷ xs) t.0; back = sym t.1 })
-two_cuts (x ∷ xs) c ys (z ∷ zs) d ws apart e =
+behind_run : (xs : List Chunk) (c : Chunk) (ys run ws : List Chunk) → IsNotFree c → AllFree run → xs ++ c ∷ ys ≡ run ++ ws → StandsBehind xs c ys [] run ws
+behind_run xs c ys [] ws live f e = record { mid = xs; is = sym e; sums = omega arith }
+behind_run [] c ys (x ∷ run) ws live f e = absurd (not_free c x (heads e).0 live f) where
+  not_free : (c x : Chunk) → c ≡ x → IsNotFree c → AllFree (x ∷ run) → ⊥
+  not_free (free n) x same live f = live
+  not_free (movable bytes lock owner slot) (free n) same live f = absurd cc
+  not_free (movable bytes lock owner slot) (movable bytes2 lock2 owner2 slot2) same live f = f
+  not_free (movable bytes lock owner slot) (fixed bytes2 owner2) same live f = f
+  not_free (fixed bytes owner) (free n) same live f = absurd cc
+  not_free (fixed bytes owner) (movable bytes2 lock2 owner2 slot2) same live f = f
+  not_free (fixed bytes owner) (fixed bytes2 owner2) same live f = f
+behind_run (y ∷ xs) c ys (free n ∷ run) ws live f e =
     let t = heads e in
-    elim (two_cuts xs c ys zs d ws apart t.1) [
-      | inl k ↦ inl (behind_more x z xs c ys zs d ws t.0 k)
-      | inr k ↦ inr (behind_more z x zs d ws xs c ys (sym t.0) k)
-    ]
+    let k = behind_run xs c ys run ws live f t.1 in
+    let size : size_of y ≡ n = ap size_of t.0 in
+    let sums = k.sums in
+    record { mid = k.mid; is = k.is; sums = omega (arith, size, sums) }
+behind_run (y ∷ xs) c ys (movable bytes lock owner slot ∷ run) ws live f e = absurd f
+behind_run (y ∷ xs) c ys (fixed bytes owner ∷ run) ws live f e = absurd f
+
+beside_run : (xs : List Chunk) (c : Chunk) (ys zs run ws : List Chunk) → IsNotFree c → AllFree run → xs ++ c ∷ ys ≡ zs ++ (run ++ ws) → StandsInFront xs c zs ⊎ StandsBehind xs c ys zs run ws
+beside_run xs c ys [] run ws live f e = inr (behind_run xs c ys run ws live f e)
+beside_run [] c ys (z ∷ zs) run ws live f e = inl (record { mid = zs; is = ap (λ (x : Chunk). x ∷ zs) (sym (heads e).0) })
+beside_run (x ∷ xs) c ys (z ∷ zs) run ws live f e =
+    let t = heads e in
+    elim (beside_run xs c ys zs run ws live f t.1) [
+      | inl k ↦ inl (in_front_more x z xs c zs t.0 k)
+      | inr k ↦ inr (let size : size_of x ≡ size_of z = ap size_of t.0 in let sums = k.sums in record { mid = k.mid; is = k.is; sums = omega (arith, size, sums) })
+    ] where
+      in_front_more : (x z : Chunk) (xs : List Chunk) (c : Chunk) (zs : List Chunk) → x ≡ z → StandsInFront xs c zs → StandsInFront (x ∷ xs) c (z ∷ zs)
+      in_front_more x z xs c zs e k = let is = k.is in record { mid = k.mid; is = cc }
+
+-- room counts as one free chunk
+takes_spot : (image : List ℕ) (at size : ℕ) → HeapAccepted image → 8 ≤ size → (r : IsSpot image at size) → EveryPlaced TakesBytes (area_start image) (r.before ++ free size ∷ r.after)
+takes_spot image at size h some r =
+    let start : ℕ = area_start image in
+    let all : EveryPlaced TakesBytes start (r.before ++ (r.run ++ r.after)) =
+    subst (λ (cs : List Chunk). EveryPlaced TakesBytes start cs) r.chunks (SpelledAll-takes image start (chunks_of image) (length image) (read_heap image h).tiles.area) in
+    let t = EveryPlaced-split TakesBytes start r.before (r.run ++ r.after) all in
+    let u = EveryPlaced-split TakesBytes (start + total r.before) r.run r.after t.1 in
+    EveryPlaced-append TakesBytes start r.before (free size ∷ r.after) t.0 (some, subst (λ (n : ℕ). EveryPlaced TakesBytes (start + total r.before + n) r.after) (sym r.sums) u.1)
 
 -- ---- a movable chunk is relocated
 
-pub relocate_changes : (old new : List ℕ) (name here there size count : ℕ) (live : LiveChunk) (bytes : List ℕ) (lock owner slot : ℕ) → HeapAccepted old → Finds old name live (movable bytes lock owner slot) here → 0 < size → IsRoom old there size → need count ≤ size
-    → Relocates old new here there (with_length count (movable bytes lock owner slot)) → ChangesName old new name (Some (live_sized count live)) (Some (there + 8))
-relocate_changes old new name here there size count live bytes lock owner slot h f some r fits b = elim (two_cuts before c after front (free room.more) room.behind (λ e. cc) (sym layout ∙ room.layout)) [ inl k ↦ behind k | inr k ↦ in_front_of k ] where
+pub relocate_changes : (old new : List ℕ) (name here there size count : ℕ) (live : LiveChunk) (bytes : List ℕ) (lock owner slot : ℕ) → HeapAccepted old → Finds old name live (movable bytes lock owner slot) here → IsSpot old there size → need count ≤ size
+    → Relocates old new here there size (with_length count (movable bytes lock owner slot)) → ChangesName old new name (Some (live_sized count live)) (Some (there + 8))
+relocate_changes old new name here there size count live bytes lock owner slot h f r fits moves = elim (beside_run f.before c f.after r.before r.run r.after tt r.all_free (sym f.chunks ∙ r.chunks)) [ inl k ↦ behind k | inr k ↦ in_front_of k ] where
   c : Chunk
   c = movable bytes lock owner slot
 
@@ -180,32 +213,17 @@ relocate_changes old new name here there size count live bytes lock owner slot h
   start : ℕ
   start = area_start old
 
-  before : List Chunk
-  before = merged f.before
-
-  after : List Chunk
-  after = merged f.after
-
-  front : List Chunk
-  front = merged r.before
-
-  room : RoomInLayout old there size r.before r.after
-  room = room_in_layout old there size h some r
+  spot : List Chunk
+  spot = r.before ++ free size ∷ r.after
 
   left : ℕ
-  left = room.more - size_of d
+  left = size - size_of d
 
   now : LiveChunk
   now = live_sized count live
 
-  layout : layout_of old ≡ before ++ c ∷ after
-  layout = ap merged f.chunks ∙ merged-live f.before c f.after tt
-
-  from : here ≡ start + total before
-  from = f.there ∙ ap (λ (n : ℕ). start + n) (sym (total-merged f.before))
-
-  to : there ≡ start + total front
-  to = r.there ∙ ap (λ (n : ℕ). start + n) (sym (total-merged r.before))
+  layout : layout_of old ≡ merged spot
+  layout = spot_layout old there size (omega arith) r
 
   was : (at : ℕ) → NamedHere name live at c
   was at = f.named
@@ -213,21 +231,20 @@ relocate_changes old new name here there size count live bytes lock owner slot h
   is : (at : ℕ) → NamedHere name now at d
   is at = named_sized name at count live c f.named
 
-  sizes : total (d ∷ gap left) ≡ total (free room.more ∷ [])
+  sizes : total (d ∷ gap left) ≡ total (free size ∷ [])
   sizes =
       let taken = size_of-with_length c count tt in
       let rest = gap_total left in
-      let within = room.within in
       omega arith
 
-  takes : (cs : List Chunk) → layout_of old ≡ cs → EveryPlaced TakesBytes start cs
-  takes cs e = subst (λ (ds : List Chunk). EveryPlaced TakesBytes start ds) e (layout_takes old h)
+  takes : (cs : List Chunk) → spot ≡ cs → EveryPlaced TakesBytes start cs
+  takes cs e = subst (λ (ds : List Chunk). EveryPlaced TakesBytes start ds) e (takes_spot old there size h (omega arith) r)
 
-  alike : (cs : List Chunk) → layout_of old ≡ cs → layout_of old ≡ merged cs
-  alike cs e = sym (merged-twice (chunks_of old)) ∙ ap merged e
+  alike : (cs : List Chunk) → spot ≡ cs → layout_of old ≡ merged cs
+  alike cs e = layout ∙ ap merged e
 
-  becomes : (cs ds : List Chunk) → layout_of old ≡ cs → relocated here there d start cs ≡ ds → Becomes old new ds
-  becomes cs ds e x = subst (λ (xs : List Chunk). Becomes old new xs) (ap (relocated here there d start) e ∙ x) b
+  becomes : (cs ds : List Chunk) → spot ≡ cs → relocated here there d start cs ≡ ds → Becomes old new ds
+  becomes cs ds e x = subst (λ (xs : List Chunk). Becomes old new xs) (ap (relocated here there d start) e ∙ x) (moves r)
 
   -- the chunk with its new length, by its name and by its body
   At : ℕ → Chunk → Type 0
@@ -239,35 +256,40 @@ relocate_changes old new name here there size count live bytes lock owner slot h
       let s = stands old new cs name now (there + 8) x (omega arith) (AnyPlaced-map At (NamedHere name now) (λ at y p. p.0) start cs any) (AnyPlaced-map At (BodyHere name (there + 8)) (λ at y p. p.1) start cs any) in
       changes_as old new name _ _ _ _ s.0 s.1 change
 
-  behind : CutBehind before c after front (free room.more) room.behind → ChangesName old new name (Some now) (Some (there + 8))
+  behind : StandsInFront f.before c r.before → ChangesName old new name (Some now) (Some (there + 8))
   behind k =
       let mid : List Chunk = k.mid in
-      let first : ℕ = start + total before in
+      let first : ℕ = start + total f.before in
       let second : ℕ = first + size_of c + total mid in
-      let cs : List Chunk = before ++ c ∷ (mid ++ free room.more ∷ room.behind) in
-      let ds : List Chunk = before ++ freed c ∷ (mid ++ ((d ∷ gap left) ++ room.behind)) in
-      let e : layout_of old ≡ cs = layout ∙ ap (λ (xs : List Chunk). before ++ c ∷ xs) k.back in
-      let sum = ap total k.front ∙ total-append before (c ∷ mid) in
+      let from = f.there in
+      let to = r.there in
+      let cs : List Chunk = f.before ++ c ∷ (mid ++ free size ∷ r.after) in
+      let ds : List Chunk = f.before ++ freed c ∷ (mid ++ ((d ∷ gap left) ++ r.after)) in
+      let e : spot ≡ cs = ap (λ (xs : List Chunk). xs ++ free size ∷ r.after) k.is ∙ append_assoc f.before (c ∷ mid) (free size ∷ r.after) in
+      let sum = ap total k.is ∙ total-append f.before (c ∷ mid) in
       let apart : there ≡ here + size_of c + total mid = omega (arith, from, to, sum) in
       let place : second + 8 ≡ there + 8 = omega (arith, from, apart) in
-      let x = becomes cs ds e (relocated-behind here there d start before c mid room.more room.behind (takes cs e) from apart) in
-      done ds x (AnyPlaced-right At start before (freed c ∷ (mid ++ ((d ∷ gap left) ++ room.behind))) (inr (AnyPlaced-right At (first + size_of c) mid ((d ∷ gap left) ++ room.behind) (inl (is second, (f.named.0, place))))))
-      (two_change old new before (c ∷ []) (freed c ∷ []) mid (free room.more ∷ []) (d ∷ gap left) room.behind name h (alike cs e) x refl sizes (named_no_other name _ live c [] (was first) tt) (free_no_other name _ (freed c ∷ []) tt)
-      (free_no_other name _ (free room.more ∷ []) tt) (named_no_other name _ now d (gap left) (is second) (gap_free left)))
+      let x = becomes cs ds e (relocated-behind here there d start f.before c mid size r.after (takes cs e) from apart) in
+      done ds x (AnyPlaced-right At start f.before (freed c ∷ (mid ++ ((d ∷ gap left) ++ r.after))) (inr (AnyPlaced-right At (first + size_of c) mid ((d ∷ gap left) ++ r.after) (inl (is second, (f.named.0, place))))))
+      (two_change old new f.before (c ∷ []) (freed c ∷ []) mid (free size ∷ []) (d ∷ gap left) r.after name h (alike cs e) x refl sizes (named_no_other name _ live c [] (was first) tt) (free_no_other name _ (freed c ∷ []) tt)
+      (free_no_other name _ (free size ∷ []) tt) (named_no_other name _ now d (gap left) (is second) (gap_free left)))
 
-  in_front_of : CutBehind front (free room.more) room.behind before c after → ChangesName old new name (Some now) (Some (there + 8))
+  in_front_of : StandsBehind f.before c f.after r.before r.run r.after → ChangesName old new name (Some now) (Some (there + 8))
   in_front_of k =
       let mid : List Chunk = k.mid in
-      let first : ℕ = start + total front in
-      let cs : List Chunk = front ++ free room.more ∷ (mid ++ c ∷ after) in
-      let ds : List Chunk = front ++ ((d ∷ gap left) ++ (mid ++ freed c ∷ after)) in
-      let e : layout_of old ≡ cs = room.layout ∙ ap (λ (xs : List Chunk). front ++ free room.more ∷ xs) k.back in
-      let sum = ap total k.front ∙ total-append front (free room.more ∷ mid) in
-      let apart : here ≡ there + room.more + total mid = omega (arith, from, to, sum) in
+      let first : ℕ = start + total r.before in
+      let from = f.there in
+      let to = r.there in
+      let cs : List Chunk = r.before ++ free size ∷ (mid ++ c ∷ f.after) in
+      let ds : List Chunk = r.before ++ ((d ∷ gap left) ++ (mid ++ freed c ∷ f.after)) in
+      let e : spot ≡ cs = ap (λ (xs : List Chunk). r.before ++ free size ∷ xs) k.is in
+      let sum = k.sums in
+      let sums = r.sums in
+      let apart : here ≡ there + size + total mid = omega (arith, from, to, sum, sums) in
       let place : first + 8 ≡ there + 8 = omega (arith, to) in
-      let x = becomes cs ds e (relocated-front here there d start front room.more mid c after (takes cs e) to apart) in
-      done ds x (AnyPlaced-right At start front ((d ∷ gap left) ++ (mid ++ freed c ∷ after)) (inl (is first, (f.named.0, place))))
-      (two_change old new front (free room.more ∷ []) (d ∷ gap left) mid (c ∷ []) (freed c ∷ []) after name h (alike cs e) x sizes refl (free_no_other name _ (free room.more ∷ []) tt) (named_no_other name _ now d (gap left) (is first) (gap_free left))
+      let x = becomes cs ds e (relocated-front here there d start r.before size mid c f.after (takes cs e) to apart) in
+      done ds x (AnyPlaced-right At start r.before ((d ∷ gap left) ++ (mid ++ freed c ∷ f.after)) (inl (is first, (f.named.0, place))))
+      (two_change old new r.before (free size ∷ []) (d ∷ gap left) mid (c ∷ []) (freed c ∷ []) f.after name h (alike cs e) x sizes refl (free_no_other name _ (free size ∷ []) tt) (named_no_other name _ now d (gap left) (is first) (gap_free left))
       (named_no_other name _ live c [] (was first) tt) (free_no_other name _ (freed c ∷ []) tt))
 
 -- ---- in steps: a stand-in is made there, gets the bytes, and gets the name once the chunk is free
@@ -281,36 +303,27 @@ altered_layout old new there change before c after h live e is x =
     ∙ merged-right before (change c ∷ merged after) (change c ∷ after) (merged-right (change c ∷ []) (merged after) after (merged-twice after))
 
 pub relocates : (s0 s1 s2 s3 s4 : List ℕ) (here there size : ℕ) (before : List Chunk) (bytes : List ℕ) (lock owner slot : ℕ) (after : List Chunk) (f g d : Chunk) (write make : Chunk → Chunk) → HeapAccepted s0 → chunks_of s0 ≡ before ++ movable bytes lock owner slot ∷ after
-    → here ≡ area_start s0 + total before → 0 < size → IsRoom s0 there size → size_of d ≤ size → IsNotFree f → IsNotFree g → size_of f ≡ size_of d → size_of g ≡ size_of d → write f ≡ g → make g ≡ d
-    → Exchanges s0 s1 there (in_front f) → Alters s1 s2 there write → Alters s2 s3 here freed → Alters s3 s4 there make → Relocates s0 s4 here there d
-relocates s0 s1 s2 s3 s4 here there size before bytes lock owner slot after f g d write make h chunks from some r fits f_live g_live f_size g_size f_is g_is x1 x2 x3 x4 =
-    record { frame = frame_then s0 s3 s4 (frame_then s0 s2 s3 (frame_then s0 s1 s2 x1.frame x2.frame) x3.frame) x4.frame; layout = elim (two_cuts (merged before) c (merged after) front (free room.more) room.behind (λ e. cc) (sym layout ∙ room.layout)) [ inl k ↦ behind k | inr k ↦ in_front_of k ] } where
+    → here ≡ area_start s0 + total before → 8 ≤ size → size_of d ≤ size → IsNotFree f → IsNotFree g → size_of f ≡ size_of d → size_of g ≡ size_of d → write f ≡ g → make g ≡ d
+    → Claims s0 s1 there size f → Alters s1 s2 there write → Alters s2 s3 here freed → Alters s3 s4 there make → Relocates s0 s4 here there size d
+relocates s0 s1 s2 s3 s4 here there size before bytes lock owner slot after f g d write make h chunks from some fits f_live g_live f_size g_size f_is g_is x1 x2 x3 x4 r =
+    record { frame = frame_then s0 s3 s4 (frame_then s0 s2 s3 (frame_then s0 s1 s2 first.frame x2.frame) x3.frame) x4.frame; layout = elim (beside_run before c after r.before r.run r.after tt r.all_free (sym chunks ∙ r.chunks)) [ inl k ↦ behind k | inr k ↦ in_front_of k ] } where
       c : Chunk
       c = movable bytes lock owner slot
 
       start : ℕ
       start = area_start s0
 
-      front : List Chunk
-      front = merged r.before
+      spot : List Chunk
+      spot = r.before ++ free size ∷ r.after
 
-      room : RoomInLayout s0 there size r.before r.after
-      room = room_in_layout s0 there size h some r
+      first : Becomes s0 s1 (r.before ++ ((f ∷ gap (size - size_of f)) ++ r.after))
+      first = x1 r
 
       rest : List Chunk
-      rest = gap (room.more - size_of d) ++ room.behind
-
-      layout : layout_of s0 ≡ merged before ++ c ∷ merged after
-      layout = ap merged chunks ∙ merged-live before c after tt
-
-      from_merged : here ≡ start + total (merged before)
-      from_merged = from ∙ ap (λ (n : ℕ). start + n) (sym (total-merged before))
-
-      to : there ≡ start + total front
-      to = r.there ∙ ap (λ (n : ℕ). start + n) (sym (total-merged r.before))
+      rest = gap (size - size_of d) ++ r.after
 
       start1 : area_start s1 ≡ start
-      start1 = becomes_start s0 s1 _ x1
+      start1 = becomes_start s0 s1 _ first
 
       start2 : area_start s2 ≡ start
       start2 = becomes_start s1 s2 _ x2 ∙ start1
@@ -318,51 +331,53 @@ relocates s0 s1 s2 s3 s4 here there size before bytes lock owner slot after f g 
       start3 : area_start s3 ≡ start
       start3 = becomes_start s2 s3 _ x3 ∙ start2
 
-      takes : (cs : List Chunk) → layout_of s0 ≡ cs → EveryPlaced TakesBytes start cs
-      takes cs e = subst (λ (ds : List Chunk). EveryPlaced TakesBytes start ds) e (layout_takes s0 h)
+      takes : (cs : List Chunk) → spot ≡ cs → EveryPlaced TakesBytes start cs
+      takes cs e = subst (λ (ds : List Chunk). EveryPlaced TakesBytes start ds) e (takes_spot s0 there size h some r)
 
-      made : layout_of s1 ≡ merged (front ++ f ∷ rest)
-      made = ((exchanges_layout s0 s1 there (in_front f) front (free room.more) room.behind h room.layout to).0 x1).layout ∙ ap (λ (n : ℕ). merged (front ++ f ∷ (gap (room.more - n) ++ room.behind))) f_size
+      made : layout_of s1 ≡ merged (r.before ++ f ∷ rest)
+      made = first.layout ∙ ap (λ (n : ℕ). merged (r.before ++ f ∷ (gap (size - n) ++ r.after))) f_size
 
-      written : layout_of s2 ≡ merged (front ++ g ∷ rest)
-      written = altered_layout s1 s2 there write front f rest x1.frame.accepted f_live made (to ∙ ap (λ (n : ℕ). n + total front) (sym start1)) x2 ∙ ap (λ (x : Chunk). merged (front ++ x ∷ rest)) f_is
+      written : layout_of s2 ≡ merged (r.before ++ g ∷ rest)
+      written = altered_layout s1 s2 there write r.before f rest first.frame.accepted f_live made (r.there ∙ ap (λ (n : ℕ). n + total r.before) (sym start1)) x2 ∙ ap (λ (x : Chunk). merged (r.before ++ x ∷ rest)) f_is
 
-      behind : CutBehind (merged before) c (merged after) front (free room.more) room.behind → layout_of s4 ≡ merged (relocated here there d start (layout_of s0))
+      behind : StandsInFront before c r.before → layout_of s4 ≡ merged (relocated here there d start spot)
       behind k =
           let mid : List Chunk = k.mid in
-          let cs : List Chunk = merged before ++ c ∷ (mid ++ free room.more ∷ room.behind) in
-          let e : layout_of s0 ≡ cs = layout ∙ ap (λ (xs : List Chunk). merged before ++ c ∷ xs) k.back in
-          let sum = ap total k.front ∙ total-append (merged before) (c ∷ mid) in
-          let sums = total-append (merged before) (freed c ∷ mid) in
-          let apart : there ≡ here + size_of c + total mid = omega (arith, from_merged, to, sum) in
-          let in_cut : (x y : Chunk) → (merged before ++ x ∷ mid) ++ y ∷ rest ≡ merged before ++ x ∷ (mid ++ y ∷ rest) = λ x y. append_assoc (merged before) (x ∷ mid) (y ∷ rest) in
-          let before_it = from_merged ∙ ap (λ (n : ℕ). n + total (merged before)) (sym start2) in
-          let gone : layout_of s3 ≡ merged (merged before ++ freed c ∷ (mid ++ g ∷ rest)) =
-          altered_layout s2 s3 here freed (merged before) c (mid ++ g ∷ rest) x2.frame.accepted tt (written ∙ ap (λ (xs : List Chunk). merged (xs ++ g ∷ rest)) k.front ∙ ap merged (in_cut c g)) before_it x3 in
-          let place : there ≡ area_start s3 + total (merged before ++ freed c ∷ mid) = omega (arith, from_merged, apart, sums, start3) in
-          altered_layout s3 s4 there make (merged before ++ freed c ∷ mid) g rest x3.frame.accepted g_live (gone ∙ ap merged (sym (in_cut (freed c) g))) place x4
-          ∙ ap (λ (x : Chunk). merged ((merged before ++ freed c ∷ mid) ++ x ∷ rest)) g_is
+          let to = r.there in
+          let cs : List Chunk = before ++ c ∷ (mid ++ free size ∷ r.after) in
+          let e : spot ≡ cs = ap (λ (xs : List Chunk). xs ++ free size ∷ r.after) k.is ∙ append_assoc before (c ∷ mid) (free size ∷ r.after) in
+          let sum = ap total k.is ∙ total-append before (c ∷ mid) in
+          let sums = total-append before (freed c ∷ mid) in
+          let apart : there ≡ here + size_of c + total mid = omega (arith, from, to, sum) in
+          let in_cut : (x y : Chunk) → (before ++ x ∷ mid) ++ y ∷ rest ≡ before ++ x ∷ (mid ++ y ∷ rest) = λ x y. append_assoc before (x ∷ mid) (y ∷ rest) in
+          let before_it = from ∙ ap (λ (n : ℕ). n + total before) (sym start2) in
+          let gone : layout_of s3 ≡ merged (before ++ freed c ∷ (mid ++ g ∷ rest)) =
+          altered_layout s2 s3 here freed before c (mid ++ g ∷ rest) x2.frame.accepted tt (written ∙ ap (λ (xs : List Chunk). merged (xs ++ g ∷ rest)) k.is ∙ ap merged (in_cut c g)) before_it x3 in
+          let place : there ≡ area_start s3 + total (before ++ freed c ∷ mid) = omega (arith, from, apart, sums, start3) in
+          altered_layout s3 s4 there make (before ++ freed c ∷ mid) g rest x3.frame.accepted g_live (gone ∙ ap merged (sym (in_cut (freed c) g))) place x4
+          ∙ ap (λ (x : Chunk). merged ((before ++ freed c ∷ mid) ++ x ∷ rest)) g_is
           ∙ ap merged (in_cut (freed c) d)
-          ∙ ap merged (sym (ap (relocated here there d start) e ∙ relocated-behind here there d start (merged before) c mid room.more room.behind (takes cs e) from_merged apart))
+          ∙ ap merged (sym (ap (relocated here there d start) e ∙ relocated-behind here there d start before c mid size r.after (takes cs e) from apart))
 
-      in_front_of : CutBehind front (free room.more) room.behind (merged before) c (merged after) → layout_of s4 ≡ merged (relocated here there d start (layout_of s0))
+      in_front_of : StandsBehind before c after r.before r.run r.after → layout_of s4 ≡ merged (relocated here there d start spot)
       in_front_of k =
           let mid : List Chunk = k.mid in
-          let left : List Chunk = gap (room.more - size_of d) in
-          let cs : List Chunk = front ++ free room.more ∷ (mid ++ c ∷ merged after) in
-          let e : layout_of s0 ≡ cs = room.layout ∙ ap (λ (xs : List Chunk). front ++ free room.more ∷ xs) k.back in
-          let sum = ap total k.front ∙ total-append front (free room.more ∷ mid) in
-          let sums = total-append front (g ∷ (left ++ mid)) in
+          let to = r.there in
+          let left : List Chunk = gap (size - size_of d) in
+          let cs : List Chunk = r.before ++ free size ∷ (mid ++ c ∷ after) in
+          let e : spot ≡ cs = ap (λ (xs : List Chunk). r.before ++ free size ∷ xs) k.is in
+          let sum = k.sums in
+          let run = r.sums in
+          let sums = total-append r.before (g ∷ (left ++ mid)) in
           let more = total-append left mid in
-          let all = gap_total (room.more - size_of d) in
-          let within = room.within in
-          let apart : here ≡ there + room.more + total mid = omega (arith, from_merged, to, sum) in
-          let in_cut : (x : Chunk) → front ++ g ∷ (left ++ (mid ++ x ∷ merged after)) ≡ (front ++ g ∷ (left ++ mid)) ++ x ∷ merged after =
-          λ x. ap (λ (xs : List Chunk). front ++ g ∷ xs) (sym (append_assoc left mid (x ∷ merged after))) ∙ sym (append_assoc front (g ∷ (left ++ mid)) (x ∷ merged after)) in
-          let was : layout_of s2 ≡ merged ((front ++ g ∷ (left ++ mid)) ++ c ∷ merged after) = written ∙ ap (λ (xs : List Chunk). merged (front ++ g ∷ (left ++ xs))) k.back ∙ ap merged (in_cut c) in
-          let place : here ≡ area_start s2 + total (front ++ g ∷ (left ++ mid)) = omega (arith, apart, to, sums, more, all, start2, g_size) in
-          let gone : layout_of s3 ≡ merged (front ++ g ∷ (left ++ (mid ++ freed c ∷ merged after))) =
-          altered_layout s2 s3 here freed (front ++ g ∷ (left ++ mid)) c (merged after) x2.frame.accepted tt was place x3 ∙ ap merged (sym (in_cut (freed c))) in
-          altered_layout s3 s4 there make front g (left ++ (mid ++ freed c ∷ merged after)) x3.frame.accepted g_live gone (to ∙ ap (λ (n : ℕ). n + total front) (sym start3)) x4
-          ∙ ap (λ (x : Chunk). merged (front ++ x ∷ (left ++ (mid ++ freed c ∷ merged after)))) g_is
-          ∙ ap merged (sym (ap (relocated here there d start) e ∙ relocated-front here there d start front room.more mid c (merged after) (takes cs e) to apart))
+          let all = gap_total (size - size_of d) in
+          let apart : here ≡ there + size + total mid = omega (arith, from, to, sum, run) in
+          let in_cut : (x : Chunk) → r.before ++ g ∷ (left ++ (mid ++ x ∷ after)) ≡ (r.before ++ g ∷ (left ++ mid)) ++ x ∷ after =
+          λ x. ap (λ (xs : List Chunk). r.before ++ g ∷ xs) (sym (append_assoc left mid (x ∷ after))) ∙ sym (append_assoc r.before (g ∷ (left ++ mid)) (x ∷ after)) in
+          let was : layout_of s2 ≡ merged ((r.before ++ g ∷ (left ++ mid)) ++ c ∷ after) = written ∙ ap (λ (xs : List Chunk). merged (r.before ++ g ∷ (left ++ xs))) k.is ∙ ap merged (in_cut c) in
+          let place : here ≡ area_start s2 + total (r.before ++ g ∷ (left ++ mid)) = omega (arith, apart, to, sums, more, all, start2, g_size) in
+          let gone : layout_of s3 ≡ merged (r.before ++ g ∷ (left ++ (mid ++ freed c ∷ after))) =
+          altered_layout s2 s3 here freed (r.before ++ g ∷ (left ++ mid)) c after x2.frame.accepted tt was place x3 ∙ ap merged (sym (in_cut (freed c))) in
+          altered_layout s3 s4 there make r.before g (left ++ (mid ++ freed c ∷ after)) x3.frame.accepted g_live gone (to ∙ ap (λ (n : ℕ). n + total r.before) (sym start3)) x4
+          ∙ ap (λ (x : Chunk). merged (r.before ++ x ∷ (left ++ (mid ++ freed c ∷ after)))) g_is
+          ∙ ap merged (sym (ap (relocated here there d start) e ∙ relocated-front here there d start r.before size mid c after (takes cs e) to apart))

@@ -7,22 +7,17 @@ use Rattle.heap_model.specs.Heap.{HeapAccepted}
 use Rattle.heap_model.specs.Meaning.{LiveChunk, NamedHere}
 use Rattle.heap_model.specs.Reading.{chunks_of, held}
 use Rattle.heap_model.specs.Space.{AllFree, NoRun, Short}
-use Rattle.heap_model.specs.Layout.{merged, layout_of, Exchanges, gap, in_front, IsRoom, IsSpot, Claims}
+use Rattle.heap_model.specs.Layout.{merged, layout_of, gap, IsRoom, IsSpot, Claims}
 use Rattle.laws_heap.proofs.Layouts.{merged-right, merged-left, runs-merged, short_no_run}
 use Rattle.laws_heap.proofs.Freeing.{free_sum}
 use Rattle.laws_heap.proofs.FixedNames.{fixed_name}
-use Rattle.laws_heap.proofs.Exchanging.{ChangesName, free_no_other, named_no_other, gap_free, gap_total, unheld_beside, exchange_changes, claims_parts}
+use Rattle.laws_heap.proofs.Exchanging.{ChangesName, free_no_other, named_no_other, gap_free, gap_total, unheld_beside, exchange_changes}
 use Rattle.laws_heap.proofs.Altering.{named_live, named_place}
 use Rattle.laws_heap.proofs.Changing.{changes_as, some_place, free_unheld}
 
 -- room at the front of a run of free chunks
 pub room_spot : (image : List ℕ) (at size : ℕ) → IsRoom image at size → IsSpot image at size
 room_spot image at size r = record { before = r.before; run = r.run; after = r.after; chunks = r.chunks; all_free = r.all_free; there = r.there; sums = r.sums }
-
--- a claim there
-pub claims_exchange : (old new : List ℕ) (at room : ℕ) (d : Chunk) → HeapAccepted old → 0 < room → IsRoom old at room → size_of d ≤ room → Claims old new at room d → Exchanges old new at (in_front d)
-unfolding room_spot
-claims_exchange old new at room d h some r fits claims = claims_parts old new at room d h some r fits (claims (room_spot old at room r))
 
 -- in the layout it is one free chunk between what stands in front of it and behind
 pub spot_layout : (image : List ℕ) (at size : ℕ) → 0 < size → (r : IsSpot image at size) → layout_of image ≡ merged (r.before ++ free size ∷ r.after)

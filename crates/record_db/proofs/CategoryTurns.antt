@@ -1,27 +1,30 @@
 -- Calls on a category take the records in order: what is left after so many of them.
-use Rattle.std.proofs.Common.{◌≡◌, ℕ, zero, suc, ◌+◌, ◌<◌, ◌≤◌, ◌++◌, Bool, Bool, true, false, List, [], ◌∷◌, length, map, take, Option, Some, None, refl, sym, ap, subst, ◌∙◌, arith, inl, inr}
+use Rattle.std.proofs.Common.{◌≡◌, ℕ, zero, suc, ◌+◌, ◌-◌, ◌<◌, ◌≤◌, ◌++◌, Bool, true, false, List, [], ◌∷◌, length, map, take, get_or, Option, Some, None, refl, sym, ap, subst, ◌∙◌, arith, inl, inr}
 use Rattle.std.proofs.lemmas.Bool.{cases_eq, eq-eqb, ne_eqb}
 use Rattle.std.proofs.lemmas.List.{map-append, append_assoc, take_all}
 use Rattle.std.proofs.lemmas.List.Elements.{filter-append}
 use Rattle.std.proofs.lemmas.List.Sums.{sum_by-append}
-use Rattle.std.specs.Prelude.{◌==◌, if◌then◌else◌, slice_get, filter}
+use Rattle.std.proofs.lemmas.Option.{slice_get-get_or, slice_get_within}
+use Rattle.std.specs.Prelude.{◌==◌, if◌then◌else◌, slice_get, filter, IsSome}
 use Rattle.std.specs.List.{find}
 use Rattle.heap_model.specs.Meaning.{LiveChunk, ChunkMap}
 use Rattle.heap_model.specs.Lists.{times}
 use Rattle.heap_model.specs.MemorySteps.{Of, IsLocked}
-use Rattle.heap_model.specs.Database.{Entry, entry_data}
+use Rattle.heap_model.specs.Database.{Entry, a_record, entry_data}
 use Rattle.heap_model.specs.Store.{StoredDatabase, Store, Accepted, store_of}
 use Rattle.heap_model.specs.StoreWords.{SameStore, all_gone, with_changed, with_number}
-use Rattle.heap_model.specs.EntrySteps.{entries_of, entries_in, entry_under, OfEntry, data_of_entry, data_under, replaced, with_entries, with_chunks, entry_changed, raised, LeavesStore, MakesNone}
+use Rattle.heap_model.specs.EntrySteps.{entries_of, entries_in, kind_of, resources_under, entry_under, OfEntry, data_of_entry, data_under, replaced, with_entries, with_chunks, entry_changed, data_freed, LeavesStore, MakesNone}
 use Rattle.heap_model.specs.RecordSteps.{HasLockedOf, category_deleted}
 use Rattle.heap_model.specs.Categories.{is_of, IsOf, data_of_category, deleted_category}
 use Rattle.heap_model.specs.declared.names.Db.{Db}
 use Rattle.laws_heap.proofs.Deciding.{cond-true, cond-false}
 use Rattle.palm_store.specs.EntryCalls.{HasLockedData}
 use Rattle.record_db.specs.Categories.{listed_if, one_deleted}
+use Rattle.database_access.specs.Search.{IsFirst, NoneBehind}
 use Rattle.database_access.proofs.Entries.{Here}
 use Rattle.database_access.proofs.EntriesChanged.{with_list, changed_alike, changed_behind, changed_nothing, found_changed}
-use Rattle.database_access.proofs.Raising.{left_after, left_as, itself, raised_after}
+use Rattle.database_access.proofs.Raising.{left_after, left_as, itself}
+use Rattle.record_db.proofs.OneRecord.{none_deleted, deleted_one, isnt_of}
 use Rattle.record_db.proofs.Turns.{first_changed, none_changed, all_changed, later_kept, next_changed}
 
 -- ---- the database in between
@@ -143,19 +146,89 @@ next_unlocked old mid db category count h some none of locked =
     let left = subst (λ (x : Option LiveChunk). Of x IsLocked) (one.same.map slot) here in
     none (count, subst (λ (x : Option (Entry ℕ)). OfEntry x (IsOf category)) same of, some_left (times slot (data_of_category category (take count h.one.database.entries)) == 0) ((store_of old).map slot) left)
 
+-- ---- those between two of the category
+
+pub number_there : (old mid : List ℕ) (db : Db) (category count : ℕ) (h : Here old db.0) → HasDeletedSome old mid db category count → IsSome (with_number (store_of mid) db.0)
+number_there old mid db category count h some =
+    subst (λ (x : Option StoredDatabase). IsSome x)
+    (sym (number_mid old mid db (first_changed (deleted_category category) count) (deleted_so_far (store_of old) db h.one.database.entries category count) h (deleted_here old mid db category count h some).same refl)) tt
+
+pub kind_there : (old mid : List ℕ) (db : Db) (category count : ℕ) (h : Here old db.0) → HasDeletedSome old mid db category count → resources_under (store_of mid) db ≡ resources_under (store_of old) db
+kind_there old mid db category count h some =
+    ap kind_of (number_mid old mid db (first_changed (deleted_category category) count) (deleted_so_far (store_of old) db h.one.database.entries category count) h (deleted_here old mid db category count h some).same refl)
+    ∙ sym (ap kind_of h.found)
+
+-- an entry that isn't of the category
+one_passed : (old mid : List ℕ) (db : Db) (category from : ℕ) (h : Here old db.0) → Accepted old → from < length h.one.database.entries → (OfEntry (entry_under (store_of mid) db from) (IsOf category) → ⊥)
+    → HasDeletedSome old mid db category from → HasDeletedSome old mid db category (from + 1)
+one_passed old mid db category from h a below other some =
+    let one = deleted_here old mid db category from h some in
+    let entry : Entry ℕ = get_or h.one.database.entries from (a_record 0 0 0) in
+    let e : entry_under (store_of mid) db from ≡ Some entry = entry_mid old mid db category from from h (omega arith) one ∙ slice_get-get_or h.one.database.entries from (a_record 0 0 0) below in
+    deleted_turn old mid mid db category from h a below some
+    (none_deleted mid db from category entry one.accepted (number_there old mid db category from h some) e (isnt_of category entry (subst (λ (x : Option (Entry ℕ)). OfEntry x (IsOf category) → ⊥) e other)))
+    (λ name some_there. some_there)
+
+-- so many entries that are not of the category
+pub passed : (old mid : List ℕ) (db : Db) (category from more : ℕ) (h : Here old db.0) → Accepted old → from + more ≤ length h.one.database.entries
+    → ((index : ℕ) → from ≤ index → index < from + more → OfEntry (entry_under (store_of mid) db index) (IsOf category) → ⊥) → HasDeletedSome old mid db category from → HasDeletedSome old mid db category (from + more)
+passed old mid db category from zero h a within others some = subst (HasDeletedSome old mid db category) (let same : from ≡ from + 0 = omega arith in same) some
+passed old mid db category from (suc more) h a within others some =
+    let next = one_passed old mid db category from h a (omega (arith, within)) (others from (omega arith) (omega arith)) some in
+    subst (HasDeletedSome old mid db category) (let same : from + 1 + more ≡ from + suc more = omega arith in same)
+    (passed old mid db category (from + 1) more h a (omega (arith, within)) (λ index order below. others index (omega (arith, order)) (omega (arith, below))) next)
+
+-- the first one of the category from there on
+of_within : (entries : List (Entry ℕ)) (index : ℕ) (P : Entry ℕ → Type 0) → OfEntry (slice_get entries index) P → (entry : Entry ℕ) × (slice_get entries index ≡ Some entry) × P entry
+of_within [] index P of = absurd of
+of_within (entry ∷ entries) zero P of = (entry, refl, of)
+of_within (entry ∷ entries) (suc index) P of = of_within entries index P of
+
+pub within_some : (entries : List (Entry ℕ)) (index : ℕ) (P : Entry ℕ → Type 0) → OfEntry (slice_get entries index) P → index < length entries
+within_some entries index P of = (let there = of_within entries index P of in slice_get_within entries index there.0 there.1.0)
+
+pub first_inside : (old mid : List ℕ) (db : Db) (category from index : ℕ) (h : Here old db.0) → IsFirst (entries_in (store_of mid) db) from (IsOf category) index → HasDeletedSome old mid db category from → index < length h.one.database.entries
+first_inside old mid db category from index h first some =
+    let there = of_within (entries_in (store_of mid) db) index (IsOf category) first.here.1 in
+    slice_get_within h.one.database.entries index there.0 (sym (entry_mid old mid db category from index h first.here.0 (deleted_here old mid db category from h some)) ∙ there.1.0)
+
+pub passed_to : (old mid : List ℕ) (db : Db) (category from index : ℕ) (h : Here old db.0) → Accepted old → IsFirst (entries_in (store_of mid) db) from (IsOf category) index → HasDeletedSome old mid db category from → HasDeletedSome old mid db category index
+passed_to old mid db category from index h a first some =
+    let order = first.here.0 in
+    let below = first_inside old mid db category from index h first some in
+    let sum : from + (index - from) ≡ index = omega (arith, order) in
+    subst (HasDeletedSome old mid db category) sum
+    (passed old mid db category from (index - from) h a (omega (arith, sum, below))
+    (λ at from_on under of. first.none_below at (omega (arith, sum, under)) (from_on, of)) some)
+
+pub deleted_next : (old mid new : List ℕ) (db : Db) (category from index : ℕ) (h : Here old db.0) → Accepted old → IsFirst (entries_in (store_of mid) db) from (IsOf category) index
+    → HasDeletedSome old mid db category from → LeavesStore mid new (data_freed (store_of mid) db index) → MakesNone mid new → HasDeletedSome old new db category (index + 1)
+deleted_next old mid new db category from index h a first some freed none =
+    let there = of_within (entries_in (store_of mid) db) index (IsOf category) first.here.1 in
+    let now = passed_to old mid db category from index h a first some in
+    deleted_turn old mid new db category index h a (first_inside old mid db category from index h first some) now
+    (deleted_one mid new db index category there.0 (deleted_here old mid db category index h now).accepted (number_there old mid db category index h now) there.1.0 there.1.1 freed) none
+
+-- no one is left
+pub passed_all : (old mid : List ℕ) (db : Db) (category from : ℕ) (h : Here old db.0) → Accepted old → NoneBehind (entries_in (store_of mid) db) from (IsOf category) → from ≤ length (entries_in (store_of old) db)
+    → HasDeletedSome old mid db category from → HasDeletedSome old mid db category (length h.one.database.entries)
+passed_all old mid db category from h a none within some =
+    let entries : List (Entry ℕ) = h.one.database.entries in
+    let count : length (entries_in (store_of old) db) ≡ length entries = ap (λ (x : Option StoredDatabase). length (entries_of x)) h.found in
+    let sum : from + (length entries - from) ≡ length entries = omega (arith, count, within) in
+    subst (HasDeletedSome old mid db category) sum
+    (passed old mid db category from (length entries - from) h a (omega (arith, sum)) (λ at from_on under. none at from_on) some)
+
 -- ---- all of them
 
-pub deleted_all : (old mid new : List ℕ) (db : Db) (category count : ℕ) (h : Here old db.0) → Accepted old → length h.one.database.entries ≤ count
-    → HasDeletedSome old mid db category count → LeavesStore mid new (raised (store_of mid) db) → MakesNone mid new → LeavesStore old new (raised (category_deleted (store_of old) db category) db)
-deleted_all old mid new db category count h a all some two none =
+pub deleted_all : (old mid : List ℕ) (db : Db) (category count : ℕ) (h : Here old db.0) → Accepted old → length h.one.database.entries ≤ count
+    → HasDeletedSome old mid db category count → LeavesStore old mid (category_deleted (store_of old) db category)
+deleted_all old mid db category count h a all some =
     let entries : List (Entry ℕ) = h.one.database.entries in
-    let one = deleted_here old mid db category count h some in
-    raised_after old mid new db (category_deleted (store_of old) db category)
-    (left_as old mid (deleted_so_far (store_of old) db entries category count) (category_deleted (store_of old) db category) one
+    left_as old mid (deleted_so_far (store_of old) db entries category count) (category_deleted (store_of old) db category) (deleted_here old mid db category count h some)
     (record {
       map = λ name.
           (ap (λ (es : List (Entry ℕ)). all_gone (store_of old).map (data_of_category category es) name) (take_all count entries all)
           ∙ ap (λ (x : Option StoredDatabase). all_gone (store_of old).map (data_of_category category (entries_of x)) name) (sym h.found));
       databases = all_alike old db (deleted_category category) count h a all;
-    }))
-    two none
+    })

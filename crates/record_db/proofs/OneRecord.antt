@@ -26,6 +26,13 @@ alive category attributes of = by (is_deleted attributes) ((category == 255) || 
   by true other e = absurd cc
   by false other e = refl
 
+-- what isn't of a category
+pub isnt_of : (category : ℕ) (entry : Entry ℕ) → (is_of category entry ≡ true → ⊥) → is_of category entry ≡ false
+isnt_of category entry other = by (is_of category entry) other where
+  by : (is : Bool) → (is ≡ true → ⊥) → is ≡ false
+  by true other = absurd (other refl)
+  by false other = refl
+
 -- ---- deleted
 
 one_gone : (chunks : ChunkMap) (slot name : ℕ) → gone chunks slot name ≡ all_gone chunks (slot ∷ []) name

@@ -1,17 +1,17 @@
 //! Categories of records: those of one are counted, moved to another, or deleted.
 
-ghost use Rattle.std.specs.Prelude.{◌≡◌, ◌<◌, false, [], ◌∷◌, length, OnOk, OnErr, IfErr};
-ghost use Rattle.heap_model.specs.Store.{store_of};
+ghost use Rattle.std.specs.Prelude.{◌≡◌, false, [], ◌∷◌, OnOk, OnErr, IfErr, IfSome, IfNone};
+ghost use Rattle.heap_model.specs.Store.{Accepted, store_of};
 ghost use Rattle.heap_model.specs.Refusals.{NoneHolds, FirstBrings};
-ghost use Rattle.heap_model.specs.EntrySteps.{entry_under, OfEntry, MakesNone};
+ghost use Rattle.heap_model.specs.EntrySteps.{MakesNone};
 ghost use Rattle.heap_model.specs.Categories.{IsOf};
-ghost use Rattle.heap_model.specs.RecordSteps.{no_category, no_categories};
+ghost use Rattle.heap_model.specs.RecordSteps.{no_category, no_categories, HasLockedOf, category_deleted};
 ghost use Rattle.heap_model.specs.declared.call.RecordCall.{RecordCall};
 ghost use Rattle.palm_store.specs.Databases.{HasNumber};
-ghost use Rattle.palm_store.specs.EntryCalls.{entries_of_image, resources_of_image, HasLockedData, LeavesChanged};
+ghost use Rattle.palm_store.specs.EntryCalls.{entries_of_image, resources_of_image, LeavesChanged};
 ghost use Rattle.palm_store.specs.Replies.{done_or_refused, number_or_refused};
+ghost use Rattle.database_access.specs.Search.{IsFirst, NoneBehind};
 ghost use Rattle.record_db.specs.Checks.{DoesRecord};
-ghost use Rattle.record_db.specs.Categories.{one_deleted};
 
 use crate::attributes::{ALL_CATEGORIES, Moving, has_category};
 use crate::records::has_locked_of;
@@ -94,16 +94,44 @@ pub fn delete_category(store: &mut Store, db: Db, category: u8) -> Result<(), Re
         (done_or_refused result) store.new }
     ensures refused { OnErr result (store.new ≡ store.old) }
 {
-    let count = count_entries(store, db, EntryKind::Records, Access::Write)?;
+    count_entries(store, db, EntryKind::Records, Access::Write)?;
     check_category(category)?;
     if has_locked_of(store, db, category) {
         return Err(Refusal::ChunkLocked);
     }
-    for index in 0..count {
-        delete_one(store, db, index, category);
-    }
+    delete_all_of(store, db, category);
     store.raise(db);
     Ok(())
+}
+
+/// Deletes each record of a category that isn't deleted, none of which has locked data.
+fn delete_all_of(store: &mut Store, db: Db, category: u8)
+    requires accepted { Accepted store.old.bytes }
+    requires known { HasNumber store.old.bytes db.0 }
+    requires records { resources_of_image store.old.bytes db ≡ false }
+    requires unlocked { HasLockedOf (store_of store.old.bytes) db category → ⊥ }
+    ensures deleted { LeavesChanged store.old store.new
+        (λ before. category_deleted before db category) }
+    ensures none_made { MakesNone store.old.bytes store.new.bytes }
+    ensures rest { store.new ≡ record store.old { bytes = store.new.bytes } }
+{
+    let mut from = 0;
+    while let Some(index) = next_of(store, db, from, category) {
+        store.entry_free_data(db, index, false);
+        from = index + 1;
+    }
+}
+
+/// The first record of a database, from an index on, that is of a category.
+fn next_of(store: &Store, db: Db, from: u32, category: u8) -> Option<u32>
+    requires known { HasNumber store.now.bytes db.0 }
+    requires records { resources_of_image store.now.bytes db ≡ false }
+    ensures is { IfSome result
+        (IsFirst (entries_of_image store.now.bytes db) from (IsOf category)) }
+    ensures none { IfNone result
+        (NoneBehind (entries_of_image store.now.bytes db) from (IsOf category)) }
+{
+    first_of(&store.database(db), from, category)
 }
 
 /// Refuses what is no category: it is 0 to 15.
@@ -126,22 +154,4 @@ fn check_counted(category: u8) -> Result<(), Refusal>
         return Err(Refusal::InvalidCategory);
     }
     Ok(())
-}
-
-/// Deletes the record of an index, if it is of a category and not deleted.
-fn delete_one(store: &mut Store, db: Db, index: u32, category: u8)
-    requires known { HasNumber store.old.bytes db.0 }
-    requires records { resources_of_image store.old.bytes db ≡ false }
-    requires inside { index < length (entries_of_image store.old.bytes db) }
-    requires unlocked { OfEntry (entry_under (store_of store.old.bytes) db index) (IsOf category)
-        → HasLockedData store.old.bytes db index → ⊥ }
-    ensures deleted { LeavesChanged store.old store.new
-        (λ before. one_deleted before db index category) }
-    ensures none_made { MakesNone store.old.bytes store.new.bytes }
-    ensures rest { store.new ≡ record store.old { bytes = store.new.bytes } }
-{
-    let record = store.database(db).record(index);
-    if has_category(record.attributes, category) {
-        store.entry_free_data(db, index, false);
-    }
 }

@@ -2,7 +2,8 @@ use Rattle.std.proofs.Common.{◌≡◌, ℕ, sym, subst, arith}
 use Rattle.heap_model.specs.Space.{Short, MovesOneStretchAnd}
 use Rattle.heap_model.specs.Memory.{Memory}
 use Rattle.heap_model.specs.Chunk.{need}
-use Rattle.laws_heap.proofs.Fits.{room_is_run, short_for_beyond}
+use Rattle.laws_heap.proofs.Fits.{short_for_beyond}
+use Rattle.laws_heap.proofs.Spots.{room_spot, spot_is_run}
 use Rattle.laws_heap.proofs.Unmoved.{itself_alone}
 use Rattle.heap_compact.proofs.ResizedLaws.{is_loose, loose_slid, slid_then, slid_alone, fits_in_stretch, fits_not_short, short_own, own_fits, room_fits}
 use Rattle.heap_compact.proofs.growing.resize_by_packing.Goals as goal
@@ -75,4 +76,4 @@ relocate_named-requires-clause-has_run c =
     let same = c.in-Some.ensures.1 in
     let enough = c.in-Some-room_by_packing.ensures.enough in
     let room = c.in-Some-room_by_packing.field-0 in
-    room_is_run c.room_by_packing.new.space.bytes room.at room.size (need c.args.count) c.in-Some-room_by_packing.ensures.room (omega arith)
+    spot_is_run c.room_by_packing.new.space.bytes room.at room.size (need c.args.count) (room_spot c.room_by_packing.new.space.bytes room.at room.size c.in-Some-room_by_packing.ensures.room) (omega arith)

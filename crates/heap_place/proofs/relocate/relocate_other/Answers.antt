@@ -15,7 +15,7 @@ release_listed-requires-clause-accepted c = (c.copy_bytes.ensures.copied (c.stan
 
 pub release_listed-requires-clause-no_directory : goal.release_listed-requires-clause-no_directory
 release_listed-requires-clause-no_directory c e =
-    c.requires.no_directory (e ∙ (c.copy_bytes.ensures.copied (c.stand_in_at-there.ensures.others c.args.found c.requires.found)).frame.directory ∙ c.stand_in_at-there.ensures.made.frame.directory)
+    c.requires.no_directory (e ∙ (c.copy_bytes.ensures.copied (c.stand_in_at-there.ensures.others c.args.found c.requires.found)).frame.directory ∙ (c.stand_in_at-there.ensures.made c.requires.room).frame.directory)
 
 pub take_name-requires-clause-found : goal.take_name-requires-clause-found
 take_name-requires-clause-found c =

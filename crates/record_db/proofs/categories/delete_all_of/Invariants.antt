@@ -1,0 +1,17 @@
+-- Of the records in front of where the search goes on those of the category are deleted, and nothing else has changed.
+use Rattle.std.proofs.Common.{◌≡◌, ◌≤◌, ◌-◌, length}
+use Rattle.heap_model.specs.Store.{store_of}
+use Rattle.heap_model.specs.EntrySteps.{entries_in, MakesNone}
+use Rattle.record_db.proofs.CategoryTurns.{HasDeletedSome}
+use Rattle.record_db.proofs.categories.delete_all_of.Given as goal
+
+abbrev pub invariant-loop-index : goal.invariant-loop-index
+invariant-loop-index l = record {
+  deleted : HasDeletedSome l.initial.store.bytes l.store.bytes l.db l.category l.from;
+  within : l.from ≤ length (entries_in (store_of l.initial.store.bytes) l.db);
+  none_made : MakesNone l.initial.store.bytes l.store.bytes;
+  rest : l.store ≡ record l.initial.store { bytes = l.store.bytes };
+}
+
+abbrev pub decreases-loop-index : goal.decreases-loop-index
+decreases-loop-index l = length (entries_in (store_of l.initial.store.bytes) l.db) - l.from
