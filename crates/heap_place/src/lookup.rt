@@ -28,7 +28,7 @@ pub(crate) fn find_named(region: &Region, name: Name) -> Option<Found>
 }
 
 /// The chunk of a name that is a slot's, at the same cost however large the heap is.
-#[inline]
+#[inline(always)]
 pub(crate) fn in_slot(region: &Region, name: Name) -> Option<Found>
     requires accepted { HeapAccepted region.now.bytes }
     ensures found { IfSome result (IsFound region.now.bytes name.0) }

@@ -16,8 +16,9 @@ use chunk_format::{DATA_OWNER, FIXED_LOCK, MANAGERS_OWNER};
 use heap_model::{Name, Place, Refusal};
 use heap_place::{Found, Space};
 
-/// The chunk that a name stands for, whoever owns it. That of a slot is looked up first.
-#[inline]
+/// The chunk that a name stands for, whoever owns it. That of a slot is looked up first, and always in line: where a
+/// look-up is a call, what it found goes through memory.
+#[inline(always)]
 pub(crate) fn named(space: &Space, known: &KnownNames, name: Name) -> Option<Found>
     requires accepted { HeapAccepted space.now.bytes }
     requires known { KnowsHeld space.now.bytes known.now.names }
@@ -31,6 +32,7 @@ pub(crate) fn named(space: &Space, known: &KnownNames, name: Name) -> Option<Fou
 }
 
 /// The same of a name that is no slot's. Where it isn't remembered, it is looked for among all chunks.
+#[inline(never)]
 fn in_no_slot(space: &Space, known: &KnownNames, name: Name) -> Option<Found>
     requires accepted { HeapAccepted space.now.bytes }
     requires known { KnowsHeld space.now.bytes known.now.names }
@@ -44,7 +46,7 @@ fn in_no_slot(space: &Space, known: &KnownNames, name: Name) -> Option<Found>
 }
 
 /// The caller's chunk that a name stands for. The manager's own are no caller's.
-#[inline]
+#[inline(always)]
 pub(crate) fn find(space: &Space, known: &KnownNames, name: Name) -> Result<Found, Refusal>
     requires accepted { HeapAccepted space.now.bytes }
     requires known { KnowsHeld space.now.bytes known.now.names }
@@ -60,6 +62,7 @@ pub(crate) fn find(space: &Space, known: &KnownNames, name: Name) -> Result<Foun
 }
 
 /// The caller's chunk that a name stands for, which is remembered where it is fixed.
+#[inline(always)]
 pub(crate) fn find_again(
     space: &Space,
     known: &mut KnownNames,
