@@ -42,6 +42,7 @@ pub(crate) fn in_slot(region: &Region, name: Name) -> Option<Found>
 
 /// The chunk of a name that stands for one, at the same cost however large the heap is: where no slot holds
 /// the name, it is a fixed chunk's, which says where that is.
+#[inline(always)]
 pub(crate) fn chunk_named(region: &Region, name: Name) -> Found
     requires accepted { HeapAccepted region.now.bytes }
     requires there { IsSome (held region.now.bytes name.0) }
@@ -54,7 +55,7 @@ pub(crate) fn chunk_named(region: &Region, name: Name) -> Found
 }
 
 /// The fixed chunk of a name.
-#[inline]
+#[inline(never)]
 fn fixed_at(region: &Region, name: Name) -> Found
     requires accepted { HeapAccepted region.now.bytes }
     requires fixed { IsFixed region.now.bytes name.0 }

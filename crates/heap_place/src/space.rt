@@ -110,7 +110,7 @@ impl Space {
     }
 
     /// The chunk of a name that is a slot's, whoever owns it, at the same cost however large the heap is.
-    #[inline]
+    #[inline(always)]
     pub fn in_slot(&self, name: Name) -> Option<Found>
         requires accepted { HeapAccepted self.now.bytes }
         ensures found { IfSome result (IsFound self.now.bytes name.0) }
@@ -121,7 +121,7 @@ impl Space {
 
     /// The chunk of a name that stands for one, as `find` answers it. It costs the same however large the heap
     /// is, also where the name is no slot's.
-    #[inline]
+    #[inline(always)]
     pub fn chunk(&self, name: Name) -> Found
         requires accepted { HeapAccepted self.now.bytes }
         requires there { IsSome (held self.now.bytes name.0) }
