@@ -36,7 +36,7 @@ returns-clause-moved c f =
 pub returns-clause-frame : goal.returns-clause-frame
 returns-clause-frame c =
     (relocated_again c.args.region.now.bytes c.name_directory.new.region.bytes c.relocate_other.new.region.bytes c.name_directory-2.new.region.bytes c.args.found.name.0 _ c.args.room.at c.args.room.size _ c.name_directory.ensures.names
-    (c.relocate_other.ensures.moved (named_one c.args.region.now.bytes c.name_directory.new.region.bytes 0 c.args.found c.name_directory.ensures.names c.requires.found)) c.name_directory-2.ensures.names c.requires.directory).frame
+    (c.relocate_other.ensures.moved (named_one c.args.region.now.bytes c.name_directory.new.region.bytes 0 c.args.found c.name_directory.ensures.names c.requires.found)) c.name_directory-2.ensures.names c.requires.directory c.requires.room).frame
 
 pub returns-clause-plain : goal.returns-clause-plain
 returns-clause-plain c =

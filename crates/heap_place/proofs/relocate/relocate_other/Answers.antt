@@ -6,6 +6,9 @@ use Rattle.heap_place.proofs.ListLaws.{lists_kept}
 use Rattle.heap_place.proofs.RelocateLaws.{stand_apart, relocated_found, slot_emptied, freed_keeps, owner_fits}
 use Rattle.heap_place.proofs.relocate.relocate_other.Goals as goal
 
+pub copy_bytes-requires-clause-accepted : goal.copy_bytes-requires-clause-accepted
+copy_bytes-requires-clause-accepted c = (c.stand_in_at-there.ensures.made c.requires.room).frame.accepted
+
 pub copy_bytes-requires-clause-apart : goal.copy_bytes-requires-clause-apart
 copy_bytes-requires-clause-apart c e =
     stand_apart c.args.region.now.bytes c.args.room.at c.args.room.size c.args.count c.args.found c.requires.accepted c.requires.room c.requires.enough c.requires.found (e ∙ ap (λ (x : Found). x.name.0) c.stand_in_at-there.ensures.is)
@@ -46,7 +49,7 @@ returns-clause-plain c =
 pub returns-clause-frame : goal.returns-clause-frame
 returns-clause-frame c =
     (relocated_found c.args.region.now.bytes c.stand_in_at-there.new.region.bytes c.copy_bytes.new.region.bytes c.release_listed.new.region.bytes c.take_name.new.region.bytes c.args.found c.stand_in_at-there.result c.args.room.at c.args.room.size c.args.count c.requires.accepted c.requires.found c.requires.unlocked
-    c.requires.room c.requires.enough c.stand_in_at-there.ensures.is c.stand_in_at-there.ensures.made c.stand_in_at-there.ensures.others c.copy_bytes.ensures.copied c.release_listed.ensures.gone c.take_name.ensures.made).frame
+    c.requires.room c.requires.enough c.stand_in_at-there.ensures.is c.stand_in_at-there.ensures.made c.stand_in_at-there.ensures.others c.copy_bytes.ensures.copied c.release_listed.ensures.gone c.take_name.ensures.made c.requires.room).frame
 
 pub release_listed-requires-clause-lists : goal.release_listed-requires-clause-lists
 release_listed-requires-clause-lists c = lists_kept Any c.stand_in_at-there.new.region.bytes c.copy_bytes.new.region.bytes c.stand_in_at-there.new.heads c.copy_bytes.ensures.keeps c.stand_in_at-there.ensures.lists
