@@ -1,9 +1,7 @@
 //! Each growth is refused in turn: want of memory is answered where one was, and nothing was done then; and nowhere
 //! else.
 
-use crate::stores::{
-    CARRIED, WIDE, WRITTEN, image_of, input_files, store_behind, store_of, with_database,
-};
+use crate::stores::{CARRIED, WRITTEN, input_files, store_behind, with_database};
 use chunk_format::{BlankFault, blank_from};
 use heap_model::{
     Bytes, Call, Counted, DatabaseCall, Db, FileCall, MemoryCall, Name, Place, Refusal, Reply,
@@ -19,9 +17,10 @@ use script_lines::parse_from;
 use std::alloc::Global;
 use std::process::Abort;
 use std::test::*;
+use test_beside::{image_of, store_of};
 use test_fakes::RefusesOne;
 use test_images::{
-    BLANK, DATABASE, EMPTY_FILE, ONE_CHUNK, ORDER_FILE, TINY_FILE, TWO_DATABASES, bytes_of,
+    BLANK, DATABASE, EMPTY_FILE, ONE_CHUNK, ORDER_FILE, TINY_FILE, TWO_DATABASES, WIDE, bytes_of,
 };
 
 /// Lines on the image with one chunk.
@@ -306,7 +305,7 @@ fn number_of(reply: &Reply) -> u8 {
 fn listed(alloc: Global, before: u32) -> Result<Vec<u8>, Fail> {
     let calls = [
         import_of(alloc, ORDER_FILE)?,
-        Call::File(FileCall::Export(Db(20))),
+        Call::File(FileCall::Export(Db(16))),
         Call::Memory(MemoryCall::Read {
             name: Name(28),
             at: 0,

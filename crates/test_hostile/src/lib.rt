@@ -5,7 +5,15 @@
 #![tactic(auto)]
 
 #[cfg(test)]
+mod bytes;
+#[cfg(test)]
+mod changes;
+#[cfg(test)]
 mod growths;
+#[cfg(test)]
+mod images;
+#[cfg(test)]
+mod limits;
 #[cfg(test)]
 mod stores;
 #[cfg(test)]

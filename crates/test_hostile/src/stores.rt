@@ -1,16 +1,13 @@
-//! Stores, and what they hold as bytes.
+//! Stores behind scripts and files, and the scripts and files.
 
 use heap_model::{Bytes, Counted, Db};
 use palm_script::{parse, run};
 use palm_store::Store;
 use pdb_files::import;
-use raw_region::Region;
 use std::alloc::Global;
 use std::test::*;
-use test_images::{EMPTY_FILE, ORDER_FILE, TINY_FILE, bytes_of};
-
-/// 1,024 bytes with 16 slots and one free chunk.
-pub(crate) const WIDE: &str = "50484931 00000400 0010 0000 00000000 00*64 800003B0 00*940";
+use test_beside::store_of;
+use test_images::{EMPTY_FILE, ORDER_FILE, TINY_FILE, WIDE, bytes_of};
 
 /// Lines on the blank image.
 pub(crate) const WRITTEN: &str = "new a 10 1\nlock a\nwrite a 9 41\nwrite a 9 4142\nread a 0 10\n\
@@ -18,23 +15,6 @@ pub(crate) const WRITTEN: &str = "new a 10 1\nlock a\nwrite a 9 41\nwrite a 9 41
 
 /// Lines that import the file without entries and export it.
 pub(crate) const CARRIED: &str = "import d 1\nexport d\nimport d 1\nimport d 9\n";
-
-/// The store of an image.
-pub(crate) fn store_of(alloc: Global, image: &[u8]) -> Result<Store, Fail> {
-    match Store::check(alloc, Region::from_bytes(alloc, image)?) {
-        Ok(store) => Ok(store),
-        Err(_) => Err("no store")?,
-    }
-}
-
-/// The image of a store.
-pub(crate) fn image_of(alloc: Global, store: &Store) -> Result<Vec<u8>, Fail> {
-    let mut written = Counted::new(Vec::new(alloc));
-    match store.write_image(&mut written) {
-        Ok(()) => Ok(written.into_inner()),
-        Err(_) => Err("no image")?,
-    }
-}
 
 /// The files that scripts import: the first has no entries, the second three records, the third two
 /// resources.

@@ -1,7 +1,7 @@
 //! Each write fails in turn: what was written is a front of what was to be, nothing is written behind it, and what a
 //! run did is what the lines did whose reply was begun.
 
-use crate::stores::{CARRIED, WIDE, WRITTEN, image_of, input_files, store_behind, with_database};
+use crate::stores::{CARRIED, WRITTEN, input_files, store_behind, with_database};
 use heap_model::{Counted, Name};
 use palm_script::{RunFault, parse, run};
 use palm_store::Store;
@@ -12,10 +12,11 @@ use std::alloc::Global;
 use std::io::ErrorKind;
 use std::process::Abort;
 use std::test::*;
+use test_beside::image_of;
 use test_fakes::{Narrow, WhenFull};
 use test_images::{
     BLANK, DATABASE, EMPTY_FILE, EMPTY_WRITTEN, ONE_CHUNK, ORDER_FILE, ORDER_WRITTEN, TINY_FILE,
-    bytes_of,
+    WIDE, bytes_of,
 };
 
 /// How a writer takes bytes, and what it does when it has no room left.

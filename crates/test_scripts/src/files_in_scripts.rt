@@ -1,6 +1,5 @@
 //! Files that scripts import and export.
 
-use crate::databases::WIDE;
 use heap_model::{Bytes, Counted};
 use palm_script::{parse, run};
 use palm_store::Store;
@@ -8,7 +7,7 @@ use std::alloc::Global;
 use std::process::Abort;
 use std::test::*;
 use test_images::{
-    BLANK, EMPTY_FILE, EMPTY_WRITTEN, ORDER_FILE, ORDER_WRITTEN, TINY_FILE, bytes_of, image,
+    BLANK, EMPTY_FILE, EMPTY_WRITTEN, ORDER_FILE, ORDER_WRITTEN, TINY_FILE, WIDE, bytes_of, image,
 };
 
 /// A file of records with the greatest and the least ID, whose seed is just below the greatest.
