@@ -1,17 +1,15 @@
 //! Databases that are read from files, entry by entry and byte by byte.
 
 use chunk_format::blank;
-use heap_model::{
-    Allowance, Db, DbInfo, DbName, FileFault, RecordInfo, Refusal, ResourceInfo, Which,
-};
+use heap_model::{Db, DbInfo, DbName, FileFault, RecordInfo, Refusal, ResourceInfo, Which};
 use palm_store::Store;
 use pdb_files::{import, import_from};
 use record_db::{new_record, num_records, record_info};
 use resource_db::{find_resource, find_type, num_resources, remove_resource, resource_info};
-use std::alloc::{AllocError, Global};
-use std::cell::Cell;
+use std::alloc::Global;
 use std::process::Abort;
 use std::test::*;
+use test_fakes::RefusesOne;
 use test_images::{EMPTY_FILE, ORDER_FILE, TINY_FILE, bytes_of};
 
 /// A file of two records, whose seed is the last but one.
@@ -309,34 +307,6 @@ fn nothing_is_left_where_room_is_short(rt: HostRuntime) -> Result<(), Fail> {
     Ok(())
 }
 
-/// Grants so many growths, and refuses each behind them.
-struct Grants {
-    alloc: Global,
-    left: Cell<u32>,
-}
-
-impl Drop for Grants {
-    fn drop(self) {
-        let Grants { alloc: _, left: _ } = self;
-    }
-}
-
-impl Allowance for Grants {
-    fn allocator(&self) -> Global {
-        self.alloc
-    }
-
-    fn grant(&self) -> Result<Global, AllocError> {
-        match self.left.get() {
-            0 => Err(AllocError),
-            left => {
-                self.left.set(left - 1);
-                Ok(self.alloc)
-            }
-        }
-    }
-}
-
 #[test]
 fn each_growth_can_be_refused(rt: HostRuntime) -> Result<(), Fail> {
     for (listing, growths) in [(ORDER_FILE, 10), (TINY_FILE, 6)] {
@@ -344,20 +314,14 @@ fn each_growth_can_be_refused(rt: HostRuntime) -> Result<(), Fail> {
         let mut store = blank_store(rt.alloc(), 1024, 16)?;
         let before = store.summary();
         for granted in 0..growths {
-            let memory = Grants {
-                alloc: rt.alloc(),
-                left: Cell::new(granted),
-            };
+            let memory = RefusesOne::behind(rt.alloc(), granted);
             assert_eq!(rt;
                 import_from(&memory, &mut store, &file),
                 Err(Refusal::OutOfMemory)
             );
             assert_eq!(rt; store.summary(), before, "{granted}");
         }
-        let memory = Grants {
-            alloc: rt.alloc(),
-            left: Cell::new(growths),
-        };
+        let memory = RefusesOne::behind(rt.alloc(), growths);
         assert!(rt; import_from(&memory, &mut store, &file).is_ok());
     }
     Ok(())
