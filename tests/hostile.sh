@@ -6,9 +6,9 @@
 #   tests/hostile.sh [PROGRAM [KILLS]]
 #
 # PROGRAM is ../palmheap, if none is given, and KILLS how many runs are killed, 200 if not said. Needs bash, Linux with
-# /dev/full, GNU coreutils (timeout, head, cmp, mktemp, stat, sleep of parts of a second), and 200 MB in the folder for temporary
-# files. Takes about two minutes. Each case that fails has a line on standard error; the status is 1 then. What it saw
-# is said on standard output. The gate runs none of this.
+# /dev/full, GNU coreutils (a sleep of parts of a second among them), cmp, and 100 MB in the folder for temporary files. Takes
+# a minute or two. Each case that fails has a line on standard error; the status is 1 then. What it saw is said on
+# standard output. The gate runs none of this.
 top=$(cd -- "$(dirname -- "$0")/.." && pwd)
 program=${1:-$top/palmheap}
 kills=${2:-200}
@@ -138,7 +138,6 @@ status=$?
 is 'standard output that is full, status' 3 "$status"
 leaves 'standard output that is full' "$status"
 renewed
-mkfifo pipe
 timeout 60 "$program" run large.img large.txt out.img >/dev/full 2>&-
 status=$?
 is 'standard error that is closed, status' 3 "$status"
@@ -166,7 +165,6 @@ for how in default ignored; do
     cmp -s out.img old.img || wrong "a reader that goes away ($how): OUT is not the old file"
     echo "a reader that goes away ($how): status $status"
 done
-rm -f pipe
 
 # Runs that are killed, each a little later than the one before: first how long one takes.
 renewed

@@ -76,7 +76,9 @@ fn lines_run_on_each_image_that_is_accepted(rt: HostRuntime) -> Result<(), Fail>
 #[test]
 fn lines_run_on_the_image_as_it_is(rt: HostRuntime) -> Result<(), Fail> {
     let (_, said) = store_behind(rt.alloc(), DATABASE, LINES)?;
-    assert!(rt; said.as_slice() == b"ok\nok 0\nok\nok\nok\nok 104\n".as_slice());
+    assert!(rt;
+        said.as_slice() == b"ok\nrefused 8 NotEnoughSpace\nok\nok\nok\nok 152\n".as_slice()
+    );
     Ok(())
 }
 

@@ -47,11 +47,11 @@ fn owned_in_last_slot(alloc: Global, owner: u32) -> Result<Region, Fail> {
     for (at, word) in [
         (262_152, 262_168),
         (262_160, 8),
-        (262_164, owner * 0x100_0000 + 0xFF_FFFC),
+        (262_164, owner % 16 * 0x100_0000 + 0xFF_FFFC),
         (262_168, 0x8000_0000 | MOST - 262_168),
     ] {
-        if image.len() < 262_172 {
-            return Err("a short image")?;
+        if at > image.len() || image.len() - at < 4 {
+            return Err("a word beyond the end")?;
         }
         image.put_u32(at, word);
     }
