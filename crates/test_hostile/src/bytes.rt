@@ -13,8 +13,10 @@ use test_beside::{image_of, store_of};
 use test_images::{DATABASE, bytes_of};
 use test_model::{Image, PlainStore};
 
-/// How far the values of a byte are apart.
-const APART: u8 = 51;
+/// How far the bytes are apart, and the values of each.
+const BYTES_APART: usize = 13;
+
+const VALUES_APART: u8 = 51;
 
 /// Lines on the database of an image. Where the changed byte is of its name, the label is bound to nothing.
 const LINES: &str = "find d \"R\"\nrecnew d 0 0 a\nrecremove d 0\ncompact\ndbdelete d\nfreebytes\n";
@@ -51,7 +53,7 @@ fn check_byte(
     let alloc = rt.alloc();
     let mut bytes = Vec::from_slice(alloc, image)?;
     for value in 0..=255u8 {
-        if value % APART != 0 {
+        if value % VALUES_APART != 0 {
             continue;
         }
         *bytes.get_mut(at).ok_or("no byte")? = value;
@@ -67,7 +69,9 @@ fn lines_run_on_each_image_that_is_accepted(rt: HostRuntime) -> Result<(), Fail>
     let image = bytes_of(alloc, DATABASE)?;
     let script = parse(alloc, LINES.as_bytes())?;
     for at in 0..image.len() {
-        check_byte(&rt, &image, at, &script)?;
+        if at % BYTES_APART == 0 {
+            check_byte(&rt, &image, at, &script)?;
+        }
     }
     Ok(())
 }

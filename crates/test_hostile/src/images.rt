@@ -72,7 +72,7 @@ fn drawn_store(alloc: Global, seed: u64) -> Result<Vec<u8>, Fail> {
     let image = blank_image(alloc, 1024, 20)?;
     let mut store = store_of(alloc, &image)?;
     let mut beside = Beside::new(alloc, image)?;
-    for number in 0..60u32 {
+    for number in 0..DRAWN_CALLS {
         let call = beside.any_call(&mut random, alloc)?;
         let spot = format!(in alloc; "call {number} for store {seed}")?;
         beside.call_on(alloc, &mut store, spot.as_str(), &call)?;
@@ -129,7 +129,7 @@ fn check_store(
     Ok(())
 }
 
-/// Of the images a tenth at the least is no heap, and no store, and accepted.
+/// Of the images one in 50 at the least is no heap, and no store, and accepted.
 #[test]
 fn changed_images_are_accepted_where_the_model_says_so(rt: HostRuntime) -> Result<(), Fail> {
     let mut counts = [0; 3];
@@ -137,7 +137,7 @@ fn changed_images_are_accepted_where_the_model_says_so(rt: HostRuntime) -> Resul
         check_store(&rt, seed, &mut counts)?;
     }
     for count in counts {
-        assert!(rt; count >= STORES.saturating_mul(IMAGES) / 10, "{counts:?}");
+        assert!(rt; count >= STORES.saturating_mul(IMAGES) / 50, "{counts:?}");
     }
     Ok(())
 }
