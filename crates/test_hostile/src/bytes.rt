@@ -13,9 +13,10 @@ use test_beside::{image_of, store_of};
 use test_images::{DATABASE, bytes_of};
 use test_model::{Image, PlainStore};
 
-/// How far the bytes are apart, and the values of each.
+/// How far the bytes that are changed are apart.
 const BYTES_APART: usize = 13;
 
+/// How far the values of each are apart.
 const VALUES_APART: u8 = 51;
 
 /// Lines on the database of an image. Where the changed byte is of its name, the label is bound to nothing.

@@ -12,13 +12,17 @@ use test_beside::{Beside, MIXED, blank_image, image_of, store_of};
 use test_images::{DATABASE, TWO_DATABASES, bytes_of};
 use test_model::{Image, PlainStore, Unaccepted, Unreadable};
 
-/// How many stores there are, how many images come of each by changes, and how many calls are done on each that is
-/// accepted.
+/// How many stores there are.
 const STORES: u64 = 4;
 
-const IMAGES: u64 = 25;
+/// How many images come of each by changes.
+const IMAGES: u64 = 8;
 
-const CALLS: u32 = 6;
+/// How many calls are done on an image that is accepted.
+const CALLS: u32 = 2;
+
+/// How many calls make a store that is drawn.
+const DRAWN_CALLS: u32 = 12;
 
 /// What the plain model says of bytes.
 #[derive(Clone, Copy, Debug, PartialEq, Eq)]
