@@ -104,11 +104,29 @@ fn do_calls(alloc: Global, random: &mut Pcg32, image: Vec<u8>, spot: &str) -> Re
     beside.check_meant(alloc, store.into_region().as_slice())
 }
 
+/// How many images were no heap, no store, and accepted.
+#[derive(Clone, Copy, Debug, Default)]
+struct Counts {
+    no_heap: u64,
+    no_store: u64,
+    accepted: u64,
+}
+
+impl Counts {
+    fn add(&mut self, verdict: Verdict) {
+        match verdict {
+            Verdict::NoHeap => self.no_heap = self.no_heap.saturating_add(1),
+            Verdict::NoStore => self.no_store = self.no_store.saturating_add(1),
+            Verdict::Accepted => self.accepted = self.accepted.saturating_add(1),
+        }
+    }
+}
+
 /// Checks images that come of a store, and counts those that are no heap, no store, and accepted.
 fn check_store(
     rt: &(impl Abort + AllocGlobal),
     seed: u64,
-    counts: &mut [u64; 3],
+    counts: &mut Counts,
 ) -> Result<(), Fail> {
     let alloc = rt.alloc();
     let image = any_store(alloc, seed)?;
@@ -119,13 +137,7 @@ fn check_store(
         let spot = format!(in alloc; "image {number} of store {seed}")?;
         let verdict = verdict_of(alloc, &bytes)?;
         assert_eq!(rt; check_verdict(alloc, &bytes)?, verdict, "{spot}: {bytes:?}");
-        let [heaps, stores, accepted] = counts;
-        let count = match verdict {
-            Verdict::NoHeap => heaps,
-            Verdict::NoStore => stores,
-            Verdict::Accepted => accepted,
-        };
-        *count = count.saturating_add(1);
+        counts.add(verdict);
         if verdict == Verdict::Accepted {
             do_calls(alloc, &mut random, bytes, spot.as_str())?;
         }
@@ -136,12 +148,11 @@ fn check_store(
 /// Of the images one in 50 at the least is no heap, and no store, and accepted.
 #[test]
 fn changed_images_are_accepted_where_the_model_says_so(rt: HostRuntime) -> Result<(), Fail> {
-    let mut counts = [0; 3];
+    let mut counts = Counts::default();
     for seed in 0..STORES {
         check_store(&rt, seed, &mut counts)?;
     }
-    for count in counts {
-        assert!(rt; count >= STORES.saturating_mul(IMAGES) / 50, "{counts:?}");
-    }
+    let least = counts.no_heap.min(counts.no_store).min(counts.accepted);
+    assert!(rt; least >= STORES.saturating_mul(IMAGES) / 50, "{counts:?}");
     Ok(())
 }
