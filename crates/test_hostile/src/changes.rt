@@ -98,8 +98,8 @@ fn in_list(random: &mut Pcg32, parts: &Parts) -> usize {
 fn any_spot(random: &mut Pcg32, parts: &Parts) -> usize {
     match random.random_range(0u32..16) {
         0 => below(random, 4).saturating_mul(4),
-        1..=3 => one_of(random, &parts.slots),
-        4..=8 => {
+        1 => one_of(random, &parts.slots),
+        2..=5 => {
             let place = one_of(random, &parts.places);
             place.saturating_sub(if below(random, 2) == 0 { 8 } else { 4 })
         }
