@@ -8,16 +8,8 @@ use pdb_files::import;
 use std::alloc::Global;
 use std::process::Abort;
 use std::test::Fail;
-use test_images::{bytes_of, changed_words};
+use test_images::{ORDER_FILE, TINY_FILE, bytes_of, changed_words};
 use test_model::{Difference, Image, PlainStore};
-
-/// A file of three records, whose blocks stand against the order of the list.
-const ORDER: &str = "4f72646572 00*27 0000 0000 00*24 44415441 54657374 00000000 00000000 0003 \
-    0000006c 00 000000 00000068 03 000005 0000006c 20 000005 0000 42424242 43434343";
-
-/// A file of two resources.
-const TINY: &str = "54696e79 00*28 0001 0001 00*24 6170706c 54657374 00000000 00000000 0002 \
-    74535452 03e8 00000064 74535452 03e9 00000067 0000 486900 596f00";
 
 /// The bytes of a store.
 fn image_of(alloc: Global, store: &Store) -> Result<Vec<u8>, Fail> {
@@ -77,12 +69,12 @@ fn check_bytes(rt: &(impl Abort + AllocGlobal), listing: &str) -> Result<(), Fai
 
 #[test]
 fn every_byte_of_a_file_of_records_has_every_value(rt: HostRuntime) -> Result<(), Fail> {
-    check_bytes(&rt, ORDER)
+    check_bytes(&rt, ORDER_FILE)
 }
 
 #[test]
 fn every_byte_of_a_file_of_resources_has_every_value(rt: HostRuntime) -> Result<(), Fail> {
-    check_bytes(&rt, TINY)
+    check_bytes(&rt, TINY_FILE)
 }
 
 /// What is wrong with the first so many bytes of the file of records.
@@ -96,7 +88,7 @@ fn fault_of_length(length: usize) -> Option<FileFault> {
 
 #[test]
 fn shorter_files_have_faults(rt: HostRuntime) -> Result<(), Fail> {
-    let file = bytes_of(rt.alloc(), ORDER)?;
+    let file = bytes_of(rt.alloc(), ORDER_FILE)?;
     for length in 0..112 {
         let front = file.get(..length).ok_or("the file has 112 bytes")?;
         let spot = format!(in rt.alloc(); "{length} bytes")?;

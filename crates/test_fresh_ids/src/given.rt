@@ -2,11 +2,10 @@
 
 use crate::ids::{database, nth_behind};
 use file_ids::{GivenIds, give_ids, give_ids_from};
-use heap_model::Allowance;
 use pdb_format::check_file;
 use std::alloc::{AllocError, Global};
-use std::cell::Cell;
 use std::test::*;
+use test_fakes::RefusesOne;
 
 /// The attribute of a record that is deleted, above its ID. Such a record needs no data.
 const DELETED: u32 = 0x8000_0000;
@@ -149,40 +148,9 @@ fn resources_are_given_none(rt: HostRuntime) -> Result<(), Fail> {
     Ok(())
 }
 
-/// Grants so many growths, and refuses each behind them.
-struct Grants {
-    alloc: Global,
-    left: Cell<u32>,
-}
-
-impl Drop for Grants {
-    fn drop(self) {
-        let Grants { alloc: _, left: _ } = self;
-    }
-}
-
-impl Allowance for Grants {
-    fn allocator(&self) -> Global {
-        self.alloc
-    }
-
-    fn grant(&self) -> Result<Global, AllocError> {
-        match self.left.get() {
-            0 => Err(AllocError),
-            left => {
-                self.left.set(left - 1);
-                Ok(self.alloc)
-            }
-        }
-    }
-}
-
 /// Whether IDs are given where so many growths are granted.
 fn is_given(alloc: Global, file: &[u8], granted: u32) -> bool {
-    let memory = Grants {
-        alloc,
-        left: Cell::new(granted),
-    };
+    let memory = RefusesOne::behind(alloc, granted);
     match check_file(file) {
         Ok(()) => give_ids_from(&memory, file).is_ok(),
         Err(_) => false,

@@ -6,10 +6,10 @@ use chunk_format::{
     BlankFault, area_start, blank, blank_from, directory, has_magic, head_end, reserved,
     size_field, slot_count,
 };
-use heap_model::Allowance;
 use raw_region::Region;
-use std::alloc::{AllocError, Global};
+use std::alloc::Global;
 use std::test::*;
+use test_fakes::RefusesOne;
 use test_images::{BLANK, bytes_of};
 
 /// 16 bytes of which only the slot count isn't zero.
@@ -96,20 +96,6 @@ fn a_blank_image_has_its_limits(rt: HostRuntime) -> Result<(), Fail> {
     Ok(())
 }
 
-/// Memory of which nothing is granted.
-#[derive(Clone, Copy)]
-struct NoMemory(Global);
-
-impl Allowance for NoMemory {
-    fn allocator(&self) -> Global {
-        self.0
-    }
-
-    fn grant(&self) -> Result<Global, AllocError> {
-        Err(AllocError)
-    }
-}
-
 /// A size and a slot count, and the fault where no memory is granted.
 const WITHOUT_MEMORY: [(u32, u16, BlankFault); 3] = [
     (66, 4, BlankFault::BadSize),
@@ -119,8 +105,8 @@ const WITHOUT_MEMORY: [(u32, u16, BlankFault); 3] = [
 
 #[test]
 fn a_blank_image_asks_for_memory_last(rt: HostRuntime) -> Result<(), Fail> {
-    let memory = NoMemory(rt.alloc());
     for (size, slots, fault) in &WITHOUT_MEMORY {
+        let memory = RefusesOne::behind(rt.alloc(), 0);
         let found = blank_from(&memory, *size, *slots).err();
         assert_eq!(rt; found, Some(*fault), "{size} bytes and {slots} slots");
     }

@@ -1,4 +1,5 @@
-//! Heap images for tests: listings in hex, and small blank images in which words are changed.
+//! Heap images and files of databases for tests: listings in hex, and small blank images in which words are
+//! changed.
 //!
 //! One of the listings is the worked image of docs/FORMAT.md. Nothing but tests uses this crate.
 #![tactic(auto)]
@@ -42,6 +43,33 @@ pub const TWO_DATABASES: &str =
     42 00*31 0000 0000 00*24 44415441 54657374 00000001 00000000 0001 \
     00000020 00 000001 00*2 \
     00000010 0FFFFF8E 4141414141414141 00000010 0FFFFF88 4242424242424242 80000058 00*84";
+
+/// 1,024 bytes with 16 slots and one free chunk.
+pub const WIDE: &str = "50484931 00000400 0010 0000 00000000 00*64 800003B0 00*940";
+
+/// A file of a database without entries.
+pub const EMPTY_FILE: &str =
+    "456d707479 00*27 0000 0000 00*24 44415441 54657374 00000000 00000000 0000";
+
+/// The same, as it is written: two bytes of filler are behind it.
+pub const EMPTY_WRITTEN: &str =
+    "456d707479 00*27 0000 0000 00*24 44415441 54657374 00000000 00000000 0000 0000";
+
+/// A file of three records, whose blocks stand against the order of the list. Two have the same ID and the
+/// first has none; two share an offset, so the first of these is empty; and the last is busy.
+pub const ORDER_FILE: &str =
+    "4f72646572 00*27 0000 0000 00*24 44415441 54657374 00000000 00000000 0003 \
+    0000006c 00 000000 00000068 03 000005 0000006c 20 000005 0000 42424242 43434343";
+
+/// The same, as it is written.
+pub const ORDER_WRITTEN: &str =
+    "4f72646572 00*27 0000 0000 00*24 44415441 54657374 00000002 00000000 0003 \
+    00000068 00 000001 00000068 03 000005 0000006c 00 000002 0000 42424242 43434343";
+
+/// A file of two resources. It is written as it is.
+pub const TINY_FILE: &str =
+    "54696e79 00*28 0001 0001 00*24 6170706c 54657374 00000000 00000000 0002 \
+    74535452 03e8 00000064 74535452 03e9 00000067 0000 486900 596f00";
 
 /// The bytes of a listing: hex between spaces, and `00*n` for n zeros.
 pub fn bytes_of(alloc: Global, listing: &str) -> Result<Vec<u8>, Fail> {

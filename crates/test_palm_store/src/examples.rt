@@ -1,10 +1,9 @@
 //! Calls with the replies that they must have, by hand: what lists seldom meet.
 
-use crate::beside::Beside;
-use crate::images::MIXED;
 use heap_model::{Call, DatabaseCall, Db, DbName, MemoryCall, Name, RecordCall, Refusal, Reply};
 use std::process::Abort;
 use std::test::*;
+use test_beside::{Beside, MIXED};
 use test_images::{TWO_DATABASES, bytes_of as listed};
 
 /// Does a call, which must be answered by this reply.
@@ -14,7 +13,7 @@ fn check(
     call: Call,
     reply: Reply,
 ) -> Result<(), Fail> {
-    let said = beside.call(rt, "by hand", &call)?;
+    let said = beside.call(rt.alloc(), "by hand", &call)?;
     assert_eq!(rt; said, reply, "{call:?}");
     Ok(())
 }
@@ -42,7 +41,7 @@ fn delete_with_locked(
     name: Name,
 ) -> Result<(), Fail> {
     let lock = Call::Memory(MemoryCall::Lock(name));
-    beside.call(rt, "by hand", &lock)?;
+    beside.call(rt.alloc(), "by hand", &lock)?;
     let locked = Reply::Refused(Refusal::ChunkLocked);
     check(rt, beside, Call::Database(DatabaseCall::Delete(db)), locked)?;
     unlock_all(rt, beside, &[(name, 1)])?;

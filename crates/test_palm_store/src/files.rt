@@ -1,7 +1,5 @@
 //! Files of databases that are read and written, by hand.
 
-use crate::beside::Beside;
-use crate::images::blank_image;
 use heap_model::{
     Bytes, Call, DatabaseCall, Db, FileCall, FileFault, MemoryCall, Name, RecordCall, RecordInfo,
     Refusal, Reply, ResourceCall, Which,
@@ -9,6 +7,7 @@ use heap_model::{
 use std::alloc::Global;
 use std::process::Abort;
 use std::test::*;
+use test_beside::{Beside, blank_image};
 use test_images::{BLANK, bytes_of as listed};
 
 /// A file without entries.
@@ -65,7 +64,7 @@ fn small_store(alloc: Global) -> Result<Beside, Fail> {
 
 /// Reads the database of a file, and answers its number.
 fn read(rt: &(impl Abort + AllocGlobal), beside: &mut Beside, listing: &str) -> Result<Db, Fail> {
-    match beside.call(rt, "files", &import(rt.alloc(), listing)?)? {
+    match beside.call(rt.alloc(), "files", &import(rt.alloc(), listing)?)? {
         Reply::Database(db) => Ok(db),
         _ => Err("not read")?,
     }
@@ -78,7 +77,7 @@ fn check(
     call: Call,
     reply: Reply,
 ) -> Result<(), Fail> {
-    let said = beside.call(rt, "files", &call)?;
+    let said = beside.call(rt.alloc(), "files", &call)?;
     assert_eq!(rt; said, reply, "{call:?}");
     Ok(())
 }
@@ -130,7 +129,8 @@ fn a_record_gets_an_id_behind_those_of_the_file(rt: HostRuntime) -> Result<(), F
         at: 65_535,
         size: 0,
     };
-    let Reply::Made { index: 2, name } = beside.call(&rt, "files", &Call::Record(new))? else {
+    let Reply::Made { index: 2, name } = beside.call(rt.alloc(), "files", &Call::Record(new))?
+    else {
         return Err("not made")?;
     };
     let record = RecordInfo {
@@ -164,7 +164,7 @@ fn an_info_block_may_be_empty(rt: HostRuntime) -> Result<(), Fail> {
     let with_block = "456d707479 00*27 0000 0000 00*16 0000004e 00*4 44415441 54657374 00*8 0000";
     let db = read(&rt, &mut beside, with_block)?;
     let ask = Call::Database(DatabaseCall::InfoBlock(db, Which::App));
-    let Reply::Named(name) = beside.call(&rt, "files", &ask)? else {
+    let Reply::Named(name) = beside.call(rt.alloc(), "files", &ask)? else {
         return Err("no block")?;
     };
     let size = Call::Memory(MemoryCall::Size(name));
@@ -232,7 +232,7 @@ fn a_database_that_finds_no_room_is_given_back(rt: HostRuntime) -> Result<(), Fa
 fn a_chunk_is_not_written_as_a_file(rt: HostRuntime) -> Result<(), Fail> {
     let mut beside = small_store(rt.alloc())?;
     let new = Call::Memory(MemoryCall::HandleNew { size: 78, owner: 1 });
-    let Reply::Named(Name(slot)) = beside.call(&rt, "files", &new)? else {
+    let Reply::Named(Name(slot)) = beside.call(rt.alloc(), "files", &new)? else {
         return Err("no chunk")?;
     };
     let none = Reply::Refused(Refusal::NoSuchDatabase);

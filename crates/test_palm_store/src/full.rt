@@ -1,8 +1,6 @@
 //! As many databases as there may be, as many records, and as many resources as there are slots for.
 
-use crate::beside::{Beside, bytes_of, store_of};
-use crate::calls::do_call;
-use crate::images::{blank_image, crowded_program, full_database};
+use crate::images::{crowded_program, full_database};
 use heap_model::{
     Bytes, Call, DatabaseCall, Db, DbName, FileCall, MemoryCall, Name, RecordCall, Refusal, Reply,
     ResourceCall,
@@ -10,6 +8,7 @@ use heap_model::{
 use std::alloc::Global;
 use std::process::Abort;
 use std::test::*;
+use test_beside::{Beside, blank_image, bytes_of, do_call, store_of};
 use test_images::bytes_of as listed;
 
 /// Makes a database whose name is a number.
@@ -40,14 +39,14 @@ fn call(
     beside: &mut Beside,
     call: DatabaseCall,
 ) -> Result<Reply, Fail> {
-    beside.call(rt, "full", &Call::Database(call))
+    beside.call(rt.alloc(), "full", &Call::Database(call))
 }
 
 /// Reads a database of this name, a character in hex, from a file without entries, beside the plain model.
 fn import(rt: &(impl Abort + AllocGlobal), beside: &mut Beside, name: &str) -> Result<Reply, Fail> {
     let listing = format!(in rt.alloc(); "{name} 00*77")?;
     let file = Bytes::of(listed(rt.alloc(), listing.as_str())?);
-    beside.call(rt, "full", &Call::File(FileCall::Import(file)))
+    beside.call(rt.alloc(), "full", &Call::File(FileCall::Import(file)))
 }
 
 /// Makes an empty record in front, beside the plain model.
@@ -57,7 +56,7 @@ fn new_in_front(rt: &(impl Abort + AllocGlobal), beside: &mut Beside) -> Result<
         at: 0,
         size: 0,
     };
-    beside.call(rt, "full", &Call::Record(call))
+    beside.call(rt.alloc(), "full", &Call::Record(call))
 }
 
 /// Of 1,024 databases one has to go before another is made.
@@ -99,7 +98,7 @@ fn records_are_at_most_65535(rt: HostRuntime) -> Result<(), Fail> {
     let too_many = Reply::Refused(Refusal::TooManyEntries);
     assert_eq!(rt; new_in_front(&rt, &mut beside)?, too_many);
     let last = Call::Record(RecordCall::Remove(Db(20), 65_534));
-    assert_eq!(rt; beside.call(&rt, "full", &last)?, Reply::Done);
+    assert_eq!(rt; beside.call(rt.alloc(), "full", &last)?, Reply::Done);
     let made = new_in_front(&rt, &mut beside)?;
     assert!(rt; matches!(made, Reply::Made { index: 0, .. }), "{made:?}");
     assert_eq!(rt; new_in_front(&rt, &mut beside)?, too_many);
@@ -111,9 +110,9 @@ fn records_are_at_most_65535(rt: HostRuntime) -> Result<(), Fail> {
 fn a_full_database_takes_no_chunk(rt: HostRuntime) -> Result<(), Fail> {
     let mut beside = Beside::new(rt.alloc(), full_database(rt.alloc())?)?;
     let last = Call::Record(RecordCall::Remove(Db(20), 65_534));
-    assert_eq!(rt; beside.call(&rt, "full", &last)?, Reply::Done);
+    assert_eq!(rt; beside.call(rt.alloc(), "full", &last)?, Reply::Done);
     let new = Call::Memory(MemoryCall::HandleNew { size: 0, owner: 1 });
-    let Reply::Named(name) = beside.call(&rt, "full", &new)? else {
+    let Reply::Named(name) = beside.call(rt.alloc(), "full", &new)? else {
         return Err("no chunk")?;
     };
     let made = new_in_front(&rt, &mut beside)?;
@@ -124,7 +123,7 @@ fn a_full_database_takes_no_chunk(rt: HostRuntime) -> Result<(), Fail> {
         name,
     });
     let too_many = Reply::Refused(Refusal::TooManyEntries);
-    assert_eq!(rt; beside.call(&rt, "full", &attach)?, too_many);
+    assert_eq!(rt; beside.call(rt.alloc(), "full", &attach)?, too_many);
     Ok(())
 }
 
@@ -134,7 +133,10 @@ fn the_last_of_65535_records_is_found(rt: HostRuntime) -> Result<(), Fail> {
     let mut beside = Beside::new(rt.alloc(), full_database(rt.alloc())?)?;
     let db = Db(20);
     let find = Call::Record(RecordCall::FindById(db, 65_535));
-    assert_eq!(rt; beside.call(&rt, "full", &find)?, Reply::Number(65_534));
+    assert_eq!(rt;
+        beside.call(rt.alloc(), "full", &find)?,
+        Reply::Number(65_534)
+    );
     let set = Call::Record(RecordCall::SetInfo {
         db,
         index: 0,
@@ -142,7 +144,7 @@ fn the_last_of_65535_records_is_found(rt: HostRuntime) -> Result<(), Fail> {
         id: 65_535,
     });
     let duplicate = Reply::Refused(Refusal::DuplicateId);
-    assert_eq!(rt; beside.call(&rt, "full", &set)?, duplicate);
+    assert_eq!(rt; beside.call(rt.alloc(), "full", &set)?, duplicate);
     Ok(())
 }
 

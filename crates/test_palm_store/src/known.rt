@@ -1,11 +1,10 @@
 //! IDs of new records on one store, which knows of some that are free.
 
-use crate::beside::{Beside, store_of};
-use crate::images::blank_image;
 use heap_model::{Call, DatabaseCall, Db, DbName, RecordCall, Reply};
 use palm_store::Store;
 use std::process::Abort;
 use std::test::*;
+use test_beside::{Beside, blank_image, store_of};
 
 /// Does a call, beside the plain model.
 fn call(
@@ -14,7 +13,7 @@ fn call(
     store: &mut Store,
     call: Call,
 ) -> Result<Reply, Fail> {
-    beside.call_on(rt, store, "known", &call)
+    beside.call_on(rt.alloc(), store, "known", &call)
 }
 
 /// Makes a database.

@@ -5,12 +5,6 @@
 #![tactic(auto)]
 
 #[cfg(test)]
-mod beside;
-#[cfg(test)]
-mod calls;
-#[cfg(test)]
-mod counts;
-#[cfg(test)]
 mod examples;
 #[cfg(test)]
 mod files;

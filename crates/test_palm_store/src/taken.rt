@@ -1,12 +1,11 @@
 //! Which images are taken as stores.
 
-use crate::beside::bytes_of;
-use crate::images::MIXED;
 use palm_store::Store;
 use raw_region::Region;
 use std::alloc::Global;
 use std::process::Abort;
 use std::test::*;
+use test_beside::{MIXED, bytes_of};
 use test_images::bytes_of as listed;
 use test_model::{Image, PlainStore, Unaccepted, Unreadable};
 

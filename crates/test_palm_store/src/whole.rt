@@ -3,12 +3,11 @@
 ghost use Rattle.std.specs.Prelude.{◌≡◌, length, take};
 ghost use Rattle.heap_model.specs.DatabaseFields.{name_size};
 
-use crate::beside::store_of;
-use crate::images::blank_image;
 use heap_model::{Db, DbInfo, DbName, Entry, Name, RecordInfo, Refusal, ResourceInfo, Which};
 use palm_store::{BlockSizes, Store, WholeEntry};
 use std::process::Abort;
 use std::test::*;
+use test_beside::{blank_image, store_of};
 
 /// What the header of a database of two entries says.
 fn info_of_two(name: &[u8], attributes: u16) -> DbInfo

@@ -1,16 +1,16 @@
 //! Files of databases that were made by calls, byte for byte.
 
 use chunk_format::blank;
-use heap_model::{Allowance, Counted, Db, DbName, Name, Refusal, Which};
+use heap_model::{Counted, Db, DbName, Name, Refusal, Which};
 use palm_store::Store;
 use pdb_files::{ExportFault, export, exported};
 use record_db::{archive, delete, get, new_record, release};
 use resource_db::new_resource;
-use std::alloc::{AllocError, Global};
-use std::io;
-use std::io::{ErrorKind, Write};
+use std::alloc::Global;
+use std::io::ErrorKind;
 use std::process::Abort;
 use std::test::*;
+use test_fakes::{Narrow, RefusesOne, WhenFull};
 use test_images::bytes_of;
 
 /// The file of `make_records`. Its blocks stand at 0x70, 0x73, 0x75 and 0x7a.
@@ -85,29 +85,6 @@ fn make_resources(store: &mut Store) -> Result<Db, Refusal> {
     Ok(db)
 }
 
-/// A writer with room for so many bytes, of which a write takes 3 at most. Then it fails.
-#[derive(Drop)]
-struct Narrow {
-    taken: Vec<u8>,
-    room: usize,
-}
-
-impl Write for Narrow {
-    fn write(&mut self, bytes: &[u8]) -> io::Result<usize> {
-        let n = bytes.len().min(3).min(self.room);
-        if n == 0 && !bytes.is_empty() {
-            return Err(io::Error::from(ErrorKind::StorageFull));
-        }
-        self.taken.extend_from_slice(&bytes[..n])?;
-        self.room -= n;
-        Ok(n)
-    }
-
-    fn flush(&mut self) -> io::Result<()> {
-        Ok(())
-    }
-}
-
 /// What an export answers to a writer with room for so many bytes, and what that took.
 fn export_cut(
     alloc: Global,
@@ -115,11 +92,8 @@ fn export_cut(
     db: Db,
     room: usize,
 ) -> (Result<u32, ExportFault>, Vec<u8>) {
-    let narrow = Narrow {
-        taken: Vec::new(alloc),
-        room,
-    };
-    let mut out = Counted::new(narrow);
+    let full = WhenFull::Fails(ErrorKind::StorageFull);
+    let mut out = Counted::new(Narrow::new(alloc, room, 3, full));
     let answer = export(store, db, &mut out);
     let Narrow { taken, .. } = out.into_inner();
     (answer, taken)
@@ -179,37 +153,18 @@ fn no_database_has_no_file(rt: HostRuntime) -> Result<(), Fail> {
     Ok(())
 }
 
-/// Grants nothing.
-struct NoMemory(Global);
-
-impl Drop for NoMemory {
-    fn drop(self) {
-        let NoMemory(_) = self;
-    }
-}
-
-impl Allowance for NoMemory {
-    fn allocator(&self) -> Global {
-        self.0
-    }
-
-    fn grant(&self) -> Result<Global, AllocError> {
-        Err(AllocError)
-    }
-}
-
 #[test]
 fn a_file_takes_memory(rt: HostRuntime) -> Result<(), Fail> {
     let mut store = blank_store(rt.alloc())?;
     let db = make_resources(&mut store)?;
-    let memory = NoMemory(rt.alloc());
-    assert_eq!(rt;
-        exported(&memory, &store, db).err(),
-        Some(Refusal::OutOfMemory)
-    );
+    let memory = RefusesOne::behind(rt.alloc(), 0);
     assert_eq!(rt;
         exported(&memory, &store, Db(0)).err(),
         Some(Refusal::NoSuchDatabase)
+    );
+    assert_eq!(rt;
+        exported(&memory, &store, db).err(),
+        Some(Refusal::OutOfMemory)
     );
     Ok(())
 }

@@ -1,34 +1,20 @@
 //! Databases that are read from files, entry by entry and byte by byte.
 
 use chunk_format::blank;
-use heap_model::{
-    Allowance, Db, DbInfo, DbName, FileFault, RecordInfo, Refusal, ResourceInfo, Which,
-};
+use heap_model::{Db, DbInfo, DbName, FileFault, RecordInfo, Refusal, ResourceInfo, Which};
 use palm_store::Store;
 use pdb_files::{import, import_from};
 use record_db::{new_record, num_records, record_info};
 use resource_db::{find_resource, find_type, num_resources, remove_resource, resource_info};
-use std::alloc::{AllocError, Global};
-use std::cell::Cell;
+use std::alloc::Global;
 use std::process::Abort;
 use std::test::*;
-use test_images::bytes_of;
-
-/// A file of no records.
-const EMPTY: &str = "456d707479 00*27 0000 0000 00*24 44415441 54657374 00000000 00000000 0000";
-
-/// A file of three records, whose offsets run against their order. Two have one ID and one has none, one is busy, and
-/// the first has no byte.
-const ORDER: &str = "4f72646572 00*27 0000 0000 00*24 44415441 54657374 00000000 00000000 0003 \
-    0000006c 00 000000 00000068 03 000005 0000006c 20 000005 0000 42424242 43434343";
+use test_fakes::RefusesOne;
+use test_images::{EMPTY_FILE, ORDER_FILE, TINY_FILE, bytes_of};
 
 /// A file of two records, whose seed is the last but one.
 const IDS: &str = "496473 00*29 0000 0000 00*24 44415441 54657374 07fffffe 00000000 0002 \
     00000060 00 ffffff 00000060 00 000001 0000";
-
-/// A file of two resources.
-const TINY: &str = "54696e79 00*28 0001 0001 00*24 6170706c 54657374 00000000 00000000 0002 \
-    74535452 03e8 00000064 74535452 03e9 00000067 0000 486900 596f00";
 
 /// A file of two records with both info blocks, which stand against their order, and none of which is empty.
 const BACKWARD: &str = "4261636b 00*28 \
@@ -48,9 +34,9 @@ type Read = (u8, u32, Option<&'static str>);
 
 /// Files, and the records that are read from them.
 const RECORDS_READ: [(&str, &[Read]); 4] = [
-    (EMPTY, &[]),
+    (EMPTY_FILE, &[]),
     (
-        ORDER,
+        ORDER_FILE,
         &[
             (0x00, 1, Some("")),
             (0x03, 5, Some("42424242")),
@@ -212,7 +198,7 @@ fn the_seed_goes_on(rt: HostRuntime) -> Result<(), Fail> {
 #[test]
 fn resources_are_read(rt: HostRuntime) -> Result<(), Fail> {
     let mut store = blank_store(rt.alloc(), 1024, 16)?;
-    let db = import_listed(rt.alloc(), &mut store, TINY)??;
+    let db = import_listed(rt.alloc(), &mut store, TINY_FILE)??;
     assert_eq!(rt; num_resources(&store, db)?, 2);
     assert_eq!(rt; find_resource(&store, db, 0x7453_5452, 1001)?, 1);
     assert_eq!(rt; find_type(&store, db, 0x7453_5452, 0)?, 0);
@@ -230,7 +216,7 @@ fn resources_are_read(rt: HostRuntime) -> Result<(), Fail> {
 
 /// A file of no records with other words: where its AppInfo and SortInfo blocks are, and its list goes on.
 fn empty_with(alloc: Global, app: u8, sort: u8, next: u8) -> Result<Vec<u8>, Fail> {
-    let mut bytes = bytes_of(alloc, EMPTY)?;
+    let mut bytes = bytes_of(alloc, EMPTY_FILE)?;
     for (at, byte) in [(55, app), (59, sort), (75, next)] {
         match bytes.get_mut(at) {
             Some(place) => *place = byte,
@@ -278,9 +264,9 @@ fn files_with_a_fault_are_refused(rt: HostRuntime) -> Result<(), Fail> {
 #[test]
 fn a_name_is_taken_once(rt: HostRuntime) -> Result<(), Fail> {
     let mut store = blank_store(rt.alloc(), 1024, 16)?;
-    import_listed(rt.alloc(), &mut store, EMPTY)??;
+    import_listed(rt.alloc(), &mut store, EMPTY_FILE)??;
     assert_eq!(rt;
-        import_listed(rt.alloc(), &mut store, EMPTY)?,
+        import_listed(rt.alloc(), &mut store, EMPTY_FILE)?,
         Err(Refusal::AlreadyExists)
     );
     assert_eq!(rt; store.count(), 1);
@@ -296,7 +282,7 @@ fn databases_are_1024_at_most(rt: HostRuntime) -> Result<(), Fail> {
         }
     }
     assert_eq!(rt;
-        import_listed(rt.alloc(), &mut store, EMPTY)?,
+        import_listed(rt.alloc(), &mut store, EMPTY_FILE)?,
         Err(Refusal::TooManyEntries)
     );
     assert_eq!(rt; store.count(), 1024);
@@ -309,7 +295,7 @@ fn nothing_is_left_where_room_is_short(rt: HostRuntime) -> Result<(), Fail> {
         let mut store = blank_store(rt.alloc(), size, slots)?;
         let free = store.free_bytes();
         assert_eq!(rt;
-            import_listed(rt.alloc(), &mut store, ORDER)?,
+            import_listed(rt.alloc(), &mut store, ORDER_FILE)?,
             Err(Refusal::NotEnoughSpace)
         );
         assert_eq!(rt; store.count(), 0);
@@ -321,55 +307,21 @@ fn nothing_is_left_where_room_is_short(rt: HostRuntime) -> Result<(), Fail> {
     Ok(())
 }
 
-/// Grants so many growths, and refuses each behind them.
-struct Grants {
-    alloc: Global,
-    left: Cell<u32>,
-}
-
-impl Drop for Grants {
-    fn drop(self) {
-        let Grants { alloc: _, left: _ } = self;
-    }
-}
-
-impl Allowance for Grants {
-    fn allocator(&self) -> Global {
-        self.alloc
-    }
-
-    fn grant(&self) -> Result<Global, AllocError> {
-        match self.left.get() {
-            0 => Err(AllocError),
-            left => {
-                self.left.set(left - 1);
-                Ok(self.alloc)
-            }
-        }
-    }
-}
-
 #[test]
 fn each_growth_can_be_refused(rt: HostRuntime) -> Result<(), Fail> {
-    for (listing, growths) in [(ORDER, 10), (TINY, 6)] {
+    for (listing, growths) in [(ORDER_FILE, 10), (TINY_FILE, 6)] {
         let file = bytes_of(rt.alloc(), listing)?;
         let mut store = blank_store(rt.alloc(), 1024, 16)?;
         let before = store.summary();
         for granted in 0..growths {
-            let memory = Grants {
-                alloc: rt.alloc(),
-                left: Cell::new(granted),
-            };
+            let memory = RefusesOne::behind(rt.alloc(), granted);
             assert_eq!(rt;
                 import_from(&memory, &mut store, &file),
                 Err(Refusal::OutOfMemory)
             );
             assert_eq!(rt; store.summary(), before, "{granted}");
         }
-        let memory = Grants {
-            alloc: rt.alloc(),
-            left: Cell::new(growths),
-        };
+        let memory = RefusesOne::behind(rt.alloc(), growths);
         assert!(rt; import_from(&memory, &mut store, &file).is_ok());
     }
     Ok(())

@@ -1,12 +1,12 @@
 //! Lists of calls, done one behind another; and images that are checked for them.
 
 use crate::calls::{put_reply, small_store};
-use crate::fakes::RefusesOne;
 use heap_model::{Call, DatabaseCall, MemoryCall, Name, Place, Reply};
 use palm_script::{NotRun, OutOfMemory, check_and_run, run_calls, run_calls_from};
 use palm_store::Store;
 use std::alloc::{AllocError, Global};
 use std::test::Fail;
+use test_fakes::RefusesOne;
 use test_images::{BLANK, image};
 
 /// The name of the first chunk that is made.

@@ -1,12 +1,12 @@
 //! Memory that is refused, calls that are done one by one, and a reply line that breaks off.
 
-use crate::fakes::RefusesOne;
 use chunk_format::blank;
 use heap_model::{Bytes, Call, Counted, MemoryCall, Name, Place, Refusal, Reply};
 use palm_script::{RunFault, do_call, do_call_from, parse, run, run_from};
 use palm_store::Store;
 use std::alloc::{AllocError, Global};
 use std::test::Fail;
+use test_fakes::RefusesOne;
 
 /// A store of 128 bytes with 4 slots, and one free chunk of 96.
 pub(crate) fn small_store(alloc: Global) -> Result<Store, Fail> {

@@ -1,9 +1,9 @@
 //! Records of categories, with their IDs and attributes: the lines that ask for them and change them, and
 //! those that take data out of a database.
 
-use crate::databases::WIDE;
 use crate::runs::check_runs;
 use std::test::Fail;
+use test_images::WIDE;
 
 #[test]
 fn lines_on_categories_print_their_replies(rt: HostRuntime) -> Result<(), Fail> {

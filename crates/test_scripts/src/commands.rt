@@ -1,12 +1,12 @@
 //! The commands: what they print and write, and a writer that fails.
 
-use crate::fakes::{Narrow, Unflushed, WhenFull};
 use heap_model::Counted;
 use palmheap_commands::{cmd_check, cmd_new};
 use program_io::Status;
 use std::alloc::Global;
 use std::io::{ErrorKind, Write};
 use std::test::Fail;
+use test_fakes::{Narrow, Unflushed, WhenFull};
 use test_images::{BLANK, DATABASE, ONE_CHUNK, bytes_of, image};
 
 /// What a command answered, and what its writers hold.

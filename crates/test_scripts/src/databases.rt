@@ -10,10 +10,7 @@ use palm_store::Store;
 use std::alloc::Global;
 use std::fmt::Write;
 use std::test::Fail;
-use test_images::{BLANK, DATABASE, TWO_DATABASES, bytes_of, image};
-
-/// A blank image of 1,024 bytes with 16 slots.
-pub(crate) const WIDE: &str = "50484931 00000400 0010 0000 00000000 00*64 800003B0 00*940";
+use test_images::{BLANK, DATABASE, TWO_DATABASES, WIDE, bytes_of, image};
 
 /// Free chunks of 88 and 16 bytes, and between them one that is locked.
 const TWO_ROOMS: &str = "50484931 00000090 0004 0000 00000000 00000080 00*12 80000058 00*84 \

@@ -1,36 +1,20 @@
 //! Files that scripts import and export.
 
-use crate::databases::WIDE;
 use heap_model::{Bytes, Counted};
 use palm_script::{parse, run};
 use palm_store::Store;
 use std::alloc::Global;
 use std::process::Abort;
 use std::test::*;
-use test_images::{BLANK, bytes_of, image};
-
-/// A file of a database without entries.
-const EMPTY: &str = "456d707479 00*27 0000 0000 00*24 44415441 54657374 00000000 00000000 0000";
-
-/// A file of three records. Two have the same ID and the first has none; two share an offset, so the first of
-/// these is empty; and the last is busy.
-const ORDER: &str = "4f72646572 00*27 0000 0000 00*24 44415441 54657374 00000000 00000000 0003 \
-    0000006c 00 000000 00000068 03 000005 0000006c 20 000005 0000 42424242 43434343";
-
-/// The same, as it is written.
-const ORDER_WRITTEN: &str =
-    "4f72646572 00*27 0000 0000 00*24 44415441 54657374 00000002 00000000 0003 \
-    00000068 00 000001 00000068 03 000005 0000006c 00 000002 0000 42424242 43434343";
+use test_images::{
+    BLANK, EMPTY_FILE, EMPTY_WRITTEN, ORDER_FILE, ORDER_WRITTEN, TINY_FILE, WIDE, bytes_of, image,
+};
 
 /// A file of records with the greatest and the least ID, whose seed is just below the greatest.
 const IDS: &str = "496473 00*29 0000 0000 00*24 44415441 54657374 07fffffe 00000000 0002 \
     00000060 00 ffffff 00000060 00 000001 0000";
 
-/// A file of two resources.
-const TINY: &str = "54696e79 00*28 0001 0001 00*24 6170706c 54657374 00000000 00000000 0002 \
-    74535452 03e8 00000064 74535452 03e9 00000067 0000 486900 596f00";
-
-/// The same without the first, as it is written.
+/// The file of two resources without the first, as it is written.
 const TINY_WRITTEN: &str =
     "54696e79 00*28 0001 0001 00*12 00000001 00*8 6170706c 54657374 00000000 \
     00000000 0001 74535452 03e9 0000005a 0000 596f00";
@@ -59,7 +43,7 @@ const CASES: [Case; 9] = [
     // an empty database is written with two bytes of filler, and a name is there once
     Case {
         image: WIDE,
-        inputs: &[EMPTY],
+        inputs: &[EMPTY_FILE],
         lines: "import d 1 = ok
             export d = ok 80
             import d 1 = refused 21 AlreadyExists
@@ -68,12 +52,12 @@ const CASES: [Case; 9] = [
             import d 0 = refused 25 BadFile Truncated
             export e = refused 10 NoSuchDatabase
             dbcount = ok 1",
-        files: &["456d707479 00*27 0000 0000 00*24 44415441 54657374 00000000 00000000 0000 0000"],
+        files: &[EMPTY_WRITTEN],
     },
     // an ID is used once, blocks that share an offset are empty but for the last, no record is busy
     Case {
         image: WIDE,
-        inputs: &[EMPTY, ORDER],
+        inputs: &[EMPTY_FILE, ORDER_FILE],
         lines: "import d 2 = ok
             recinfo d 0 = ok 00 1 data
             recinfo d 1 = ok 03 5 data
@@ -102,7 +86,7 @@ const CASES: [Case; 9] = [
     // resources
     Case {
         image: WIDE,
-        inputs: &[TINY],
+        inputs: &[TINY_FILE],
         lines: "import d 1 = ok
             rescount d = ok 2
             resfind d \"tSTR\" 1001 = ok 1
@@ -133,7 +117,7 @@ const CASES: [Case; 9] = [
     // files of several databases, in the order of their lines
     Case {
         image: WIDE,
-        inputs: &[EMPTY, TINY],
+        inputs: &[EMPTY_FILE, TINY_FILE],
         lines: "import d 1 = ok
             import e 2 = ok
             nth x 1 = ok
@@ -141,15 +125,12 @@ const CASES: [Case; 9] = [
             export x = ok 93
             export d = ok 80
             dbcount = ok 2",
-        files: &[
-            TINY_WRITTEN,
-            "456d707479 00*27 0000 0000 00*24 44415441 54657374 00000000 00000000 0000 0000",
-        ],
+        files: &[TINY_WRITTEN, EMPTY_WRITTEN],
     },
     // what doesn't fit leaves nothing
     Case {
         image: BLANK,
-        inputs: &[ORDER],
+        inputs: &[ORDER_FILE],
         lines: "import d 1 = refused 8 NotEnoughSpace
             freebytes = ok 96
             dbcount = ok 0
@@ -159,7 +140,7 @@ const CASES: [Case; 9] = [
     // a refused import leaves its label
     Case {
         image: WIDE,
-        inputs: &[EMPTY],
+        inputs: &[EMPTY_FILE],
         lines: "create d \"D\" \"DATA\" \"Test\" 0 5 = ok
             import d 2 = refused 25 BadFile Truncated
             dbinfo d = ok \"D\" 0000 0 5 5 0 0 \"DATA\" \"Test\" 00000000 0

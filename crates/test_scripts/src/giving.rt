@@ -1,9 +1,9 @@
 //! Chunks of callers that become the data of records or info blocks, and those that databases hand back.
 
-use crate::databases::WIDE;
 use crate::records::NARROW;
 use crate::runs::check_runs;
 use std::test::Fail;
+use test_images::WIDE;
 
 #[test]
 fn lines_that_give_chunks_print_their_replies(rt: HostRuntime) -> Result<(), Fail> {

@@ -2,12 +2,12 @@
 //! word numbers, and the order of faults; and memory that is refused. The expected values are those of
 //! the format's own words.
 
-use crate::fakes::RefusesOne;
 use crate::shown::shown;
 use script_lines::{LineFault, ScriptFault, parse, parse_from};
 use std::alloc::Global;
 use std::process::Abort;
 use std::test::*;
+use test_fakes::RefusesOne;
 
 /// Each case has a script, and what it reads as.
 fn check(rt: &(impl Abort + AllocGlobal), cases: &[(&[u8], &str)]) -> Result<(), Fail> {

@@ -13,8 +13,6 @@ mod commands;
 #[cfg(test)]
 mod databases;
 #[cfg(test)]
-mod fakes;
-#[cfg(test)]
 mod files;
 #[cfg(test)]
 mod files_in_scripts;

@@ -1,10 +1,10 @@
 //! The text of pieces, and writers that take few bytes at a time, or fail.
 
-use crate::fakes::{Narrow, WhenFull};
 use heap_model::Counted;
 use palm_text::{Piece, put_pieces};
 use std::alloc::Global;
 use std::io::ErrorKind;
+use test_fakes::{Narrow, WhenFull};
 
 /// 33 bytes, which is a turn of hex and one byte more.
 const BYTES: [u8; 33] = [

@@ -1,10 +1,10 @@
 //! Reading input: how far, and what a read that fails gives.
 
-use crate::fakes::{RefusesOne, Source};
 use program_io::{INPUT_LIMIT, InputFault, read_input, read_input_from};
 use std::alloc::Global;
 use std::io::ErrorKind;
 use std::test::Fail;
+use test_fakes::{RefusesOne, Source};
 
 /// What came of reading, apart from the system's reason.
 #[derive(Clone, Copy, Debug, PartialEq, Eq)]

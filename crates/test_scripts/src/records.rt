@@ -2,14 +2,13 @@
 
 use crate::calls::put_reply;
 use crate::commands::check_said;
-use crate::databases::WIDE;
 use crate::runs::{check_runs, run_on};
 use heap_model::{Call, DatabaseCall, Db, DbName, RecordCall};
 use palm_script::do_call;
 use palm_store::Store;
 use std::alloc::Global;
 use std::test::Fail;
-use test_images::{DATABASE, bytes_of, image};
+use test_images::{DATABASE, WIDE, bytes_of, image};
 
 /// A blank image of 168 bytes with 8 slots.
 pub(crate) const NARROW: &str = "50484931 000000A8 0008 0000 00000000 00*32 80000078 00*116";

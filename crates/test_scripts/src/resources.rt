@@ -1,14 +1,13 @@
 //! Resources: the lines that make, ask for, change and remove them, and those that give and take their data.
 
 use crate::calls::put_reply;
-use crate::databases::WIDE;
 use crate::records::NARROW;
 use crate::runs::check_runs;
 use heap_model::{Call, DatabaseCall, Db, DbName, Name, ResourceCall};
 use palm_script::do_call;
 use palm_store::Store;
 use std::test::Fail;
-use test_images::image;
+use test_images::{WIDE, image};
 
 #[test]
 fn lines_on_resources_print_their_replies(rt: HostRuntime) -> Result<(), Fail> {

@@ -1,6 +1,5 @@
 //! Scripts that are run on images: what they print, and what they leave.
 
-use crate::fakes::{Narrow, Unflushed, WhenFull};
 use heap_model::Counted;
 use palmheap_commands::cmd_run;
 use program_io::Status;
@@ -8,6 +7,7 @@ use std::alloc::Global;
 use std::io::{BufWriter, ErrorKind, Write};
 use std::process::Abort;
 use std::test::Fail;
+use test_fakes::{Narrow, Unflushed, WhenFull};
 use test_images::{BLANK, ONE_CHUNK, bytes_of};
 
 /// A blank image of 128 bytes with one slot.

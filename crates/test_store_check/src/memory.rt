@@ -1,39 +1,9 @@
 //! Memory that is refused.
 
-use heap_model::Allowance;
-use std::alloc::{AllocError, Global};
-use std::cell::Cell;
 use std::test::*;
 use store_check::check_store_from;
+use test_fakes::RefusesOne;
 use test_images::{DATABASE, image};
-
-/// Grants so many growths, and refuses each behind them.
-struct Grants {
-    alloc: Global,
-    left: Cell<u32>,
-}
-
-impl Drop for Grants {
-    fn drop(self) {
-        let Grants { alloc: _, left: _ } = self;
-    }
-}
-
-impl Allowance for Grants {
-    fn allocator(&self) -> Global {
-        self.alloc
-    }
-
-    fn grant(&self) -> Result<Global, AllocError> {
-        match self.left.get() {
-            0 => Err(AllocError),
-            left => {
-                self.left.set(left - 1);
-                Ok(self.alloc)
-            }
-        }
-    }
-}
 
 /// How many growths are granted, changes of the image, and what is found: marks for slots come first,
 /// and then a set of IDs.
@@ -51,10 +21,7 @@ const GRANTED: [(u32, &str, &str); 8] = [
 #[test]
 fn refused_memory_is_told(rt: HostRuntime) -> Result<(), Fail> {
     for (granted, changes, text) in &GRANTED {
-        let memory = Grants {
-            alloc: rt.alloc(),
-            left: Cell::new(*granted),
-        };
+        let memory = RefusesOne::behind(rt.alloc(), *granted);
         let region = image(rt.alloc(), DATABASE, changes)?;
         let found = match check_store_from(&memory, &region) {
             Ok(_) => format!(in rt.alloc(); "accepted")?,

@@ -4,30 +4,29 @@ use heap_model::{
     Call, DatabaseCall, FileCall, MemoryCall, RecordCall, Refusal, Reply, ResourceCall,
 };
 use std::alloc::Global;
-use std::process::Abort;
-use std::test::*;
+use std::test::Fail;
 
 /// A call by its name, and why it was refused, if it was.
 #[derive(Clone, Copy, Debug, PartialEq, Eq)]
-pub(crate) struct Outcome {
+pub struct Outcome {
     call: &'static str,
     refusal: Option<Refusal>,
 }
 
 /// Outcomes, and how often each came up.
 #[derive(Drop)]
-pub(crate) struct Counts {
+pub struct Counts {
     counted: Vec<(Outcome, u32)>,
 }
 
 impl Counts {
-    pub(crate) fn new(alloc: Global) -> Counts {
+    pub fn new(alloc: Global) -> Counts {
         Counts {
             counted: Vec::new(alloc),
         }
     }
 
-    pub(crate) fn add(&mut self, call: &Call, reply: &Reply) -> Result<(), Fail> {
+    pub fn add(&mut self, call: &Call, reply: &Reply) -> Result<(), Fail> {
         let refusal = match reply {
             Reply::Refused(refusal) => Some(*refusal),
             _ => None,
@@ -56,26 +55,36 @@ impl Counts {
         0
     }
 
-    /// Every outcome of a table must have come up: of each call that it was accepted, and each refusal.
-    pub(crate) fn check(
-        &self,
-        rt: &(impl Abort + AllocGlobal),
-        table: &[(&'static str, &[Refusal])],
-    ) {
+    /// The first outcome of a table that has not come up: of each call that it was accepted, and each refusal.
+    pub fn missing(&self, table: &[(&'static str, &[Refusal])]) -> Option<Outcome> {
         for (call, refusals) in table {
-            let accepted = Outcome {
-                call,
-                refusal: None,
-            };
-            assert!(rt; self.times(accepted) > 0, "{call}");
-            for refusal in *refusals {
-                let refused = Outcome {
-                    call,
-                    refusal: Some(*refusal),
-                };
-                assert!(rt; self.times(refused) > 0, "{call} {refusal:?}");
+            let missing = self.missing_of(call, refusals);
+            if missing.is_some() {
+                return missing;
             }
         }
+        None
+    }
+
+    /// The first of a call.
+    fn missing_of(&self, call: &'static str, refusals: &[Refusal]) -> Option<Outcome> {
+        let accepted = Outcome {
+            call,
+            refusal: None,
+        };
+        if self.times(accepted) == 0 {
+            return Some(accepted);
+        }
+        for refusal in refusals {
+            let refused = Outcome {
+                call,
+                refusal: Some(*refusal),
+            };
+            if self.times(refused) == 0 {
+                return Some(refused);
+            }
+        }
+        None
     }
 }
 

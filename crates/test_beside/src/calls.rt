@@ -17,7 +17,7 @@ use resource_db::{
 use std::alloc::Global;
 
 /// Does a call on a store.
-pub(crate) fn do_call(alloc: Global, store: &mut Store, call: &Call) -> Reply {
+pub fn do_call(alloc: Global, store: &mut Store, call: &Call) -> Reply {
     let answer = match call {
         Call::Memory(call) => memory_call(alloc, store, call),
         Call::Database(call) => database_call(store, call),

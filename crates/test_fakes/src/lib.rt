@@ -1,4 +1,7 @@
 //! Readers and writers that fail, and memory that is refused.
+//!
+//! Nothing but tests uses this crate.
+#![tactic(auto)]
 
 use heap_model::Allowance;
 use std::alloc::{AllocError, Global};
@@ -131,6 +134,7 @@ impl Write for Unflushed {
 pub struct RefusesOne {
     alloc: Global,
     before: Cell<u32>,
+    refused: Cell<bool>,
 }
 
 impl RefusesOne {
@@ -138,7 +142,13 @@ impl RefusesOne {
         RefusesOne {
             alloc,
             before: Cell::new(before),
+            refused: Cell::new(false),
         }
+    }
+
+    /// Whether a growth was refused. Where there are fewer, none is.
+    pub fn has_refused(&self) -> bool {
+        self.refused.get()
     }
 }
 
@@ -147,6 +157,7 @@ impl Drop for RefusesOne {
         let RefusesOne {
             alloc: _,
             before: _,
+            refused: _,
         } = self;
     }
 }
@@ -160,6 +171,7 @@ impl Allowance for RefusesOne {
         let before = self.before.get();
         self.before.set(before.wrapping_sub(1));
         if before == 0 {
+            self.refused.set(true);
             return Err(AllocError);
         }
         Ok(self.alloc)

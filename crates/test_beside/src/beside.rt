@@ -1,0 +1,134 @@
+//! A call on a store, and the same on the plain model beside it.
+
+use crate::calls::do_call;
+use heap_model::{Call, Counted, Reply};
+use palm_store::Store;
+use rand::RngExt;
+use rand_pcg::Pcg32;
+use raw_region::Region;
+use std::alloc::Global;
+use std::test::Fail;
+use test_calls::{database_call, file_call, memory_call, record_call, resource_call};
+use test_model::{Image, PlainStore, broken_store_rule};
+
+/// An image, and beside it the store that it means.
+#[derive(Drop)]
+pub struct Beside {
+    pub image: Vec<u8>,
+    pub plain: PlainStore,
+}
+
+impl Beside {
+    pub fn new(alloc: Global, image: Vec<u8>) -> Result<Beside, Fail> {
+        let plain = PlainStore::of(alloc, &Image::decode(alloc, &image)?)?;
+        Ok(Beside { image, plain })
+    }
+
+    /// A call of any manager, drawn from what is there.
+    pub fn any_call(&self, random: &mut Pcg32, alloc: Global) -> Result<Call, Fail> {
+        let image = Image::decode(alloc, &self.image)?;
+        let databases = self.plain.databases();
+        let call = match random.random_range(0u32..14) {
+            0..=2 => Call::Memory(memory_call(random, alloc, &image)?),
+            3..=5 => Call::Database(database_call(random, &image, databases)),
+            6..=9 => Call::Record(record_call(random, &image, databases)),
+            10..=12 => Call::Resource(resource_call(random, &image, databases)),
+            _ => Call::File(file_call(random, alloc, &image, databases)?),
+        };
+        Ok(call)
+    }
+
+    /// Does a call on both, where the image is checked as a store for it, and checks what came of it.
+    pub fn call(&mut self, alloc: Global, spot: &str, call: &Call) -> Result<Reply, Fail> {
+        let mut store = store_of(alloc, &self.image)?;
+        self.call_on(alloc, &mut store, spot, call)
+    }
+
+    /// The same on a store that has the image, and may have had calls before.
+    pub fn call_on(
+        &mut self,
+        alloc: Global,
+        store: &mut Store,
+        spot: &str,
+        call: &Call,
+    ) -> Result<Reply, Fail> {
+        let reply = do_call(alloc, store, call);
+        let after = image_of(alloc, store)?;
+        check(
+            alloc,
+            spot,
+            &mut self.plain,
+            call,
+            &reply,
+            &self.image,
+            &after,
+        )?;
+        self.image = after;
+        Ok(reply)
+    }
+
+    /// An image must be accepted and mean just the model's store.
+    pub fn check_meant(&self, alloc: Global, image: &[u8]) -> Result<(), Fail> {
+        store_of(alloc, image)?;
+        let meant = PlainStore::of(alloc, &Image::decode(alloc, image)?)?;
+        match self.plain.difference(&meant) {
+            Some(difference) => Err(Fail::new(format_args!(
+                "not the model's store: {difference:?}"
+            ))),
+            None => Ok(()),
+        }
+    }
+}
+
+/// Does a call on the model. The replies must be the same, the image must be accepted and mean just the
+/// model's store, and the call must have kept to its rules.
+fn check(
+    alloc: Global,
+    spot: &str,
+    plain: &mut PlainStore,
+    call: &Call,
+    reply: &Reply,
+    before: &[u8],
+    after: &[u8],
+) -> Result<(), Fail> {
+    let before = Image::decode(alloc, before)?;
+    let after = Image::decode(alloc, after)?;
+    let expected = plain.call(alloc, call, &before, &after, reply);
+    if *reply != expected {
+        return Err(Fail::new(format_args!("{spot}: {call:?}: {reply:?} and not {expected:?}")));
+    }
+    let meant = match PlainStore::of(alloc, &after) {
+        Ok(meant) => meant,
+        Err(error) => return Err(Fail::new(format_args!("{spot}: {call:?}: {error:?}"))),
+    };
+    let odd = (
+        plain.difference(&meant),
+        broken_store_rule(call, reply, &before, &after),
+    );
+    if odd != (None, None) {
+        return Err(Fail::new(format_args!("{spot}: {call:?}: {odd:?}")));
+    }
+    Ok(())
+}
+
+/// The store of an image.
+pub fn store_of(alloc: Global, image: &[u8]) -> Result<Store, Fail> {
+    match Store::check(alloc, Region::from_bytes(alloc, image)?) {
+        Ok(store) => Ok(store),
+        Err(_) => Err("no store")?,
+    }
+}
+
+/// The image of a store.
+pub fn image_of(alloc: Global, store: &Store) -> Result<Vec<u8>, Fail> {
+    let mut written = Counted::new(Vec::new(alloc));
+    match store.write_image(&mut written) {
+        Ok(()) => Ok(written.into_inner()),
+        Err(_) => Err("no image")?,
+    }
+}
+
+/// The bytes of a region.
+pub fn bytes_of(region: &Region) -> &[u8] {
+    region.slice(0, region.len())
+}

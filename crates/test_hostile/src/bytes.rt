@@ -1,0 +1,161 @@
+//! Each byte of an image set to other values, and lines on what is accepted then; each front of a script; and as many
+//! fixed chunks as an image may have.
+
+use crate::stores::store_behind;
+use heap_model::Counted;
+use palm_script::{LineFault, Script, ScriptFault, parse, run};
+use palm_store::{Store, StoreFault};
+use raw_region::Region;
+use std::alloc::Global;
+use std::process::Abort;
+use std::test::*;
+use test_beside::{image_of, store_of};
+use test_images::{DATABASE, bytes_of};
+use test_model::{Image, PlainStore};
+
+/// How far the bytes that are changed are apart.
+const BYTES_APART: usize = 13;
+
+/// How far the values of each are apart.
+const VALUES_APART: u8 = 51;
+
+/// Lines on the database of an image. Where the changed byte is of its name, the label is bound to nothing.
+const LINES: &str = "find d \"R\"\nrecnew d 0 0 a\nrecremove d 0\ncompact\ndbdelete d\nfreebytes\n";
+
+/// Whether the plain model accepts an image.
+fn is_accepted(alloc: Global, bytes: &[u8]) -> bool {
+    match Image::decode(alloc, bytes) {
+        Ok(image) => PlainStore::of(alloc, &image).is_ok(),
+        Err(_) => false,
+    }
+}
+
+/// Runs lines on an image, if it is accepted: what they leave is accepted. Answers whether it was.
+fn is_taken(alloc: Global, bytes: &[u8], script: &Script) -> Result<bool, Fail> {
+    match Store::check(alloc, Region::from_bytes(alloc, bytes)?) {
+        Ok(mut store) => {
+            let mut out = Counted::new(Vec::new(alloc));
+            run(alloc, &mut store, script, &[], &mut out)?;
+            store_of(alloc, &image_of(alloc, &store)?)?;
+            Ok(true)
+        }
+        Err(refused) if refused.fault == StoreFault::OutOfMemory => Err("no memory")?,
+        Err(_refused) => Ok(false),
+    }
+}
+
+/// Sets a byte of an image to values that are so far apart.
+fn check_byte(
+    rt: &(impl Abort + AllocGlobal),
+    image: &[u8],
+    at: usize,
+    script: &Script,
+) -> Result<(), Fail> {
+    let alloc = rt.alloc();
+    let mut bytes = Vec::from_slice(alloc, image)?;
+    for value in 0..=255u8 {
+        if value % VALUES_APART != 0 {
+            continue;
+        }
+        *bytes.get_mut(at).ok_or("no byte")? = value;
+        let is_taken = is_taken(alloc, &bytes, script)?;
+        assert_eq!(rt; is_taken, is_accepted(alloc, &bytes), "byte {at}: {value}");
+    }
+    Ok(())
+}
+
+#[test]
+fn lines_run_on_each_image_that_is_accepted(rt: HostRuntime) -> Result<(), Fail> {
+    let alloc = rt.alloc();
+    let image = bytes_of(alloc, DATABASE)?;
+    let script = parse(alloc, LINES.as_bytes())?;
+    for at in 0..image.len() {
+        if at % BYTES_APART == 0 {
+            check_byte(&rt, &image, at, &script)?;
+        }
+    }
+    Ok(())
+}
+
+/// The lines on the image as it is.
+#[test]
+fn lines_run_on_the_image_as_it_is(rt: HostRuntime) -> Result<(), Fail> {
+    let (_, said) = store_behind(rt.alloc(), DATABASE, LINES)?;
+    assert!(rt;
+        said.as_slice() == b"ok\nrefused 8 NotEnoughSpace\nok\nok\nok\nok 152\n".as_slice()
+    );
+    Ok(())
+}
+
+/// Lines of many commands, with labels, numbers in both spellings, words and texts.
+const SCRIPT: &str = "create d \"Notes\" \"DATA\" \"Test\" 0 5\nrecnew d 0 4 r\nrecrelease d 0 0\n\
+    recset d 0 0xF3 9\nrecinfo d 0\nrecnew d 0 0 s\nrecset d 0 0 9\nrecfind d 2\nrecfind d 1\n\
+    catcount d 3\ncatcount d 16\ncatnext d 0 3\ncatpos d 1 255\nrecget d 0 h\ncatmove d 5 3 1\n\
+    recinfo d 1\ncatdelete d 5\nrecinfo d 1\ndbinfo d\n";
+
+/// What a front of the script reads as, by its whole lines and the one that it breaks off: how many lines there are,
+/// or the line of its fault.
+#[derive(Clone, Copy, Debug, PartialEq, Eq)]
+enum Front {
+    Lines(usize),
+    BadLine(usize),
+    NoMemory,
+}
+
+fn front_of(alloc: Global, text: &[u8]) -> Front {
+    match parse(alloc, text) {
+        Ok(script) => Front::Lines(script.lines().len()),
+        Err(
+            LineFault {
+                fault: ScriptFault::OutOfMemory,
+                ..
+            },
+        ) => Front::NoMemory,
+        Err(fault) => Front::BadLine(fault.line),
+    }
+}
+
+/// What is in front of the line that breaks off is read, and that line alone may be bad.
+#[test]
+fn every_front_of_a_script_is_read(rt: HostRuntime) -> Result<(), Fail> {
+    let text = SCRIPT.as_bytes();
+    for length in 0..=text.len() {
+        let front = text.get(..length).ok_or("no front")?;
+        let whole = front.iter().filter(|byte| **byte == b'\n').count();
+        let read = front_of(rt.alloc(), front);
+        let is_whole = front.is_empty() || front.ends_with(b"\n");
+        let broken = whole.saturating_add(1);
+        let is_read = read == Front::Lines(if is_whole { whole } else { broken })
+            || (!is_whole && read == Front::BadLine(broken));
+        assert!(rt; is_read, "{length} bytes: {read:?}");
+    }
+    Ok(())
+}
+
+/// The size of an image of fixed chunks.
+const FIXED_SIZE: u32 = 65_528;
+
+/// An image of one slot, and of fixed chunks without a byte.
+fn fixed_chunks(alloc: Global, size: u32) -> Result<Vec<u8>, Fail> {
+    let mut bytes = bytes_of(alloc, "50484931 00000000 0001 0000 00000000 00*8")?;
+    for (at, byte) in size.to_be_bytes().iter().enumerate() {
+        *bytes.get_mut(at.saturating_add(4)).ok_or("no size")? = *byte;
+    }
+    let chunk = bytes_of(alloc, "00000008 F1000000")?;
+    for _ in 0..size.saturating_sub(24) / 8 {
+        bytes.extend_from_slice(&chunk)?;
+    }
+    Ok(bytes)
+}
+
+#[test]
+fn an_image_has_nothing_but_fixed_chunks(rt: HostRuntime) -> Result<(), Fail> {
+    let store = store_of(rt.alloc(), &fixed_chunks(rt.alloc(), FIXED_SIZE)?)?;
+    let summary = store.summary();
+    assert_eq!(rt; summary.heap.fixed, (FIXED_SIZE - 24) / 8);
+    assert_eq!(rt;
+        (summary.heap.free, summary.heap.movable, summary.databases),
+        (0, 0, 0)
+    );
+    Ok(())
+}

@@ -1,0 +1,20 @@
+//! Tests of hostile use: memory that is refused at each growth in turn, writers that fail behind each byte,
+//! bytes and images that are damaged, and images and scripts at their limits.
+//!
+//! This crate has no code but its tests.
+#![tactic(auto)]
+
+#[cfg(test)]
+mod bytes;
+#[cfg(test)]
+mod changes;
+#[cfg(test)]
+mod growths;
+#[cfg(test)]
+mod images;
+#[cfg(test)]
+mod limits;
+#[cfg(test)]
+mod stores;
+#[cfg(test)]
+mod writes;
