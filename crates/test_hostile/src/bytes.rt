@@ -13,12 +13,6 @@ use test_beside::{image_of, store_of};
 use test_images::{DATABASE, bytes_of};
 use test_model::{Image, PlainStore};
 
-/// How far the bytes that are changed are apart.
-const BYTES_APART: usize = 13;
-
-/// How far the values of each are apart.
-const VALUES_APART: u8 = 51;
-
 /// Lines on the database of an image. Where the changed byte is of its name, the label is bound to nothing.
 const LINES: &str = "find d \"R\"\nrecnew d 0 0 a\nrecremove d 0\ncompact\ndbdelete d\nfreebytes\n";
 
@@ -44,7 +38,7 @@ fn is_taken(alloc: Global, bytes: &[u8], script: &Script) -> Result<bool, Fail> 
     }
 }
 
-/// Sets a byte of an image to values that are so far apart.
+/// Sets a byte of an image to each value.
 fn check_byte(
     rt: &(impl Abort + AllocGlobal),
     image: &[u8],
@@ -54,9 +48,6 @@ fn check_byte(
     let alloc = rt.alloc();
     let mut bytes = Vec::from_slice(alloc, image)?;
     for value in 0..=255u8 {
-        if value % VALUES_APART != 0 {
-            continue;
-        }
         *bytes.get_mut(at).ok_or("no byte")? = value;
         let is_taken = is_taken(alloc, &bytes, script)?;
         assert_eq!(rt; is_taken, is_accepted(alloc, &bytes), "byte {at}: {value}");
@@ -70,9 +61,7 @@ fn lines_run_on_each_image_that_is_accepted(rt: HostRuntime) -> Result<(), Fail>
     let image = bytes_of(alloc, DATABASE)?;
     let script = parse(alloc, LINES.as_bytes())?;
     for at in 0..image.len() {
-        if at % BYTES_APART == 0 {
-            check_byte(&rt, &image, at, &script)?;
-        }
+        check_byte(&rt, &image, at, &script)?;
     }
     Ok(())
 }
@@ -133,7 +122,7 @@ fn every_front_of_a_script_is_read(rt: HostRuntime) -> Result<(), Fail> {
 }
 
 /// The size of an image of fixed chunks.
-const FIXED_SIZE: u32 = 65_528;
+const FIXED_SIZE: u32 = 16_777_208;
 
 /// An image of one slot, and of fixed chunks without a byte.
 fn fixed_chunks(alloc: Global, size: u32) -> Result<Vec<u8>, Fail> {

@@ -13,16 +13,16 @@ use test_images::{DATABASE, TWO_DATABASES, bytes_of};
 use test_model::{Image, PlainStore, Unaccepted, Unreadable};
 
 /// How many stores there are.
-const STORES: u64 = 4;
+const STORES: u64 = 40;
 
 /// How many images come of each by changes.
-const IMAGES: u64 = 8;
+const IMAGES: u64 = 250;
 
 /// How many calls are done on an image that is accepted.
-const CALLS: u32 = 2;
+const CALLS: u32 = 8;
 
 /// How many calls make a store that is drawn.
-const DRAWN_CALLS: u32 = 12;
+const DRAWN_CALLS: u32 = 60;
 
 /// What the plain model says of bytes.
 #[derive(Clone, Copy, Debug, PartialEq, Eq)]

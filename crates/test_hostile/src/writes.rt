@@ -19,9 +19,6 @@ use test_images::{
     WIDE, bytes_of,
 };
 
-/// How far the bytes behind which a whole run is cut are apart.
-const APART: usize = 11;
-
 /// How a writer takes bytes, and what it does when it has no room left.
 type Way = (usize, WhenFull);
 
@@ -159,9 +156,6 @@ fn check_run(rt: &(impl Abort + AllocGlobal), listing: &str, text: &str) -> Resu
     let (_, said) = store_behind(alloc, listing, text)?;
     for way in WAYS {
         for room in 0..said.len() {
-            if room % APART != 0 {
-                continue;
-            }
             let (store, out, is_written) = run_cut(alloc, listing, text, room, way)?;
             assert!(rt; is_cut(&out, &said, room, is_written), "{room} {way:?}");
             let done = line_count(out.taken.as_slice()).saturating_add(1);
@@ -271,9 +265,6 @@ fn the_text_of_a_command_is_cut_behind_each_byte(rt: HostRuntime) -> Result<(), 
     let (_, said) = store_behind(rt.alloc(), WIDE, BOTH_WAYS)?;
     for way in WAYS {
         for room in 0..said.len() {
-            if room % APART != 0 {
-                continue;
-            }
             let (image_out, out, is_written, files) = command_cut(rt.alloc(), 1024, room, way)?;
             let is_cut = is_cut(&out, &said, room, is_written);
             assert!(rt;
