@@ -1,5 +1,6 @@
 //! Scripts that are run on images: what they print, and what they leave.
 
+use crate::databases::WIDE;
 use crate::fakes::{Narrow, Unflushed, WhenFull};
 use heap_model::Counted;
 use palmheap_commands::cmd_run;
@@ -102,6 +103,18 @@ pub(crate) fn check_runs(
 #[test]
 fn lines_print_their_replies(rt: HostRuntime) -> Result<(), Fail> {
     check_runs(&rt, &RUNS)
+}
+
+/// A line may end by a carriage return and a line feed.
+#[test]
+fn lines_end_by_two_characters_too(rt: HostRuntime) -> Result<(), Fail> {
+    let script = "create d x:0a \"DATA\" \"Test\" 0 0\r\ndbinfo d\r\n";
+    let (said, _) = ran_on(rt.alloc(), WIDE, script)?;
+    assert_eq!(rt;
+        said.as_str(),
+        "Done ok\nok x:0a 0000 0 0 0 0 0 \"DATA\" \"Test\" 00000000 0\n"
+    );
+    Ok(())
 }
 
 /// Images, and the lines that are run on them, each with its reply.
