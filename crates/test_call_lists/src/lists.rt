@@ -63,7 +63,7 @@ fn every_front_from_images_with_databases(rt: HostRuntime) -> Result<(), Fail> {
     Ok(())
 }
 
-/// 3,000 calls, of which the first, the first ten, hundred and thousand are run too.
+/// Lists of 3,000 calls, whose fronts of one, ten, a hundred and a thousand calls are run too.
 const PARTS: [u32; 5] = [1, 9, 90, 900, 2_000];
 
 /// The lists together must have met each call accepted, and refused for each reason.
