@@ -44,8 +44,8 @@ fn filled(alloc: Global) -> Result<Vec<Vec<u8>>, Fail> {
     Ok(images)
 }
 
-/// Lists of 75 calls, of which each front from 60 calls on is run, so that what holds behind one call is seen.
-const LAST_FRONTS: [u32; 16] = [60, 1, 1, 1, 1, 1, 1, 1, 1, 1, 1, 1, 1, 1, 1, 1];
+/// Lists of 40 calls, of which each front from 30 calls on is run, so that what holds behind one call is seen.
+const LAST_FRONTS: [u32; 11] = [30, 1, 1, 1, 1, 1, 1, 1, 1, 1, 1];
 
 #[test]
 fn fronts_from_blank_images(rt: HostRuntime) -> Result<(), Fail> {
