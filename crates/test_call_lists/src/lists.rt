@@ -14,48 +14,70 @@ fn check_list(
     counts: &mut Counts,
     start: Vec<u8>,
     seed: u64,
-    (parts, length): (u32, u32),
+    parts: &[u32],
 ) -> Result<(), Fail> {
     let alloc = rt.alloc();
     let mut random = Pcg32::new(seed, 2);
     let mut drawn = Drawn::new(alloc, start)?;
-    for _ in 0..parts {
-        drawn.draw(alloc, &mut random, counts, length)?;
+    for length in parts {
+        drawn.draw(alloc, &mut random, counts, *length)?;
         drawn.check_run(rt)?;
     }
     Ok(())
 }
 
-/// The images that lists begin with: blank ones, and some with databases.
-fn starts(alloc: Global) -> Result<Vec<Vec<u8>>, Fail> {
-    let mut starts = Vec::new(alloc);
+/// Blank images.
+fn blanks(alloc: Global) -> Result<Vec<Vec<u8>>, Fail> {
+    let mut images = Vec::new(alloc);
     for (size, slots) in [(256, 8), (512, 6), (4096, 40)] {
-        starts.push(blank_image(alloc, size, slots)?)?;
+        images.push(blank_image(alloc, size, slots)?)?;
     }
-    for listing in [DATABASE, TWO_DATABASES, MIXED] {
-        starts.push(listed(alloc, listing)?)?;
-    }
-    Ok(starts)
+    Ok(images)
 }
 
-/// Each front of a list is run.
+/// Images with databases.
+fn filled(alloc: Global) -> Result<Vec<Vec<u8>>, Fail> {
+    let mut images = Vec::new(alloc);
+    for listing in [DATABASE, TWO_DATABASES, MIXED] {
+        images.push(listed(alloc, listing)?)?;
+    }
+    Ok(images)
+}
+
+/// Lists of 40 calls, of which each front from 30 calls on is run, so that what holds behind one call is seen.
+const LAST_FRONTS: [u32; 11] = [30, 1, 1, 1, 1, 1, 1, 1, 1, 1, 1];
+
 #[test]
-fn every_front_of_a_list(rt: HostRuntime) -> Result<(), Fail> {
+fn fronts_from_blank_images(rt: HostRuntime) -> Result<(), Fail> {
     let mut counts = Counts::new(rt.alloc());
-    for seed in 1..2u64 {
-        for start in starts(rt.alloc())? {
-            check_list(&rt, &mut counts, start, seed, (20, 1))?;
-        }
+    for start in blanks(rt.alloc())? {
+        check_list(&rt, &mut counts, start, 1, &LAST_FRONTS)?;
     }
     Ok(())
 }
 
 #[test]
+fn fronts_from_images_with_databases(rt: HostRuntime) -> Result<(), Fail> {
+    let mut counts = Counts::new(rt.alloc());
+    for start in filled(rt.alloc())? {
+        check_list(&rt, &mut counts, start, 2, &LAST_FRONTS)?;
+    }
+    Ok(())
+}
+
+/// Lists of 3,000 calls, whose fronts of one, ten, a hundred and a thousand calls are run too.
+const PARTS: [u32; 5] = [1, 9, 90, 900, 2_000];
+
+/// The lists together must have met each call accepted, and refused for each reason.
+#[test]
 fn lists_of_thousands_of_calls(rt: HostRuntime) -> Result<(), Fail> {
     let mut counts = Counts::new(rt.alloc());
-    for seed in 4..5u64 {
-        for start in starts(rt.alloc())? {
-            check_list(&rt, &mut counts, start, seed, (2, 50))?;
+    for seed in 3..6u64 {
+        for start in blanks(rt.alloc())? {
+            check_list(&rt, &mut counts, start, seed, &PARTS)?;
+        }
+        for start in filled(rt.alloc())? {
+            check_list(&rt, &mut counts, start, seed, &PARTS)?;
         }
     }
     assert_eq!(rt; counts.missing(&OUTCOMES), None);

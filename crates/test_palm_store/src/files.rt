@@ -63,7 +63,7 @@ fn small_store(alloc: Global) -> Result<Beside, Fail> {
 }
 
 /// Reads the database of a file, and answers its number.
-fn read(rt: &(impl Abort + AllocGlobal), beside: &mut Beside, listing: &str) -> Result<Db, Fail> {
+fn read(rt: &impl AllocGlobal, beside: &mut Beside, listing: &str) -> Result<Db, Fail> {
     match beside.call(rt.alloc(), "files", &import(rt.alloc(), listing)?)? {
         Reply::Database(db) => Ok(db),
         _ => Err("not read")?,

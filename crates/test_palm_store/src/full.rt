@@ -6,7 +6,6 @@ use heap_model::{
     ResourceCall,
 };
 use std::alloc::Global;
-use std::process::Abort;
 use std::test::*;
 use test_beside::{Beside, blank_image, bytes_of, do_call, store_of};
 use test_images::bytes_of as listed;
@@ -34,23 +33,19 @@ fn with_databases(alloc: Global, count: u32) -> Result<Vec<u8>, Fail> {
 }
 
 /// Does a call on databases of a list, beside the plain model.
-fn call(
-    rt: &(impl Abort + AllocGlobal),
-    beside: &mut Beside,
-    call: DatabaseCall,
-) -> Result<Reply, Fail> {
+fn call(rt: &impl AllocGlobal, beside: &mut Beside, call: DatabaseCall) -> Result<Reply, Fail> {
     beside.call(rt.alloc(), "full", &Call::Database(call))
 }
 
 /// Reads a database of this name, a character in hex, from a file without entries, beside the plain model.
-fn import(rt: &(impl Abort + AllocGlobal), beside: &mut Beside, name: &str) -> Result<Reply, Fail> {
+fn import(rt: &impl AllocGlobal, beside: &mut Beside, name: &str) -> Result<Reply, Fail> {
     let listing = format!(in rt.alloc(); "{name} 00*77")?;
     let file = Bytes::of(listed(rt.alloc(), listing.as_str())?);
     beside.call(rt.alloc(), "full", &Call::File(FileCall::Import(file)))
 }
 
 /// Makes an empty record in front, beside the plain model.
-fn new_in_front(rt: &(impl Abort + AllocGlobal), beside: &mut Beside) -> Result<Reply, Fail> {
+fn new_in_front(rt: &impl AllocGlobal, beside: &mut Beside) -> Result<Reply, Fail> {
     let call = RecordCall::New {
         db: Db(20),
         at: 0,

@@ -8,7 +8,7 @@ use test_beside::{Beside, blank_image, store_of};
 
 /// Does a call, beside the plain model.
 fn call(
-    rt: &(impl Abort + AllocGlobal),
+    rt: &impl AllocGlobal,
     beside: &mut Beside,
     store: &mut Store,
     call: Call,
@@ -18,7 +18,7 @@ fn call(
 
 /// Makes a database.
 fn create(
-    rt: &(impl Abort + AllocGlobal),
+    rt: &impl AllocGlobal,
     beside: &mut Beside,
     store: &mut Store,
     name: &[u8],

@@ -95,7 +95,7 @@ pub(crate) fn check_said(alloc: Global, image: &[u8]) -> Result<String, Fail> {
 }
 
 /// Listings, what is changed in them, and what `check` comes to and prints.
-const CHECKS: [(&str, &str, &str); 17] = [
+const CHECKS: [(&str, &str, &str); 19] = [
     (
         BLANK,
         "",
@@ -114,6 +114,13 @@ const CHECKS: [(&str, &str, &str); 17] = [
     ("", "", "Refused bad TooShort\n"),
     ("5048 49", "", "Refused bad TooShort\n"),
     ("50484931 00000080 00*8", "", "Refused bad TooShort\n"),
+    // the blank image without its last byte, and with a chunk that reaches beyond its end
+    (
+        "50484931 00000080 0004 0000 00000000 00*16 80000060 00*91",
+        "",
+        "Refused bad TooShort\n",
+    ),
+    (BLANK, "32: 80000068", "Refused bad BadChunk 32\n"),
     (DATABASE, "3: 33", "Refused bad BadMagic\n"),
     (DATABASE, "7: D8", "Refused bad TooShort\n"),
     (DATABASE, "7: C8", "Refused bad BadSize\n"),

@@ -162,6 +162,7 @@ const CASES: [Case; 9] = [
             "54696e79 00*28 0001 0001 00*24 6170706c 54657374 00000000 00000000 0002 \
                 74535452 03e8 00000064 74535452 03e9 0000006b 0000 486900 596f00",
             "456d707479 00*27 0000 0000 00*16 0000004e 00000000 44415441 54657374 00000000 00000000 0000",
+            "456d707479 00*27 0000 0000 00*24 44415441 54657374 00000000 00000000 00",
         ],
         lines: "import d 1 = refused 25 BadFile BadInfo app
             import d 2 = refused 25 BadFile BadInfo sort
@@ -170,6 +171,7 @@ const CASES: [Case; 9] = [
             import d 5 = refused 25 BadFile Truncated
             import d 6 = refused 25 BadFile BadOffset 0
             import d 7 = refused 25 BadFile BadOffset 1
+            import d 9 = refused 25 BadFile Truncated
             import d 8 = ok
             info d app a = ok
             size a = ok 0

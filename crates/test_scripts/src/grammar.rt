@@ -526,7 +526,7 @@ fn lines_on_files(rt: HostRuntime) -> Result<(), Fail> {
     check(&rt, &FILE_CASES)
 }
 
-const LINE_CASES: [(&[u8], &str); 21] = [
+const LINE_CASES: [(&[u8], &str); 22] = [
     // no lines, and lines that are passed over
     (b"", ""),
     (b"\n", ""),
@@ -547,6 +547,7 @@ const LINE_CASES: [(&[u8], &str); 21] = [
     (b"\"a\"\r", "line 1 BadWord 1"),
     (b"fr\ree a", "line 1 UnknownCommand"),
     // lines are counted over all of them
+    (b"# x\n\nfrob", "line 3 UnknownCommand"),
     (b"\n# x\r\n\nfrob\nnew", "line 4 UnknownCommand"),
     (b"free a\nnew a 8\nfrob", "line 2 WrongCount"),
     (b"frob\n\"", "line 1 UnknownCommand"),
@@ -590,7 +591,7 @@ fn words_and_their_quotes(rt: HostRuntime) -> Result<(), Fail> {
     check(&rt, &WORD_CASES)
 }
 
-const FAULT_CASES: [(&[u8], &str); 17] = [
+const FAULT_CASES: [(&[u8], &str); 19] = [
     (b"frob", "line 1 UnknownCommand"),
     (b"new a 8", "line 1 WrongCount"),
     (b"read a 0 x", "line 1 BadWord 4"),
@@ -599,6 +600,7 @@ const FAULT_CASES: [(&[u8], &str); 17] = [
     (b"\"frob\"x a", "line 1 BadWord 1"),
     (b"\"#", "line 1 BadWord 1"),
     (b"frob \"", "line 1 BadWord 2"),
+    (b"frob \"a", "line 1 BadWord 2"),
     (b"free a b c \"d", "line 1 BadWord 5"),
     (b"free 1 \"d\"e \"f", "line 1 BadWord 3"),
     // then a word that is no command
@@ -612,6 +614,7 @@ const FAULT_CASES: [(&[u8], &str); 17] = [
     (b"new 1 x 256", "line 1 BadWord 2"),
     (b"new a x 256", "line 1 BadWord 3"),
     (b"new a 1 256", "line 1 BadWord 4"),
+    (b"new a 8 256", "line 1 BadWord 4"),
 ];
 
 #[test]

@@ -8,7 +8,7 @@ use std::io::{BufWriter, ErrorKind, Write};
 use std::process::Abort;
 use std::test::Fail;
 use test_fakes::{Narrow, Unflushed, WhenFull};
-use test_images::{BLANK, ONE_CHUNK, bytes_of};
+use test_images::{BLANK, ONE_CHUNK, WIDE, bytes_of};
 
 /// A blank image of 128 bytes with one slot.
 const ONE_SLOT: &str = "50484931 00000080 0001 0000 00000000 00*8 80000068 00*100";
@@ -102,6 +102,18 @@ pub(crate) fn check_runs(
 #[test]
 fn lines_print_their_replies(rt: HostRuntime) -> Result<(), Fail> {
     check_runs(&rt, &RUNS)
+}
+
+/// A line may end by a carriage return and a line feed.
+#[test]
+fn lines_end_by_two_characters_too(rt: HostRuntime) -> Result<(), Fail> {
+    let script = "create d x:0a \"DATA\" \"Test\" 0 0\r\ndbinfo d\r\n";
+    let (said, _) = ran_on(rt.alloc(), WIDE, script)?;
+    assert_eq!(rt;
+        said.as_str(),
+        "Done ok\nok x:0a 0000 0 0 0 0 0 \"DATA\" \"Test\" 00000000 0\n"
+    );
+    Ok(())
 }
 
 /// Images, and the lines that are run on them, each with its reply.
