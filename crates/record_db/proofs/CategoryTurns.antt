@@ -13,7 +13,7 @@ use Rattle.heap_model.specs.MemorySteps.{Of, IsLocked}
 use Rattle.heap_model.specs.Database.{Entry, a_record, entry_data}
 use Rattle.heap_model.specs.Store.{StoredDatabase, Store, Accepted, store_of}
 use Rattle.heap_model.specs.StoreWords.{SameStore, all_gone, with_changed, with_number}
-use Rattle.heap_model.specs.EntrySteps.{entries_of, entries_in, kind_of, resources_under, entry_under, OfEntry, data_of_entry, data_under, replaced, with_entries, with_chunks, entry_changed, data_freed, LeavesStore, MakesNone}
+use Rattle.heap_model.specs.EntrySteps.{entries_of, entries_in, kind_of, resources_under, entry_under, OfEntry, data_of_entry, data_under, replaced, with_entries, with_chunks, data_freed, LeavesStore, MakesNone}
 use Rattle.heap_model.specs.RecordSteps.{HasLockedOf, category_deleted}
 use Rattle.heap_model.specs.Categories.{is_of, IsOf, data_of_category, deleted_category}
 use Rattle.heap_model.specs.declared.names.Db.{Db}
@@ -151,7 +151,7 @@ next_unlocked old mid db category count h some none of locked =
 pub number_there : (old mid : List ℕ) (db : Db) (category count : ℕ) (h : Here old db.0) → HasDeletedSome old mid db category count → IsSome (with_number (store_of mid) db.0)
 number_there old mid db category count h some =
     subst (λ (x : Option StoredDatabase). IsSome x)
-    (sym (number_mid old mid db (first_changed (deleted_category category) count) (deleted_so_far (store_of old) db h.one.database.entries category count) h (deleted_here old mid db category count h some).same refl)) tt
+    (sym (number_mid old mid db (first_changed (deleted_category category) count) (deleted_so_far (store_of old) db h.one.database.entries category count) h (deleted_here old mid db category count h some).same refl)) refl
 
 pub kind_there : (old mid : List ℕ) (db : Db) (category count : ℕ) (h : Here old db.0) → HasDeletedSome old mid db category count → resources_under (store_of mid) db ≡ resources_under (store_of old) db
 kind_there old mid db category count h some =
@@ -185,12 +185,12 @@ of_within (entry ∷ entries) zero P of = (entry, refl, of)
 of_within (entry ∷ entries) (suc index) P of = of_within entries index P of
 
 pub within_some : (entries : List (Entry ℕ)) (index : ℕ) (P : Entry ℕ → Type 0) → OfEntry (slice_get entries index) P → index < length entries
-within_some entries index P of = (let there = of_within entries index P of in slice_get_within entries index there.0 there.1.0)
+within_some entries index P of = (let there = of_within entries index P of in slice_get_within entries index there.0 there.1)
 
 pub first_inside : (old mid : List ℕ) (db : Db) (category from index : ℕ) (h : Here old db.0) → IsFirst (entries_in (store_of mid) db) from (IsOf category) index → HasDeletedSome old mid db category from → index < length h.one.database.entries
 first_inside old mid db category from index h first some =
     let there = of_within (entries_in (store_of mid) db) index (IsOf category) first.here.1 in
-    slice_get_within h.one.database.entries index there.0 (sym (entry_mid old mid db category from index h first.here.0 (deleted_here old mid db category from h some)) ∙ there.1.0)
+    slice_get_within h.one.database.entries index there.0 (sym (entry_mid old mid db category from index h first.here.0 (deleted_here old mid db category from h some)) ∙ there.1)
 
 pub passed_to : (old mid : List ℕ) (db : Db) (category from index : ℕ) (h : Here old db.0) → Accepted old → IsFirst (entries_in (store_of mid) db) from (IsOf category) index → HasDeletedSome old mid db category from → HasDeletedSome old mid db category index
 passed_to old mid db category from index h a first some =
@@ -207,7 +207,7 @@ deleted_next old mid new db category from index h a first some freed none =
     let there = of_within (entries_in (store_of mid) db) index (IsOf category) first.here.1 in
     let now = passed_to old mid db category from index h a first some in
     deleted_turn old mid new db category index h a (first_inside old mid db category from index h first some) now
-    (deleted_one mid new db index category there.0 (deleted_here old mid db category index h now).accepted (number_there old mid db category index h now) there.1.0 there.1.1 freed) none
+    (deleted_one mid new db index category there.0 (deleted_here old mid db category index h now).accepted (number_there old mid db category index h now) there.1 there.2 freed) none
 
 -- no one is left
 pub passed_all : (old mid : List ℕ) (db : Db) (category from : ℕ) (h : Here old db.0) → Accepted old → NoneBehind (entries_in (store_of mid) db) from (IsOf category) → from ≤ length (entries_in (store_of old) db)

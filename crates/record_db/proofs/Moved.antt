@@ -1,5 +1,5 @@
 -- All records of a category moved to another are records with other attributes.
-use Rattle.std.proofs.Common.{◌≡◌, ℕ, ◌+◌, ◌*◌, ◌/◌, ◌<◌, ◌≤◌, ◌^◌, Bool, true, false, List, [], ◌∷◌, map, refl, sym, ap, subst, ◌∙◌, arith, bit_or, inl, inr}
+use Rattle.std.proofs.Common.{◌≡◌, ℕ, ◌<◌, ◌≤◌, ◌^◌, Bool, true, false, List, [], ◌∷◌, map, refl, ap, ◌∙◌, arith, inl, inr}
 use Rattle.std.proofs.lemmas.Bool.{cases_lt}
 use Rattle.std.proofs.lemmas.Nat.{or_lt}
 use Rattle.std.specs.Prelude.{◌==◌, ◌&&◌, ◌||◌, ◌%◌, not, if◌then◌else◌}
@@ -8,7 +8,7 @@ use Rattle.heap_model.specs.Store.{Accepted, store_of}
 use Rattle.heap_model.specs.EntrySteps.{with_attributes, with_entries, LeavesStore}
 use Rattle.heap_model.specs.Categories.{has_category, with_category, recategorized, moved_category}
 use Rattle.heap_model.specs.declared.names.Db.{Db}
-use Rattle.laws_heap.proofs.Deciding.{cond-true, cond-false}
+use Rattle.laws_heap.proofs.Deciding.{cond-false}
 use Rattle.palm_store.specs.AttributeChanges.{MayChange}
 use Rattle.record_db.specs.Categories.{moved_attributes}
 use Rattle.database_access.proofs.Entries.{Here}

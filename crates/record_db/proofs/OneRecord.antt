@@ -1,22 +1,20 @@
 -- What a call on a category leaves of one record.
 use Rattle.std.proofs.Common.{◌≡◌, ℕ, ◌%◌, Bool, true, false, List, [], ◌∷◌, map, Option, Some, None, refl, sym, ap, ◌∙◌, arith, inl, inr}
 use Rattle.std.proofs.lemmas.Bool.{cases_eq, eq-eqb, ne_eqb}
-use Rattle.std.specs.Prelude.{◌==◌, ◌&&◌, ◌||◌, not, if◌then◌else◌, IsSome}
+use Rattle.std.specs.Prelude.{◌==◌, ◌&&◌, ◌||◌, not, IsSome}
 use Rattle.heap_model.specs.Meaning.{ChunkMap}
 use Rattle.heap_model.specs.Maps.{gone}
 use Rattle.heap_model.specs.Lists.{times}
-use Rattle.heap_model.specs.Database.{Entry, a_record, entry_data, is_deleted}
+use Rattle.heap_model.specs.Database.{Entry, entry_data, is_deleted}
 use Rattle.heap_model.specs.Store.{Accepted, store_of}
 use Rattle.heap_model.specs.StoreWords.{all_gone, with_number}
-use Rattle.heap_model.specs.EntrySteps.{entry_under, data_of_entry, data_under, without_data, entry_changed, data_freed, LeavesStore}
-use Rattle.heap_model.specs.Categories.{has_category, is_of, data_of_category, recategorized, moved_category, deleted_category}
+use Rattle.heap_model.specs.EntrySteps.{entry_under, data_of_entry, data_under, without_data, data_freed, LeavesStore}
+use Rattle.heap_model.specs.Categories.{has_category, is_of, data_of_category, deleted_category}
 use Rattle.heap_model.specs.declared.names.Db.{Db}
 use Rattle.laws_heap.proofs.Deciding.{cond-true, cond-false}
 use Rattle.laws_store.proofs.Listing.{same-yes, same-no, times-cons}
-use Rattle.palm_store.specs.EntryInfos.{with_info}
-use Rattle.palm_store.specs.declared.entries.infos.EntryInfo.TheVariants as infos
 use Rattle.record_db.specs.Categories.{listed_if, one_deleted}
-use Rattle.database_access.proofs.EntriesChanged.{entry_alike, set_as, entry_kept}
+use Rattle.database_access.proofs.EntriesChanged.{entry_alike, entry_kept}
 use Rattle.database_access.proofs.Raising.{left_as, itself}
 
 -- a record that is of a category isn't deleted

@@ -1,7 +1,8 @@
-use Rattle.std.proofs.Common.{◌≡◌, ◌+◌, ◌-◌, ◌<◌, ◌≤◌, ◌∙◌, ℕ, length, Option, refl, sym, ap, arith}
+use Rattle.std.proofs.Common.{◌≡◌, ◌∙◌, length, Option, refl, ap, arith}
 use Rattle.heap_model.specs.Store.{StoredDatabase, store_of}
 use Rattle.heap_model.specs.EntrySteps.{entries_of, entries_in}
 use Rattle.laws_store.proofs.Doing.{kept_then}
+use Rattle.palm_store.proofs.EntriesHere.{count_fits}
 use Rattle.database_access.proofs.Entries.{here}
 use Rattle.record_db.proofs.CategoryTurns.{deleted_none, deleted_next, deleted_all, first_inside, kind_there, number_there, passed_to, passed_all, next_unlocked, within_some}
 use Rattle.record_db.proofs.categories.delete_all_of.Goals as goal
@@ -46,6 +47,14 @@ entry_free_data-requires-clause-unlocked c =
 pub entry_free_data-requires-clause-inside : goal.entry_free_data-requires-clause-inside
 entry_free_data-requires-clause-inside c = within_some (entries_in (store_of c.loop-index.store.bytes) c.args.db) c.in-Some.index _ c.in-Some.ensures.is.here.1
 
+pub overflow_add-from : goal.overflow_add-from
+overflow_add-from c =
+    let h = here c.args.store.now.bytes c.args.db.0 c.requires.accepted c.requires.known in
+    let count : length (entries_in (store_of c.args.store.now.bytes) c.args.db) ≡ length h.one.database.entries = ap (λ (x : Option StoredDatabase). length (entries_of x)) h.found in
+    let few = count_fits c.args.store.now.bytes c.args.db c.requires.accepted c.requires.known in
+    let below = first_inside c.args.store.now.bytes c.loop-index.store.bytes c.args.db c.args.category c.loop-index.from c.in-Some.index h c.in-Some.ensures.is c.loop-index.invariant.deleted in
+    omega (arith, count, few, below)
+
 pub loop-index-preserved : goal.loop-index-preserved
 loop-index-preserved c =
     let h = here c.args.store.now.bytes c.args.db.0 c.requires.accepted c.requires.known in
@@ -59,8 +68,8 @@ loop-index-preserved c =
       rest = kept_then c.args.store.now c.loop-index.store c.entry_free_data.new.self c.loop-index.invariant.rest c.entry_free_data.ensures.rest;
     }
 
-pub decreases-loop-index : goal.decreases-loop-index
-decreases-loop-index c =
+pub loop-index-smaller : goal.loop-index-smaller
+loop-index-smaller c =
     let h = here c.args.store.now.bytes c.args.db.0 c.requires.accepted c.requires.known in
     let first = c.in-Some.ensures.is in
     let order = first.here.0 in
