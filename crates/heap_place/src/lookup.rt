@@ -55,7 +55,7 @@ pub(crate) fn chunk_named(region: &Region, name: Name) -> Found
 }
 
 /// The fixed chunk of a name.
-#[inline(never)]
+#[inline(always)]
 fn fixed_at(region: &Region, name: Name) -> Found
     requires accepted { HeapAccepted region.now.bytes }
     requires fixed { IsFixed region.now.bytes name.0 }

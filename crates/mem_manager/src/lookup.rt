@@ -1,6 +1,7 @@
 //! What a name stands for, and which refusals a chunk brings.
 
-ghost use Rattle.std.specs.Prelude.{◌≡◌, ◌≢◌, ◌≤◌, ℕ, IfSome, IfNone, IfOk, OnOk, IfErr, OnErr, None};
+ghost use Rattle.std.specs.Prelude.{◌≡◌, ◌≢◌, ◌≤◌, ℕ, IsSome, IfSome, IfNone, IfOk, OnOk, IfErr, OnErr, None};
+ghost use Rattle.std.specs.Bool.{OnTrue, OnFalse};
 ghost use Rattle.heap_model.specs.Chunk.{fixed_lock};
 ghost use Rattle.heap_model.specs.Heap.{HeapAccepted};
 ghost use Rattle.heap_model.specs.Reading.{held};
@@ -25,24 +26,31 @@ pub(crate) fn named(space: &Space, known: &KnownNames, name: Name) -> Option<Fou
     ensures found { IfSome result (IsFound space.now.bytes name.0) }
     ensures none { IfNone result (held space.now.bytes name.0 ≡ None) }
 {
-    match space.in_slot(name) {
-        Some(found) => Some(found),
-        None => in_no_slot(space, known, name),
+    if let Some(found) = space.in_slot(name) {
+        return Some(found);
     }
-}
-
-/// The same of a name that is no slot's. Where it isn't remembered, it is looked for among all chunks.
-#[inline(never)]
-fn in_no_slot(space: &Space, known: &KnownNames, name: Name) -> Option<Found>
-    requires accepted { HeapAccepted space.now.bytes }
-    requires known { KnowsHeld space.now.bytes known.now.names }
-    ensures found { IfSome result (IsFound space.now.bytes name.0) }
-    ensures none { IfNone result (held space.now.bytes name.0 ≡ None) }
-{
-    if known.has(name) {
+    if is_fixed(space, known, name) {
         return Some(space.chunk(name));
     }
-    space.find(name)
+    None
+}
+
+/// Whether a name that is no slot's stands for a chunk. Where it isn't remembered, it is looked for among all
+/// chunks.
+#[inline(never)]
+fn is_fixed(space: &Space, known: &KnownNames, name: Name) -> bool
+    requires accepted { HeapAccepted space.now.bytes }
+    requires known { KnowsHeld space.now.bytes known.now.names }
+    ensures there { OnTrue result (IsSome (held space.now.bytes name.0)) }
+    ensures none { OnFalse result (held space.now.bytes name.0 ≡ None) }
+{
+    if known.has(name) {
+        return true;
+    }
+    match space.find(name) {
+        Some(_) => true,
+        None => false,
+    }
 }
 
 /// The caller's chunk that a name stands for. The manager's own are no caller's.
