@@ -72,7 +72,7 @@ const PARTS: [u32; 5] = [1, 9, 90, 900, 2_000];
 #[test]
 fn lists_of_thousands_of_calls(rt: HostRuntime) -> Result<(), Fail> {
     let mut counts = Counts::new(rt.alloc());
-    for seed in 3..6u64 {
+    for seed in 3..33u64 {
         for start in blanks(rt.alloc())? {
             check_list(&rt, &mut counts, start, seed, &PARTS)?;
         }
