@@ -1,6 +1,6 @@
 -- The chunk of a database with another length: nothing but want of room refuses it to grow, and nothing to shrink.
-use Rattle.std.proofs.Common.{◌≡◌, ℕ, ◌+◌, ◌<◌, ◌≤◌, List, length, Option, sym, subst, arith, inl, inr}
-use Rattle.std.specs.Prelude.{Result, Ok, Err, OnOk, OnErr, IfErr}
+use Rattle.std.proofs.Common.{◌≡◌, ℕ, ◌+◌, ◌<◌, ◌≤◌, List, length, Option, refl, sym, subst, arith, inl, inr}
+use Rattle.std.specs.Prelude.{Result, Ok, Err, OnOk, OnErr, IfErr, IsOk}
 use Rattle.heap_model.specs.Bytes.{sized_to}
 use Rattle.heap_model.specs.Chunk.{need}
 use Rattle.heap_model.specs.Meaning.{LiveChunk}
@@ -42,6 +42,14 @@ shrinks image db size refusal m fewer brings =
     omega (arith, short, least)
 
 -- ---- by the result
+
+pub shrinks_ok : {A : Type 0} (image : List ℕ) (db size : ℕ) (result : Result A Refusal) → IsManagers image db → size ≤ length (bytes_under image db) → IfErr result (λ refusal. FirstBrings (growth_checks image (held image) db size) refusal) → IsOk result
+shrinks_ok image db size (Ok done) m fewer why = refl
+shrinks_ok image db size (Err refusal) m fewer why = absurd (shrinks image db size refusal m fewer why)
+
+pub shrank : {A : Type 0} {x : A} (old new : List ℕ) (db size : ℕ) (result : Result A Refusal) → IsManagers old db → result ≡ Ok x → OnOk result (Leaves old new (sized (held old) db size)) → Rebodies old new db (sized_to (bytes_under old db) size)
+shrank old new db size (Ok done) m is l = resized old new db size m l
+shrank old new db size (Err refusal) m is l = let no = is in absurd cc
 
 pub grew : {A : Type 0} (old new : List ℕ) (db size : ℕ) (result : Result A Refusal) → IsManagers old db → OnOk result (Leaves old new (sized (held old) db size)) → OnOk result (Rebodies old new db (sized_to (bytes_under old db) size))
 grew old new db size (Ok done) m l = resized old new db size m l

@@ -17,6 +17,19 @@ use db_format::{DbEntry, entry_offset};
 use heap_model::{Db, Name, Refusal};
 use mem_manager::Heap;
 
+/// Writes bytes over those of a database, from `at` on. In line, so that the few bytes of a field or of an entry are
+/// written as one number.
+#[inline(always)]
+pub(crate) fn put_part(heap: &mut Heap, db: Db, at: u32, part: &[u8])
+    requires managers { IsManagers heap.old.bytes db.0 }
+    requires inside { at + length part.now ≤ length (bytes_under heap.old.bytes db.0) }
+    ensures writes { Rebodies heap.old.bytes heap.new.bytes db.0
+        (overwritten (bytes_under heap.old.bytes db.0) at part.now) }
+    ensures rest { heap.new ≡ record heap.old { bytes = heap.new.bytes } }
+{
+    heap.sys_write(Name(db.0), at, part);
+}
+
 /// Writes an entry where that of an index stands, or is to stand, among resources or among records.
 pub(crate) fn put_entry(heap: &mut Heap, db: Db, index: u16, entry: DbEntry, resources: bool)
     requires managers { IsManagers heap.old.bytes db.0 }
@@ -32,7 +45,10 @@ pub(crate) fn put_entry(heap: &mut Heap, db: Db, index: u16, entry: DbEntry, res
     ensures rest { heap.new ≡ record heap.old { bytes = heap.new.bytes } }
 {
     let at = entry_offset(resources, index) as u32;
-    heap.sys_write(Name(db.0), at, entry.to_bytes().as_slice());
+    match entry {
+        DbEntry::Record(record) => put_part(heap, db, at, &record.to_bytes()),
+        DbEntry::Resource(resource) => put_part(heap, db, at, &resource.to_bytes()),
+    }
 }
 
 /// Copies the entries from `first` on and below `end` to where the entry of the index `to` stands, or is to
@@ -81,10 +97,7 @@ pub(crate) fn shrink(heap: &mut Heap, db: Db, size: u32)
         (sized_to (bytes_under heap.old.bytes db.0) size) }
     ensures rest { heap.new ≡ record heap.old { bytes = heap.new.bytes; slid = heap.new.slid } }
 {
-    match heap.sys_resize(Name(db.0), size) {
-        Ok(()) => {}
-        Err(_) => unreachable!(),
-    }
+    heap.sys_resize(Name(db.0), size).unwrap();
 }
 
 /// The entry of an index.

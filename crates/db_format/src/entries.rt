@@ -58,6 +58,7 @@ impl RecordEntry {
     }
 
     /// The bytes of the entry.
+    #[inline(always)]
     pub fn to_bytes(self) -> [u8; 8]
         requires { self.id ≤ greatest_id }
         ensures is { result ≡ entry_bytes (record_of self) }
@@ -88,6 +89,7 @@ impl ResourceEntry {
     }
 
     /// The bytes of the entry.
+    #[inline(always)]
     pub fn to_bytes(self) -> [u8; 10]
         ensures is { result ≡ entry_bytes (resource_of self) }
         ensures written { WritesEntry true (resource_of self) result }

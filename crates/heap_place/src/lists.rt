@@ -30,6 +30,7 @@ const FEW: usize = 64;
 const ALL: usize = 0x20_0000;
 
 /// The class of a free chunk of `size` bytes.
+#[inline(always)]
 pub(crate) fn class_of(size: u32) -> usize
     requires least { 8 ≤ size }
     requires small { size < 2 ^ 24 }
@@ -40,6 +41,7 @@ pub(crate) fn class_of(size: u32) -> usize
 }
 
 /// Puts the free chunk at `at`, which is in none of the lists, in front of the list of its class.
+#[inline(always)]
 pub(crate) fn push(region: &mut Region, heads: &mut [u32; CLASSES], at: u32, size: u32)
     requires accepted { HeapAccepted region.old.bytes }
     requires free { IsFreeChunk region.old.bytes at size }

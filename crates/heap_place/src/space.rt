@@ -293,6 +293,7 @@ impl Space {
     }
 
     /// Writes bytes over those of a live chunk, from `at` within its body on.
+    #[inline(always)]
     pub fn write(&mut self, found: Found, at: u32, bytes: &[u8])
         requires accepted { HeapAccepted self.old.bytes }
         requires found { IsOne self.old.bytes found }

@@ -29,6 +29,7 @@ pub fn word_of(region: &Region, slot: u32) -> u32
 }
 
 /// How many slots stand before the one of a name. None where no slot stands there.
+#[inline(always)]
 pub fn slots_before(region: &Region, name: Name) -> Option<u32>
     requires { HasFrame region.now }
     ensures some { IfSome result (StandsBehind region.now.bytes name.0) }
@@ -38,6 +39,7 @@ pub fn slots_before(region: &Region, name: Name) -> Option<u32>
 }
 
 /// The place that a slot holds. None where no slot stands there, or an empty one.
+#[inline(always)]
 pub fn resolve(region: &Region, name: Name) -> Option<Place>
     requires { HasTable region.now }
     ensures { MatchOption result (HoldsNothing region.now.bytes name.0)

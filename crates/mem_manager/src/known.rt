@@ -27,7 +27,7 @@ impl KnownNames {
     }
 
     /// Whether a name is among them.
-    #[inline]
+    #[inline(always)]
     pub(crate) fn has(&self, name: Name) -> bool
         ensures known { OnTrue result (IsKnown self.now.names name.0) }
         ensures unknown { OnFalse result (IsKnown self.now.names name.0 → ⊥) }
@@ -44,6 +44,7 @@ impl KnownNames {
     }
 
     /// Forgets a name.
+    #[inline(always)]
     pub(crate) fn forget(&mut self, name: Name)
         ensures { (other : ℕ) → (IsKnown self.new.names other
             ↔ (IsKnown self.old.names other × (other ≢ name.0))) }

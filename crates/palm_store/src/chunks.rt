@@ -12,6 +12,7 @@ use heap_model::{Name, Refusal};
 use mem_manager::{DATA_OWNER, FIXED_LOCK, Heap, MANAGERS_OWNER};
 
 /// Frees the chunk of a slot, if there is one.
+#[inline(always)]
 pub(crate) fn free_chunk_of(heap: &mut Heap, slot: Name)
     requires heap { HeapAccepted heap.old.bytes }
     requires there { 0 < slot.0 → IsSome (held heap.old.bytes slot.0) }

@@ -20,7 +20,8 @@ mod whole;
 
 use crate::entries::{KnownIds, NOTHING_KNOWN};
 use crate::lookup::count_databases;
-use heap_model::{Allowance, Counted};
+use allowance::Allowance;
+use heap_model::Counted;
 use mem_manager::Heap;
 use palm_text::{WriteFault, put_all};
 use raw_region::Region;
@@ -84,7 +85,7 @@ impl Store {
         Store::check_from(&alloc, region)
     }
 
-    /// `check`, where each growth asks for a grant.
+    /// `check`, where each growth asks for a grant. Only a refused growth is answered by `OutOfMemory`.
     pub fn check_from<A: Allowance>(memory: &A, region: Region) -> Result<Store, NotAStore>
         ensures accepted { OnOk result (Accepted region.bytes) }
         ensures same { IfOk result (λ store. store ≡ region) }
@@ -92,6 +93,8 @@ impl Store {
         ensures refused { IfErr result (λ error.
             (error.fault ≡ StoreFault.OutOfMemory) ⊎ (Accepted region.bytes → ⊥)) }
         ensures handed_back { IfErr result (λ error. error.region ≡ region) }
+        ensures no_memory { IfErr result (λ error.
+            error.fault ≡ StoreFault.OutOfMemory → A.is_short memory.now) }
     {
         match check_store_from(memory, &region) {
             Ok(_) => Ok(Store {

@@ -123,6 +123,7 @@ fn delete_all_of(store: &mut Store, db: Db, category: u8)
 }
 
 /// The first record of a database, from an index on, that is of a category.
+#[inline]
 fn next_of(store: &Store, db: Db, from: u32, category: u8) -> Option<u32>
     requires known { HasNumber store.now.bytes db.0 }
     requires records { resources_of_image store.now.bytes db ≡ false }

@@ -25,6 +25,7 @@ pub(crate) fn count_of(records: &DatabaseView, category: u8, end: u32) -> u32
 }
 
 /// The first record from an index on that is of a category.
+#[inline]
 pub(crate) fn first_of(records: &DatabaseView, from: u32, category: u8) -> Option<u32>
     requires { has_resources records.now.header.attributes ≡ false }
     ensures is { IfSome result (IsFirst records.now.entries from (IsOf category)) }

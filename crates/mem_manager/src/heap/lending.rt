@@ -46,6 +46,7 @@ impl Heap {
 
     /// The owner of any chunk, and its bytes as they lie in the image; or none where the name stands for
     /// nothing. That of a slot costs the same however large the heap is.
+    #[inline(always)]
     pub fn sys_chunk(&self, name: Name) -> Option<(u8, &[u8])>
         ensures owner { IfSome result (λ chunk. chunk.0 ≡ owner_under self.now.bytes name.0) }
         ensures body { IfSome result (λ chunk. chunk.1.now ≡ bytes_under self.now.bytes name.0) }
@@ -57,6 +58,7 @@ impl Heap {
     }
 
     /// The lock count of any chunk, 15 of a fixed one.
+    #[inline(always)]
     pub fn sys_locks(&self, name: Name) -> u8
         requires there { IsSome (held self.now.bytes name.0) }
         ensures { (live : LiveChunk) → held self.now.bytes name.0 ≡ Some live → result ≡ live.lock }
@@ -65,6 +67,7 @@ impl Heap {
     }
 
     /// The bytes of any chunk, as they lie in the image.
+    #[inline(always)]
     pub fn sys_body(&self, name: Name) -> &[u8]
         requires { IsSome (held self.now.bytes name.0) }
         ensures { result.now ≡ bytes_under self.now.bytes name.0 }
@@ -73,6 +76,7 @@ impl Heap {
     }
 
     /// The bytes of a chunk that was found.
+    #[inline(always)]
     fn body_of(&self, found: Found) -> &[u8]
         requires { IsOne self.now.bytes found }
         ensures { result.now ≡ bytes_under self.now.bytes found.name.0 }

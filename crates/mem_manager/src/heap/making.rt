@@ -153,6 +153,7 @@ fn room_for(space: &mut Space, size: u32) -> Result<Room, Refusal>
 
 /// How many slots, of the first `used`, stand before the one of a name: these stay in use when it is
 /// emptied. All of them where none of them is the name's.
+#[inline(always)]
 pub(crate) fn used_without(region: &Region, used: u32, name: Name) -> u32
     requires { HasFrame region.now }
     ensures fewer { result ≤ used }

@@ -55,6 +55,7 @@ impl Heap {
     }
 
     /// Writes bytes over those of any chunk, from `at` within it on.
+    #[inline(always)]
     pub fn sys_write(&mut self, name: Name, at: u32, bytes: &[u8])
         requires there { IsSome (held self.old.bytes name.0) }
         requires within { at + length bytes.now ≤ length (bytes_under self.old.bytes name.0) }

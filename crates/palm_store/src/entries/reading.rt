@@ -24,6 +24,7 @@ pub(crate) fn count_entries(heap: &Heap, db: Db) -> u32
 }
 
 /// The entry at an index, as the database has it.
+#[inline(always)]
 pub(crate) fn read_entry(heap: &Heap, db: Db, index: u32) -> DbEntry
     requires accepted { Accepted heap.now.bytes }
     requires number { HasNumber heap.now.bytes db.0 }

@@ -15,6 +15,7 @@ use mem_manager::{Heap, MANAGERS_OWNER};
 /// there are: each chunk of the manager's is a header or the directory.
 ///
 /// Refused: `NoSuchDatabase`.
+#[inline(always)]
 pub(crate) fn find_header(heap: &Heap, db: Db) -> Result<&[u8], Refusal>
     requires { Accepted heap.now.bytes }
     ensures known { OnOk result (HasNumber heap.now.bytes db.0) }
@@ -34,6 +35,7 @@ pub(crate) fn find_header(heap: &Heap, db: Db) -> Result<&[u8], Refusal>
 }
 
 /// The bytes of a database, as they lie in the image: its header, and its entries behind that.
+#[inline(always)]
 pub(crate) fn header_of(heap: &Heap, db: Db) -> &[u8]
     requires accepted { Accepted heap.now.bytes }
     requires number { HasNumber heap.now.bytes db.0 }

@@ -31,6 +31,7 @@ impl Store {
     /// The lock count of a chunk, up to 14; that of a fixed chunk is 15.
     ///
     /// Refused: `InvalidHandle`.
+    #[inline(always)]
     pub fn locks(&self, name: Name) -> Result<u8, Refusal>
         ensures { DoesMemory self.now (MemoryCall.Locks name) (number_or_refused result) self.now }
     {
