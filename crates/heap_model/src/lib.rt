@@ -51,7 +51,6 @@
 //! project's own (docs/FORMAT.md).
 #![tactic(auto)]
 
-mod allowance;
 mod bytes;
 mod call;
 mod counted;
@@ -62,7 +61,6 @@ mod names;
 mod refusal;
 mod tally;
 
-pub use allowance::Allowance;
 pub use bytes::Bytes;
 pub use call::{Call, DatabaseCall, FileCall, MemoryCall, RecordCall, Reply, ResourceCall};
 pub use counted::Counted;

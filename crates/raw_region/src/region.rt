@@ -1,6 +1,6 @@
 //! The type of a region, whose methods call the functions of `words` on its bytes.
 
-ghost use Rattle.std.specs.Prelude.{◌≡◌, ◌+◌, ◌<◌, ◌^◌, length, slice_range, replicate, IfOk};
+ghost use Rattle.std.specs.Prelude.{◌≡◌, ◌+◌, ◌<◌, ◌^◌, length, slice_range, replicate, IfOk, OnErr};
 ghost use Rattle.heap_model.specs.Memory.{IsWithin};
 ghost use Rattle.heap_model.specs.Bytes.{AreBytes, u16_at, u32_at, u16_bytes, u32_bytes, overwritten};
 ghost use Rattle.raw_region.specs.ByteChanges.{changed_every};
@@ -9,6 +9,7 @@ use crate::byte_change::ByteChange;
 use crate::room::{Lease, Room};
 use crate::run::Run;
 use crate::words;
+use allowance::Allowance;
 use heap_model::Tally;
 use std::alloc::{AllocError, Global};
 use std::marker::Model;
@@ -48,33 +49,52 @@ impl Region {
         ensures bytes { IfOk result (λ region. region.bytes ≡ replicate size 0) }
         ensures len { IfOk result (λ region. length region.bytes ≡ size) }
     {
-        Region::of_zeros(alloc, size as usize)
+        Region::zeroed_from(&alloc, size)
+    }
+
+    /// `zeroed`, where the growth asks for a grant.
+    pub fn zeroed_from<A: Allowance>(memory: &A, size: u32) -> Result<Region, AllocError>
+        ensures bytes { IfOk result (λ region. region.bytes ≡ replicate size 0) }
+        ensures len { IfOk result (λ region. length region.bytes ≡ size) }
+        ensures short { OnErr result (A.is_short memory.now) }
+    {
+        Region::of_zeros(memory, size as usize)
     }
 
     /// A region that is a copy of `bytes`. The only error is that memory was refused.
     pub fn from_bytes(alloc: Global, bytes: &[u8]) -> Result<Region, AllocError>
         ensures { IfOk result (λ region. region.bytes ≡ bytes.now) }
     {
-        let mut region = Region::of_zeros(alloc, bytes.len())?;
+        Region::copied_from(&alloc, bytes)
+    }
+
+    /// `from_bytes`, where the growth asks for a grant.
+    pub fn copied_from<A: Allowance>(memory: &A, bytes: &[u8]) -> Result<Region, AllocError>
+        ensures bytes { IfOk result (λ region. region.bytes ≡ bytes.now) }
+        ensures short { OnErr result (A.is_short memory.now) }
+    {
+        let mut region = Region::of_zeros(memory, bytes.len())?;
         region.run.as_mut_slice().copy_from_slice(bytes);
         Ok(region)
     }
 
     /// A region of so many zeros, in a block of its own if there are any.
-    fn of_zeros(alloc: Global, size: usize) -> Result<Region, AllocError>
+    fn of_zeros<A: Allowance>(memory: &A, size: usize) -> Result<Region, AllocError>
         requires { size < 2 ^ 63 }
-        ensures { IfOk result (λ region. region.bytes ≡ replicate size 0) }
+        ensures bytes { IfOk result (λ region. region.bytes ≡ replicate size 0) }
+        ensures short { OnErr result (A.is_short memory.now) }
     {
         if size == 0 {
             return Ok(Region {
                 run: Run::empty(),
-                alloc,
+                alloc: memory.allocator(),
                 lease: None,
                 slid: Tally::new(),
             });
         }
+        let alloc = memory.grant()?;
         let Some((room, lease)) = Room::new(&alloc, size) else {
-            return Err(AllocError);
+            return memory.outcome(Err(AllocError));
         };
         Ok(Region {
             run: room.zeroed(),
@@ -151,6 +171,7 @@ impl Region {
     }
 
     /// Copies `bytes` into the region, the first of them to `at`.
+    #[inline(always)]
     pub fn write(&mut self, at: usize, bytes: &[u8])
         requires { IsWithin self.old at (length bytes.now) }
         ensures after { self.new

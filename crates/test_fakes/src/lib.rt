@@ -3,7 +3,9 @@
 //! Nothing but tests uses this crate.
 #![tactic(auto)]
 
-use heap_model::Allowance;
+ghost use Rattle.std.specs.Prelude.{⊤};
+
+use allowance::Allowance;
 use std::alloc::{AllocError, Global};
 use std::cell::Cell;
 use std::io;
@@ -163,6 +165,8 @@ impl Drop for RefusesOne {
 }
 
 impl Allowance for RefusesOne {
+    ghost is_short = { λ _. ⊤ };
+
     fn allocator(&self) -> Global {
         self.alloc
     }
@@ -175,5 +179,9 @@ impl Allowance for RefusesOne {
             return Err(AllocError);
         }
         Ok(self.alloc)
+    }
+
+    fn outcome<T>(&self, growth: Result<T, AllocError>) -> Result<T, AllocError> {
+        growth
     }
 }
