@@ -6,9 +6,9 @@ ghost use Rattle.chunk_format.specs.Blank.{IsRegionSize, LeavesRoom, IsPlanned, 
 
 use crate::frame::{is_image_size, start_behind, write_frame};
 use crate::header::{HEADER_SIZE, Header};
-use heap_model::Allowance;
+use allowance::Allowance;
 use raw_region::Region;
-use std::alloc::{AllocError, Global};
+use std::alloc::Global;
 use thiserror::Error;
 
 /// Why there is no blank image, in the order in which the reasons are looked for.
@@ -38,7 +38,7 @@ pub fn blank(alloc: Global, size: u32, slots: u16) -> Result<Region, BlankFault>
     blank_from(&alloc, size, slots)
 }
 
-/// `blank`, where the growth asks for a grant.
+/// `blank`, where the growth asks for a grant. Only a refused growth is answered by `OutOfMemory`.
 pub fn blank_from<A: Allowance>(memory: &A, size: u32, slots: u16) -> Result<Region, BlankFault>
     ensures blank { IfOk result (λ region. IsBlank size slots region.bytes) }
     ensures accepted { IfOk result (λ region. Accepted region.bytes) }
@@ -46,6 +46,7 @@ pub fn blank_from<A: Allowance>(memory: &A, size: u32, slots: u16) -> Result<Reg
     ensures size { (result ≡ Err BlankFault.BadSize) ↔ (IsRegionSize size → ⊥) }
     ensures slots { (result ≡ Err BlankFault.BadSlotCount)
         ↔ (IsRegionSize size × (LeavesRoom size slots → ⊥)) }
+    ensures no_memory { result ≡ Err BlankFault.OutOfMemory → A.is_short memory.now }
 {
     if !is_image_size(size as usize) {
         return Err(BlankFault::BadSize);
@@ -54,18 +55,11 @@ pub fn blank_from<A: Allowance>(memory: &A, size: u32, slots: u16) -> Result<Reg
     if slots == 0 || size < start + HEADER_SIZE {
         return Err(BlankFault::BadSlotCount);
     }
-    let Ok(mut region) = zeros(memory, size) else {
+    let Ok(mut region) = Region::zeroed_from(memory, size) else {
         return Err(BlankFault::OutOfMemory);
     };
     write_blank(&mut region, size, slots, start);
     Ok(region)
-}
-
-/// A region of `size` zeros.
-fn zeros<A: Allowance>(memory: &A, size: u32) -> Result<Region, AllocError>
-    ensures bytes { IfOk result (λ region. region.bytes ≡ replicate size 0) }
-{
-    Region::zeroed(memory.grant()?, size)
 }
 
 /// Writes a head and one free chunk into zeros.
