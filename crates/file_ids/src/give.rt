@@ -1,6 +1,6 @@
 //! The IDs that the records of a file are given.
 
-ghost use Rattle.std.specs.Prelude.{◌≡◌, ◌<◌, ◌≤◌, ◌*◌, ℕ, false, length, IfOk, All};
+ghost use Rattle.std.specs.Prelude.{◌≡◌, ◌<◌, ◌≤◌, ◌*◌, ℕ, false, length, IfOk, OnErr, All};
 ghost use Rattle.heap_model.specs.Lists.{Distinct};
 ghost use Rattle.heap_model.specs.Database.{resources_in, entry_count_in, header_in, database_in};
 ghost use Rattle.heap_model.specs.Store.{unique_ids};
@@ -11,8 +11,8 @@ ghost use Rattle.bit_sets.specs.Sets.{HasNone};
 
 use crate::fresh::give_fresh;
 use crate::kept::keep_ids;
+use allowance::{Allowance, zeros};
 use db_format::{GREATEST_ID, entry_count, has_resources};
-use heap_model::Allowance;
 use std::alloc::{AllocError, Global};
 
 /// The IDs of the records of a file, in their order, and the seed that they leave, without the upper 8 bits of
@@ -47,6 +47,7 @@ pub fn give_ids_from<A: Allowance>(memory: &A, file: &[u8]) -> Result<GivenIds, 
         All (λ id. (0 < id) × (id ≤ greatest_id)) given.ids.items) }
     ensures distinct { IfOk result (λ given. Distinct given.ids.items) }
     ensures seed { IfOk result (λ given. given.seed ≤ greatest_id) }
+    ensures short { OnErr result (A.is_short memory.now) }
 {
     if has_resources(file) {
         return Ok(GivenIds {
@@ -92,16 +93,16 @@ fn put_ids(file: &[u8], taken: &mut [u8], ids: &mut [u32]) -> u32
 fn set_for<A: Allowance>(memory: &A, size: usize) -> Result<Vec<u8>, AllocError>
     ensures len { IfOk result (λ set. length set.items ≡ size) }
     ensures empty { IfOk result (λ set. HasNone set.items) }
+    ensures short { OnErr result (A.is_short memory.now) }
 {
-    let set = vec![in memory.grant()?; 0u8; size]?;
-    Ok(set)
+    zeros(memory, size)
 }
 
 /// So many zeros, for as many IDs.
 fn zeros_for<A: Allowance>(memory: &A, count: u16) -> Result<Vec<u32>, AllocError>
     ensures len { IfOk result (λ ids. length ids.items ≡ count) }
     ensures zeros { IfOk result (λ ids. All (λ id. id ≡ 0) ids.items) }
+    ensures short { OnErr result (A.is_short memory.now) }
 {
-    let ids = vec![in memory.grant()?; 0u32; count as usize]?;
-    Ok(ids)
+    memory.outcome(vec![in memory.grant()?; 0u32; count as usize])
 }

@@ -15,16 +15,20 @@ use Rattle.heap_model.specs.Files.{entries_end, HasFault, file_faults, HasNoFaul
 use Rattle.heap_model.specs.FileSteps.{whole_parts, whole_slots, fault_checks, block_sizes, no_memory}
 use Rattle.heap_model.specs.StoreSteps.{DoesInStore, row_of}
 use Rattle.heap_model.specs.declared.names.Db.{Db}
+use Rattle.heap_model.specs.declared.database.DbInfo.{DbInfo}
 use Rattle.heap_model.specs.declared.file_fault.FileFault.{FileFault}
 use Rattle.heap_model.specs.declared.call.DatabaseCall.TheVariants.{Find, Count}
 use Rattle.heap_model.specs.declared.call.FileCall.TheVariants.{Import}
 use Rattle.heap_model.specs.declared.call.Call.TheVariants as calls
 use Rattle.heap_model.specs.declared.call.Reply.TheVariants as replies
 use Rattle.heap_model.specs.declared.refusal.Refusal.{Refusal}
-use Rattle.heap_model.specs.declared.refusal.Refusal.TheVariants.{BadFile, TooManyEntries}
+use Rattle.heap_model.specs.declared.refusal.Refusal.TheVariants.{BadFile, TooManyEntries, OutOfMemory}
 use Rattle.laws_store.proofs.Numbered.{number_some}
 use Rattle.laws_store.proofs.Listing.{map-All}
 use Rattle.laws_store.proofs.Found.{found_stands}
+use Rattle.palm_store.specs.declared.databases.whole.WholeEntry.{WholeEntry}
+use Rattle.palm_store.specs.declared.databases.whole.BlockSizes.{BlockSizes}
+use Rattle.palm_store.specs.WholeDatabases.{checks_of_whole}
 use Rattle.pdb_files.specs.Imports.{checks_in_front}
 
 -- ---- faults
@@ -80,6 +84,14 @@ front_brings old file refusal brought = then_brings file (file_faults file) (fro
   onto (inl taken) = inl taken
   onto (inr (free, inl many)) = inr (free, inl many)
   onto (inr (free, inr (few, none))) = absurd none
+
+-- ---- none of what refuses a database that is made whole is want of memory
+
+pub whole_not_memory : (image : List ℕ) (info : DbInfo) (blocks : BlockSizes) (entries : List WholeEntry) (refusal : Refusal) → FirstBrings (checks_of_whole image info blocks entries) refusal → refusal ≢ OutOfMemory
+whole_not_memory image info blocks entries refusal (inl taken) e = (let is = taken.1 in absurd cc)
+whole_not_memory image info blocks entries refusal (inr (free, inl many)) e = (let is = many.1 in absurd cc)
+whole_not_memory image info blocks entries refusal (inr (free, inr (few, inl full))) e = (let is = full.1 in absurd cc)
+whole_not_memory image info blocks entries refusal (inr (free, inr (few, inr (roomy, none)))) e = absurd none
 
 -- ---- names that are taken
 

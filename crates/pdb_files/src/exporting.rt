@@ -1,6 +1,6 @@
 //! Writing the file of a database.
 
-ghost use Rattle.std.specs.Prelude.{◌≡◌, ◌↔◌, ℕ, None, Err, is_ok, length, IfOk};
+ghost use Rattle.std.specs.Prelude.{◌≡◌, ◌↔◌, ℕ, None, Err, is_ok, length, IfOk, OnErr};
 ghost use Rattle.heap_model.specs.Counted.{Writes};
 ghost use Rattle.heap_model.specs.Database.{Database};
 ghost use Rattle.heap_model.specs.Store.{store_of, content};
@@ -19,7 +19,8 @@ mod places;
 
 use crate::exporting::parts::put_file;
 use crate::exporting::places::file_size;
-use heap_model::{Allowance, Bytes, Counted, Db, Refusal};
+use allowance::{Allowance, room_for};
+use heap_model::{Bytes, Counted, Db, Refusal};
 use palm_store::Store;
 use std::alloc::AllocError;
 use std::io::Write;
@@ -59,12 +60,14 @@ pub fn export<W: Write>(store: &Store, db: Db, out: &mut Counted<W>) -> Result<u
     }
 }
 
-/// The file of a database as bytes, for which memory is taken once.
+/// The file of a database as bytes, for which memory is taken once. Only a refused growth is answered by
+/// `OutOfMemory`.
 ///
 /// Refused: `NoSuchDatabase`, `OutOfMemory`.
 pub fn exported<A: Allowance>(memory: &A, store: &Store, db: Db) -> Result<Bytes, Refusal>
-    ensures { DoesInStore store.now (calls.Call.File (FileCall.Export db))
+    ensures does { DoesInStore store.now (calls.Call.File (FileCall.Export db))
         (reply_of (λ bytes. Reply.Data bytes) result) store.now }
+    ensures no_memory { result ≡ Err Refusal.OutOfMemory → A.is_short memory.now }
 {
     let Some(bytes) = store.database_bytes(db) else {
         return Err(Refusal::NoSuchDatabase);
@@ -75,15 +78,15 @@ pub fn exported<A: Allowance>(memory: &A, store: &Store, db: Db) -> Result<Bytes
     }
 }
 
-/// The file of a database, given by its bytes.
+/// The file of a database, given by its bytes. A write into memory fails only where a growth is refused.
 fn file_bytes<A: Allowance>(memory: &A, store: &Store, bytes: &[u8]) -> Result<Bytes, AllocError>
     requires { IsExportable store.now.bytes bytes.now }
-    ensures { IfOk result (λ file. file ≡ file_of (content_of store.now.bytes bytes.now)) }
+    ensures file { IfOk result (λ file. file ≡ file_of (content_of store.now.bytes bytes.now)) }
+    ensures short { OnErr result (A.is_short memory.now) }
 {
-    let size = file_size(store, bytes) as usize;
-    let mut out = Counted::new(Vec::with_capacity(memory.grant()?, size)?);
+    let mut out = Counted::new(room_for(memory, file_size(store, bytes) as usize)?);
     match put_file(store, bytes, &mut out) {
         Ok(()) => Ok(Bytes::of(out.into_inner())),
-        Err(_) => Err(AllocError),
+        Err(_) => memory.outcome(Err(AllocError)),
     }
 }

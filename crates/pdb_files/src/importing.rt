@@ -1,6 +1,6 @@
 //! The call that reads a database from a file.
 
-ghost use Rattle.std.specs.Prelude.{◌≡◌, ◌<◌, ◌+◌, length, IfOk, OnOk, IfErr};
+ghost use Rattle.std.specs.Prelude.{◌≡◌, ◌<◌, ◌+◌, ◌≢◌, length, Err, IfOk, OnOk, IfErr, OnErr};
 ghost use Rattle.heap_model.specs.Store.{Accepted, most_databases, store_of};
 ghost use Rattle.heap_model.specs.Refusals.{FirstBrings};
 ghost use Rattle.heap_model.specs.MemorySteps.{reply_of};
@@ -17,9 +17,10 @@ ghost use Rattle.pdb_files.specs.Imports.{checks_in_front};
 mod filling;
 mod plan;
 
+use allowance::Allowance;
 use db_format::{MOST_DATABASES, name_in};
 use filling::fill_blocks;
-use heap_model::{Allowance, Db, DbName, Name, Refusal};
+use heap_model::{Db, DbName, Name, Refusal};
 use palm_store::Store;
 use pdb_format::{Block, check_file, find_blocks_from};
 use plan::{Plan, are_short, read_plan};
@@ -39,10 +40,11 @@ pub fn import(alloc: Global, store: &mut Store, file: &[u8]) -> Result<Db, Refus
     import_from(&alloc, store, file)
 }
 
-/// `import`, where each growth asks for a grant.
+/// `import`, where each growth asks for a grant. Only a refused growth is answered by `OutOfMemory`.
 pub fn import_from<A: Allowance>(memory: &A, store: &mut Store, file: &[u8]) -> Result<Db, Refusal>
-    ensures { DoesInStore store.old (calls.Call.File (FileCall.Import file.now))
+    ensures does { DoesInStore store.old (calls.Call.File (FileCall.Import file.now))
         (reply_of (λ db. Reply.Database db) result) store.new }
+    ensures no_memory { result ≡ Err Refusal.OutOfMemory → A.is_short memory.now }
 {
     check_import(store, file)?;
     let Ok(blocks) = find_blocks_from(memory, file) else {
@@ -70,6 +72,7 @@ fn check_import(store: &Store, file: &[u8]) -> Result<(), Refusal>
         (IsTaken (store_of store.now.bytes) 0 (databases.name_in file.now) → ⊥) }
     ensures few { OnOk result (length (store_of store.now.bytes).databases < most_databases) }
     ensures why { IfErr result (FirstBrings (checks_in_front store.now.bytes file.now)) }
+    ensures takes_no_memory { IfErr result (λ refusal. refusal ≢ Refusal.OutOfMemory) }
 {
     let count = store.count();
     if let Err(fault) = check_file(file) {
@@ -94,8 +97,9 @@ fn make(store: &mut Store, file: &[u8], plan: &Plan, names: &mut [Name]) -> Resu
     requires few { length (store_of store.old.bytes).databases < most_databases }
     requires plan { IsPlan file.now plan.now }
     requires names { length names.old ≡ 2 + length plan.now.entries.items }
-    ensures { DoesInStore store.old (calls.Call.File (FileCall.Import file.now))
+    ensures does { DoesInStore store.old (calls.Call.File (FileCall.Import file.now))
         (reply_of (λ db. Reply.Database db) result) store.new }
+    ensures takes_no_memory { IfErr result (λ refusal. refusal ≢ Refusal.OutOfMemory) }
 {
     let db = store.create_whole(&plan.info, plan.sizes, &plan.entries, names)?;
     fill_blocks(store, file, &plan.blocks, names);
@@ -104,7 +108,8 @@ fn make(store: &mut Store, file: &[u8], plan: &Plan, names: &mut [Name]) -> Resu
 
 /// A name for each block, which names nothing yet.
 fn no_names<A: Allowance>(memory: &A, blocks: &[Option<Block>]) -> Result<Vec<Name>, AllocError>
-    ensures { IfOk result (λ names. length names.items ≡ length blocks.now) }
+    ensures len { IfOk result (λ names. length names.items ≡ length blocks.now) }
+    ensures short { OnErr result (A.is_short memory.now) }
 {
-    vec![in memory.grant()?; Name(0); blocks.len()]
+    memory.outcome(vec![in memory.grant()?; Name(0); blocks.len()])
 }

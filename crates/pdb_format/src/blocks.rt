@@ -1,13 +1,13 @@
 //! The blocks of a file.
 
-ghost use Rattle.std.specs.Prelude.{◌≡◌, ◌<◌, ◌≤◌, ◌+◌, length, map, None, IfOk, All};
+ghost use Rattle.std.specs.Prelude.{◌≡◌, ◌<◌, ◌≤◌, ◌+◌, length, map, None, IfOk, OnErr, All};
 ghost use Rattle.std.specs.List.Sorted.{IsPermutation, IsNonDecreasingBy};
 ghost use Rattle.heap_model.specs.Files.{offsets_in, blocks_in, HasNoFault};
 ghost use Rattle.pdb_format.specs.Starts.{starts_in, order, begins};
 ghost use Rattle.pdb_format.specs.Blocks.{bytes_at, IsWithin};
 
 use crate::starts::{Start, rank_count, sorted_starts};
-use heap_model::Allowance;
+use allowance::Allowance;
 use std::alloc::{AllocError, Global};
 
 /// Where a block of a file stands: from its offset up to where the next one begins, in bytes from the file's start.
@@ -68,9 +68,10 @@ pub fn find_blocks_from<A: Allowance>(
     requires { HasNoFault file.now }
     ensures are { IfOk result (λ blocks. map (bytes_at file.now) blocks.items ≡ blocks_in file.now) }
     ensures inside { IfOk result (λ blocks. All (IsWithin (length file.now)) blocks.items) }
+    ensures short { OnErr result (A.is_short memory.now) }
 {
     let starts = sorted_starts(memory, file)?;
-    let mut blocks = vec![in memory.grant()?; None; rank_count(file) as usize]?;
+    let mut blocks = memory.outcome(vec![in memory.grant()?; None; rank_count(file) as usize])?;
     put_blocks(file, &starts, &mut blocks);
     Ok(blocks)
 }

@@ -1,12 +1,12 @@
 //! Where the blocks of a file begin, in the order in which they stand.
 
-ghost use Rattle.std.specs.Prelude.{◌≡◌, ◌<◌, ◌≤◌, ◌+◌, length, slice_index, IfOk};
+ghost use Rattle.std.specs.Prelude.{◌≡◌, ◌<◌, ◌≤◌, ◌+◌, length, slice_index, IfOk, OnErr};
 ghost use Rattle.std.specs.List.Sorted.{IsPermutation, IsNonDecreasingBy};
 ghost use Rattle.heap_model.specs.Files.{offsets_in, HasNoFault};
 ghost use Rattle.pdb_format.specs.Starts.{starts_in, order};
 
+use allowance::{Allowance, push};
 use db_format::{app_info, entry_count, entry_slot, has_resources, sort_info};
-use heap_model::Allowance;
 use std::alloc::AllocError;
 
 /// Where a block begins in a file, and its rank: 0 for the AppInfo block, 1 for the SortInfo block, and 2 more than its
@@ -52,14 +52,14 @@ fn offset_of(file: &[u8], rank: u32) -> u32
 /// Where the blocks of a file begin that are there, by their rank.
 fn starts_of<A: Allowance>(memory: &A, file: &[u8]) -> Result<Vec<Start>, AllocError>
     requires { HasNoFault file.now }
-    ensures { IfOk result (λ starts. starts.items ≡ starts_in (offsets_in file.now)) }
+    ensures starts { IfOk result (λ starts. starts.items ≡ starts_in (offsets_in file.now)) }
+    ensures short { OnErr result (A.is_short memory.now) }
 {
     let mut starts = Vec::new(memory.allocator());
     for rank in 0..rank_count(file) {
         let at = offset_of(file, rank);
         if at != 0 {
-            memory.grant()?;
-            starts.push(Start { at, rank })?;
+            push(memory, &mut starts, Start { at, rank })?;
         }
     }
     Ok(starts)
@@ -71,6 +71,7 @@ pub(crate) fn sorted_starts<A: Allowance>(memory: &A, file: &[u8]) -> Result<Vec
     ensures all { IfOk result (λ starts.
         IsPermutation (starts_in (offsets_in file.now)) starts.items) }
     ensures rising { IfOk result (λ starts. IsNonDecreasingBy order starts.items) }
+    ensures short { OnErr result (A.is_short memory.now) }
 {
     let mut starts = starts_of(memory, file)?;
     starts.sort_unstable_by_key(|start| start.order());

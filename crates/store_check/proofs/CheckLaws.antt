@@ -7,6 +7,7 @@ use Rattle.laws_store.proofs.Listing.{no_least, no_least_pair}
 use Rattle.heap_check.specs.Faults.{FirstBrought}
 use Rattle.heap_check.proofs.CheckLaws as laws_heap
 use Rattle.store_check.specs.declared.fault.StoreFault.{StoreFault}
+use Rattle.store_check.specs.declared.fault.StoreFault.TheVariants.{OutOfMemory}
 use Rattle.store_check.specs.Listing.{listed_count, IsListing}
 use Rattle.store_check.specs.Faults.{IsBadSlot, IsBadHeader, IsBadEntry, slot_faults, header_faults, entry_faults, store_faults, NoneBrought}
 use Rattle.store_check.specs.Naming.{AreNamed}
@@ -30,6 +31,38 @@ none_both (row ∷ xs) ys n m = (n.0, none_both xs ys n.1 m)
 first_none : (rows : List (StoreFault → Type 0)) (fault : StoreFault) → FirstBrought rows fault → NoneBrought rows → ⊥
 first_none [] fault f n = f
 first_none (row ∷ rows) fault f n = elim f [ inl here ↦ n.0 fault here | inr later ↦ first_none rows fault later.1 n.1 ]
+
+-- ---- no row brings want of memory
+
+pub marked_not_memory : (image : List ℕ) → FirstBrought (marked_faults image) OutOfMemory → ⊥
+marked_not_memory image f = elim f [
+  | inl row ↦ (let e = row.2 in absurd cc)
+  | inr rest ↦ elim rest.1 [
+    | inl row ↦ (let e = row.2 in absurd cc)
+    | inr rest ↦ elim rest.1 [
+      | inl row ↦ (let e = row.3 in absurd cc)
+      | inr rest ↦ elim rest.1 [
+        | inl row ↦ (let e = row.2 in absurd cc)
+        | inr rest ↦ elim rest.1 [
+          | inl row ↦ (let e = row.2 in absurd cc)
+          | inr rest ↦ rest.1
+        ]
+      ]
+    ]
+  ]
+]
+
+pub own_not_memory : (image : List ℕ) → FirstBrought (own_faults image) OutOfMemory → ⊥
+own_not_memory image f = elim f [
+  | inl row ↦ (let e = row.3 in absurd cc)
+  | inr rest ↦ elim rest.1 [
+    | inl row ↦ (let e = row.2 in absurd cc)
+    | inr rest ↦ elim rest.1 [
+      | inl row ↦ (let e = row.2 in absurd cc)
+      | inr rest ↦ rest.1
+    ]
+  ]
+]
 
 -- ---- what is known where the first three passes found nothing
 

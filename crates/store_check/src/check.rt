@@ -1,6 +1,6 @@
 //! The check of a whole image.
 
-ghost use Rattle.std.specs.Prelude.{◌≡◌, ◌≤◌, ◌*◌, ◌⊎◌, [], ◌∷◌, List, length, IfOk, IfErr, OnOk};
+ghost use Rattle.std.specs.Prelude.{◌≡◌, ◌≤◌, ◌*◌, ◌⊎◌, [], ◌∷◌, List, length, Err, IfOk, IfErr, OnOk};
 ghost use Rattle.heap_model.specs.Slots.{slots_total};
 ghost use Rattle.heap_model.specs.Bytes.{AreBytes};
 ghost use Rattle.heap_model.specs.Heap.{HeapAccepted, directory_of};
@@ -8,7 +8,7 @@ ghost use Rattle.heap_model.specs.Store.{directory_bytes, listed, Accepted};
 ghost use Rattle.heap_check.specs.Faults.{FirstBrought};
 ghost use Rattle.store_check.specs.Listing.{IsListing, HaveHeaders};
 ghost use Rattle.store_check.specs.Faults.{store_faults, NoneBrought};
-ghost use Rattle.store_check.specs.Naming.{AreNamed, managers_slots, accounted, AreMarks, HasNoMarks};
+ghost use Rattle.store_check.specs.Naming.{AreNamed, managers_slots, accounted, AreMarks};
 ghost use Rattle.bit_sets.specs.Sets.{HasNone};
 ghost use Rattle.store_check.specs.Ids.{HasRoomForAll};
 ghost use Rattle.store_check.specs.Names.{name_numbers};
@@ -26,11 +26,11 @@ use crate::slots::find_bad_slot;
 use crate::summary::StoreSummary;
 use crate::uses::mark_databases;
 use crate::words::listed_count;
+use allowance::Allowance;
 use chunk_format::slot_count;
 use heap_check::check_heap;
-use heap_model::Allowance;
 use raw_region::Region;
-use std::alloc::{AllocError, Global};
+use std::alloc::Global;
 
 /// Whether the bytes of a region are an accepted heap with databases: its counts, or else its first
 /// fault. It takes memory for a mark for each slot, and then a bit for each number up to the greatest ID,
@@ -45,7 +45,7 @@ pub fn check_store(alloc: Global, region: &Region) -> Result<StoreSummary, Store
     check_store_from(&alloc, region)
 }
 
-/// `check_store`, where each growth asks for a grant.
+/// `check_store`, where each growth asks for a grant. Only a refused growth is answered by `OutOfMemory`.
 pub fn check_store_from<A: Allowance>(
     memory: &A,
     region: &Region,
@@ -54,6 +54,7 @@ pub fn check_store_from<A: Allowance>(
     ensures summary { IfOk result (Summarizes region.now.bytes) }
     ensures fault { IfErr result (IsAnswered region.now.bytes) }
     ensures refused { IfErr result (IsRefusal region.now.bytes) }
+    ensures no_memory { result ≡ Err StoreFault.OutOfMemory → A.is_short memory.now }
 {
     let heap = match check_heap(region) {
         Ok(heap) => heap,
@@ -70,6 +71,7 @@ fn check_databases<A: Allowance>(memory: &A, region: &Region) -> Result<u32, Sto
     ensures count { IfOk result (λ count. count ≡ length (listed region.now.bytes)) }
     ensures fault { IfErr result (IsFirstOr (store_faults region.now.bytes)) }
     ensures refused { IfErr result (IsRefusal region.now.bytes) }
+    ensures no_memory { result ≡ Err StoreFault.OutOfMemory → A.is_short memory.now }
 {
     know_bytes(region);
     let directory = directory_in(region);
@@ -94,22 +96,15 @@ fn check_marks<A: Allowance>(
     requires accepted { HeapAccepted region.now.bytes }
     requires directory { directory.now ≡ directory_bytes region.now.bytes }
     ensures fault { IfErr result (IsFirstOr (marked_faults region.now.bytes)) }
+    ensures no_memory { result ≡ Err StoreFault.OutOfMemory → A.is_short memory.now }
     ensures none { OnOk result (NoneBrought (marked_faults region.now.bytes)) }
     ensures listing { OnOk result (IsListing region.now.bytes directory.now) }
     ensures headers { OnOk result (HaveHeaders region.now.bytes) }
 {
-    let Ok(mut marks) = marks_for(memory, slot_count(region)) else {
+    let Ok(mut marks) = no_marks(memory, slot_count(region)) else {
         return Err(StoreFault::OutOfMemory);
     };
     check_with_marks(region, directory, &mut marks)
-}
-
-/// A mark for each of so many slots, and none is set.
-fn marks_for<A: Allowance>(memory: &A, slots: u16) -> Result<Vec<u8>, AllocError>
-    ensures len { IfOk result (λ marks. length marks.items ≡ slots) }
-    ensures clear { IfOk result (λ marks. HasNoMarks marks.items) }
-{
-    no_marks(memory.grant()?, slots)
 }
 
 /// Looks for the faults that are found by these marks for slots, none of which is set yet.
@@ -194,20 +189,13 @@ fn check_ids_and_names<A: Allowance>(
     requires listing { IsListing region.now.bytes directory.now }
     requires headers { HaveHeaders region.now.bytes }
     ensures fault { IfErr result (IsFirstOr (own_faults region.now.bytes)) }
+    ensures no_memory { result ≡ Err StoreFault.OutOfMemory → A.is_short memory.now }
     ensures none { OnOk result (NoneBrought (own_faults region.now.bytes)) }
 {
-    let Ok(mut seen) = set_for(memory, set_size(region, directory)) else {
+    let Ok(mut seen) = empty_set(memory, set_size(region, directory)) else {
         return Err(StoreFault::OutOfMemory);
     };
     check_with_set(region, directory, &mut seen)
-}
-
-/// A set of so many bytes with no number in it.
-fn set_for<A: Allowance>(memory: &A, size: usize) -> Result<Vec<u8>, AllocError>
-    ensures len { IfOk result (λ seen. length seen.items ≡ size) }
-    ensures empty { IfOk result (λ seen. HasNone seen.items) }
-{
-    empty_set(memory.grant()?, size)
 }
 
 /// Looks for the faults of IDs and names, with this set of numbers, which is empty.

@@ -1,6 +1,6 @@
 //! The unique IDs of records, each database for itself.
 
-ghost use Rattle.std.specs.Prelude.{◌≡◌, ◌≤◌, ◌<◌, ◌^◌, ℕ, Some, false, length, IfOk, IfSome, IfNone};
+ghost use Rattle.std.specs.Prelude.{◌≡◌, ◌≤◌, ◌<◌, ◌^◌, ℕ, Some, false, length, IfOk, IfSome, IfNone, OnErr};
 ghost use Rattle.heap_model.specs.Lists.{Least};
 ghost use Rattle.heap_model.specs.Database.{resources_in, entry_count_in};
 ghost use Rattle.heap_check.specs.Faults.{FirstBrought};
@@ -13,17 +13,18 @@ ghost use Rattle.store_check.specs.Ids.{HasIdsUpTo, HasRoomForIds, HasRoomForAll
 use crate::fault::StoreFault;
 use crate::lookup::header_of;
 use crate::words::listed_count;
+use allowance::{Allowance, zeros};
 use db_format::{entry_count, has_resources};
 use raw_region::Region;
-use std::alloc::{AllocError, Global};
+use std::alloc::AllocError;
 
-/// A set of so many bytes with no ID in it. The only error is that memory was refused.
-pub(crate) fn empty_set(alloc: Global, size: usize) -> Result<Vec<u8>, AllocError>
+/// A set of so many bytes with no number in it. The only error is a refused growth.
+pub(crate) fn empty_set<A: Allowance>(memory: &A, size: usize) -> Result<Vec<u8>, AllocError>
     ensures len { IfOk result (λ seen. length seen.items ≡ size) }
     ensures empty { IfOk result (λ seen. HasNone seen.items) }
+    ensures short { OnErr result (A.is_short memory.now) }
 {
-    let seen = vec![in alloc; 0u8; size]?;
-    Ok(seen)
+    zeros(memory, size)
 }
 
 /// The ID of a record.

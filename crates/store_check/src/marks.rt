@@ -1,23 +1,24 @@
 //! Marks for the slots of a table: how often each was met, two standing for more.
 
-ghost use Rattle.std.specs.Prelude.{◌≡◌, ◌≤◌, ◌<◌, ◌↔◌, ℕ, [], ◌∷◌, List, length, IsTrue, IfOk};
+ghost use Rattle.std.specs.Prelude.{◌≡◌, ◌≤◌, ◌<◌, ◌↔◌, ℕ, [], ◌∷◌, List, length, IsTrue, IfOk, OnErr};
 ghost use Rattle.heap_model.specs.Frame.{HasFrame};
 ghost use Rattle.heap_model.specs.Slots.{IsSlot, slots_total};
 ghost use Rattle.heap_model.specs.Lists.{times};
 ghost use Rattle.store_check.specs.Naming.{AreMarks, AddsMarks, HasNoMarks};
 
+use allowance::{Allowance, zeros};
 use heap_model::Name;
 use master_table::slots_before;
 use raw_region::Region;
-use std::alloc::{AllocError, Global};
+use std::alloc::AllocError;
 
-/// A mark for each of so many slots, and none is set. The only error is that memory was refused.
-pub(crate) fn no_marks(alloc: Global, slots: u16) -> Result<Vec<u8>, AllocError>
+/// A mark for each of so many slots, and none is set. The only error is a refused growth.
+pub(crate) fn no_marks<A: Allowance>(memory: &A, slots: u16) -> Result<Vec<u8>, AllocError>
     ensures len { IfOk result (λ marks. length marks.items ≡ slots) }
     ensures clear { IfOk result (λ marks. HasNoMarks marks.items) }
+    ensures short { OnErr result (A.is_short memory.now) }
 {
-    let marks = vec![in alloc; 0u8; slots as usize]?;
-    Ok(marks)
+    zeros(memory, slots as usize)
 }
 
 /// Marks a slot once more. What is no slot has no mark.

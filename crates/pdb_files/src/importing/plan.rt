@@ -1,6 +1,6 @@
 //! What a file says of the database that it is read as, before any of that is made.
 
-ghost use Rattle.std.specs.Prelude.{◌≡◌, ◌<◌, ◌≤◌, ◌+◌, ◌↔◌, None, IsTrue, length, map, IfOk, All, slice_index_or};
+ghost use Rattle.std.specs.Prelude.{◌≡◌, ◌<◌, ◌≤◌, ◌+◌, ◌↔◌, None, IsTrue, length, map, IfOk, OnErr, All, slice_index_or};
 ghost use Rattle.heap_model.specs.Database.{entry_count_in, IsDatabaseName};
 ghost use Rattle.heap_model.specs.EntrySteps.{most_entries};
 ghost use Rattle.heap_model.specs.UniqueIds.{greatest_id};
@@ -10,10 +10,11 @@ ghost use Rattle.pdb_format.specs.Blocks.{bytes_at, IsWithin};
 ghost use Rattle.palm_store.specs.WholeDatabases.{header_asked};
 ghost use Rattle.pdb_files.specs.Plans.{IsShort, HasIdsFor, size_within, IsPlannedOf, ArePlannedOf, IsPlan, header_read};
 
+use allowance::{Allowance, push};
 use bitflags::Flags;
 use db_format::{DbEntry, DbHeader, GREATEST_ID, RecordAttrs, entry_count};
 use file_ids::give_ids_from;
-use heap_model::{Allowance, DbInfo, DbName};
+use heap_model::{DbInfo, DbName};
 use palm_store::{BlockSizes, WholeEntry};
 use pdb_format::Block;
 use std::alloc::AllocError;
@@ -31,7 +32,7 @@ pub(super) struct Plan {
     pub(super) blocks: Vec<Option<Block>>,
 }
 
-/// Reads off a file what its database is to be. Memory for it can be refused.
+/// Reads off a file what its database is to be. The only error is a refused growth.
 pub(super) fn read_plan<A: Allowance>(
     memory: &A,
     file: &[u8],
@@ -41,7 +42,8 @@ pub(super) fn read_plan<A: Allowance>(
     requires blocks { map (bytes_at file.now) blocks.items ≡ blocks_in file.now }
     requires within { All (IsWithin (length file.now)) blocks.items }
     requires short { All IsShort blocks.items }
-    ensures { IfOk result (IsPlan file.now) }
+    ensures plan { IfOk result (IsPlan file.now) }
+    ensures short { OnErr result (A.is_short memory.now) }
 {
     let given = give_ids_from(memory, file)?;
     let entries = plan_entries(memory, file, &blocks, &given.ids)?;
@@ -169,14 +171,14 @@ fn plan_entries<A: Allowance>(
     requires within { All (IsWithin (length file.now)) blocks.now }
     requires short { All IsShort blocks.now }
     requires ids { HasIdsFor file.now ids.now }
-    ensures { IfOk result (λ entries.
+    ensures planned { IfOk result (λ entries.
         ArePlannedOf file.now ids.now entries.items (entry_count_in file.now)) }
+    ensures short { OnErr result (A.is_short memory.now) }
 {
     let mut entries = Vec::new(memory.allocator());
     for index in 0..entry_count(file) {
         let size = size_of(blocks[2 + index as usize]);
-        memory.grant()?;
-        entries.push(plan_entry(file, index, ids, size))?;
+        push(memory, &mut entries, plan_entry(file, index, ids, size))?;
     }
     Ok(entries)
 }
