@@ -1,6 +1,8 @@
 -- Calls by names, given by these names.
-use Rattle.std.proofs.Common.{◌≡◌, refl, ap}
-use Rattle.heap_model.specs.MemorySteps.{MemoryCall, memory_call}
+use Rattle.std.proofs.Common.{◌≡◌, ◌≢◌, refl, ap, false}
+use Rattle.std.specs.Prelude.{Result, Ok, Err}
+use Rattle.heap_model.specs.Memory.{Memory as Region}
+use Rattle.heap_model.specs.MemorySteps.{MemoryCall, memory_call, reply_of}
 use Rattle.heap_model.specs.DatabaseSteps.{DatabaseCall, database_call}
 use Rattle.heap_model.specs.RecordSteps.{RecordCall, record_call}
 use Rattle.heap_model.specs.ResourceSteps.{ResourceCall, resource_call}
@@ -12,6 +14,13 @@ use Rattle.heap_model.specs.declared.call.DatabaseCall.TheVariants as databases
 use Rattle.heap_model.specs.declared.call.RecordCall.TheVariants as records
 use Rattle.heap_model.specs.declared.call.ResourceCall.TheVariants as resources
 use Rattle.heap_model.specs.declared.call.FileCall.TheVariants as files
+use Rattle.heap_model.specs.declared.call.Reply.{Reply}
+use Rattle.heap_model.specs.declared.call.Reply.TheVariants.{Refused}
+use Rattle.heap_model.specs.declared.refusal.Refusal.{Refusal}
+use Rattle.heap_model.specs.declared.refusal.Refusal.TheVariants.{OutOfMemory}
+use Rattle.palm_script.specs.declared.calls.Outcome.{Outcome}
+use Rattle.palm_script.specs.declared.calls.Outcome.TheVariants.{Replied, Reads}
+use Rattle.palm_script.specs.Lines.{Answers, OnWant, may_want_memory}
 
 memory_call-same : (call : MemoryCall) → memory_call (λ name. name) call ≡ call
 memory_call-same FreeBytes = refl
@@ -40,3 +49,13 @@ same_call (Database call) = ap Database (database_call-same call)
 same_call (Record call) = ap Record (record_call-same call)
 same_call (Resource call) = ap Resource (resource_call-same call)
 same_call (File call) = ap File (file_call-same call)
+
+-- a call that wants no memory isn't refused for want of it
+pub never_wants : (old : Region) (call : Call) (outcome : Outcome) (new : Region) (fact : Type 0) → Answers old call outcome new → may_want_memory call ≡ false → OnWant outcome fact
+never_wants old call (Replied reply) new fact answers without = λ want. absurd (answers.1 without want)
+never_wants old call (Reads name at count) new fact answers without = tt
+
+-- a reply is want of memory where the answer is
+pub want_of : {A : Type 0} (f : A → Reply) (answer : Result A Refusal) → ((a : A) → f a ≢ Refused OutOfMemory) → reply_of f answer ≡ Refused OutOfMemory → answer ≡ Err OutOfMemory
+want_of f (Ok a) other want = absurd (other a want)
+want_of f (Err refusal) other want = cc

@@ -1,5 +1,6 @@
 -- Lines behind one another.
 use Rattle.std.proofs.Common.{◌≡◌, ℕ, ◌+◌, ◌<◌, ◌≤◌, arith, cond, List, [], ◌∷◌, ◌++◌, length, take, get_or, refl, sym, ap, ◌∙◌, subst, append_assoc, append-nil, add-one, take-suc, Option, Some, true}
+use Rattle.std.proofs.lemmas.List.{take_all}
 use Rattle.std.specs.Prelude.{count_by, Err}
 use Rattle.std.proofs.lemmas.List.Sums.{sum_by-append, sum_by-take-le}
 use Rattle.std.proofs.lemmas.Option.{slice_get-get_or}
@@ -12,7 +13,7 @@ use Rattle.palm_text.specs.declared.output.WriteFault.{WriteFault}
 use Rattle.script_lines.specs.Labels.{is_export}
 use Rattle.script_lines.specs.declared.line.Line.{Line}
 use Rattle.script_lines.specs.declared.line.Line.TheVariants.{Export}
-use Rattle.palm_script.specs.Lines.{Bindings, BreaksOff, DoesLine, LineStep, Lines, bound_after, exported, reply_line, unbound}
+use Rattle.palm_script.specs.Lines.{Bindings, BreaksOff, BreaksOffShort, DoesLine, LineStep, Lines, RunsThrough, RunsThroughShort, bound_after, exported, reply_line, unbound}
 
 -- ---- the lines up to one of them
 
@@ -38,20 +39,20 @@ room_is_left lines i line reply more used within here is below =
 
 -- ---- one line more
 
-pub one_more : (inputs : List (List ℕ)) (old : Memory) (bound : Bindings) (lines : List Line) (text : List ℕ) (files : List (List ℕ)) (mid : Memory) (bound_mid : Bindings) (line : Line) (reply : Reply) (new : Memory)
-    → Lines inputs old bound lines text files mid bound_mid → LineStep inputs mid bound_mid line reply new
-    → Lines inputs old bound (lines ++ (line ∷ [])) (text ++ reply_line line reply) (files ++ exported line reply) new (bound_after bound_mid line reply)
-one_more inputs old bound [] text files mid bound_mid line reply new (no_text, no_files, same, unchanged) step = (
+pub one_more : {short : Type 0} (inputs : List (List ℕ)) (old : Memory) (bound : Bindings) (lines : List Line) (text : List ℕ) (files : List (List ℕ)) (mid : Memory) (bound_mid : Bindings) (line : Line) (reply : Reply) (new : Memory)
+    → Lines short inputs old bound lines text files mid bound_mid → LineStep short inputs mid bound_mid line reply new
+    → Lines short inputs old bound (lines ++ (line ∷ [])) (text ++ reply_line line reply) (files ++ exported line reply) new (bound_after bound_mid line reply)
+one_more {short} inputs old bound [] text files mid bound_mid line reply new (no_text, no_files, same, unchanged) step = (
   reply,
   new,
   [],
   [],
-  subst (λ (m : Memory). LineStep inputs m bound line reply new) same (subst (λ (n : Bindings). LineStep inputs mid n line reply new) unchanged step),
+  subst (λ (m : Memory). LineStep short inputs m bound line reply new) same (subst (λ (n : Bindings). LineStep short inputs mid n line reply new) unchanged step),
   ap (λ t. t ++ reply_line line reply) no_text ∙ sym (append-nil (reply_line line reply)),
   ap (λ f. f ++ exported line reply) no_files ∙ sym (append-nil (exported line reply)),
   (refl, refl, refl, ap (λ (n : Bindings). bound_after n line reply) unchanged),
 )
-one_more inputs old bound (first ∷ lines) text files mid bound_mid line reply new (answer, next, rest, more, before, is, are, tail) step = (
+one_more {short} inputs old bound (first ∷ lines) text files mid bound_mid line reply new (answer, next, rest, more, before, is, are, tail) step = (
   answer,
   next,
   rest ++ reply_line line reply,
@@ -62,18 +63,18 @@ one_more inputs old bound (first ∷ lines) text files mid bound_mid line reply 
   one_more inputs next (bound_after bound first answer) lines rest more mid bound_mid line reply new tail step,
 )
 
-pub one_further : (inputs : List (List ℕ)) (old : Memory) (bound : Bindings) (lines : List Line) (i : ℕ) (line : Line) (text : List ℕ) (files : List (List ℕ)) (mid : Memory) (bound_mid : Bindings) (reply : Reply) (more : List (List ℕ)) (new : Memory) (bound_new : Bindings)
-    → i < length lines → line ≡ get_or lines i line → Lines inputs old bound (take i lines) text files mid bound_mid → LineStep inputs mid bound_mid line reply new → bound_new ≡ bound_after bound_mid line reply → exported line reply ≡ more
-    → Lines inputs old bound (take (i + 1) lines) (text ++ reply_line line reply) (files ++ more) new bound_new
+pub one_further : {short : Type 0} (inputs : List (List ℕ)) (old : Memory) (bound : Bindings) (lines : List Line) (i : ℕ) (line : Line) (text : List ℕ) (files : List (List ℕ)) (mid : Memory) (bound_mid : Bindings) (reply : Reply) (more : List (List ℕ)) (new : Memory) (bound_new : Bindings)
+    → i < length lines → line ≡ get_or lines i line → Lines short inputs old bound (take i lines) text files mid bound_mid → LineStep short inputs mid bound_mid line reply new → bound_new ≡ bound_after bound_mid line reply → exported line reply ≡ more
+    → Lines short inputs old bound (take (i + 1) lines) (text ++ reply_line line reply) (files ++ more) new bound_new
 one_further inputs old bound lines i line text files mid bound_mid reply more new bound_new within here ran step binds are =
     let to_here : take (i + 1) lines ≡ take i lines ++ (line ∷ []) = take_one lines i line within ∙ ap (λ l. take i lines ++ (l ∷ [])) (sym here) in
     rw (to_here, binds, ← are) (one_more inputs old bound (take i lines) text files mid bound_mid line reply new ran step)
 
 -- ---- a line whose reply line couldn't be written
 
-pub breaks : {W : Type 0} (contents : W → Option (List ℕ)) (inputs : List (List ℕ)) (lines : List Line) (old : Memory) (first : Writing W) (i : ℕ) (line : Line) (text : List ℕ) (files : List (List ℕ)) (mid : Memory) (bound : Bindings) (before : Writing W) (new : Memory) (bound_new : Bindings) (after : Writing W) (fault : WriteFault)
-    → i < length lines → line ≡ get_or lines i line → Lines inputs old unbound (take i lines) text files mid bound → Writes contents first before text true → DoesLine contents inputs line mid bound before new bound_new after (Err fault)
-    → BreaksOff contents inputs lines old first new after
+pub breaks : {W short : Type 0} (contents : W → Option (List ℕ)) (inputs : List (List ℕ)) (lines : List Line) (old : Memory) (first : Writing W) (i : ℕ) (line : Line) (text : List ℕ) (files : List (List ℕ)) (mid : Memory) (bound : Bindings) (before : Writing W) (new : Memory) (bound_new : Bindings) (after : Writing W) (fault : WriteFault)
+    → i < length lines → line ≡ get_or lines i line → Lines short inputs old unbound (take i lines) text files mid bound → Writes contents first before text true → DoesLine short contents inputs line mid bound before new bound_new after (Err fault)
+    → BreaksOffShort short contents inputs lines old first new after
 breaks contents inputs lines old first i line text files mid bound before new bound_new after fault within here ran all does =
     let (n, short, appended) = does.written.0 in
     record {
@@ -92,3 +93,50 @@ breaks contents inputs lines old first i line text files mid bound before new bo
       front = Appends-trans _ _ _ text (take n (reply_line line does.reply)) all.0 appended;
       fault = subst (λ (k : ℕ). k < after.faults) all.1 does.written.1;
     }
+
+-- ---- all lines
+
+pub all_lines : {W short : Type 0} (contents : W → Option (List ℕ)) (inputs : List (List ℕ)) (lines : List Line) (old : Memory) (first : Writing W) (i : ℕ) (text : List ℕ) (files : List (List ℕ)) (new : Memory) (bound : Bindings) (after : Writing W)
+    → length lines ≤ i → Lines short inputs old unbound (take i lines) text files new bound → Writes contents first after text true → RunsThroughShort short contents inputs lines old first new after files
+all_lines {W} {short} contents inputs lines old first i text files new bound after end ran all = record {
+  text = text;
+  after = bound;
+  ran = subst (λ (ls : List Line). Lines short inputs old unbound ls text files new bound) (take_all i lines end) ran;
+  written = all;
+}
+
+-- ---- where nothing is known of memory
+
+step_alone : {short : Type 0} (inputs : List (List ℕ)) (old : Memory) (bound : Bindings) (line : Line) (reply : Reply) (new : Memory) → LineStep short inputs old bound line reply new → LineStep (Unit {0}) inputs old bound line reply new
+step_alone inputs old bound line reply new step = record { does = step.does; takes_no_memory = step.takes_no_memory; no_memory = λ _. tt }
+
+lines_alone : (short : Type 0) (inputs : List (List ℕ)) (old : Memory) (bound : Bindings) (lines : List Line) (text : List ℕ) (files : List (List ℕ)) (new : Memory) (after : Bindings) → Lines short inputs old bound lines text files new after → Lines (Unit {0}) inputs old bound lines text files new after
+lines_alone short inputs old bound [] text files new after ran = ran
+lines_alone short inputs old bound (line ∷ lines) text files new after (reply, mid, rest, more, step, is, are, tail) =
+    (reply, mid, rest, more, step_alone inputs old bound line reply mid step, is, are, lines_alone short inputs mid (bound_after bound line reply) lines rest more new after tail)
+
+pub runs_alone : {W short : Type 0} (contents : W → Option (List ℕ)) (inputs : List (List ℕ)) (lines : List Line) (old : Memory) (first : Writing W) (new : Memory) (after : Writing W) (files : List (List ℕ)) → RunsThroughShort short contents inputs lines old first new after files → RunsThrough contents inputs lines old first new after files
+runs_alone {W} {short} contents inputs lines old first new after files runs = record {
+  text = runs.text;
+  after = runs.after;
+  ran = lines_alone short inputs old unbound lines runs.text files new runs.after runs.ran;
+  written = runs.written;
+}
+
+pub breaks_alone : {W short : Type 0} (contents : W → Option (List ℕ)) (inputs : List (List ℕ)) (lines : List Line) (old : Memory) (first : Writing W) (new : Memory) (after : Writing W) → BreaksOffShort short contents inputs lines old first new after → BreaksOff contents inputs lines old first new after
+breaks_alone {W} {short} contents inputs lines old first new after off = record {
+  count = off.count;
+  text = off.text;
+  files = off.files;
+  mid = off.mid;
+  bound = off.bound;
+  before = lines_alone short inputs old unbound (take off.count lines) off.text off.files off.mid off.bound off.before;
+  line = off.line;
+  found = off.found;
+  reply = off.reply;
+  step = step_alone inputs off.mid off.bound off.line off.reply new off.step;
+  written = off.written;
+  within = off.within;
+  front = off.front;
+  fault = off.fault;
+}

@@ -102,6 +102,11 @@ abbrev pub Answers : Region → Call → Outcome → Region → Type 0
 Answers old call (Replied reply) new = DoesInStore old call reply new × (may_want_memory call ≡ false → reply ≢ Refused OutOfMemory)
 Answers old call (Reads name at count) new = (call ≡ Memory (calls.Read name at count)) × (new ≡ old)
 
+-- what holds where a call was refused for want of memory
+abbrev pub OnWant : Outcome → Type 0 → Type 0
+OnWant (Replied reply) fact = reply ≡ Refused OutOfMemory → fact
+OnWant (Reads name at count) fact = Unit {0}
+
 -- ---- what each line binds
 
 -- a label of a chunk is bound to the name that was answered
@@ -286,53 +291,64 @@ exported (Export label) reply = file_in reply
 
 -- ---- the run of lines
 
--- The call of a line does its step. Only where the call may want memory it is refused for want of it.
-pub record LineStep (inputs : List (List ℕ)) (old : Region) (bound : Bindings) (line : Line) (reply : Reply) (new : Region) : Type 0 where
+-- The call of a line does its step. Only where the call may want memory it is refused for want of it, and then
+-- memory was short.
+pub record LineStep (short : Type 0) (inputs : List (List ℕ)) (old : Region) (bound : Bindings) (line : Line) (reply : Reply) (new : Region) : Type 0 where
   pub does : DoesInStore old (call_of inputs bound line) reply new
   pub takes_no_memory : may_want_memory (call_of inputs bound line) ≡ false → reply ≢ Refused OutOfMemory
+  pub no_memory : reply ≡ Refused OutOfMemory → short
 
 -- The lines in their order, from a region and what labels stand for: each is one call, its reply line
 -- comes behind the text of those before it, and what it exports behind their files; what it binds is
 -- bound for those behind it.
-abbrev pub Lines : List (List ℕ) → Region → Bindings → List Line → List ℕ → List (List ℕ) → Region → Bindings → Type 0
-Lines inputs old bound [] text files new after = (text ≡ []) × (files ≡ []) × (new ≡ old) × (after ≡ bound)
-Lines inputs old bound (line ∷ lines) text files new after =
+abbrev pub Lines : Type 0 → List (List ℕ) → Region → Bindings → List Line → List ℕ → List (List ℕ) → Region → Bindings → Type 0
+Lines short inputs old bound [] text files new after = (text ≡ []) × (files ≡ []) × (new ≡ old) × (after ≡ bound)
+Lines short inputs old bound (line ∷ lines) text files new after =
     (reply : Reply) × (mid : Region) × (rest : List ℕ) × (more : List (List ℕ))
-    × LineStep inputs old bound line reply mid
+    × LineStep short inputs old bound line reply mid
     × (text ≡ reply_line line reply ++ rest)
     × (files ≡ exported line reply ++ more)
-    × Lines inputs mid (bound_after bound line reply) lines rest more new after
+    × Lines short inputs mid (bound_after bound line reply) lines rest more new after
 
 -- One line: its call is done, what it binds is bound, and its reply line goes to a writer. Where that got
 -- through, the file that it exports is answered, if it exports one.
-pub record DoesLine {W : Type 0} (contents : W → Option (List ℕ)) (inputs : List (List ℕ)) (line : Line) (old : Region) (bound : Bindings) (out : Writing W) (new : Region) (bound_new : Bindings) (out_after : Writing W) (answer : Result (Option (List ℕ)) WriteFault) : Type 0 where
+pub record DoesLine {W : Type 0} (short : Type 0) (contents : W → Option (List ℕ)) (inputs : List (List ℕ)) (line : Line) (old : Region) (bound : Bindings) (out : Writing W) (new : Region) (bound_new : Bindings) (out_after : Writing W) (answer : Result (Option (List ℕ)) WriteFault) : Type 0 where
   pub reply : Reply
-  pub step : LineStep inputs old bound line reply new
+  pub step : LineStep short inputs old bound line reply new
   pub binds : bound_new ≡ bound_after bound line reply
   pub written : Writes contents out out_after (reply_line line reply) (is_ok answer)
   pub file : IfOk answer (λ file. exported line reply ≡ option_to_list file)
 
--- All lines were run, all of their text was written, and these are the files that they export.
-pub record RunsThrough {W : Type 0} (contents : W → Option (List ℕ)) (inputs : List (List ℕ)) (lines : List Line) (old : Region) (out : Writing W) (new : Region) (out_after : Writing W) (files : List (List ℕ)) : Type 0 where
+-- All lines were run, all of their text was written, and these are the files that they export. A line was refused
+-- for want of memory only where memory was short.
+pub record RunsThroughShort {W : Type 0} (short : Type 0) (contents : W → Option (List ℕ)) (inputs : List (List ℕ)) (lines : List Line) (old : Region) (out : Writing W) (new : Region) (out_after : Writing W) (files : List (List ℕ)) : Type 0 where
   pub text : List ℕ
   pub after : Bindings
-  pub ran : Lines inputs old unbound lines text files new after
+  pub ran : Lines short inputs old unbound lines text files new after
   pub written : Writes contents out out_after text true
 
 -- A write failed in the reply line of some line: the text of the lines before it was written, and a
--- front of that reply line. The line's call was done, and no other behind it.
-pub record BreaksOff {W : Type 0} (contents : W → Option (List ℕ)) (inputs : List (List ℕ)) (lines : List Line) (old : Region) (out : Writing W) (new : Region) (out_after : Writing W) : Type 0 where
+-- front of that reply line. The line's call was done, and no other behind it. A line was refused for want of memory
+-- only where memory was short.
+pub record BreaksOffShort {W : Type 0} (short : Type 0) (contents : W → Option (List ℕ)) (inputs : List (List ℕ)) (lines : List Line) (old : Region) (out : Writing W) (new : Region) (out_after : Writing W) : Type 0 where
   pub count : ℕ
   pub text : List ℕ
   pub files : List (List ℕ)
   pub mid : Region
   pub bound : Bindings
-  pub before : Lines inputs old unbound (take count lines) text files mid bound
+  pub before : Lines short inputs old unbound (take count lines) text files mid bound
   pub line : Line
   pub found : slice_get lines count ≡ Some line
   pub reply : Reply
-  pub step : LineStep inputs mid bound line reply new
+  pub step : LineStep short inputs mid bound line reply new
   pub written : ℕ
   pub within : written ≤ length (reply_line line reply)
   pub front : Appends (contents out.writer) (contents out_after.writer) (text ++ take written (reply_line line reply))
   pub fault : out.faults < out_after.faults
+
+-- the same, where nothing is known of memory
+abbrev pub RunsThrough : {W : Type 0} → (W → Option (List ℕ)) → List (List ℕ) → List Line → Region → Writing W → Region → Writing W → List (List ℕ) → Type 0
+RunsThrough contents inputs lines old out new out_after files = RunsThroughShort (Unit {0}) contents inputs lines old out new out_after files
+
+abbrev pub BreaksOff : {W : Type 0} → (W → Option (List ℕ)) → List (List ℕ) → List Line → Region → Writing W → Region → Writing W → Type 0
+BreaksOff contents inputs lines old out new out_after = BreaksOffShort (Unit {0}) contents inputs lines old out new out_after

@@ -1,6 +1,6 @@
 //! One call of any manager.
 
-ghost use Rattle.std.specs.Prelude.{◌≡◌, ◌≢◌, IfOk};
+ghost use Rattle.std.specs.Prelude.{◌≡◌, ◌≢◌};
 ghost use Rattle.heap_model.specs.MemorySteps.{memory_call};
 ghost use Rattle.heap_model.specs.DatabaseSteps.{database_call};
 ghost use Rattle.heap_model.specs.StoreSteps.{DoesInStore, call_by};
@@ -8,7 +8,7 @@ ghost use Rattle.heap_model.specs.declared.call.Call as calls;
 ghost use Rattle.heap_model.specs.declared.call.MemoryCall.{MemoryCall};
 ghost use Rattle.heap_model.specs.declared.call.Reply.{Reply};
 ghost use Rattle.heap_model.specs.declared.refusal.Refusal.{Refusal};
-ghost use Rattle.palm_script.specs.Lines.{Answers};
+ghost use Rattle.palm_script.specs.Lines.{Answers, OnWant};
 
 use crate::bindings::Given;
 use crate::calls::Outcome::{Reads, Replied};
@@ -16,9 +16,10 @@ use crate::files::do_file_call;
 use crate::records::do_record_call;
 use crate::replies::{database, done, info, locked, named, number, small_number};
 use crate::resources::do_resource_call;
-use heap_model::{Allowance, Bytes, Call, DatabaseCall, Db, MemoryCall, Name, Refusal, Reply};
+use allowance::{Allowance, copied};
+use heap_model::{Bytes, Call, DatabaseCall, Db, MemoryCall, Name, Refusal, Reply};
 use palm_store::Store;
-use std::alloc::{AllocError, Global};
+use std::alloc::Global;
 
 /// Does one call and answers its reply. Memory is taken by `read`, `import` and `export` alone; where
 /// it is refused, so is the call.
@@ -28,9 +29,10 @@ pub fn do_call(alloc: Global, store: &mut Store, call: &Call) -> Reply
     do_call_from(&alloc, store, call)
 }
 
-/// `do_call`, where the growth asks for a grant.
+/// `do_call`, where each growth asks for a grant. Only a refused growth is answered by `OutOfMemory`.
 pub fn do_call_from<A: Allowance>(memory: &A, store: &mut Store, call: &Call) -> Reply
-    ensures { DoesInStore store.old call.now result store.new }
+    ensures does { DoesInStore store.old call.now result store.new }
+    ensures no_memory { result ≡ Reply.Refused Refusal.OutOfMemory → A.is_short memory.now }
 {
     match do_given(memory, store, &[], &[], call) {
         Replied(reply) => reply,
@@ -40,22 +42,17 @@ pub fn do_call_from<A: Allowance>(memory: &A, store: &mut Store, call: &Call) ->
 
 /// The bytes of a chunk, copied.
 fn read<A: Allowance>(memory: &A, store: &Store, name: Name, at: u32, count: u32) -> Reply
-    ensures { DoesInStore store.now (calls.Call.Memory (MemoryCall.Read name at count))
+    ensures does { DoesInStore store.now (calls.Call.Memory (MemoryCall.Read name at count))
         result store.now }
+    ensures no_memory { result ≡ Reply.Refused Refusal.OutOfMemory → A.is_short memory.now }
 {
     match store.read(name, at, count) {
         Ok(bytes) => match copied(memory, bytes) {
-            Ok(bytes) => Reply::Data(bytes),
+            Ok(bytes) => Reply::Data(Bytes::of(bytes)),
             Err(_) => Reply::Refused(Refusal::OutOfMemory),
         },
         Err(refusal) => Reply::Refused(refusal),
     }
-}
-
-fn copied<A: Allowance>(memory: &A, bytes: &[u8]) -> Result<Bytes, AllocError>
-    ensures { IfOk result (λ copy. copy ≡ bytes.now) }
-{
-    Ok(Bytes::of(Vec::from_slice(memory.grant()?, bytes)?))
 }
 
 /// What comes of a call, where bytes that a store lends aren't copied.
@@ -68,7 +65,7 @@ pub(crate) enum Outcome {
 }
 
 /// Does a call, if it isn't a `read`. What it gives as chunks and databases is looked up in these
-/// tables.
+/// tables. Only a refused growth is answered by `OutOfMemory`.
 pub(crate) fn do_given<A: Allowance, C: Given<Name>, D: Given<Db>>(
     memory: &A,
     store: &mut Store,
@@ -76,8 +73,9 @@ pub(crate) fn do_given<A: Allowance, C: Given<Name>, D: Given<Db>>(
     databases: &[Db],
     call: &Call<C, D>,
 ) -> Outcome
-    ensures { Answers store.old (call_by (λ chunk. C.meant chunk names.now)
+    ensures answers { Answers store.old (call_by (λ chunk. C.meant chunk names.now)
         (λ db. D.meant db databases.now) call.now) result store.new }
+    ensures no_memory { OnWant result (A.is_short memory.now) }
 {
     match call {
         Call::Memory(call) => do_memory_call(store, names, call),

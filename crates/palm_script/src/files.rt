@@ -1,26 +1,31 @@
 //! One call on files.
 
+ghost use Rattle.std.specs.Prelude.{◌≡◌};
 ghost use Rattle.heap_model.specs.FileSteps.{file_call};
 ghost use Rattle.heap_model.specs.StoreSteps.{DoesInStore};
 ghost use Rattle.heap_model.specs.declared.call.Call as calls;
 ghost use Rattle.heap_model.specs.declared.call.FileCall.{FileCall};
 ghost use Rattle.heap_model.specs.declared.call.Reply.{Reply};
+ghost use Rattle.heap_model.specs.declared.refusal.Refusal.{Refusal};
 
 use crate::bindings::Given;
 use crate::replies::{data, database};
-use heap_model::{Allowance, Db, FileCall, Reply};
+use allowance::Allowance;
+use heap_model::{Db, FileCall, Reply};
 use palm_store::Store;
 use pdb_files::{exported, import_from};
 
-/// Does a call on files, which may want memory; where it is refused, so is the call.
+/// Does a call on files, which may want memory; where it is refused, so is the call. Only a refused growth is
+/// answered by `OutOfMemory`.
 pub(crate) fn do_file_call<A: Allowance, D: Given<Db>>(
     memory: &A,
     store: &mut Store,
     databases: &[Db],
     call: &FileCall<D>,
 ) -> Reply
-    ensures { DoesInStore store.old (calls.Call.File
+    ensures does { DoesInStore store.old (calls.Call.File
         (file_call (λ db. D.meant db databases.now) call.now)) result store.new }
+    ensures no_memory { result ≡ Reply.Refused Refusal.OutOfMemory → A.is_short memory.now }
 {
     match call {
         FileCall::Import(file) => import(memory, store, file.as_slice()),
@@ -30,14 +35,17 @@ pub(crate) fn do_file_call<A: Allowance, D: Given<Db>>(
 
 /// Imports a file.
 pub(crate) fn import<A: Allowance>(memory: &A, store: &mut Store, file: &[u8]) -> Reply
-    ensures { DoesInStore store.old (calls.Call.File (FileCall.Import file.now)) result store.new }
+    ensures does { DoesInStore store.old (calls.Call.File (FileCall.Import file.now))
+        result store.new }
+    ensures no_memory { result ≡ Reply.Refused Refusal.OutOfMemory → A.is_short memory.now }
 {
     database(import_from(memory, store, file))
 }
 
 /// Exports the file of a database.
 pub(crate) fn export<A: Allowance>(memory: &A, store: &Store, db: Db) -> Reply
-    ensures { DoesInStore store.now (calls.Call.File (FileCall.Export db)) result store.now }
+    ensures does { DoesInStore store.now (calls.Call.File (FileCall.Export db)) result store.now }
+    ensures no_memory { result ≡ Reply.Refused Refusal.OutOfMemory → A.is_short memory.now }
 {
     data(exported(memory, store, db))
 }

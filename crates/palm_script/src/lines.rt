@@ -5,21 +5,22 @@ ghost use Rattle.std.specs.Option.{option_to_list};
 ghost use Rattle.script_lines.specs.Labels.{chunk_label_end, database_label_end};
 ghost use Rattle.heap_model.specs.declared.call.Call.TheVariants as calls;
 ghost use Rattle.heap_model.specs.declared.call.MemoryCall.{MemoryCall};
-ghost use Rattle.palm_script.specs.Lines.{Answers, DoesLine, call_of, tables};
+ghost use Rattle.palm_script.specs.Lines.{Answers, DoesLine, OnWant, call_of, tables};
 ghost use Rattle.palm_script.specs.Lines as words;
 
 use crate::bindings::{Given, bind_line};
 use crate::calls::{Outcome, do_given};
 use crate::files::{export, import};
 use crate::replies::{number, put_data, put_refusal, put_reply};
-use heap_model::{Allowance, Bytes, Counted, Db, Name, Reply};
+use allowance::Allowance;
+use heap_model::{Bytes, Counted, Db, Name, Reply};
 use palm_store::Store;
 use palm_text::WriteFault;
 use script_lines::Line;
 use std::io::Write;
 
 /// Does the call of a line, binds what it binds and prints its reply line, and answers the file that it
-/// exports. Only an import or an export takes memory.
+/// exports. Only an import or an export takes memory, and is refused for want of it only by a refused growth.
 pub(crate) fn do_line<A: Allowance, W: Write>(
     memory: &A,
     store: &mut Store,
@@ -31,7 +32,7 @@ pub(crate) fn do_line<A: Allowance, W: Write>(
 ) -> Result<Option<Bytes>, WriteFault>
     requires chunks { chunk_label_end line.now ≤ length names.old }
     requires databases { database_label_end line.now ≤ length databases.old }
-    ensures { DoesLine W.contents inputs.now line.now
+    ensures { DoesLine (A.is_short memory.now) W.contents inputs.now line.now
         store.old (tables names.old databases.old) out.old
         store.new (tables names.new databases.new) out.new result }
 {
@@ -66,7 +67,7 @@ fn exported_file(line: &Line, reply: Reply) -> Option<Bytes>
     }
 }
 
-/// What comes of the call of a line.
+/// What comes of the call of a line. Only a refused growth is answered by `OutOfMemory`.
 fn outcome_of<A: Allowance>(
     memory: &A,
     store: &mut Store,
@@ -75,11 +76,12 @@ fn outcome_of<A: Allowance>(
     inputs: &[Bytes],
     line: &Line,
 ) -> Outcome
-    ensures { Answers store.old (call_of inputs.now (tables names.now databases.now) line.now)
+    ensures answers { Answers store.old (call_of inputs.now (tables names.now databases.now) line.now)
         result store.new }
+    ensures no_memory { OnWant result (A.is_short memory.now) }
 {
     match line {
-        Line::Bind { name, .. } => Outcome::Replied(number(store.size(Name(*name)))),
+        Line::Bind { name, .. } => size_of(store, Name(*name)),
         Line::Print(call)
         | Line::Silent(call)
         | Line::BindChunk(_, call)
@@ -91,6 +93,13 @@ fn outcome_of<A: Allowance>(
         )),
         Line::Export(label) => Outcome::Replied(export(memory, store, label.among(databases))),
     }
+}
+
+/// The size of a chunk.
+fn size_of(store: &Store, name: Name) -> Outcome
+    ensures { Answers store.now (calls.Memory (MemoryCall.Size name)) result store.now }
+{
+    Outcome::Replied(number(store.size(name)))
 }
 
 /// The input file of a number, counted from 1; of one that names none, no bytes.

@@ -1,14 +1,17 @@
 //! Lists of calls, one behind another.
 
-ghost use Rattle.std.specs.Prelude.{◌≡◌, [], IfErr, IfOk, OnErr, vec_capacity, vec_len};
+ghost use Rattle.std.specs.Prelude.{◌≡◌, All, IfErr, IfOk, OnErr};
 ghost use Rattle.heap_model.specs.Runs.{Run};
+ghost use Rattle.heap_model.specs.declared.call.Reply.{Reply};
+ghost use Rattle.heap_model.specs.declared.refusal.Refusal.{Refusal};
 ghost use Rattle.palm_script.specs.Headline.{AnswersAsRun, HandsBack};
 
 use crate::calls::do_call_from;
-use heap_model::{Allowance, Call, Reply};
+use allowance::{Allowance, room_for};
+use heap_model::{Call, Reply};
 use palm_store::{NotAStore, Store};
 use raw_region::Region;
-use std::alloc::{AllocError, Global};
+use std::alloc::Global;
 use std::fmt;
 use thiserror::Error;
 
@@ -32,7 +35,8 @@ pub fn run_calls(
     run_calls_from(&alloc, store, calls)
 }
 
-/// `run_calls`, where each growth asks for a grant.
+/// `run_calls`, where each growth asks for a grant. Only a refused growth is answered by `OutOfMemory`, by
+/// the whole list and by each call of it.
 pub fn run_calls_from<A: Allowance>(
     memory: &A,
     store: &mut Store,
@@ -40,23 +44,17 @@ pub fn run_calls_from<A: Allowance>(
 ) -> Result<Vec<Reply>, OutOfMemory>
     ensures run { IfOk result (λ replies. Run store.old calls.now replies.items store.new) }
     ensures none_done { OnErr result (store.new ≡ store.old) }
+    ensures short { OnErr result (A.is_short memory.now) }
+    ensures no_memory { IfOk result (λ replies. All
+        (λ reply. reply ≡ Reply.Refused Refusal.OutOfMemory → A.is_short memory.now) replies.items) }
 {
-    let Ok(mut replies) = room_for_replies(memory, calls.len()) else {
+    let Ok(mut replies) = room_for(memory, calls.len()) else {
         return Err(OutOfMemory);
     };
     for call in calls {
         replies.push_reserved(do_call_from(memory, store, call));
     }
     Ok(replies)
-}
-
-/// No replies yet, and room for so many.
-fn room_for_replies<A: Allowance>(memory: &A, count: usize) -> Result<Vec<Reply>, AllocError>
-    ensures none { IfOk result (λ replies. replies.items ≡ []) }
-    ensures len { IfOk result (λ replies. vec_len replies ≡ 0) }
-    ensures room { IfOk result (λ replies. vec_capacity replies ≡ count) }
-{
-    Vec::with_capacity(memory.grant()?, count)
 }
 
 /// Why the calls of a list weren't done.

@@ -1,12 +1,14 @@
 //! The lines of a script, one behind another.
 
-ghost use Rattle.std.specs.Prelude.{◌≡◌, ◌≤◌, ◌+◌, ◌++◌, [], Err, IfOk, length, replicate};
+ghost use Rattle.std.specs.Prelude.{◌≡◌, ◌≤◌, ◌+◌, ◌++◌, Err, IfOk, OnErr, length, replicate};
 ghost use Rattle.std.specs.Prelude.{vec_capacity, vec_len};
 ghost use Rattle.std.specs.Option.{option_to_list};
-ghost use Rattle.palm_script.specs.Lines.{BreaksOff, RunsThrough, no_database, no_name};
+ghost use Rattle.palm_script.specs.Lines.{BreaksOff, BreaksOffShort, RunsThrough, RunsThroughShort};
+ghost use Rattle.palm_script.specs.Lines.{no_database, no_name};
 
 use crate::lines::do_line;
-use heap_model::{Allowance, Bytes, Counted, Db, Name};
+use allowance::{Allowance, room_for};
+use heap_model::{Bytes, Counted, Db, Name};
 use palm_store::Store;
 use script_lines::Script;
 use std::alloc::{AllocError, Global};
@@ -46,7 +48,8 @@ pub fn run<W: Write>(
     run_from(&alloc, store, script, inputs, out)
 }
 
-/// `run`, where each growth asks for a grant.
+/// `run`, where each growth asks for a grant. Only a refused growth is answered by `OutOfMemory`, by the run
+/// and by each line.
 pub fn run_from<A: Allowance, W: Write>(
     memory: &A,
     store: &mut Store,
@@ -60,6 +63,11 @@ pub fn run_from<A: Allowance, W: Write>(
         store.old out.old store.new out.new }
     ensures memory { result ≡ Err RunFault.OutOfMemory
         → (store.new ≡ store.old) × (out.new ≡ out.old) }
+    ensures no_memory { result ≡ Err RunFault.OutOfMemory → A.is_short memory.now }
+    ensures ok_short { IfOk result (λ files. RunsThroughShort (A.is_short memory.now) W.contents
+        inputs.now script.now store.old out.old store.new out.new files.items) }
+    ensures write_short { result ≡ Err RunFault.Write → BreaksOffShort (A.is_short memory.now)
+        W.contents inputs.now script.now store.old out.old store.new out.new }
 {
     let Ok(mut names) = unbound_names(memory, script.chunk_label_count()) else {
         return Err(RunFault::OutOfMemory);
@@ -67,7 +75,7 @@ pub fn run_from<A: Allowance, W: Write>(
     let Ok(mut databases) = unbound_databases(memory, script.database_label_count()) else {
         return Err(RunFault::OutOfMemory);
     };
-    let Ok(mut files) = room_for_files(memory, script.export_count()) else {
+    let Ok(mut files) = room_for(memory, script.export_count()) else {
         return Err(RunFault::OutOfMemory);
     };
     let names = names.as_mut_slice();
@@ -83,25 +91,19 @@ pub fn run_from<A: Allowance, W: Write>(
 
 /// A table of so many labels of chunks, none of them bound.
 fn unbound_names<A: Allowance>(memory: &A, count: usize) -> Result<Vec<Name>, AllocError>
-    ensures { IfOk result (λ names. names.items ≡ replicate count no_name) }
+    ensures names { IfOk result (λ names. names.items ≡ replicate count no_name) }
+    ensures short { OnErr result (A.is_short memory.now) }
 {
-    vec![in memory.grant()?; Name(0); count]
+    memory.outcome(vec![in memory.grant()?; Name(0); count])
 }
 
 /// The same of labels of databases.
 fn unbound_databases<A: Allowance>(memory: &A, count: usize) -> Result<Vec<Db>, AllocError>
-    ensures { IfOk result (λ databases. databases.items ≡ replicate count no_database) }
+    ensures databases { IfOk result (λ databases.
+        databases.items ≡ replicate count no_database) }
+    ensures short { OnErr result (A.is_short memory.now) }
 {
-    vec![in memory.grant()?; Db(0); count]
-}
-
-/// No files yet, and room for so many.
-fn room_for_files<A: Allowance>(memory: &A, count: usize) -> Result<Vec<Bytes>, AllocError>
-    ensures none { IfOk result (λ files. files.items ≡ []) }
-    ensures len { IfOk result (λ files. vec_len files ≡ 0) }
-    ensures room { IfOk result (λ files. vec_capacity files ≡ count) }
-{
-    Vec::with_capacity(memory.grant()?, count)
+    memory.outcome(vec![in memory.grant()?; Db(0); count])
 }
 
 /// Puts a file behind the others, if there is one.

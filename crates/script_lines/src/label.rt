@@ -1,11 +1,11 @@
 //! The labels of a script, numbered in the order in which they first appear.
 
-ghost use Rattle.std.specs.Prelude.{◌≡◌, IfOk, OnOk};
+ghost use Rattle.std.specs.Prelude.{◌≡◌, IfOk, OnErr, OnOk};
 ghost use Rattle.script_lines.specs.Numbering.{no_labels, label_number, with_label};
 ghost use Rattle.script_lines.specs.Numbering.{none_numbered};
 ghost use Rattle.script_lines.specs.Views.{numbering, numberings};
 
-use heap_model::Allowance;
+use allowance::Allowance;
 use std::alloc::{AllocError, Global};
 use std::collections::BTreeMap;
 
@@ -31,6 +31,7 @@ impl<'a> Labels<'a> {
             number ≡ label_number (numbering self.old) word.now) }
         ensures labels { OnOk result
             (numbering self.new ≡ with_label (numbering self.old) word.now) }
+        ensures short { OnErr result (A.is_short memory.now) }
     {
         if let Some(number) = self.numbers.get(&word) {
             return Ok(*number);
@@ -39,7 +40,7 @@ impl<'a> Labels<'a> {
         let number = self.numbers.len();
         match self.numbers.insert(word, number) {
             Ok(_) => Ok(number),
-            Err(_) => Err(AllocError),
+            Err(_) => memory.outcome(Err(AllocError)),
         }
     }
 }

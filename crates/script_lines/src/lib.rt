@@ -6,7 +6,7 @@
 //! the line that they make; and `Numbering` which number a label has in its table, that of chunks or that of
 //! databases. `Laws` says that what palm_text prints of a text is read back.
 //! `parse` answers that script or its first faulty line, and nothing else unless memory is refused.
-//! Each growth asks an `Allowance` of heap_model first.
+//! Each growth asks an `Allowance` first, and want of memory is answered only after a refused growth.
 #![tactic(auto)]
 
 mod command;

@@ -1,10 +1,11 @@
 //! A line of a script, and scripts as lists of lines.
 
-ghost use Rattle.std.specs.Prelude.{◌≡◌, ◌++◌, ◌∷◌, [], OnOk, IfSome, count_by};
+ghost use Rattle.std.specs.Prelude.{◌≡◌, ◌≤◌, ◌++◌, ◌∷◌, ◌^◌, [], OnErr, OnOk, IfSome, count_by};
 ghost use Rattle.script_lines.specs.Labels.{HasLabelsBelow, label_count};
 ghost use Rattle.script_lines.specs.Labels as labels;
 
-use heap_model::{Allowance, Call};
+use allowance::Allowance;
+use heap_model::Call;
 use std::alloc::{AllocError, Global};
 use std::marker::Model;
 
@@ -112,18 +113,23 @@ impl Script {
         }
     }
 
-    /// Puts a line behind the others. There is no script with the label `usize::MAX`.
+    /// Puts a line behind the others. A script with the label `usize::MAX` would need a table of more labels
+    /// than memory has bytes: such a line asks for that table, and the growth is refused.
     pub(crate) fn push<A: Allowance>(&mut self, memory: &A, line: Line) -> Result<(), AllocError>
         ensures ok { OnOk result (self.new ≡ self.old ++ (line ∷ [])) }
+        ensures short { OnErr result (A.is_short memory.now) }
     {
         let Some(chunk_end) = line.chunk_label_end() else {
-            return Err(AllocError);
+            return Err(refused_growth(memory, usize::MAX));
         };
         let Some(database_end) = line.database_label_end() else {
-            return Err(AllocError);
+            return Err(refused_growth(memory, usize::MAX));
         };
         memory.grant()?;
-        self.lines.push(line)?;
+        match self.lines.push(line) {
+            Ok(()) => {}
+            Err(_) => return memory.outcome(Err(AllocError)),
+        }
         self.chunk_label_count = self.chunk_label_count.max(chunk_end);
         self.database_label_count = self.database_label_count.max(database_end);
         Ok(())
@@ -157,6 +163,20 @@ impl Script {
         ensures { result ≡ count_by labels.is_export self.now }
     {
         count_exports(&self.lines)
+    }
+}
+
+/// What comes of a growth by more bytes than any memory has: it is asked for, and refused.
+fn refused_growth<A: Allowance>(memory: &A, size: usize) -> AllocError
+    requires large { 2 ^ 63 ≤ size }
+    ensures short { A.is_short memory.now }
+{
+    match allowance::zeros(memory, size) {
+        Ok(zeros) => {
+            prove!(zeros.as_slice().len() < size);
+            unreachable!()
+        }
+        Err(error) => error,
     }
 }
 

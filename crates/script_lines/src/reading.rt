@@ -1,6 +1,6 @@
 //! Scripts, read from their text.
 
-ghost use Rattle.std.specs.Prelude.{◌≡◌, ◌≢◌, ◌<◌, length, IfOk, IfErr};
+ghost use Rattle.std.specs.Prelude.{◌≡◌, ◌≢◌, ◌<◌, length, Err, IfOk, IfErr};
 ghost use Rattle.script_lines.specs.Reading as reading;
 ghost use Rattle.script_lines.specs.Reading.{HasLine, line_behind, line_read, read_behind};
 ghost use Rattle.script_lines.specs.Reading.{read_script, words_in};
@@ -13,7 +13,7 @@ use crate::label::LabelTables;
 use crate::line::{Line, Script};
 use crate::text::{WordCut, count_words, cut_line, cut_word, is_passed_over};
 use crate::value::{Kind, Values};
-use heap_model::Allowance;
+use allowance::Allowance;
 use std::alloc::Global;
 
 /// What the words of a text stand for, by kind, or the number of the first that isn't of its kind;
@@ -30,6 +30,7 @@ fn read_values<'a, A: Allowance>(
         ≡ Ok (words_read values labels.new)) }
     ensures err { IfErr result (λ fault. fault ≢ ScriptFault.OutOfMemory
         → read_behind (numberings labels.old) kinds.now words.now ≡ Err fault) }
+    ensures no_memory { result ≡ Err ScriptFault.OutOfMemory → A.is_short memory.now }
 {
     let mut values = Values::new(memory.allocator());
     let mut rest = words;
@@ -66,6 +67,7 @@ fn read_command<'a, A: Allowance>(
         ≡ Ok (line_read (Some line) (numberings labels.new))) }
     ensures err { IfErr result (λ fault. fault ≢ ScriptFault.OutOfMemory
         → line_behind (numberings labels.old) word.now words.now ≡ Err fault) }
+    ensures no_memory { result ≡ Err ScriptFault.OutOfMemory → A.is_short memory.now }
 {
     let Some(command) = find_command(word) else {
         return Err(ScriptFault::UnknownCommand);
@@ -94,6 +96,7 @@ fn read_line<'a, A: Allowance>(
         ≡ Ok (line_read line (numberings labels.new))) }
     ensures err { IfErr result (λ fault. fault ≢ ScriptFault.OutOfMemory
         → reading.read_line (numberings labels.old) text.now ≡ Err fault) }
+    ensures no_memory { result ≡ Err ScriptFault.OutOfMemory → A.is_short memory.now }
 {
     if is_passed_over(text) {
         return Ok(None);
@@ -129,7 +132,7 @@ pub fn parse(alloc: Global, text: &[u8]) -> Result<Script, LineFault>
     parse_from(&alloc, text)
 }
 
-/// `parse`, where each growth asks for a grant.
+/// `parse`, where each growth asks for a grant. Want of memory is answered only after a refused growth.
 pub fn parse_from<A: Allowance>(memory: &A, text: &[u8]) -> Result<Script, LineFault>
     ensures ok { IfOk result (λ script. read_script text.now ≡ Ok script) }
     ensures err { IfErr result (λ e. e.fault ≢ ScriptFault.OutOfMemory
@@ -137,6 +140,8 @@ pub fn parse_from<A: Allowance>(memory: &A, text: &[u8]) -> Result<Script, LineF
     ensures line { IfErr result (λ e. e.fault ≢ ScriptFault.OutOfMemory
         → HasLine text.now e.line) }
     ensures refused { IfErr result (λ e. e.fault ≡ ScriptFault.OutOfMemory → e.line ≡ 0) }
+    ensures no_memory { IfErr result (λ e. e.fault ≡ ScriptFault.OutOfMemory
+        → A.is_short memory.now) }
 {
     let mut script = Script::new(memory.allocator());
     let mut labels = LabelTables::new(memory.allocator());

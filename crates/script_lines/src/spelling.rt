@@ -1,6 +1,6 @@
 //! How the words of each kind are spelled, and what they stand for.
 
-ghost use Rattle.std.specs.Prelude.{◌≡◌, ◌<◌, ◌≤◌, ◌^◌, IfOk, false, true, MatchOption};
+ghost use Rattle.std.specs.Prelude.{◌≡◌, ◌<◌, ◌≤◌, ◌^◌, IfOk, OnErr, false, true, MatchOption};
 ghost use Rattle.std.specs.Option.{option_and_then};
 ghost use Rattle.std.specs.List.{list_all};
 ghost use Rattle.script_lines.specs.Spellings as spellings;
@@ -8,8 +8,9 @@ ghost use Rattle.script_lines.specs.Spellings.{below, number_behind, number_belo
 ghost use Rattle.script_lines.specs.Spellings.{is_quoted, spelled_bytes, spelled_text};
 ghost use Rattle.script_lines.specs.Spellings.{spelled_flag, spelled_four, spelled_which};
 
+use allowance::Allowance;
 use byteorder::{BigEndian, ByteOrder};
-use heap_model::{Allowance, Bytes, Which};
+use heap_model::{Bytes, Which};
 use palm_text::are_printable;
 use std::alloc::AllocError;
 
@@ -133,18 +134,20 @@ pub(crate) fn which_of(word: &[u8]) -> Option<Which>
 
 /// The bytes that hex digits spell, if there is an even number of them.
 fn decode<A: Allowance>(memory: &A, digits: &[u8]) -> Result<Option<Bytes>, AllocError>
-    ensures { IfOk result (λ bytes. bytes ≡ hex_bytes digits.now) }
+    ensures bytes { IfOk result (λ bytes. bytes ≡ hex_bytes digits.now) }
+    ensures short { OnErr result (A.is_short memory.now) }
 {
     match hex::decode(memory.grant()?, digits) {
         Ok(bytes) => Ok(Some(Bytes::of(bytes))),
-        Err(hex::FromHexError::OutOfMemory) => Err(AllocError),
+        Err(hex::FromHexError::OutOfMemory) => memory.outcome(Err(AllocError)),
         Err(_) => Ok(None),
     }
 }
 
 /// The bytes that a word spells.
 pub(crate) fn bytes_of<A: Allowance>(memory: &A, word: &[u8]) -> Result<Option<Bytes>, AllocError>
-    ensures { IfOk result (λ bytes. bytes ≡ spelled_bytes word.now) }
+    ensures bytes { IfOk result (λ bytes. bytes ≡ spelled_bytes word.now) }
+    ensures short { OnErr result (A.is_short memory.now) }
 {
     if word == b"-".as_slice() {
         return Ok(Some(Bytes::of(Vec::new(memory.allocator()))));
@@ -153,14 +156,6 @@ pub(crate) fn bytes_of<A: Allowance>(memory: &A, word: &[u8]) -> Result<Option<B
         return Ok(None);
     }
     decode(memory, word)
-}
-
-/// A copy of some bytes.
-fn copied<A: Allowance>(memory: &A, bytes: &[u8]) -> Result<Bytes, AllocError>
-    ensures { IfOk result (λ copy. copy ≡ bytes.now) }
-{
-    let copy = Vec::from_slice(memory.grant()?, bytes)?;
-    Ok(Bytes::of(copy))
 }
 
 /// The bytes between the quotes of a word.
@@ -176,7 +171,8 @@ fn inside_quotes(word: &[u8]) -> Option<&[u8]>
 
 /// The text that a word spells.
 pub(crate) fn text_of<A: Allowance>(memory: &A, word: &[u8]) -> Result<Option<Bytes>, AllocError>
-    ensures { IfOk result (λ text. text ≡ spelled_text word.now) }
+    ensures text { IfOk result (λ text. text ≡ spelled_text word.now) }
+    ensures short { OnErr result (A.is_short memory.now) }
 {
     if let Some(digits) = word.strip_prefix(b"x:") {
         return decode(memory, digits);
@@ -186,7 +182,7 @@ pub(crate) fn text_of<A: Allowance>(memory: &A, word: &[u8]) -> Result<Option<By
             if !are_printable(inside) {
                 return Ok(None);
             }
-            Ok(Some(copied(memory, inside)?))
+            Ok(Some(Bytes::of(allowance::copied(memory, inside)?)))
         }
         None => Ok(None),
     }

@@ -1,6 +1,6 @@
 //! What the words of a line stand for, by kind.
 
-ghost use Rattle.std.specs.Prelude.{◌≡◌, ◌++◌, ◌∷◌, [], false, true, IfOk, OnOk, MatchOption};
+ghost use Rattle.std.specs.Prelude.{◌≡◌, ◌++◌, ◌∷◌, [], false, true, IfOk, OnErr, OnOk, MatchOption};
 ghost use Rattle.script_lines.specs.Kinds.{read_word};
 ghost use Rattle.script_lines.specs.Views.{Adds, words_read};
 
@@ -9,7 +9,8 @@ use crate::line::{ChunkLabel, DatabaseLabel};
 use crate::spelling::{
     byte_of, bytes_of, flag_of, four_bytes_of, is_label, number_of, short_of, text_of, which_of,
 };
-use heap_model::{Allowance, Bytes, Which};
+use allowance::Allowance;
+use heap_model::{Bytes, Which};
 use std::alloc::{AllocError, Global};
 
 /// What a word of a command is to be.
@@ -76,12 +77,9 @@ impl Values {
         ensures values { OnOk result
             (self.new.values.items ≡ self.old.values.items ++ (value ∷ [])) }
         ensures bytes { self.new.bytes ≡ self.old.bytes }
+        ensures short { OnErr result (A.is_short memory.now) }
     {
-        memory.grant()?;
-        match self.values.push(value) {
-            Ok(()) => Ok(()),
-            Err(_) => Err(AllocError),
-        }
+        allowance::push(memory, &mut self.values, value)
     }
 
     /// Puts the number of a chunk's label behind the values, and answers whether the word is a label.
@@ -91,9 +89,10 @@ impl Values {
         word: &'a [u8],
         labels: &mut LabelTables<'a>,
     ) -> Result<bool, AllocError>
-        ensures { IfOk result (λ is_of_kind.
+        ensures adds { IfOk result (λ is_of_kind.
             Adds (read_word (words_read self.old labels.old) Kind.Chunk word.now)
             is_of_kind (words_read self.new labels.new)) }
+        ensures short { OnErr result (A.is_short memory.now) }
     {
         if !is_label(word) {
             return Ok(false);
@@ -110,9 +109,10 @@ impl Values {
         word: &'a [u8],
         labels: &mut LabelTables<'a>,
     ) -> Result<bool, AllocError>
-        ensures { IfOk result (λ is_of_kind.
+        ensures adds { IfOk result (λ is_of_kind.
             Adds (read_word (words_read self.old labels.old) Kind.Database word.now)
             is_of_kind (words_read self.new labels.new)) }
+        ensures short { OnErr result (A.is_short memory.now) }
     {
         if !is_label(word) {
             return Ok(false);
@@ -132,6 +132,7 @@ impl Values {
             (λ value. (is_there ≡ true)
             × (self.new.values.items ≡ self.old.values.items ++ (value ∷ [])))) }
         ensures bytes { self.new.bytes ≡ self.old.bytes }
+        ensures short { OnErr result (A.is_short memory.now) }
     {
         match value {
             Some(value) => {
@@ -165,9 +166,10 @@ impl Values {
         word: &'a [u8],
         labels: &mut LabelTables<'a>,
     ) -> Result<bool, AllocError>
-        ensures { IfOk result (λ is_of_kind.
+        ensures adds { IfOk result (λ is_of_kind.
             Adds (read_word (words_read self.old labels.old) kind word.now)
             is_of_kind (words_read self.new labels.new)) }
+        ensures short { OnErr result (A.is_short memory.now) }
     {
         match kind {
             Kind::Chunk => self.add_chunk(memory, word, labels),

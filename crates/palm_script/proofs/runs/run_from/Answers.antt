@@ -2,13 +2,25 @@ use Rattle.std.proofs.Common.{◌++◌, true, arith}
 use Rattle.std.specs.Option.{option_to_list}
 use Rattle.palm_text.proofs.Parts.{then}
 use Rattle.palm_script.specs.Lines.{reply_line, tables, unbound}
-use Rattle.palm_script.proofs.LineLaws.{one_further, breaks, room_is_left}
+use Rattle.palm_script.proofs.LineLaws.{all_lines, breaks, breaks_alone, one_further, room_is_left, runs_alone}
 use Rattle.palm_script.proofs.runs.run_from.Goals as goal
 
-pub returns-in-Err-clause-write : goal.returns-in-Err-clause-write
-returns-in-Err-clause-write g c = λ _.
+pub returns-in-Err-clause-write_short : goal.returns-in-Err-clause-write_short
+returns-in-Err-clause-write_short g c = λ _.
     breaks g.W.Write.contents c.args.inputs.now c.args.script.now c.args.store.now c.args.out.now c.loop-line.line-index c.line-item.result c.loop-line.invariant.text c.loop-line.files.items c.loop-line.store (tables c.loop-line.names c.loop-line.databases) c.loop-line.out c.do_line.new.store (tables c.do_line.new.names c.do_line.new.databases) c.do_line.new.out c.in-Err.field-0
     (rw c.lines-line-items.ensures at c.loop-line-test.true) (rw c.lines-line-items.ensures at c.line-item.is) c.loop-line.invariant.ran c.loop-line.invariant.written c.in-Err.ensures
+
+pub returns-in-Err-clause-write : goal.returns-in-Err-clause-write
+returns-in-Err-clause-write g c = λ _. breaks_alone g.W.Write.contents c.args.inputs.now c.args.script.now c.args.store.now c.args.out.now c.do_line.new.store c.do_line.new.out
+    (breaks g.W.Write.contents c.args.inputs.now c.args.script.now c.args.store.now c.args.out.now c.loop-line.line-index c.line-item.result c.loop-line.invariant.text c.loop-line.files.items c.loop-line.store (tables c.loop-line.names c.loop-line.databases) c.loop-line.out c.do_line.new.store (tables c.do_line.new.names c.do_line.new.databases) c.do_line.new.out c.in-Err.field-0
+    (rw c.lines-line-items.ensures at c.loop-line-test.true) (rw c.lines-line-items.ensures at c.line-item.is) c.loop-line.invariant.ran c.loop-line.invariant.written c.in-Err.ensures)
+
+pub returns-clause-ok_short : goal.returns-clause-ok_short
+returns-clause-ok_short g c = all_lines g.W.Write.contents c.args.inputs.now c.args.script.now c.args.store.now c.args.out.now c.loop-line.line-index c.loop-line.invariant.text c.loop-line.files.items c.loop-line.store (tables c.loop-line.names c.loop-line.databases) c.loop-line.out (rw c.lines-line-items.ensures at c.loop-line-test.false) c.loop-line.invariant.ran c.loop-line.invariant.written
+
+pub returns-clause-ok : goal.returns-clause-ok
+returns-clause-ok g c = runs_alone g.W.Write.contents c.args.inputs.now c.args.script.now c.args.store.now c.args.out.now c.loop-line.store c.loop-line.out c.loop-line.files.items
+    (all_lines g.W.Write.contents c.args.inputs.now c.args.script.now c.args.store.now c.args.out.now c.loop-line.line-index c.loop-line.invariant.text c.loop-line.files.items c.loop-line.store (tables c.loop-line.names c.loop-line.databases) c.loop-line.out (rw c.lines-line-items.ensures at c.loop-line-test.false) c.loop-line.invariant.ran c.loop-line.invariant.written)
 
 pub add_file-requires : goal.add_file-requires
 add_file-requires g c =

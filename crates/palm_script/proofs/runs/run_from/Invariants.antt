@@ -8,7 +8,7 @@ use Rattle.palm_script.proofs.runs.run_from.Given as goal
 abbrev pub invariant-loop-line : goal.invariant-loop-line
 invariant-loop-line g l = record {
   text : List ℕ;
-  ran : Lines l.inputs l.fn.store unbound (take l.line-index l.script) text l.files.items l.store (tables l.names l.databases);
+  ran : Lines (g.A.Allowance.is_short l.memory) l.inputs l.fn.store unbound (take l.line-index l.script) text l.files.items l.store (tables l.names l.databases);
   written : Writes g.W.Write.contents l.fn.out l.out text true;
   room : vec_capacity l.files ≡ count_by is_export l.script;
   used : vec_len l.files ≤ count_by is_export (take l.line-index l.script);
