@@ -9,7 +9,7 @@
 use clap::error::ErrorKind;
 use command_line::Request;
 use heap_model::{Bytes, Counted};
-use palmheap_commands::{check_region, cmd_new, run_region};
+use palmheap_commands::{check_region_from, cmd_new, run_region_from};
 use program_io::{
     InputFault, Noted, OutputFile, Status, put, read_input, report_fault, report_input_fault,
     report_outcome, report_write_fault,
@@ -110,7 +110,7 @@ fn check<R: Files + Print + Eprint + AllocGlobal>(rt: &R, path: &str) -> Status 
         Err(status) => return status,
     };
     let mut out = Counted::new(Noted::new(io::writer(rt)));
-    let status = check_region(rt.alloc(), &image, &mut out);
+    let status = check_region_from(&rt.alloc(), &image, &mut out);
     let (_, fault) = out.into_inner().into_parts();
     report_outcome(rt, status, &[(STANDARD_OUTPUT, fault)]);
     status
@@ -160,8 +160,8 @@ fn run_to<R: Files + Print + Eprint + AllocGlobal>(
     };
     let (mut image_out, mut out) = (Counted::new(Noted::new(image_out)), Counted::new(out));
     let mut files = Vec::new(rt.alloc());
-    let status = run_region(
-        rt.alloc(),
+    let status = run_region_from(
+        &rt.alloc(),
         image,
         script,
         inputs,

@@ -1,4 +1,5 @@
--- What `run` prints and writes. Where a definition ends in a `Bool`, it says whether all got through.
+-- What `run` prints and writes. Where a definition ends in a `Bool`, it says whether all got through. Where one begins
+-- with `short`, a line was refused for want of memory only where that holds.
 use Rattle.std.specs.Prelude.{◌≡◌, ◌⊎◌, ℕ, Bool, true, false, List, Option, Some, Ok, Err}
 use Rattle.heap_model.specs.Memory.{Memory}
 use Rattle.heap_model.specs.Counted.{Writing}
@@ -6,7 +7,7 @@ use Rattle.heap_model.specs.Store.{Accepted}
 use Rattle.script_lines.specs.Reading.{read_script}
 use Rattle.script_lines.specs.declared.fault.LineFault.{LineFault}
 use Rattle.script_lines.specs.declared.line.Line.{Line}
-use Rattle.palm_script.specs.Lines.{BreaksOff, RunsThrough}
+use Rattle.palm_script.specs.Lines.{BreaksOffShort, RunsThroughShort}
 use Rattle.program_io.specs.FaultLines.{PutsBad, PutsFault}
 use Rattle.program_io.specs.Output.{Puts}
 
@@ -19,30 +20,30 @@ PutsRefusal image script contents old new ok =
 
 -- The lines of a script were run, all of their text was written and no write failed, and then the writer
 -- was flushed, which got through or didn't. These are the files that the lines export.
-pub record RunsAndFlushes {V : Type 0} (contents : V → Option (List ℕ)) (inputs : List (List ℕ)) (lines : List Line) (region : Memory) (old : Writing V) (region_after : Memory) (new : Writing V) (files : List (List ℕ)) (ok : Bool) : Type 0 where
-  pub ran : RunsThrough contents inputs lines region old region_after new files
+pub record RunsAndFlushes {V : Type 0} (short : Type 0) (contents : V → Option (List ℕ)) (inputs : List (List ℕ)) (lines : List Line) (region : Memory) (old : Writing V) (region_after : Memory) (new : Writing V) (files : List (List ℕ)) (ok : Bool) : Type 0 where
+  pub ran : RunsThroughShort short contents inputs lines region old region_after new files
   pub flushed : new.flushed ≡ Some ok
 
 -- A write failed in the reply line of some line of a script, which leaves this region; or the lines were
 -- run, all of their text was written, no write failed, and the flush behind it did.
-abbrev pub PrintingFails : {V : Type 0} → (V → Option (List ℕ)) → List (List ℕ) → List Line → Memory → Writing V → Memory → Writing V → Type 0
-PrintingFails contents inputs lines region old region_after new =
-    BreaksOff contents inputs lines region old region_after new
-    ⊎ ((files : List (List ℕ)) × RunsAndFlushes contents inputs lines region old region_after new files false)
+abbrev pub PrintingFails : {V : Type 0} → Type 0 → (V → Option (List ℕ)) → List (List ℕ) → List Line → Memory → Writing V → Memory → Writing V → Type 0
+PrintingFails short contents inputs lines region old region_after new =
+    BreaksOffShort short contents inputs lines region old region_after new
+    ⊎ ((files : List (List ℕ)) × RunsAndFlushes short contents inputs lines region old region_after new files false)
 
 -- The lines of a script were run on a region, and their text printed and flushed; and the image that came
 -- of it was written.
-pub record RunsAndWrites {W V : Type 0} (inputs : List (List ℕ)) (lines : List Line) (region : Memory) (contents : V → Option (List ℕ)) (old new : Writing V) (image_contents : W → Option (List ℕ)) (image_old image_new : Writing W) (files : List (List ℕ)) (ok : Bool) : Type 0 where
+pub record RunsAndWrites {W V : Type 0} (short : Type 0) (inputs : List (List ℕ)) (lines : List Line) (region : Memory) (contents : V → Option (List ℕ)) (old new : Writing V) (image_contents : W → Option (List ℕ)) (image_old image_new : Writing W) (files : List (List ℕ)) (ok : Bool) : Type 0 where
   pub region_after : Memory
-  pub prints : RunsAndFlushes contents inputs lines region old region_after new files true
+  pub prints : RunsAndFlushes short contents inputs lines region old region_after new files true
   pub accepted : Accepted region_after.bytes
   pub written : Puts image_contents image_old image_new region_after.bytes ok
 
 -- The lines of a script were run on a region, and a write or a flush failed, behind which nothing was written:
 -- it was one of their text, and no image was written; or it was one of the image, behind all of the text.
-pub record EndsEarly {W V : Type 0} (inputs : List (List ℕ)) (lines : List Line) (region : Memory) (contents : V → Option (List ℕ)) (old new : Writing V) (image_contents : W → Option (List ℕ)) (image_old image_new : Writing W) : Type 0 where
-  pub failed : ((region_after : Memory) × PrintingFails contents inputs lines region old region_after new × (image_new ≡ image_old))
-      ⊎ ((files : List (List ℕ)) × RunsAndWrites inputs lines region contents old new image_contents image_old image_new files false)
+pub record EndsEarly {W V : Type 0} (short : Type 0) (inputs : List (List ℕ)) (lines : List Line) (region : Memory) (contents : V → Option (List ℕ)) (old new : Writing V) (image_contents : W → Option (List ℕ)) (image_old image_new : Writing W) : Type 0 where
+  pub failed : ((region_after : Memory) × PrintingFails short contents inputs lines region old region_after new × (image_new ≡ image_old))
+      ⊎ ((files : List (List ℕ)) × RunsAndWrites short inputs lines region contents old new image_contents image_old image_new files false)
 
 -- These are the lines of the script of a text, and a region of these bytes, an accepted image.
 pub record ReadsAs (image script : List ℕ) (lines : List Line) (region : Memory) : Type 0 where
@@ -52,15 +53,22 @@ pub record ReadsAs (image script : List ℕ) (lines : List Line) (region : Memor
 
 -- The script of a text was run on a region of these bytes, an accepted image, and its text printed and
 -- flushed; and the image that came of it was written. These are the files that it exports.
-abbrev pub RunsScript : {W V : Type 0} → (image script : List ℕ) → List (List ℕ) → (V → Option (List ℕ)) → Writing V → Writing V → (W → Option (List ℕ)) → Writing W → Writing W → List (List ℕ) → Bool → Type 0
-RunsScript image script inputs contents old new image_contents image_old image_new files ok =
+abbrev pub RunsScriptShort : {W V : Type 0} → Type 0 → (image script : List ℕ) → List (List ℕ) → (V → Option (List ℕ)) → Writing V → Writing V → (W → Option (List ℕ)) → Writing W → Writing W → List (List ℕ) → Bool → Type 0
+RunsScriptShort short image script inputs contents old new image_contents image_old image_new files ok =
     (lines : List Line) × (region : Memory) × ReadsAs image script lines region
-    × RunsAndWrites inputs lines region contents old new image_contents image_old image_new files ok
+    × RunsAndWrites short inputs lines region contents old new image_contents image_old image_new files ok
 
 -- A write or a flush failed in `run`, and nothing was written after it: it was one of the line for a
 -- refusal, and no image was written; or one behind it, in the text of the script's lines or in the image.
-abbrev pub RunBreaksOff : {W V : Type 0} → (image script : List ℕ) → List (List ℕ) → (V → Option (List ℕ)) → Writing V → Writing V → (W → Option (List ℕ)) → Writing W → Writing W → Type 0
-RunBreaksOff image script inputs contents old new image_contents image_old image_new =
+abbrev pub RunBreaksOffShort : {W V : Type 0} → Type 0 → (image script : List ℕ) → List (List ℕ) → (V → Option (List ℕ)) → Writing V → Writing V → (W → Option (List ℕ)) → Writing W → Writing W → Type 0
+RunBreaksOffShort short image script inputs contents old new image_contents image_old image_new =
     (PutsRefusal image script contents old new false × (image_new ≡ image_old))
     ⊎ ((lines : List Line) × (region : Memory) × ReadsAs image script lines region
-    × EndsEarly inputs lines region contents old new image_contents image_old image_new)
+    × EndsEarly short inputs lines region contents old new image_contents image_old image_new)
+
+-- the same, where nothing is known of memory
+abbrev pub RunsScript : {W V : Type 0} → (image script : List ℕ) → List (List ℕ) → (V → Option (List ℕ)) → Writing V → Writing V → (W → Option (List ℕ)) → Writing W → Writing W → List (List ℕ) → Bool → Type 0
+RunsScript image script inputs contents old new image_contents image_old image_new files ok = RunsScriptShort (Unit {0}) image script inputs contents old new image_contents image_old image_new files ok
+
+abbrev pub RunBreaksOff : {W V : Type 0} → (image script : List ℕ) → List (List ℕ) → (V → Option (List ℕ)) → Writing V → Writing V → (W → Option (List ℕ)) → Writing W → Writing W → Type 0
+RunBreaksOff image script inputs contents old new image_contents image_old image_new = RunBreaksOffShort (Unit {0}) image script inputs contents old new image_contents image_old image_new

@@ -1,6 +1,6 @@
 //! The commands `new` and `check`, over bytes and writers.
 
-ghost use Rattle.std.specs.Prelude.{◌≡◌, ◌≢◌, codes, true, false, IfOk, string_bytes};
+ghost use Rattle.std.specs.Prelude.{◌≡◌, ◌≢◌, codes, true, false, IfOk, OnErr, string_bytes};
 ghost use Rattle.heap_model.specs.Store.{Accepted};
 ghost use Rattle.chunk_format.specs.Blank.{IsRegionSize, LeavesRoom};
 ghost use Rattle.palmheap_commands.specs.Commands.{NewBreaksOff, PutsBlank, PutsSummary};
@@ -9,14 +9,15 @@ ghost use Rattle.program_io.specs.FaultLines.{PutsBad};
 ghost use Rattle.program_io.specs.Output.{Puts};
 
 use crate::images::put_image;
-use chunk_format::{BlankFault, blank};
+use allowance::Allowance;
+use chunk_format::{BlankFault, blank_from};
 use heap_check::Summary;
 use heap_model::Counted;
 use program_io::{Status, say, say_bad, say_text};
 use raw_region::Region;
 use std::alloc::{AllocError, Global};
 use std::io::Write;
-use store_check::{StoreFault, StoreSummary, check_store};
+use store_check::{StoreFault, StoreSummary, check_store_from};
 
 /// Writes a blank image of this size and slot count to `image_out`, and then `ok` to `out`.
 ///
@@ -42,10 +43,36 @@ pub fn cmd_new<W: Write, V: Write>(
     ensures not_refused { result ≢ Status.Refused }
     ensures reads_nothing { result ≢ Status.ReadFault }
 {
-    let region = match blank(alloc, size, slots) {
+    cmd_new_from(&alloc, size, slots, image_out, out)
+}
+
+/// `cmd_new`, where each growth asks for a grant.
+pub fn cmd_new_from<A: Allowance, W: Write, V: Write>(
+    memory: &A,
+    size: u32,
+    slots: u16,
+    image_out: &mut Counted<W>,
+    out: &mut Counted<V>,
+) -> Status
+    ensures image { result ≡ Status.Done
+        → PutsBlank size slots W.contents image_out.old image_out.new true }
+    ensures ok { result ≡ Status.Done → Puts V.contents out.old out.new (codes "ok\n") true }
+    ensures bad_words { result ≡ Status.BadWords → PutsBad V.contents out.old out.new true }
+    ensures no_such_image { result ≡ Status.BadWords
+        → IsRegionSize size × LeavesRoom size slots → ⊥ }
+    ensures no_image { result ≡ Status.BadWords → image_out.new ≡ image_out.old }
+    ensures no_memory { result ≡ Status.NoMemory
+        → (image_out.new ≡ image_out.old) × (out.new ≡ out.old) }
+    ensures write_fault { result ≡ Status.WriteFault → NewBreaksOff size slots
+        W.contents image_out.old image_out.new V.contents out.old out.new }
+    ensures not_refused { result ≢ Status.Refused }
+    ensures reads_nothing { result ≢ Status.ReadFault }
+    ensures short { result ≡ Status.NoMemory → A.is_short memory.now }
+{
+    let region = match blank_from(memory, size, slots) {
         Ok(region) => region,
         Err(BlankFault::OutOfMemory) => return Status::NoMemory,
-        Err(fault) => return say_bad(alloc, fault, Status::BadWords, out),
+        Err(fault) => return say_bad(memory, fault, Status::BadWords, out),
     };
     match put_image(image_out, &region) {
         Ok(()) => say(b"ok\n", Status::Done, out),
@@ -68,14 +95,41 @@ pub fn cmd_check<V: Write>(alloc: Global, image: &[u8], out: &mut Counted<V>) ->
     ensures good_words { result ≢ Status.BadWords }
     ensures reads_nothing { result ≢ Status.ReadFault }
 {
-    match Region::from_bytes(alloc, image) {
-        Ok(region) => check_region(alloc, &region, out),
+    cmd_check_from(&alloc, image, out)
+}
+
+/// `cmd_check`, where each growth asks for a grant.
+pub fn cmd_check_from<A: Allowance, V: Write>(
+    memory: &A,
+    image: &[u8],
+    out: &mut Counted<V>,
+) -> Status
+    ensures done { result ≡ Status.Done
+        → PutsSummary image.now V.contents out.old out.new true }
+    ensures accepted { result ≡ Status.Done → Accepted image.now }
+    ensures refused { result ≡ Status.Refused → Accepted image.now → ⊥ }
+    ensures fault { result ≡ Status.Refused → PutsBad V.contents out.old out.new true }
+    ensures no_memory { result ≡ Status.NoMemory → out.new ≡ out.old }
+    ensures summary_fault { result ≡ Status.WriteFault → Accepted image.now
+        → PutsSummary image.now V.contents out.old out.new false }
+    ensures bad_fault { result ≡ Status.WriteFault → (Accepted image.now → ⊥)
+        → PutsBad V.contents out.old out.new false }
+    ensures good_words { result ≢ Status.BadWords }
+    ensures reads_nothing { result ≢ Status.ReadFault }
+    ensures short { result ≡ Status.NoMemory → A.is_short memory.now }
+{
+    match Region::copied_from(memory, image) {
+        Ok(region) => check_region_from(memory, &region, out),
         Err(_) => Status::NoMemory,
     }
 }
 
-/// `cmd_check`, of an image that lies in a region. It makes no copy of it.
-pub fn check_region<V: Write>(alloc: Global, region: &Region, out: &mut Counted<V>) -> Status
+/// `cmd_check_from`, of an image that lies in a region. It makes no copy of it.
+pub fn check_region_from<A: Allowance, V: Write>(
+    memory: &A,
+    region: &Region,
+    out: &mut Counted<V>,
+) -> Status
     ensures done { result ≡ Status.Done
         → PutsSummary region.now.bytes V.contents out.old out.new true }
     ensures accepted { result ≡ Status.Done → Accepted region.now.bytes }
@@ -88,26 +142,29 @@ pub fn check_region<V: Write>(alloc: Global, region: &Region, out: &mut Counted<
         → PutsBad V.contents out.old out.new false }
     ensures good_words { result ≢ Status.BadWords }
     ensures reads_nothing { result ≢ Status.ReadFault }
+    ensures short { result ≡ Status.NoMemory → A.is_short memory.now }
 {
-    match check_store(alloc, region) {
-        Ok(summary) => say_text(summary_text(alloc, &summary), Status::Done, out),
+    match check_store_from(memory, region) {
+        Ok(summary) => say_text(summary_text(memory, &summary), Status::Done, out),
         Err(fault) if fault == StoreFault::OutOfMemory => Status::NoMemory,
-        Err(fault) => say_bad(alloc, fault, Status::Refused, out),
+        Err(fault) => say_bad(memory, fault, Status::Refused, out),
     }
 }
 
 /// The lines for an accepted image.
-fn summary_text(alloc: Global, summary: &StoreSummary) -> Result<String, AllocError>
-    ensures { IfOk result (λ lines. string_bytes lines ≡ summary_lines summary.now) }
+fn summary_text<A: Allowance>(memory: &A, summary: &StoreSummary) -> Result<String, AllocError>
+    ensures lines { IfOk result (λ lines. string_bytes lines ≡ summary_lines summary.now) }
+    ensures short { OnErr result (A.is_short memory.now) }
 {
-    let line = heap_text(alloc, &summary.heap)?;
+    let line = heap_text(memory, &summary.heap)?;
     let databases = summary.databases;
-    format!(in alloc; "{line}databases {databases}\n")
+    memory.outcome(format!(in memory.grant()?; "{line}databases {databases}\n"))
 }
 
 /// The line for an accepted heap.
-fn heap_text(alloc: Global, summary: &Summary) -> Result<String, AllocError>
-    ensures { IfOk result (λ line. string_bytes line ≡ heap_line summary.now) }
+fn heap_text<A: Allowance>(memory: &A, summary: &Summary) -> Result<String, AllocError>
+    ensures line { IfOk result (λ line. string_bytes line ≡ heap_line summary.now) }
+    ensures short { OnErr result (A.is_short memory.now) }
 {
     let Summary {
         size,
@@ -116,5 +173,8 @@ fn heap_text(alloc: Global, summary: &Summary) -> Result<String, AllocError>
         fixed,
         free,
     } = *summary;
-    format!(in alloc; "ok size {size} slots {slots} movable {movable} fixed {fixed} free {free}\n")
+    let alloc = memory.grant()?;
+    memory.outcome(format!(in alloc;
+        "ok size {size} slots {slots} movable {movable} fixed {fixed} free {free}\n"
+    ))
 }

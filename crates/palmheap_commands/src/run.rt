@@ -3,15 +3,17 @@
 ghost use Rattle.std.specs.Prelude.{◌≡◌, ◌≢◌, ◌⊎◌, Ok, Err, IfOk, IfErr, OnOk, true, false};
 ghost use Rattle.heap_model.specs.Store.{Accepted};
 ghost use Rattle.script_lines.specs.Reading.{read_script};
-ghost use Rattle.palmheap_commands.specs.Runs.{EndsEarly, PrintingFails, PutsRefusal, RunBreaksOff};
-ghost use Rattle.palmheap_commands.specs.Runs.{RunsAndFlushes, RunsAndWrites, RunsScript};
+ghost use Rattle.palmheap_commands.specs.Runs.{EndsEarly, PrintingFails, PutsRefusal, RunBreaksOff, RunBreaksOffShort};
+ghost use Rattle.palmheap_commands.specs.Runs.{RunsAndFlushes, RunsAndWrites, RunsScript, RunsScriptShort};
 
 use crate::images::put_image;
+use allowance::Allowance;
 use heap_model::{Bytes, Counted};
-use palm_script::{RunFault, Script, ScriptFault, parse, run};
+use palm_script::{RunFault, Script, ScriptFault, run_from};
 use palm_store::{NotAStore, Store, StoreFault};
 use program_io::{Status, say_bad, say_line_fault};
 use raw_region::Region;
+use script_lines::parse_from;
 use std::alloc::Global;
 use std::io::Write;
 
@@ -42,15 +44,48 @@ pub fn cmd_run<W: Write, V: Write>(
     ensures good_words { result ≢ Status.BadWords }
     ensures reads_nothing { result ≢ Status.ReadFault }
 {
-    match Region::from_bytes(alloc, image) {
-        Ok(region) => run_region(alloc, region, script, inputs, image_out, files, out),
+    cmd_run_from(&alloc, image, script, inputs, image_out, files, out)
+}
+
+/// `cmd_run`, where each growth asks for a grant.
+pub fn cmd_run_from<A: Allowance, W: Write, V: Write>(
+    memory: &A,
+    image: &[u8],
+    script: &[u8],
+    inputs: &[Bytes],
+    image_out: &mut Counted<W>,
+    files: &mut Vec<Bytes>,
+    out: &mut Counted<V>,
+) -> Status
+    ensures done { result ≡ Status.Done → RunsScript image.now script.now inputs.now
+        V.contents out.old out.new W.contents image_out.old image_out.new files.new.items true }
+    ensures files_kept { result ≢ Status.Done → files.new ≡ files.old }
+    ensures refused { result ≡ Status.Refused
+        → PutsRefusal image.now script.now V.contents out.old out.new true }
+    ensures no_image { result ≡ Status.Refused → image_out.new ≡ image_out.old }
+    ensures no_memory { result ≡ Status.NoMemory
+        → (image_out.new ≡ image_out.old) × (out.new ≡ out.old) }
+    ensures write_fault { result ≡ Status.WriteFault → RunBreaksOff image.now script.now inputs.now
+        V.contents out.old out.new W.contents image_out.old image_out.new }
+    ensures good_words { result ≢ Status.BadWords }
+    ensures reads_nothing { result ≢ Status.ReadFault }
+    ensures short { result ≡ Status.NoMemory → A.is_short memory.now }
+    ensures done_short { result ≡ Status.Done → RunsScriptShort (A.is_short memory.now)
+        image.now script.now inputs.now
+        V.contents out.old out.new W.contents image_out.old image_out.new files.new.items true }
+    ensures write_short { result ≡ Status.WriteFault → RunBreaksOffShort (A.is_short memory.now)
+        image.now script.now inputs.now
+        V.contents out.old out.new W.contents image_out.old image_out.new }
+{
+    match Region::copied_from(memory, image) {
+        Ok(region) => run_region_from(memory, region, script, inputs, image_out, files, out),
         Err(_) => Status::NoMemory,
     }
 }
 
-/// `cmd_run`, on an image that lies in a region. It makes no copy of it.
-pub fn run_region<W: Write, V: Write>(
-    alloc: Global,
+/// `cmd_run_from`, on an image that lies in a region. It makes no copy of it.
+pub fn run_region_from<A: Allowance, W: Write, V: Write>(
+    memory: &A,
     region: Region,
     script: &[u8],
     inputs: &[Bytes],
@@ -71,17 +106,24 @@ pub fn run_region<W: Write, V: Write>(
         V.contents out.old out.new W.contents image_out.old image_out.new }
     ensures good_words { result ≢ Status.BadWords }
     ensures reads_nothing { result ≢ Status.ReadFault }
+    ensures short { result ≡ Status.NoMemory → A.is_short memory.now }
+    ensures done_short { result ≡ Status.Done → RunsScriptShort (A.is_short memory.now)
+        region.bytes script.now inputs.now
+        V.contents out.old out.new W.contents image_out.old image_out.new files.new.items true }
+    ensures write_short { result ≡ Status.WriteFault → RunBreaksOffShort (A.is_short memory.now)
+        region.bytes script.now inputs.now
+        V.contents out.old out.new W.contents image_out.old image_out.new }
 {
-    match read(alloc, region, script, out) {
-        Ok((store, script)) => run_script(alloc, store, &script, inputs, image_out, files, out),
+    match read(memory, region, script, out) {
+        Ok((store, script)) => run_script(memory, store, &script, inputs, image_out, files, out),
         Err(status) => status,
     }
 }
 
 /// The store of an image, and the script of a text. What is refused is said, the image before the
 /// script.
-fn read<V: Write>(
-    alloc: Global,
+fn read<A: Allowance, V: Write>(
+    memory: &A,
     region: Region,
     script: &[u8],
     out: &mut Counted<V>,
@@ -97,8 +139,9 @@ fn read<V: Write>(
     ensures write { result ≡ Err Status.WriteFault
         → PutsRefusal region.bytes script.now V.contents out.old out.new false }
     ensures memory { result ≡ Err Status.NoMemory → out.new ≡ out.old }
+    ensures short { result ≡ Err Status.NoMemory → A.is_short memory.now }
 {
-    let store = match Store::check(alloc, region) {
+    let store = match Store::check_from(memory, region) {
         Ok(store) => store,
         Err(
             NotAStore {
@@ -106,18 +149,18 @@ fn read<V: Write>(
                 ..
             },
         ) => return Err(Status::NoMemory),
-        Err(error) => return Err(say_bad(alloc, error.fault, Status::Refused, out)),
+        Err(error) => return Err(say_bad(memory, error.fault, Status::Refused, out)),
     };
-    match parse(alloc, script) {
+    match parse_from(memory, script) {
         Ok(script) => Ok((store, script)),
         Err(fault) if fault.fault == ScriptFault::OutOfMemory => Err(Status::NoMemory),
-        Err(fault) => Err(say_line_fault(alloc, fault, out)),
+        Err(fault) => Err(say_line_fault(memory, fault, out)),
     }
 }
 
 /// Runs a script on a store, prints its reply lines, and then writes the image.
-fn run_script<W: Write, V: Write>(
-    alloc: Global,
+fn run_script<A: Allowance, W: Write, V: Write>(
+    memory: &A,
     mut store: Store,
     script: &Script,
     inputs: &[Bytes],
@@ -127,15 +170,22 @@ fn run_script<W: Write, V: Write>(
 ) -> Status
     ensures statuses { (result ≡ Status.Done) ⊎ (result ≡ Status.WriteFault)
         ⊎ (result ≡ Status.NoMemory) }
-    ensures done { result ≡ Status.Done → RunsAndWrites inputs.now script.now store
+    ensures done { result ≡ Status.Done → RunsAndWrites (Unit {0}) inputs.now script.now store
         V.contents out.old out.new W.contents image_out.old image_out.new files.new.items true }
     ensures files_kept { result ≢ Status.Done → files.new ≡ files.old }
-    ensures write_fault { result ≡ Status.WriteFault → EndsEarly inputs.now script.now store
+    ensures write_fault { result ≡ Status.WriteFault → EndsEarly (Unit {0}) inputs.now script.now store
         V.contents out.old out.new W.contents image_out.old image_out.new }
     ensures no_memory { result ≡ Status.NoMemory
         → (image_out.new ≡ image_out.old) × (out.new ≡ out.old) }
+    ensures short { result ≡ Status.NoMemory → A.is_short memory.now }
+    ensures done_short { result ≡ Status.Done → RunsAndWrites (A.is_short memory.now)
+        inputs.now script.now store
+        V.contents out.old out.new W.contents image_out.old image_out.new files.new.items true }
+    ensures write_short { result ≡ Status.WriteFault → EndsEarly (A.is_short memory.now)
+        inputs.now script.now store
+        V.contents out.old out.new W.contents image_out.old image_out.new }
 {
-    let exported = match print_replies(alloc, &mut store, script, inputs, out) {
+    let exported = match print_replies(memory, &mut store, script, inputs, out) {
         Ok(exported) => exported,
         Err(status) => return status,
     };
@@ -149,22 +199,27 @@ fn run_script<W: Write, V: Write>(
 }
 
 /// Runs a script, and prints its reply lines.
-fn print_replies<V: Write>(
-    alloc: Global,
+fn print_replies<A: Allowance, V: Write>(
+    memory: &A,
     store: &mut Store,
     script: &Script,
     inputs: &[Bytes],
     out: &mut Counted<V>,
 ) -> Result<Vec<Bytes>, Status>
-    ensures ok { IfOk result (λ files. RunsAndFlushes V.contents inputs.now script.now
+    ensures ok { IfOk result (λ files. RunsAndFlushes (Unit {0}) V.contents inputs.now script.now
         store.old out.old store.new out.new files.items true) }
     ensures faults { IfErr result (λ status.
         (status ≡ Status.WriteFault) ⊎ (status ≡ Status.NoMemory)) }
-    ensures write { result ≡ Err Status.WriteFault → PrintingFails V.contents inputs.now script.now
+    ensures write { result ≡ Err Status.WriteFault → PrintingFails (Unit {0}) V.contents inputs.now script.now
         store.old out.old store.new out.new }
     ensures memory { result ≡ Err Status.NoMemory → out.new ≡ out.old }
+    ensures short { result ≡ Err Status.NoMemory → A.is_short memory.now }
+    ensures ok_short { IfOk result (λ files. RunsAndFlushes (A.is_short memory.now) V.contents
+        inputs.now script.now store.old out.old store.new out.new files.items true) }
+    ensures write_short { result ≡ Err Status.WriteFault → PrintingFails (A.is_short memory.now)
+        V.contents inputs.now script.now store.old out.old store.new out.new }
 {
-    match run(alloc, store, script, inputs, out) {
+    match run_from(memory, store, script, inputs, out) {
         Ok(files) => match out.flush() {
             Ok(()) => Ok(files),
             Err(_) => Err(Status::WriteFault),

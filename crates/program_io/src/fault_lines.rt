@@ -1,19 +1,20 @@
 //! The lines for what is refused.
 
-ghost use Rattle.std.specs.Prelude.{◌≡◌, ◌⊎◌, IfOk, string_bytes, true, false};
+ghost use Rattle.std.specs.Prelude.{◌≡◌, ◌⊎◌, IfOk, OnErr, string_bytes, true, false};
 ghost use Rattle.program_io.specs.FaultLines.{IsBadLine, IsFaultLine, PutsBad, PutsFault};
 
 use crate::output::say_text;
 use crate::status::Status;
+use allowance::Allowance;
 use heap_model::Counted;
 use script_lines::LineFault;
-use std::alloc::{AllocError, Global};
+use std::alloc::AllocError;
 use std::fmt::Display;
 use std::io::Write;
 
 /// Prints `bad` and a fault, and answers `status`.
-pub fn say_bad<V: Write, F: Display + Drop>(
-    alloc: Global,
+pub fn say_bad<A: Allowance, V: Write, F: Display + Drop>(
+    memory: &A,
     fault: F,
     status: Status,
     out: &mut Counted<V>,
@@ -23,33 +24,41 @@ pub fn say_bad<V: Write, F: Display + Drop>(
     ensures said { result ≡ status → PutsBad V.contents out.old out.new true }
     ensures fault { result ≡ Status.WriteFault → PutsBad V.contents out.old out.new false }
     ensures no_memory { result ≡ Status.NoMemory → out.new ≡ out.old }
+    ensures short { result ≡ Status.NoMemory → A.is_short memory.now }
 {
-    say_text(bad_text(alloc, fault), status, out)
+    say_text(bad_text(memory, fault), status, out)
 }
 
 /// The line for a fault.
-fn bad_text<F: Display + Drop>(alloc: Global, fault: F) -> Result<String, AllocError>
-    ensures { IfOk result (λ line. IsBadLine (string_bytes line)) }
+fn bad_text<A: Allowance, F: Display + Drop>(memory: &A, fault: F) -> Result<String, AllocError>
+    ensures line { IfOk result (λ line. IsBadLine (string_bytes line)) }
+    ensures short { OnErr result (A.is_short memory.now) }
 {
-    let text = format!(in alloc; "{fault}")?;
-    format!(in alloc; "bad {text}\n")
+    let text = memory.outcome(format!(in memory.grant()?; "{fault}"))?;
+    memory.outcome(format!(in memory.grant()?; "bad {text}\n"))
 }
 
 /// Prints the line for a refused script.
-pub fn say_line_fault<V: Write>(alloc: Global, fault: LineFault, out: &mut Counted<V>) -> Status
+pub fn say_line_fault<A: Allowance, V: Write>(
+    memory: &A,
+    fault: LineFault,
+    out: &mut Counted<V>,
+) -> Status
     ensures status { (result ≡ Status.Refused) ⊎ (result ≡ Status.WriteFault)
         ⊎ (result ≡ Status.NoMemory) }
     ensures said { result ≡ Status.Refused → PutsFault fault V.contents out.old out.new true }
     ensures fault { result ≡ Status.WriteFault → PutsFault fault V.contents out.old out.new false }
     ensures no_memory { result ≡ Status.NoMemory → out.new ≡ out.old }
+    ensures short { result ≡ Status.NoMemory → A.is_short memory.now }
 {
-    say_text(line_fault_text(alloc, fault), Status::Refused, out)
+    say_text(line_fault_text(memory, fault), Status::Refused, out)
 }
 
 /// The line for a refused script.
-fn line_fault_text(alloc: Global, fault: LineFault) -> Result<String, AllocError>
-    ensures { IfOk result (λ line. IsFaultLine fault (string_bytes line)) }
+fn line_fault_text<A: Allowance>(memory: &A, fault: LineFault) -> Result<String, AllocError>
+    ensures line { IfOk result (λ line. IsFaultLine fault (string_bytes line)) }
+    ensures short { OnErr result (A.is_short memory.now) }
 {
-    let text = format!(in alloc; "{}", fault.fault)?;
-    format!(in alloc; "line {} {text}\n", fault.line)
+    let text = memory.outcome(format!(in memory.grant()?; "{}", fault.fault))?;
+    memory.outcome(format!(in memory.grant()?; "line {} {text}\n", fault.line))
 }

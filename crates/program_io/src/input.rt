@@ -1,9 +1,9 @@
 //! Reading an input file.
 
-ghost use Rattle.std.specs.Prelude.{◌≡◌, ◌+◌, ◌≤◌, ◌<◌, IfOk, OnOk, IfSome, vec_len, length};
+ghost use Rattle.std.specs.Prelude.{◌≡◌, ◌+◌, ◌++◌, ◌≤◌, ◌<◌, IfOk, OnOk, OnErr, IfSome, vec_len, length};
 ghost use Rattle.std.specs.Io.KnownBytes.{IsAtEnd, Keeps, prepend_known};
 
-use heap_model::Allowance;
+use allowance::{Allowance, zeros};
 use std::alloc::{AllocError, Global};
 use std::io;
 use std::io::{ErrorKind, Read};
@@ -68,8 +68,9 @@ pub fn read_input_from<A: Allowance, R: Read>(
     ensures end { OnOk result (IsAtEnd (R.remaining reader.new)) }
     ensures too_long { result ≡ Err InputFault.TooLong
         → IfSome (R.remaining reader.old) (λ all. INPUT_LIMIT < length all) }
+    ensures no_memory { result ≡ Err InputFault.Memory → A.is_short memory.now }
 {
-    let Ok(mut turn) = zeros(memory, TURN) else {
+    let Ok(mut turn) = buffer(memory, TURN) else {
         return Err(InputFault::Memory);
     };
     let mut bytes = Vec::new(memory.allocator());
@@ -78,10 +79,11 @@ pub fn read_input_from<A: Allowance, R: Read>(
 }
 
 /// A buffer of `n` bytes.
-fn zeros<A: Allowance>(memory: &A, n: usize) -> Result<Vec<u8>, AllocError>
-    ensures { IfOk result (λ buffer. length buffer.items ≡ n) }
+fn buffer<A: Allowance>(memory: &A, n: usize) -> Result<Vec<u8>, AllocError>
+    ensures len { IfOk result (λ buffer. length buffer.items ≡ n) }
+    ensures short { OnErr result (A.is_short memory.now) }
 {
-    vec![in memory.grant()?; 0u8; n]
+    zeros(memory, n)
 }
 
 /// Reads once, and keeps what came behind `bytes`. Answers how many bytes came.
@@ -102,6 +104,7 @@ fn read_turn<A: Allowance, R: Read>(
     ensures too_long { result ≡ Err InputFault.TooLong
         → IfSome (prepend_known bytes.old.items (R.remaining reader.old))
         (λ all. INPUT_LIMIT < length all) }
+    ensures no_memory { result ≡ Err InputFault.Memory → A.is_short memory.now }
 {
     let n = match reader.read(turn) {
         Ok(n) => n,
@@ -110,11 +113,20 @@ fn read_turn<A: Allowance, R: Read>(
     if n > INPUT_LIMIT - bytes.len() {
         return Err(InputFault::TooLong);
     }
-    if n > 0 && memory.grant().is_err() {
-        return Err(InputFault::Memory);
-    }
-    match bytes.extend_from_slice(&turn[..n]) {
+    match extend(memory, bytes, &turn[..n]) {
         Ok(()) => Ok(n),
         Err(_) => Err(InputFault::Memory),
     }
+}
+
+/// Puts bytes behind others. No bytes take no memory.
+fn extend<A: Allowance>(memory: &A, bytes: &mut Vec<u8>, more: &[u8]) -> Result<(), AllocError>
+    ensures items { OnOk result (bytes.new.items ≡ bytes.old.items ++ more.now) }
+    ensures short { OnErr result (A.is_short memory.now) }
+{
+    if more.is_empty() {
+        return Ok(());
+    }
+    memory.grant()?;
+    memory.outcome(bytes.extend_from_slice(more))
 }

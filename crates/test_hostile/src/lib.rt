@@ -9,6 +9,8 @@ mod bytes;
 #[cfg(test)]
 mod changes;
 #[cfg(test)]
+mod commands;
+#[cfg(test)]
 mod growths;
 #[cfg(test)]
 mod images;
