@@ -1,7 +1,7 @@
 -- The header of a chunk: what its two words say.
 use Rattle.std.specs.Prelude.{◌≡◌, ◌≤◌, ◌<◌, ◌+◌, ◌-◌, ◌*◌, ◌/◌, ◌%◌, ◌^◌, ◌++◌, ◌⊎◌, ◌==◌, if◌then◌else◌, ℕ, List, [], ◌∷◌, length, slice_range}
 use Rattle.heap_model.specs.Bytes.{u32_at, u32_bytes, overwritten}
-use Rattle.heap_model.specs.Chunk.{Chunk, free, movable, fixed, fixed_lock, need, size_of, slot_named, Spelled}
+use Rattle.heap_model.specs.Chunk.{Chunk, free, movable, fixed, fixed_lock, need, size_of, slot_named, IsLive, Spelled}
 use Rattle.heap_model.specs.Reading.{lock_field, owner_field, h_offset_field}
 use Rattle.heap_model.specs.declared.names.Place.{Place}
 use Rattle.chunk_format.specs.declared.header.Header.{Header}
@@ -36,6 +36,14 @@ pub record HasHeader (image : List ℕ) (at : ℕ) (header : Header) : Type 0 wh
   pub chunk : Chunk
   pub spelled : Spelled image at chunk
   pub header_is : header ≡ header_of chunk
+
+-- a live chunk is spelled at this offset
+pub record HasLive (image : List ℕ) (at : ℕ) : Type 0 where
+  pub bytes : List ℕ
+  pub lock : ℕ
+  pub owner : ℕ
+  pub h_offset : ℕ
+  pub is : IsLive image at bytes lock owner h_offset
 
 -- the places and headers of chunks, the first of which begins at this offset
 abbrev pub headers_of : ℕ → List Chunk → List (Place × Header)

@@ -1,12 +1,12 @@
 //! Headers of chunks, read and written.
 
-ghost use Rattle.std.specs.Prelude.{◌≡◌, ◌%◌, ◌+◌, ◌≤◌, ◌<◌, ◌^◌, length, option_map, IfSome, IfNone, SomeIff};
+ghost use Rattle.std.specs.Prelude.{◌≡◌, ◌%◌, ◌+◌, ◌≤◌, ◌<◌, ◌^◌, ℕ, List, length, option_map, IfSome, IfNone, SomeIff};
 ghost use Rattle.heap_model.specs.Memory.{IsWithin};
 ghost use Rattle.heap_model.specs.Bytes.{overwritten};
 ghost use Rattle.heap_model.specs.Frame.{most_size};
-ghost use Rattle.heap_model.specs.Chunk.{Chunk, need, fixed_lock, Spelled, HasChunk};
+ghost use Rattle.heap_model.specs.Chunk.{Chunk, need, fixed_lock, IsLive, Spelled, HasChunk};
 ghost use Rattle.heap_model.specs.Reading.{chunk_at};
-ghost use Rattle.chunk_format.specs.Header.{chunk_with, size_by, live_header_by, h_offset_to, live_words, with_lock_at, with_owner_at, Relocks, Reowns};
+ghost use Rattle.chunk_format.specs.Header.{HasLive, chunk_with, size_by, live_header_by, h_offset_to, live_words, with_lock_at, with_owner_at, Relocks, Reowns};
 
 use crate::frame::MOST_SIZE;
 use raw_region::Region;
@@ -245,6 +245,34 @@ fn live_header(at: u32, length: u32, second: u32) -> Header
         lock,
         owner,
         slot,
+    }
+}
+
+/// What the header of a live chunk says but its slot: the length of its body in bytes, its lock field, 15 where it
+/// is fixed, and its owner.
+#[derive(Clone, Copy, Debug, PartialEq, Eq)]
+pub struct LiveFields {
+    pub length: u32,
+    pub lock: u8,
+    pub owner: u8,
+}
+
+/// The fields of the live chunk that is known to stand at `at`. Nothing is tested.
+#[inline(always)]
+pub fn live_fields(region: &Region, at: u32) -> LiveFields
+    requires live { HasLive region.now.bytes at }
+    requires small { length region.now.bytes < 2 ^ 24 }
+    ensures { (bytes : List ℕ) (lock owner h_offset : ℕ)
+        → IsLive region.now.bytes at bytes lock owner h_offset
+        → (result.length ≡ length bytes) × (result.lock ≡ lock) × (result.owner ≡ owner) }
+{
+    let offset = at as usize;
+    let first = region.get_u32(offset);
+    let second = region.get_u32(offset + SECOND_WORD_AT);
+    LiveFields {
+        length: first % ABOVE_24_BITS - HEADER_SIZE - first / ABOVE_24_BITS,
+        lock: (second / ABOVE_28_BITS) as u8,
+        owner: (second / ABOVE_24_BITS % 16) as u8,
     }
 }
 

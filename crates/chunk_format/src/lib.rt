@@ -25,8 +25,8 @@ pub use frame::{
     put_directory, reserved, size_field, slot_count,
 };
 pub use header::{
-    DATA_OWNER, FIXED_LOCK, HEADER_SIZE, Header, MANAGERS_OWNER, chunk_size, put_lock, put_owner,
-    size_of_body,
+    DATA_OWNER, FIXED_LOCK, HEADER_SIZE, Header, LiveFields, MANAGERS_OWNER, chunk_size,
+    live_fields, put_lock, put_owner, size_of_body,
 };
 pub use image::{BlankFault, blank, blank_from};
 pub use walk::Walk;

@@ -7,7 +7,7 @@ use heap_model::Name;
 use palm_store::{FIXED_LOCK, Store};
 
 /// Whether a chunk is locked: a fixed one is not.
-#[inline]
+#[inline(always)]
 pub fn is_locked(store: &Store, name: Name) -> bool
     ensures { IsTrue result ↔ IsLockedChunk store.now.bytes name.0 }
 {

@@ -1,7 +1,7 @@
 -- What calls leave of the chunk of a database, one behind the other.
 use Rattle.std.proofs.Common.{◌≡◌, ◌≢◌, ℕ, ◌+◌, ◌<◌, ◌≤◌, List, length, Option, Some, None, refl, sym, ap, subst, ◌∙◌, arith, inl, inr}
 use Rattle.std.proofs.lemmas.Bool.{cases_eq, eq-eqb, ne_eqb}
-use Rattle.std.specs.Prelude.{◌==◌, IsSome}
+use Rattle.std.specs.Prelude.{◌==◌}
 use Rattle.std.specs.Option.{is_some}
 use Rattle.heap_model.specs.Bytes.{overwritten, sized_to}
 use Rattle.heap_model.specs.Meaning.{LiveChunk, ChunkMap}
@@ -32,9 +32,6 @@ under image db m = by (held image db) refl m.owner where
   by : (o : Option LiveChunk) → held image db ≡ o → owner_of o ≡ managers_owner → Under image db
   by None e own = absurd (omega arith)
   by (Some live) e own = record { live = live; there = e; loose = managers_loose image db live m.heap e own; bytes = ap bytes_of e }
-
-pub is_there : (image : List ℕ) (db : ℕ) → IsManagers image db → IsSome (held image db)
-is_there image db m = ap is_some (under image db m).there
 
 pub is_movable : (image : List ℕ) (db : ℕ) → IsManagers image db → IsMovable image db
 is_movable image db m = (let u = under image db m in let loose = u.loose in record { live = u.live; is_held = u.there; movable = λ e. omega arith })

@@ -31,6 +31,7 @@ pub(crate) fn put_part(heap: &mut Heap, db: Db, at: u32, part: &[u8])
 }
 
 /// Writes an entry where that of an index stands, or is to stand, among resources or among records.
+#[inline(always)]
 pub(crate) fn put_entry(heap: &mut Heap, db: Db, index: u16, entry: DbEntry, resources: bool)
     requires managers { IsManagers heap.old.bytes db.0 }
     requires inside { databases.entry_offset resources (index + 1)

@@ -29,7 +29,7 @@ pub(crate) struct Heading {
 }
 
 /// The heading of a database.
-#[inline]
+#[inline(always)]
 pub(crate) fn heading_here(heap: &Heap, db: Db) -> Heading
     requires spells { SpellsHere heap.now.bytes db.0 }
     ensures { IsHeading result (database_here heap.now.bytes db.0) }
@@ -44,6 +44,7 @@ pub(crate) fn heading_here(heap: &Heap, db: Db) -> Heading
 }
 
 /// Writes the modification number in a header.
+#[inline(always)]
 pub(crate) fn put_modification_number(heap: &mut Heap, db: Db, number: u32)
     requires managers { IsManagers heap.old.bytes db.0 }
     requires inside { header_size ≤ length (bytes_under heap.old.bytes db.0) }
@@ -56,6 +57,7 @@ pub(crate) fn put_modification_number(heap: &mut Heap, db: Db, number: u32)
 }
 
 /// Writes the field of the seed in a header.
+#[inline(always)]
 pub(crate) fn put_seed(heap: &mut Heap, db: Db, seed: u32)
     requires managers { IsManagers heap.old.bytes db.0 }
     requires inside { header_size ≤ length (bytes_under heap.old.bytes db.0) }
@@ -69,6 +71,7 @@ pub(crate) fn put_seed(heap: &mut Heap, db: Db, seed: u32)
 }
 
 /// Writes the number of entries in a header.
+#[inline(always)]
 pub(crate) fn put_entry_count(heap: &mut Heap, db: Db, count: u16)
     requires managers { IsManagers heap.old.bytes db.0 }
     requires inside { header_size ≤ length (bytes_under heap.old.bytes db.0) }

@@ -10,6 +10,7 @@ use heap_model::Db;
 use mem_manager::Heap;
 
 /// Raises the modification number by 1, modulo 2^32.
+#[inline(always)]
 pub fn raise_modification(heap: &mut Heap, db: Db)
     requires spells { SpellsHere heap.old.bytes db.0 }
     ensures counted { Changes heap.old.bytes heap.new.bytes db.0 counted }
@@ -23,6 +24,7 @@ pub fn raise_modification(heap: &mut Heap, db: Db)
 }
 
 /// Raises it where that is asked, and else leaves the heap as it is.
+#[inline(always)]
 pub(crate) fn raise_if(heap: &mut Heap, db: Db, counts: bool)
     requires spells { SpellsHere heap.old.bytes db.0 }
     ensures counted { Changes heap.old.bytes heap.new.bytes db.0 (counted_if counts) }

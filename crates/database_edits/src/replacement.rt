@@ -12,6 +12,7 @@ use heap_model::Db;
 use mem_manager::Heap;
 
 /// Writes an entry in place of the one at an index. The modification number is raised if `counts` says so.
+#[inline(always)]
 pub fn write_entry(heap: &mut Heap, db: Db, index: u16, entry: DbEntry, counts: bool)
     requires spells { SpellsHere heap.old.bytes db.0 }
     requires inside { index < length (database_here heap.old.bytes db.0).entries }

@@ -1,10 +1,11 @@
 -- Live chunks by their names and by their places.
-use Rattle.std.proofs.Common.{◌≡◌, ℕ, ◌+◌, ◌-◌, ◌<◌, ◌≤◌, List, [], ◌∷◌, ◌++◌, length, Option, Some, None, MatchOption, refl, sym, ap, subst, ◌∙◌, arith, inl, inr}
+use Rattle.std.proofs.Common.{◌≡◌, ◌≢◌, ℕ, ◌+◌, ◌-◌, ◌<◌, ◌≤◌, List, [], ◌∷◌, ◌++◌, length, Option, Some, None, MatchOption, refl, sym, ap, subst, ◌∙◌, arith, inl, inr}
 use Rattle.std.proofs.lemmas.Bool.{cases_eq, eq-eqb}
 use Rattle.std.proofs.lemmas.Bool.Decides.{nat_tests}
 use Rattle.std.specs.Prelude.{◌==◌, IsSome, IfNone}
 use Rattle.std.specs.Option.{option_map}
-use Rattle.heap_model.specs.Chunk.{Chunk, free, movable, fixed, fixed_lock, total, HasChunk}
+use Rattle.heap_model.specs.Bytes.{u32_at}
+use Rattle.heap_model.specs.Chunk.{Chunk, free, movable, fixed, fixed_lock, total, IsLive, HasChunk}
 use Rattle.heap_model.specs.Slots.{area_start}
 use Rattle.heap_model.specs.Heap.{BodyHere, IsHeap, HeapAccepted}
 use Rattle.heap_model.specs.Placed.{EveryPlaced, AnyPlaced}
@@ -25,7 +26,8 @@ use Rattle.laws_heap.proofs.Altering.{finds_place}
 use Rattle.master_table.specs.Table.{HoldsPlace, HoldsNothing}
 use Rattle.chunk_format.specs.declared.header.Header.{Header}
 use Rattle.chunk_format.specs.declared.header.Header.TheVariants as headers
-use Rattle.chunk_format.specs.Header.{header_of, size_by, HasHeader}
+use Rattle.chunk_format.specs.declared.header.LiveFields.{LiveFields}
+use Rattle.chunk_format.specs.Header.{header_of, size_by, HasHeader, HasLive}
 use Rattle.heap_place.specs.declared.found.Found.{Found}
 use Rattle.heap_place.specs.Found.{IsFound, IsOne, IsFixed, NothingAt, NoneFixedAs, NoSlotHolds, movable_by, fixed_by}
 use Rattle.heap_place.specs.Search.{Passed}
@@ -185,6 +187,52 @@ slot_chunk image name place found h holds is =
     let chunk : Chunk = movable s.live.bytes s.live.lock s.live.owner s.named in
     record { chunk = chunk; spelled = finds_spelled image name s.live chunk (found.0 - 8) h s.finds }
 
+-- ---- the movable chunk of a name
+
+-- the slot of a movable chunk holds its place
+own_holds : (image : List ℕ) (name at : ℕ) (live : LiveChunk) (bytes : List ℕ) (lock owner slot : ℕ) → HeapAccepted image → Finds image name live (movable bytes lock owner slot) at → HoldsPlace image name (at + 8)
+own_holds image name at live bytes lock owner slot h f =
+    let there = f.there in
+    let here : BodyHere name (at + 8) (area_start image + total f.before) (movable bytes lock owner slot) = (f.named.0, omega arith) in
+    let cs : IsHeap image (f.before ++ movable bytes lock owner slot ∷ f.after) = subst (λ (xs : List Chunk). IsHeap image xs) f.chunks (read_heap image h) in
+    let k = (cs.tied name (at + 8) (omega arith)).1 (AnyPlaced-mid (BodyHere name (at + 8)) (area_start image) f.before (movable bytes lock owner slot) f.after here) in
+    record { is_slot = k.0; held = k.1; some = omega arith }
+
+loose_holds : (image : List ℕ) (name : ℕ) (live : LiveChunk) (c : Chunk) (at : ℕ) → HeapAccepted image → live.lock ≢ fixed_lock → Finds image name live c at → HoldsPlace image name (at + 8)
+loose_holds image name live (free size) at h loose f = absurd f.named
+loose_holds image name live (movable bytes lock owner slot) at h loose f = own_holds image name at live bytes lock owner slot h f
+loose_holds image name live (fixed bytes owner) at h loose f = absurd (loose (ap (λ (x : LiveChunk). x.lock) (sym (fixed_live_is at bytes owner f.named))))
+
+-- its slot holds its place
+pub movable_holds_place : (image : List ℕ) (name : ℕ) → HeapAccepted image → IsSome (held image name) → ((live : LiveChunk) → held image name ≡ Some live → live.lock ≢ fixed_lock) → HoldsPlace image name (u32_at image name)
+movable_holds_place image name h some loose = by (held image name) refl some where
+  by : (x : Option LiveChunk) → held image name ≡ x → IsSome x → HoldsPlace image name (u32_at image name)
+  by None e here = absurd cc
+  by (Some live) e here =
+      let f = held_finds image name live h e in
+      let holds = loose_holds image name live f.chunk f.at h (loose live e) f.finds in
+      subst (λ (p : ℕ). HoldsPlace image name p) (sym holds.held) holds
+
+pub slot_low : (image : List ℕ) (name place : ℕ) → HeapAccepted image → HoldsPlace image name place → 8 ≤ place
+slot_low image name place h holds = (in_slot image name place h holds.is_slot holds.held holds.some).behind_header
+
+-- a live chunk stands at the place that a slot holds
+pub slot_live : (image : List ℕ) (name place : ℕ) → HeapAccepted image → (holds : HoldsPlace image name place) → HasLive image (place - 8)
+slot_live image name place h holds =
+    let s = in_slot image name place h holds.is_slot holds.held holds.some in
+    let live = finds_spelled image name s.live (movable s.live.bytes s.live.lock s.live.owner s.named) (place - 8) h s.finds in
+    record { bytes = s.live.bytes; lock = s.live.lock; owner = s.live.owner; h_offset = live.0; is = live.1 }
+
+-- what its fields say is the chunk of the slot
+pub slot_fields : (image : List ℕ) (name : Name) (place : ℕ) (fields : LiveFields) → HeapAccepted image → HoldsPlace image name.0 place
+    → ((bytes : List ℕ) (lock owner h_offset : ℕ) → IsLive image (place - 8) bytes lock owner h_offset → (fields.length ≡ length bytes) × (fields.lock ≡ lock) × (fields.owner ≡ owner))
+    → IsFound image name.0 (record { name = name; place = placed place; length = fields.length; lock = fields.lock; owner = fields.owner })
+slot_fields image name place fields h holds says =
+    let s = in_slot image name.0 place h holds.is_slot holds.held holds.some in
+    let live = finds_spelled image name.0 s.live (movable s.live.bytes s.live.lock s.live.owner s.named) (place - 8) h s.finds in
+    let are = says s.live.bytes s.live.lock s.live.owner live.0 live.1 in
+    record { live = s.live; chunk = movable s.live.bytes s.live.lock s.live.owner s.named; finds = s.finds; behind_header = s.behind_header; name_is = refl; count = are.0; lock_is = are.1; owner_is = are.2 }
+
 -- a header that stands there is the one that is read
 pub header_read : (image : List ℕ) (at : ℕ) (header : Header) → HasHeader image at header → Some header ≡ option_map header_of (chunk_at image at)
 header_read image at header h = ap (λ (x : Header). Some x) h.header_is ∙ sym (ap (option_map header_of) (chunk_at-spelled image at h.chunk h.spelled))
@@ -244,15 +292,6 @@ movable_place (headers.Movable count lock owner slot) place found e = ap (λ (x 
   same : Some (record { name = record { 0 = slot }; place = place; length = count; lock = lock; owner = owner }) ≡ Some found → record { name = record { 0 = slot }; place = place; length = count; lock = lock; owner = owner } ≡ found
   same f = cc
 movable_place (headers.Fixed count owner) place found e = absurd cc
-
--- the slot of a movable chunk holds its place
-own_holds : (image : List ℕ) (name at : ℕ) (live : LiveChunk) (bytes : List ℕ) (lock owner slot : ℕ) → HeapAccepted image → Finds image name live (movable bytes lock owner slot) at → HoldsPlace image name (at + 8)
-own_holds image name at live bytes lock owner slot h f =
-    let there = f.there in
-    let here : BodyHere name (at + 8) (area_start image + total f.before) (movable bytes lock owner slot) = (f.named.0, omega arith) in
-    let cs : IsHeap image (f.before ++ movable bytes lock owner slot ∷ f.after) = subst (λ (xs : List Chunk). IsHeap image xs) f.chunks (read_heap image h) in
-    let k = (cs.tied name (at + 8) (omega arith)).1 (AnyPlaced-mid (BodyHere name (at + 8)) (area_start image) f.before (movable bytes lock owner slot) f.after here) in
-    record { is_slot = k.0; held = k.1; some = omega arith }
 
 -- neither a slot nor a fixed chunk has the place
 pub nothing_at : (image : List ℕ) (place : ℕ) → HeapAccepted image → NoSlotHolds image place → NoneFixedAs image place (chunks_of image) → NothingAt image place

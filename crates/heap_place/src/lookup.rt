@@ -1,17 +1,18 @@
 //! Live chunks by their names and by their places.
 
-ghost use Rattle.std.specs.Prelude.{◌≡◌, ◌≤◌, ◌-◌, ℕ, IsSome, IfSome, IfNone, MatchOption, None};
-ghost use Rattle.heap_model.specs.Chunk.{HasChunk};
+ghost use Rattle.std.specs.Prelude.{◌≡◌, ◌≢◌, ◌≤◌, ◌-◌, ℕ, IsSome, IfSome, IfNone, MatchOption, Some, None};
+ghost use Rattle.heap_model.specs.Chunk.{fixed_lock, HasChunk};
 ghost use Rattle.heap_model.specs.Heap.{HeapAccepted};
+ghost use Rattle.heap_model.specs.Meaning.{LiveChunk};
 ghost use Rattle.heap_model.specs.Reading.{held};
 ghost use Rattle.master_table.specs.Table.{HoldsNothing, HoldsPlace};
 ghost use Rattle.heap_place.specs.Found.{IsFound, IsOne, IsFixed, NothingAt, NoSlotHolds};
 
 use crate::found::{Found, as_fixed, as_movable};
 use crate::walks::find_fixed;
-use chunk_format::{HEADER_SIZE, Header};
+use chunk_format::{HEADER_SIZE, Header, live_fields};
 use heap_model::{Name, Place};
-use master_table::resolve;
+use master_table::{resolve, word_of};
 use raw_region::Region;
 
 /// The chunk that a name stands for. That of a slot costs the same however large the heap is; for
@@ -51,6 +52,27 @@ pub(crate) fn chunk_named(region: &Region, name: Name) -> Found
     match in_slot(region, name) {
         Some(found) => found,
         None => fixed_at(region, name),
+    }
+}
+
+/// The chunk of a name that stands for a movable one. Nothing is tested, neither that a slot stands there nor of which
+/// kind the chunk is.
+#[inline(always)]
+pub(crate) fn movable_named(region: &Region, name: Name) -> Found
+    requires accepted { HeapAccepted region.now.bytes }
+    requires there { IsSome (held region.now.bytes name.0) }
+    requires movable { (live : LiveChunk) → held region.now.bytes name.0 ≡ Some live
+        → live.lock ≢ fixed_lock }
+    ensures { IsFound region.now.bytes name.0 result }
+{
+    let place = word_of(region, name.0);
+    let fields = live_fields(region, place - HEADER_SIZE);
+    Found {
+        name,
+        place: Place(place),
+        length: fields.length,
+        lock: fields.lock,
+        owner: fields.owner,
     }
 }
 

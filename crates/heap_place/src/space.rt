@@ -1,10 +1,11 @@
 //! The type that owns a heap's region.
 
-ghost use Rattle.std.specs.Prelude.{◌≡◌, ◌≢◌, ◌≤◌, ◌<◌, ◌+◌, ◌-◌, ◌*◌, ◌++◌, ◌∷◌, ◌⊎◌, [], length, replicate, min, count_by, IsSome, IfSome, IfNone, None};
+ghost use Rattle.std.specs.Prelude.{◌≡◌, ◌≢◌, ◌≤◌, ◌<◌, ◌+◌, ◌-◌, ◌*◌, ◌++◌, ◌∷◌, ◌⊎◌, [], length, replicate, min, count_by, IsSome, IfSome, IfNone, Some, None};
 ghost use Rattle.std.specs.Bool.{OnTrue, OnFalse};
 ghost use Rattle.heap_model.specs.Bytes.{u32_at};
 ghost use Rattle.heap_model.specs.Chunk.{movable, fixed, need, fixed_lock, is_owned_by};
 ghost use Rattle.heap_model.specs.Slots.{IsSlot};
+ghost use Rattle.heap_model.specs.Meaning.{LiveChunk};
 ghost use Rattle.heap_model.specs.Heap.{HeapAccepted, directory_of};
 ghost use Rattle.heap_model.specs.Reading.{chunks_of, held};
 ghost use Rattle.heap_model.specs.Space.{NoRun, Short, free_total, moved_bytes, rooms, greatest};
@@ -27,7 +28,7 @@ use crate::directory::{directory_name, name_directory};
 use crate::found::Found;
 use crate::gather::{build, gather};
 use crate::lists::{CLASSES, take};
-use crate::lookup::{chunk_named, find_named, find_placed, in_slot};
+use crate::lookup::{chunk_named, find_named, find_placed, in_slot, movable_named};
 use crate::open::open_in;
 use crate::owned::release_owned;
 use crate::pack::{compact, pack_stretch};
@@ -128,6 +129,18 @@ impl Space {
         ensures { IsFound self.now.bytes name.0 result }
     {
         chunk_named(&self.region, name)
+    }
+
+    /// The chunk of a name that stands for a movable one, as `chunk` answers it. Nothing is tested.
+    #[inline(always)]
+    pub fn movable(&self, name: Name) -> Found
+        requires accepted { HeapAccepted self.now.bytes }
+        requires there { IsSome (held self.now.bytes name.0) }
+        requires movable { (live : LiveChunk) → held self.now.bytes name.0 ≡ Some live
+            → live.lock ≢ fixed_lock }
+        ensures { IsFound self.now.bytes name.0 result }
+    {
+        movable_named(&self.region, name)
     }
 
     /// The live chunk whose body is at a place, whoever owns it. Bytes of a body that look like a header

@@ -38,21 +38,17 @@ used_fewer image count fewer most used =
 
 -- ---- names that are none of the first
 
--- a name that is no slot is none of the first
-pub not_among-no_slot : (image : List ℕ) (count name : ℕ) → (IsSlot image name → ⊥) → NotAmong image count name
-not_among-no_slot image count name none =
-    every_first_slot (λ slot. slot ≢ name) image count (λ slot j s below same. none (subst (λ (t : ℕ). IsSlot image t) same (stands_slot image slot j s)))
-
--- a slot is none of those before it
-pub not_among-behind : (image : List ℕ) (count name before : ℕ) → StandsBehind image name before → count ≤ before → NotAmong image count name
-not_among-behind image count name before there most =
+-- a name's slot is none of those before it, and a name that is no slot's is no slot
+pub not_among-number : (image : List ℕ) (count name before : ℕ) → (IsSlot image name → StandsBehind image name before) → count ≤ before → NotAmong image count name
+not_among-number image count name before there most =
     every_first_slot (λ slot. slot ≢ name) image count (λ slot j s below same.
-    let one = same_number image name j before (subst (λ (t : ℕ). StandsBehind image t j) same s) there in
+    let stands : StandsBehind image name before = there (subst (λ (t : ℕ). IsSlot image t) same (stands_slot image slot j s)) in
+    let one = same_number image name j before (subst (λ (t : ℕ). StandsBehind image t j) same s) stands in
     omega arith)
 
 -- an empty slot is none of those in use
 pub not_among-first_empty : (image : List ℕ) (slot before : ℕ) → IsFirstEmpty image slot before → NotAmong image before slot
-not_among-first_empty image slot before first = not_among-behind image before slot before first.stands (let same : before ≤ before = omega arith in same)
+not_among-first_empty image slot before first = not_among-number image before slot before (λ slot. first.stands) (let same : before ≤ before = omega arith in same)
 
 -- ---- after a change
 

@@ -10,5 +10,5 @@ mod table;
 
 pub use slots::Table;
 pub use table::{
-    EmptySlot, clear, first_empty_slot, resolve, set, slots_before, slots_free, word_of,
+    EmptySlot, clear, first_empty_slot, number_of, resolve, set, slots_before, slots_free, word_of,
 };

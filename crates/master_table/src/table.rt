@@ -1,6 +1,6 @@
 //! What slots hold.
 
-ghost use Rattle.std.specs.Prelude.{◌≡◌, ◌<◌, ◌↔◌, ℕ, length, MatchOption, IfSome, IfNone, None};
+ghost use Rattle.std.specs.Prelude.{◌≡◌, ◌<◌, ◌↔◌, ℕ, List, length, MatchOption, IfSome, IfNone, None};
 ghost use Rattle.heap_model.specs.Bytes.{u32_at, u32_bytes, overwritten};
 ghost use Rattle.heap_model.specs.Frame.{HasFrame};
 ghost use Rattle.heap_model.specs.Slots.{IsSlot, HasTable, StandsBehind};
@@ -8,6 +8,7 @@ ghost use Rattle.heap_model.specs.Space.{free_slots};
 ghost use Rattle.master_table.specs.Table.{HoldsPlace, HoldsNothing, IsTable, slots_of, IsEmptyAt, IsUsedAt, IsFirstEmpty, UsedBefore};
 
 use crate::slots::Table;
+use chunk_format::{FRAME_SIZE, SLOT_SIZE};
 use heap_model::{Name, Place};
 use raw_region::Region;
 
@@ -36,6 +37,14 @@ pub fn slots_before(region: &Region, name: Name) -> Option<u32>
     ensures none { IfNone result (IsSlot region.now.bytes name.0 → ⊥) }
 {
     Table::of(region).number(name.0)
+}
+
+/// How many slots stand before the one of a name, where one stands there. It isn't asked whether one does.
+#[inline(always)]
+pub fn number_of(name: Name) -> u32
+    ensures { (image : List ℕ) → IsSlot image name.0 → StandsBehind image name.0 result }
+{
+    name.0.saturating_sub(FRAME_SIZE) / SLOT_SIZE
 }
 
 /// The place that a slot holds. None where no slot stands there, or an empty one.
@@ -117,6 +126,7 @@ pub fn slots_free(region: &Region) -> u32
 }
 
 /// Puts a place into a slot.
+#[inline(always)]
 pub fn set(region: &mut Region, slot: Name, place: Place)
     requires table { HasTable region.old }
     requires slot { IsSlot region.old.bytes slot.0 }
@@ -128,6 +138,7 @@ pub fn set(region: &mut Region, slot: Name, place: Place)
 }
 
 /// Empties a slot.
+#[inline(always)]
 pub fn clear(region: &mut Region, slot: Name)
     requires table { HasTable region.old }
     requires slot { IsSlot region.old.bytes slot.0 }

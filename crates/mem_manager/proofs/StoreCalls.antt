@@ -83,6 +83,13 @@ loose_found image name found h f m is = m.movable (sym (ap (λ (x : LiveChunk). 
 pub movable_there : (image : List ℕ) (name : ℕ) → IsMovable image name → IsSome (held image name)
 movable_there image name m = subst IsSome (sym m.is_held) refl
 
+pub movable_loose : (image : List ℕ) (name : ℕ) → IsMovable image name → (live : LiveChunk) → held image name ≡ Some live → live.lock ≢ fixed_lock
+movable_loose image name m live e is = m.movable (ap (λ (x : LiveChunk). x.lock) (one_live (sym m.is_held ∙ e)) ∙ is)
+
+-- the same of a region that is the heap's value
+pub movable_viewed : {inside value : Memory} (name : ℕ) → inside ≡ value → IsMovable value.bytes name → IsMovable inside.bytes name
+movable_viewed name view m = subst (λ (x : Memory). IsMovable x.bytes name) (sym view) m
+
 -- a movable one may go to any owner but the manager
 pub may_go_to : (image : List ℕ) (name : ℕ) (found : Found) (owner : ℕ) → HeapAccepted image → IsFound image name found → IsMovable image name → name ≢ directory_of image → 0 < owner → owner < 16 → CanGoTo image found owner
 may_go_to image name found owner h f m other some most = record {

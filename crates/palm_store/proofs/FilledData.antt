@@ -1,9 +1,8 @@
 -- Data that is written whole, and what callers see of the bytes of a chunk.
 use Rattle.std.proofs.Common.{◌≡◌, ◌≢◌, ℕ, List, [], length, Option, Some, None, refl, sym, ap, subst, ◌∙◌, inl, inr}
 use Rattle.std.proofs.lemmas.Bool.{cases_eq}
-use Rattle.std.specs.Prelude.{IsSome}
-use Rattle.std.specs.Option.{is_some}
 use Rattle.heap_model.specs.Bytes.{overwritten}
+use Rattle.heap_model.specs.Heap.{HeapAccepted}
 use Rattle.heap_model.specs.Meaning.{LiveChunk}
 use Rattle.heap_model.specs.Reading.{held}
 use Rattle.heap_model.specs.Maps.{updated, changed, put, not_owned}
@@ -13,7 +12,9 @@ use Rattle.heap_model.specs.Store.{managers_owner, data_owner, bytes_of, bytes_u
 use Rattle.heap_model.specs.EntrySteps.{LeavesStore}
 use Rattle.laws_store.proofs.Edited.{hidden, shown}
 use Rattle.laws_store.proofs.Editing.{change_steps}
+use Rattle.mem_manager.specs.Lookup.{IsMovable}
 use Rattle.palm_store.specs.Files.{HasDataOf, data_filled}
+use Rattle.palm_store.proofs.DataChunks.{data_movable}
 use Rattle.palm_store.proofs.Maps.{owner_held, bytes_held}
 use Rattle.palm_store.proofs.ListedSlots.{all_written}
 
@@ -53,8 +54,8 @@ data_held image name count has = by (held image name) refl has where
         record { live = live; there = e; own = is_data.0; long = is_data.1 }
   ]
 
-pub data_there : (image : List ℕ) (name count : ℕ) → HasDataOf image name count → IsSome (held image name)
-data_there image name count has = ap is_some (data_held image name count has).there
+pub filled_movable : (image : List ℕ) (name count : ℕ) → HeapAccepted image → HasDataOf image name count → IsMovable image name
+filled_movable image name count h has = data_movable image name h (let d = data_held image name count has in record { live = d.live; there = d.there; own = d.own })
 
 pub data_long : (image : List ℕ) (name count : ℕ) → HasDataOf image name count → length (bytes_under image name) ≡ count
 data_long image name count has = (let d = data_held image name count has in ap length (bytes_held image name d.live d.there) ∙ d.long)

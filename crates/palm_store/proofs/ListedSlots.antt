@@ -284,8 +284,12 @@ growth_short image name size live refusal e loose brings = elim brings [
 pub the_directory : (image : List ℕ) (name : ℕ) → HeapAccepted image → 0 < directory_of image → name ≡ directory_of image → Owned image name 0
 the_directory image name h some is = owned image name 0 (ap (owner_under image) is ∙ directory_owner image h some) (omega arith)
 
+-- a chunk without a lock is a movable one
+pub loose_movable : (image : List ℕ) (name : ℕ) (live : LiveChunk) → held image name ≡ Some live → live.lock ≡ 0 → IsMovable image name
+loose_movable image name live there loose = record { live = live; is_held = there; movable = λ e. omega arith }
+
 pub directory_loose : (image : List ℕ) (name : ℕ) → HeapAccepted image → Owned image name 0 → IsMovable image name
-directory_loose image name h o = (let loose = managers_loose image name o.live h o.there o.own in record { live = o.live; is_held = o.there; movable = λ e. omega arith })
+directory_loose image name h o = loose_movable image name o.live o.there (managers_loose image name o.live h o.there o.own)
 
 pub directory_few : (image body : List ℕ) (name : ℕ) → name ≡ directory_of image → length (directory_bytes image) ≤ 4096 → body ≡ bytes_under image name → length body ≤ 4096
 unfolding directory_bytes

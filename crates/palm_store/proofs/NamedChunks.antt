@@ -26,8 +26,9 @@ use Rattle.laws_store.proofs.Keeping.{bytes_like}
 use Rattle.laws_store.proofs.Counting.{same-is, same-least}
 use Rattle.laws_store.proofs.Numbered.{number_some}
 use Rattle.laws_store.proofs.Shapes.{offset_below, spelled_shape}
+use Rattle.mem_manager.specs.Lookup.{IsMovable}
 use Rattle.palm_store.specs.Databases.{HasNumber}
-use Rattle.palm_store.proofs.Numbers.{stands, listed_at, number_slot, number_held}
+use Rattle.palm_store.proofs.Numbers.{stands, listed_at, number_slot, number_movable}
 use Rattle.palm_store.specs.Databases.{named_under}
 use Rattle.palm_store.proofs.Deletion.{named_most}
 use Rattle.laws_store.proofs.Edited.{here as updated_here, apart as updated_apart}
@@ -179,8 +180,8 @@ header_held old mid db index a has l =
 pub header_like : (old mid : List ℕ) (db index : ℕ) → Accepted old → HasNumber old db → Leaves old mid (all_gone (held old) (take index (named_under old db))) → bytes_under mid db ≡ bytes_under old db
 header_like old mid db index a has l = bytes_like old mid db (header_held old mid db index a has l)
 
-pub header_there : (old mid : List ℕ) (db index : ℕ) → Accepted old → HasNumber old db → Leaves old mid (all_gone (held old) (take index (named_under old db))) → IsSome (held mid db)
-header_there old mid db index a has l = subst (λ (o : Option LiveChunk). IsSome o) (sym (header_held old mid db index a has l)) (number_held old db a has)
+pub header_movable : (old mid : List ℕ) (db index : ℕ) → Accepted old → HasNumber old db → Leaves old mid (all_gone (held old) (take index (named_under old db))) → IsMovable mid db
+header_movable old mid db index a has l = (let m = number_movable old db a has in record { live = m.live; is_held = header_held old mid db index a has l ∙ m.is_held; movable = m.movable })
 
 -- a slot is the one at this index of those that a database has
 pub record IsNamedAt (image : List ℕ) (db index slot : ℕ) : Type 0 where

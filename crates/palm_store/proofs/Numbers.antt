@@ -5,7 +5,6 @@ use Rattle.std.proofs.lemmas.Bool.{cases_lt}
 use Rattle.std.proofs.lemmas.List.{get_or-map, length-map}
 use Rattle.std.proofs.lemmas.List.FromFn.{length-map-range_with_len, get_or-map-range_with_len}
 use Rattle.std.proofs.lemmas.Grind.{get_or_default_zero}
-use Rattle.std.specs.Prelude.{IsSome}
 use Rattle.heap_model.specs.Bytes.{u32_at}
 use Rattle.heap_model.specs.Heap.{HeapAccepted, directory_of}
 use Rattle.heap_model.specs.Reading.{held}
@@ -17,9 +16,11 @@ use Rattle.laws_heap.proofs.Meanings.{held-zero}
 use Rattle.laws_store.proofs.Listing.{times-some, times-contained, contained-times}
 use Rattle.laws_store.proofs.Shapes.{spelled_shape}
 use Rattle.laws_store.proofs.Owners.{directory_owner}
+use Rattle.mem_manager.specs.Lookup.{IsMovable}
+use Rattle.database_edits.proofs.Chunks.{is_movable}
 use Rattle.palm_store.specs.Databases.{HasNumber, IsListedAt}
 -- These laws are those of numbers in an accepted image.
-pub use Rattle.laws_store.proofs.Numbered.{with_number_is, with_number_none, number_listed, listed_number, number_here as has_number_is, in_store, number_slot, owned_there, number_held, number_spelled}
+pub use Rattle.laws_store.proofs.Numbered.{with_number_is, with_number_none, number_listed, listed_number, number_here as has_number_is, in_store, number_slot, number_held, number_spelled}
 
 -- what isn't a number is that of no database
 pub no_number : (image : List ℕ) (db : ℕ) → (HasNumber image db → ⊥) → with_number (store_of image) db ≡ None
@@ -43,6 +44,9 @@ unfolding owner_under
 none_owner image name none e = let no = ap owner_of none in omega arith
 
 -- ---- what stands under a number
+
+pub number_movable : (image : List ℕ) (db : ℕ) → Accepted image → HasNumber image db → IsMovable image db
+number_movable image db a has = is_movable image db (record { heap = a.heap; owner = (number_slot image db a has).owner })
 
 pub number_shape : (image : List ℕ) (db : ℕ) → Accepted image → HasNumber image db → HasShape (bytes_under image db)
 number_shape image db a has = spelled_shape (database_in (bytes_under image db)) (bytes_under image db) (number_spelled image db a has)
@@ -117,8 +121,8 @@ pub no_directory : (image : List ℕ) → HeapAccepted image → directory_of im
 unfolding directory_bytes bytes_under
 no_directory image heap e = ap (λ (name : ℕ). bytes_of (held image name)) e ∙ ap bytes_of (held-zero image heap)
 
-pub directory_there : (image : List ℕ) (name : ℕ) → HeapAccepted image → name ≡ directory_of image → name ≢ 0 → IsSome (held image name)
-directory_there image name heap is some = owned_there image name (ap (owner_under image) is ∙ directory_owner image heap (omega arith))
+pub directory_movable : (image : List ℕ) (name : ℕ) → HeapAccepted image → name ≡ directory_of image → name ≢ 0 → IsMovable image name
+directory_movable image name heap is some = is_movable image name (record { heap = heap; owner = ap (owner_under image) is ∙ directory_owner image heap (omega arith) })
 
 pub directory_read : (image bytes : List ℕ) (name : ℕ) → name ≡ directory_of image → bytes ≡ bytes_under image name → bytes ≡ directory_bytes image
 unfolding directory_bytes

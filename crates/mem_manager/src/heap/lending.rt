@@ -7,6 +7,7 @@ ghost use Rattle.heap_model.specs.Reading.{held};
 ghost use Rattle.heap_model.specs.Store.{bytes_under, owner_under};
 ghost use Rattle.heap_check.specs.Summary.{Summarizes};
 ghost use Rattle.heap_place.specs.Found.{IsOne};
+ghost use Rattle.mem_manager.specs.Lookup.{IsMovable};
 
 use crate::heap::Heap;
 use crate::known::KnownNames;
@@ -66,13 +67,13 @@ impl Heap {
         self.space.chunk(name).lock
     }
 
-    /// The bytes of any chunk, as they lie in the image.
+    /// The bytes of a movable chunk, as they lie in the image.
     #[inline(always)]
     pub fn sys_body(&self, name: Name) -> &[u8]
-        requires { IsSome (held self.now.bytes name.0) }
+        requires { IsMovable self.now.bytes name.0 }
         ensures { result.now ≡ bytes_under self.now.bytes name.0 }
     {
-        self.body_of(self.space.chunk(name))
+        self.body_of(self.space.movable(name))
     }
 
     /// The bytes of a chunk that was found.

@@ -1,6 +1,6 @@
 //! Calls that make chunks and free them.
 
-ghost use Rattle.std.specs.Prelude.{◌≡◌, ◌≤◌, ◌<◌, ◌+◌, IfOk, OnOk, IfErr, OnErr};
+ghost use Rattle.std.specs.Prelude.{◌≡◌, ◌≤◌, ◌<◌, ◌+◌, ℕ, List, IfOk, OnOk, IfErr, OnErr};
 ghost use Rattle.heap_model.specs.Chunk.{need};
 ghost use Rattle.heap_model.specs.Heap.{HeapAccepted};
 ghost use Rattle.heap_model.specs.Reading.{chunks_of};
@@ -11,7 +11,7 @@ ghost use Rattle.heap_model.specs.Rooms.{Lowers};
 ghost use Rattle.heap_model.specs.MemorySteps.{Does};
 ghost use Rattle.heap_model.specs.declared.call.MemoryCall.{MemoryCall};
 ghost use Rattle.mem_manager.specs.Replies.{done_or_refused, number_or_refused, name_or_refused};
-ghost use Rattle.heap_model.specs.Frame.{HasFrame};
+ghost use Rattle.heap_place.specs.Found.{IsFound};
 ghost use Rattle.master_table.specs.Table.{NotAmong, UsedBefore};
 ghost use Rattle.mem_manager.specs.Lookup.{MakesNew, HasNoRoomFor, MovesOnlyForRoom};
 
@@ -19,12 +19,11 @@ use crate::bounds::check_owner;
 use crate::heap::Heap;
 use crate::known::KnownNames;
 use crate::lookup::{check_callers, find};
-use chunk_format::{FIXED_LOCK, chunk_size};
+use chunk_format::{FIXED_LOCK, MANAGERS_OWNER, chunk_size};
 use heap_compact::make_room;
 use heap_model::{Name, Refusal};
-use heap_place::{Room, Space};
-use master_table::{EmptySlot, first_empty_slot, slots_before};
-use raw_region::Region;
+use heap_place::{Found, Room, Space};
+use master_table::{EmptySlot, first_empty_slot, number_of};
 
 impl Heap {
     /// Makes a movable chunk of `size` zeros, without a lock, for an owner of 1 to 14. Its name is the offset
@@ -72,15 +71,39 @@ impl Heap {
     /// Frees a chunk that is a caller's and has no lock; a fixed one may be freed.
     ///
     /// Refused: `InvalidHandle`, `OwnedByDatabase`, `ChunkLocked`.
+    #[inline(always)]
     pub fn free(&mut self, name: Name) -> Result<(), Refusal>
         ensures { Does self.old (MemoryCall.Free name) (done_or_refused result) self.new }
     {
+        match self.space.in_slot(name) {
+            Some(found) if found.owner != MANAGERS_OWNER => self.free_found(name, found),
+            _ => self.free_other(name),
+        }
+    }
+
+    /// Frees the chunk of a name that is no slot's, or refuses. Apart, so that only what the chunk of a slot needs
+    /// stands in line.
+    #[inline(never)]
+    fn free_other(&mut self, name: Name) -> Result<(), Refusal>
+        ensures { Does self.old (MemoryCall.Free name) (done_or_refused result) self.new }
+    {
         let found = find(&self.space, &self.known, name)?;
+        self.free_found(name, found)
+    }
+
+    /// Frees the chunk that a name stands for.
+    #[inline(always)]
+    fn free_found(&mut self, name: Name, found: Found) -> Result<(), Refusal>
+        requires found { IsFound self.old.bytes name.0 found }
+        requires callers { 1 ≤ found.owner }
+        ensures { Does self.old (MemoryCall.Free name) (done_or_refused result) self.new }
+    {
+        let _ = &self.space;
         check_callers(found)?;
         if found.lock > 0 && found.lock < FIXED_LOCK {
             return Err(Refusal::ChunkLocked);
         }
-        self.used = used_without(self.space.region(), self.used, name);
+        self.used = used_without(self.used, name);
         self.known.forget(name);
         self.space.give_back(found);
         Ok(())
@@ -152,15 +175,11 @@ fn room_for(space: &mut Space, size: u32) -> Result<Room, Refusal>
 }
 
 /// How many slots, of the first `used`, stand before the one of a name: these stay in use when it is
-/// emptied. All of them where none of them is the name's.
+/// emptied. Where none of them is the name's, it may be all of them.
 #[inline(always)]
-pub(crate) fn used_without(region: &Region, used: u32, name: Name) -> u32
-    requires { HasFrame region.now }
+pub(crate) fn used_without(used: u32, name: Name) -> u32
     ensures fewer { result ≤ used }
-    ensures apart { NotAmong region.now.bytes result name.0 }
+    ensures apart { (image : List ℕ) → NotAmong image result name.0 }
 {
-    match slots_before(region, name) {
-        Some(before) if before < used => before,
-        _ => used,
-    }
+    used.min(number_of(name))
 }

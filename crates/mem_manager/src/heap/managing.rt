@@ -54,21 +54,21 @@ impl Heap {
         self.space.region().slice(start, count as usize)
     }
 
-    /// Writes bytes over those of any chunk, from `at` within it on.
+    /// Writes bytes over those of a movable chunk, from `at` within it on.
     #[inline(always)]
     pub fn sys_write(&mut self, name: Name, at: u32, bytes: &[u8])
-        requires there { IsSome (held self.old.bytes name.0) }
+        requires movable { IsMovable self.old.bytes name.0 }
         requires within { at + length bytes.now ≤ length (bytes_under self.old.bytes name.0) }
         ensures leaves { Leaves self.old.bytes self.new.bytes
             (put (held self.old.bytes) name.0 at bytes.now) }
         ensures unmoved { MovesNothing self.old.bytes self.new.bytes }
         ensures rest { self.new ≡ record self.old { bytes = self.new.bytes } }
     {
-        let found = self.space.chunk(name);
+        let found = self.space.movable(name);
         self.space.write(found, at, bytes);
     }
 
-    /// Of `count` bytes of any chunk, from `at` within it on, changes each that stands behind `skip` others, or
+    /// Of `count` bytes of a movable chunk, from `at` within it on, changes each that stands behind `skip` others, or
     /// `step` further, or as often that much.
     pub fn sys_change_every<C: ByteChange>(
         &mut self,
@@ -79,7 +79,7 @@ impl Heap {
         step: u32,
         change: C,
     )
-        requires there { IsSome (held self.old.bytes name.0) }
+        requires movable { IsMovable self.old.bytes name.0 }
         requires within { at + count ≤ length (bytes_under self.old.bytes name.0) }
         requires step { 0 < step }
         ensures leaves { Leaves self.old.bytes self.new.bytes (put (held self.old.bytes) name.0 at
@@ -88,14 +88,14 @@ impl Heap {
         ensures unmoved { MovesNothing self.old.bytes self.new.bytes }
         ensures rest { self.new ≡ record self.old { bytes = self.new.bytes } }
     {
-        let found = self.space.chunk(name);
+        let found = self.space.movable(name);
         self.space
             .change_every(found, at, count, skip, step, change);
     }
 
-    /// Copies `count` bytes of a chunk's body from `from` within it to `to` within it; the ranges may overlap.
+    /// Copies `count` bytes of a movable chunk's body from `from` within it to `to` within it; the ranges may overlap.
     pub fn sys_slide(&mut self, name: Name, from: u32, to: u32, count: u32)
-        requires there { IsSome (held self.old.bytes name.0) }
+        requires movable { IsMovable self.old.bytes name.0 }
         requires from_within { from + count ≤ length (bytes_under self.old.bytes name.0) }
         requires to_within { to + count ≤ length (bytes_under self.old.bytes name.0) }
         ensures leaves { Leaves self.old.bytes self.new.bytes (put (held self.old.bytes) name.0 to
@@ -103,7 +103,7 @@ impl Heap {
         ensures rest { self.new ≡ record self.old
             { bytes = self.new.bytes; slid = self.old.slid + count } }
     {
-        let found = self.space.chunk(name);
+        let found = self.space.movable(name);
         self.space.slide_within(found, from, to, count);
     }
 
@@ -124,11 +124,12 @@ impl Heap {
         ensures one_stretch { MovesOneStretchAnd self.old.bytes self.new.bytes name.0 }
         ensures rest { self.new ≡ record self.old { bytes = self.new.bytes; slid = self.new.slid } }
     {
-        let found = self.space.chunk(name);
+        let found = self.space.movable(name);
         resize_found(&mut self.space, found, size)
     }
 
     /// Gives a movable chunk to another owner, 1 to 15. The directory has none but the manager.
+    #[inline(always)]
     pub fn sys_set_owner(&mut self, name: Name, owner: u8)
         requires movable { IsMovable self.old.bytes name.0 }
         requires no_directory { name.0 ≢ directory_of self.old.bytes }
@@ -138,11 +139,12 @@ impl Heap {
             (reowned (held self.old.bytes) name.0 owner) }
         ensures rest { self.new ≡ record self.old { bytes = self.new.bytes } }
     {
-        let found = self.space.chunk(name);
+        let found = self.space.movable(name);
         self.space.reown(found, owner);
     }
 
     /// Frees any chunk but the directory.
+    #[inline(always)]
     pub fn sys_free(&mut self, name: Name)
         requires there { IsSome (held self.old.bytes name.0) }
         requires no_directory { name.0 ≢ directory_of self.old.bytes }
@@ -150,7 +152,7 @@ impl Heap {
         ensures rest { self.new ≡ record self.old { bytes = self.new.bytes } }
     {
         let found = self.space.chunk(name);
-        self.used = used_without(self.space.region(), self.used, name);
+        self.used = used_without(self.used, name);
         self.known.forget(name);
         self.space.give_back(found);
     }

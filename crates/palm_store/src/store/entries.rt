@@ -221,6 +221,7 @@ impl Store {
 
     /// Frees the data of a record, if it has any. The record is deleted then, and keeps its ID and its other
     /// attributes. The database counts the call if `counts` says so.
+    #[inline(always)]
     pub fn entry_free_data(&mut self, db: Db, index: u32, counts: bool)
         requires number { HasNumber self.old.bytes db.0 }
         requires records { resources_of_image self.old.bytes db ≡ false }

@@ -8,15 +8,15 @@ use Rattle.heap_model.specs.Bytes.{overwritten}
 use Rattle.raw_region.specs.ByteChanges.{changed_every}
 use Rattle.database_edits.specs.Recorded.{attributes_changed}
 use Rattle.database_edits.proofs.Databases.{managers}
-use Rattle.database_edits.proofs.Chunks.{is_there, written, leaves_as}
+use Rattle.database_edits.proofs.Chunks.{is_movable, written, leaves_as}
 use Rattle.database_edits.proofs.Recorded.{body_changed}
 use Rattle.database_edits.proofs.attributes.change_attributes.Goals as goal
 
 pub sys_body-requires : goal.sys_body-requires
-sys_body-requires g c = is_there c.args.heap.now.bytes c.args.db.0 (managers c.args.heap.now.bytes c.args.db.0 c.requires.spells)
+sys_body-requires g c = is_movable c.args.heap.now.bytes c.args.db.0 (managers c.args.heap.now.bytes c.args.db.0 c.requires.spells)
 
-pub sys_change_every-requires-clause-there : goal.sys_change_every-requires-clause-there
-sys_change_every-requires-clause-there g c = is_there c.args.heap.now.bytes c.args.db.0 (managers c.args.heap.now.bytes c.args.db.0 c.requires.spells)
+pub sys_change_every-requires-clause-movable : goal.sys_change_every-requires-clause-movable
+sys_change_every-requires-clause-movable g c = is_movable c.args.heap.now.bytes c.args.db.0 (managers c.args.heap.now.bytes c.args.db.0 c.requires.spells)
 
 pub returns-clause-changed : goal.returns-clause-changed
 returns-clause-changed g c =

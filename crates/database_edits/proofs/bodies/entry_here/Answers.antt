@@ -3,13 +3,13 @@ use Rattle.std.proofs.Common.{◌+◌, ◌≤◌, ℕ, List, length, sym, ap, su
 use Rattle.heap_model.specs.DatabaseFields.{header_size}
 use Rattle.heap_model.specs.Database.{resources_in, entry_offset}
 use Rattle.heap_model.specs.Store.{bytes_under}
-use Rattle.database_edits.proofs.Chunks.{is_there}
+use Rattle.database_edits.proofs.Chunks.{is_movable}
 use Rattle.database_edits.proofs.Databases.{managers, shape, kind_read}
 use Rattle.database_edits.proofs.Entries.{inside_body}
 use Rattle.database_edits.proofs.bodies.entry_here.Goals as goal
 
 pub sys_body-requires : goal.sys_body-requires
-sys_body-requires c = is_there c.args.heap.now.bytes c.args.db.0 (managers c.args.heap.now.bytes c.args.db.0 c.requires.spells)
+sys_body-requires c = is_movable c.args.heap.now.bytes c.args.db.0 (managers c.args.heap.now.bytes c.args.db.0 c.requires.spells)
 
 pub read-requires-clause-header : goal.read-requires-clause-header
 read-requires-clause-header c = subst (λ (body : List ℕ). header_size ≤ length body) (sym c.sys_body.ensures) (shape c.args.heap.now.bytes c.args.db.0 c.requires.spells).header

@@ -3,13 +3,13 @@ use Rattle.std.proofs.Common.{◌≤◌, ℕ, List, length, sym, ap, subst, ◌�
 use Rattle.heap_model.specs.Bytes.{u32_at}
 use Rattle.heap_model.specs.DatabaseFields.{header_size}
 use Rattle.heap_model.specs.Database.{resources_in, entry_count_in}
-use Rattle.database_edits.proofs.Chunks.{is_there}
+use Rattle.database_edits.proofs.Chunks.{is_movable}
 use Rattle.database_edits.proofs.Databases.{managers, header_inside}
 use Rattle.database_edits.proofs.HeadersHere.{is_heading}
 use Rattle.database_edits.proofs.headers.heading_here.Goals as goal
 
 pub sys_body-body-requires : goal.sys_body-body-requires
-sys_body-body-requires c = is_there c.args.heap.now.bytes c.args.db.0 (managers c.args.heap.now.bytes c.args.db.0 c.requires.spells)
+sys_body-body-requires c = is_movable c.args.heap.now.bytes c.args.db.0 (managers c.args.heap.now.bytes c.args.db.0 c.requires.spells)
 
 pub has_resources-requires : goal.has_resources-requires
 has_resources-requires c = subst (λ (body : List ℕ). header_size ≤ length body) (sym c.sys_body-body.ensures) (header_inside c.args.heap.now.bytes c.args.db.0 c.requires.spells)

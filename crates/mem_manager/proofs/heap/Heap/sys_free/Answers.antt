@@ -4,7 +4,6 @@ use Rattle.heap_model.specs.Maps.{gone}
 use Rattle.heap_model.specs.Reading.{held}
 use Rattle.heap_model.specs.Leaving.{Leaves}
 use Rattle.laws_heap.proofs.Changing.{freed_changes}
-use Rattle.master_table.specs.Table.{NotAmong}
 use Rattle.mem_manager.proofs.NewChunks.{used_freed}
 use Rattle.mem_manager.proofs.StoreCalls.{leaves_gone}
 use Rattle.mem_manager.proofs.heap.Heap.sys_free.Goals as goal
@@ -13,7 +12,7 @@ pub invariant_of-self : goal.invariant_of-self
 invariant_of-self c =
     let f = c.chunk-found.ensures in
     used_freed c.self.inside.space.bytes c.give_back.new.self.bytes c.self.inside.used c.used_without-self-inside.result c.args.name.0 c.forget.new.self.names c.self.invariant c.used_without-self-inside.ensures.fewer
-    (subst (λ (m : Memory). NotAmong m.bytes c.used_without-self-inside.result c.args.name.0) c.region.ensures c.used_without-self-inside.ensures.apart) c.forget.ensures
+    (c.used_without-self-inside.ensures.apart c.self.inside.space.bytes) c.forget.ensures
     (freed_changes c.self.inside.space.bytes c.give_back.new.self.bytes c.args.name.0 (c.chunk-found.result.place.0 - 8) f.live f.chunk c.self.invariant.accepted f.finds c.give_back.ensures.gone)
 
 pub returns-clause-leaves : goal.returns-clause-leaves

@@ -4,31 +4,33 @@ use Rattle.heap_model.specs.Heap.{directory_of}
 use Rattle.heap_model.specs.Maps.{reowned}
 use Rattle.heap_model.specs.Reading.{held}
 use Rattle.heap_model.specs.Leaving.{Leaves}
-use Rattle.mem_manager.specs.Lookup.{IsMovable}
 use Rattle.mem_manager.proofs.ChunkCalls.{reown_changes}
 use Rattle.mem_manager.proofs.Stepping.{used_altered, altered}
-use Rattle.mem_manager.proofs.StoreCalls.{may_go_to, movable_there}
+use Rattle.mem_manager.proofs.StoreCalls.{may_go_to, movable_there, movable_loose, movable_viewed}
 use Rattle.mem_manager.proofs.heap.Heap.sys_set_owner.Goals as goal
 
 pub reown-requires-clause-owner : goal.reown-requires-clause-owner
 reown-requires-clause-owner c =
-    may_go_to c.self.inside.space.bytes c.args.name.0 c.chunk-found.result c.args.owner c.self.invariant.accepted c.chunk-found.ensures (subst (λ (m : Memory). IsMovable m.bytes c.args.name.0) (sym c.self.view_is) c.requires.movable)
+    may_go_to c.self.inside.space.bytes c.args.name.0 c.movable-found.result c.args.owner c.self.invariant.accepted c.movable-found.ensures (movable_viewed c.args.name.0 c.self.view_is c.requires.movable)
     (subst (λ (m : Memory). c.args.name.0 ≢ directory_of m.bytes) (sym c.self.view_is) c.requires.no_directory) c.requires.some_owner c.requires.most_owner
 
 pub invariant_of-self : goal.invariant_of-self
 invariant_of-self c =
     used_altered c.self.inside.space.bytes c.reown.new.self.bytes c.self.inside.used c.args.name.0 _ _ c.self.invariant
-    (reown_changes c.self.inside.space.bytes c.reown.new.self.bytes c.args.name.0 c.chunk-found.result c.args.owner c.self.invariant.accepted c.chunk-found.ensures
-    (may_go_to c.self.inside.space.bytes c.args.name.0 c.chunk-found.result c.args.owner c.self.invariant.accepted c.chunk-found.ensures (subst (λ (m : Memory). IsMovable m.bytes c.args.name.0) (sym c.self.view_is) c.requires.movable)
+    (reown_changes c.self.inside.space.bytes c.reown.new.self.bytes c.args.name.0 c.movable-found.result c.args.owner c.self.invariant.accepted c.movable-found.ensures
+    (may_go_to c.self.inside.space.bytes c.args.name.0 c.movable-found.result c.args.owner c.self.invariant.accepted c.movable-found.ensures (movable_viewed c.args.name.0 c.self.view_is c.requires.movable)
     (subst (λ (m : Memory). c.args.name.0 ≢ directory_of m.bytes) (sym c.self.view_is) c.requires.no_directory) c.requires.some_owner c.requires.most_owner) c.reown.ensures.made)
 
 pub returns-clause-leaves : goal.returns-clause-leaves
 returns-clause-leaves c =
     subst (λ (m : Memory). Leaves m.bytes c.reown.new.self.bytes (reowned (held m.bytes) c.args.name.0 c.args.owner)) c.self.view_is
-    (altered c.self.inside.space c.reown.new.self c.args.name.0 c.chunk-found.result (λ live. record live { owner = c.args.owner }) c.self.invariant.accepted c.chunk-found.ensures
-    (reown_changes c.self.inside.space.bytes c.reown.new.self.bytes c.args.name.0 c.chunk-found.result c.args.owner c.self.invariant.accepted c.chunk-found.ensures
-    (may_go_to c.self.inside.space.bytes c.args.name.0 c.chunk-found.result c.args.owner c.self.invariant.accepted c.chunk-found.ensures (subst (λ (m : Memory). IsMovable m.bytes c.args.name.0) (sym c.self.view_is) c.requires.movable)
+    (altered c.self.inside.space c.reown.new.self c.args.name.0 c.movable-found.result (λ live. record live { owner = c.args.owner }) c.self.invariant.accepted c.movable-found.ensures
+    (reown_changes c.self.inside.space.bytes c.reown.new.self.bytes c.args.name.0 c.movable-found.result c.args.owner c.self.invariant.accepted c.movable-found.ensures
+    (may_go_to c.self.inside.space.bytes c.args.name.0 c.movable-found.result c.args.owner c.self.invariant.accepted c.movable-found.ensures (movable_viewed c.args.name.0 c.self.view_is c.requires.movable)
     (subst (λ (m : Memory). c.args.name.0 ≢ directory_of m.bytes) (sym c.self.view_is) c.requires.no_directory) c.requires.some_owner c.requires.most_owner) c.reown.ensures.made) c.reown.ensures.rest).leaves
 
-pub chunk-found-requires-clause-there : goal.chunk-found-requires-clause-there
-chunk-found-requires-clause-there c = movable_there c.self.inside.space.bytes c.args.name.0 (subst (λ (m : Memory). IsMovable m.bytes c.args.name.0) (sym c.self.view_is) c.requires.movable)
+pub movable-found-requires-clause-there : goal.movable-found-requires-clause-there
+movable-found-requires-clause-there c = movable_there c.self.inside.space.bytes c.args.name.0 (movable_viewed c.args.name.0 c.self.view_is c.requires.movable)
+
+pub movable-found-requires-clause-movable : goal.movable-found-requires-clause-movable
+movable-found-requires-clause-movable c = movable_loose c.self.inside.space.bytes c.args.name.0 (movable_viewed c.args.name.0 c.self.view_is c.requires.movable)

@@ -3,12 +3,12 @@ use Rattle.std.proofs.Common.{ℕ, List, subst}
 use Rattle.heap_model.specs.Bytes.{overwritten}
 use Rattle.heap_model.specs.Database.{IsSpelled, database_in}
 use Rattle.palm_store.specs.InfoBlocks.{with_block}
-use Rattle.palm_store.proofs.Numbers.{number_held}
+use Rattle.palm_store.proofs.Numbers.{number_movable}
 use Rattle.palm_store.proofs.InfoBlocks.{block_spelled, block_respells}
 use Rattle.palm_store.proofs.databases.blocks.put_block.Goals as goal
 
-pub sys_write-requires-clause-there : goal.sys_write-requires-clause-there
-sys_write-requires-clause-there c = number_held c.args.heap.now.bytes c.args.db.0 c.requires.accepted c.requires.number
+pub sys_write-requires-clause-movable : goal.sys_write-requires-clause-movable
+sys_write-requires-clause-movable c = number_movable c.args.heap.now.bytes c.args.db.0 c.requires.accepted c.requires.number
 
 pub returns-clause-written : goal.returns-clause-written
 returns-clause-written c =

@@ -3,14 +3,14 @@ use Rattle.std.proofs.Common.{refl, sym, subst, ◌∙◌, ◌≡◌, ◌<◌, �
 use Rattle.heap_model.specs.Database.{IsSpelled, database_in, data_in}
 use Rattle.laws_store.proofs.Doing.{kept_then}
 use Rattle.palm_store.proofs.Numbers.{number_spelled}
-use Rattle.palm_store.proofs.NamedChunks.{freed_none, freed_one, freed_next, named_at, header_there, header_like, slot_left, slot_other}
+use Rattle.palm_store.proofs.NamedChunks.{freed_none, freed_one, freed_next, named_at, header_movable, header_like, slot_left, slot_other}
 use Rattle.palm_store.proofs.databases.clearing.free_data.Goals as goal
 
 pub loop-index-init : goal.loop-index-init
 loop-index-init c = record { leaves = freed_none c.args.heap.now.bytes c.requires.accepted.heap; rest = refl }
 
 pub sys_body-requires : goal.sys_body-requires
-sys_body-requires c = header_there c.args.heap.now.bytes c.loop-index.heap.bytes c.args.db.0 c.loop-index.index c.requires.accepted c.requires.number c.loop-index.invariant.leaves
+sys_body-requires c = header_movable c.args.heap.now.bytes c.loop-index.heap.bytes c.args.db.0 c.loop-index.index c.requires.accepted c.requires.number c.loop-index.invariant.leaves
 
 pub slot_at-slot-requires-clause-spelled : goal.slot_at-slot-requires-clause-spelled
 slot_at-slot-requires-clause-spelled c =

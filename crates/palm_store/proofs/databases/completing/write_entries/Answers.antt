@@ -4,6 +4,7 @@ use Rattle.std.proofs.lemmas.List.{get_or-map, length-map}
 use Rattle.heap_model.specs.declared.names.Name.{Name}
 use Rattle.db_format.specs.EitherEntry.{entry_of}
 use Rattle.laws_store.proofs.Doing.{kept_then}
+use Rattle.database_edits.proofs.Chunks.{is_movable}
 use Rattle.palm_store.specs.WholeDatabases.{numbers_in}
 use Rattle.palm_store.proofs.WholeWriting.{body_now, writes_none, entry_at, writes_inside, writes_more, writes_all, writes_fits}
 use Rattle.palm_store.proofs.databases.completing.write_entries.Goals as goal
@@ -11,8 +12,12 @@ use Rattle.palm_store.proofs.databases.completing.write_entries.Goals as goal
 pub loop-index-init : goal.loop-index-init
 loop-index-init c = record { writes = writes_none c.args.heap.now.bytes c.args.slot.0 c.args.resources c.args.entries.now (numbers_in c.args.names.now) c.requires.heap c.requires.owner; rest = refl }
 
-pub sys_write-requires-clause-there : goal.sys_write-requires-clause-there
-sys_write-requires-clause-there c = (body_now c.args.heap.now.bytes c.loop-index.heap.bytes c.args.slot.0 _ c.requires.owner c.loop-index.invariant.writes.leaves).there
+pub sys_write-requires-clause-movable : goal.sys_write-requires-clause-movable
+sys_write-requires-clause-movable c =
+    is_movable c.loop-index.heap.bytes c.args.slot.0 (record {
+      heap = c.loop-index.invariant.writes.leaves.frame.accepted;
+      owner = (body_now c.args.heap.now.bytes c.loop-index.heap.bytes c.args.slot.0 _ c.requires.owner c.loop-index.invariant.writes.leaves).owner;
+    })
 
 pub sys_write-requires-clause-within : goal.sys_write-requires-clause-within
 sys_write-requires-clause-within c =

@@ -1,17 +1,18 @@
 -- The header is written at the front, and then the entries behind it.
-use Rattle.std.proofs.Common.{refl, sym, ap, subst, ◌∙◌, ◌≡◌, ◌++◌, ℕ, List, length, drop, arith}
+use Rattle.std.proofs.Common.{sym, ap, subst, ◌∙◌, ◌≡◌, ◌++◌, ℕ, List, length, drop, arith}
 use Rattle.std.specs.List.{flat_map}
 use Rattle.heap_model.specs.Database.{Database, entry_bytes, header_bytes, entry_offset}
 use Rattle.heap_model.specs.Leaving.{Leaves, rewritten}
 use Rattle.heap_model.specs.Reading.{held}
 use Rattle.db_format.specs.Headers.{HasHeader}
 use Rattle.laws_store.proofs.Spellings.{length-header_bytes}
+use Rattle.database_edits.proofs.Chunks.{is_movable}
 use Rattle.palm_store.specs.WholeDatabases.{numbers_in, entries_named, whole_database}
-use Rattle.palm_store.proofs.WholeWriting.{length-named, none_written, body_now, puts_front, start_room, then_rebodied, whole_header, whole_spelled, whole_fits}
+use Rattle.palm_store.proofs.WholeWriting.{length-named, puts_front, start_room, then_rebodied, whole_header, whole_spelled, whole_fits}
 use Rattle.palm_store.proofs.databases.completing.write_whole.Goals as goal
 
-pub sys_write-requires-clause-there : goal.sys_write-requires-clause-there
-sys_write-requires-clause-there c = (body_now c.args.heap.now.bytes c.args.heap.now.bytes c.args.slot.0 _ c.requires.owner (none_written c.args.heap.now.bytes c.args.slot.0 _ c.requires.heap c.requires.owner refl)).there
+pub sys_write-requires-clause-movable : goal.sys_write-requires-clause-movable
+sys_write-requires-clause-movable c = is_movable c.args.heap.now.bytes c.args.slot.0 (record { heap = c.requires.heap; owner = c.requires.owner })
 
 pub write_entries-requires-clause-owner : goal.write_entries-requires-clause-owner
 write_entries-requires-clause-owner c =

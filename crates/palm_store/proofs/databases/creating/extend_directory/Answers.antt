@@ -1,7 +1,6 @@
 -- The directory has no lock, so that only want of room refuses it to grow; the slot's bytes are written over
 -- the last four.
 use Rattle.std.proofs.Common.{refl, ap, arith, ◌≡◌, ◌+◌, length}
-use Rattle.std.specs.Option.{is_some}
 use Rattle.heap_model.specs.Chunk.{need}
 use Rattle.heap_model.specs.Heap.{directory_of}
 use Rattle.heap_model.specs.Space.{ShortFor}
@@ -9,11 +8,11 @@ use Rattle.heap_model.specs.Store.{directory_bytes}
 use Rattle.heap_model.specs.declared.refusal.Refusal.TheVariants.{NotEnoughSpace}
 use Rattle.laws_store.proofs.Creating.{managers_loose}
 use Rattle.laws_heap.proofs.Results.{if_err, on_err}
-use Rattle.palm_store.proofs.ListedSlots.{the_directory, directory_loose, directory_few, directory_short, grown_room, growth_short, sized_here, extended}
+use Rattle.palm_store.proofs.ListedSlots.{the_directory, directory_loose, loose_movable, directory_few, directory_short, grown_room, growth_short, sized_here, extended}
 use Rattle.palm_store.proofs.databases.creating.extend_directory.Goals as goal
 
 pub sys_body-requires : goal.sys_body-requires
-sys_body-requires c = ap is_some (the_directory c.args.heap.now.bytes c.directory-directory.result.0 c.requires.heap c.requires.some c.directory-directory.ensures).there
+sys_body-requires c = directory_loose c.args.heap.now.bytes c.directory-directory.result.0 c.requires.heap (the_directory c.args.heap.now.bytes c.directory-directory.result.0 c.requires.heap c.requires.some c.directory-directory.ensures)
 
 pub overflow_cast-length : goal.overflow_cast-length
 overflow_cast-length c = let few = directory_few c.args.heap.now.bytes c.sys_body.result.now c.directory-directory.result.0 c.directory-directory.ensures c.requires.few c.sys_body.ensures in omega (arith, few)
@@ -41,10 +40,11 @@ returns-in_err-sys_resize-clause-refusal c =
     if_err (λ refusal. refusal ≡ NotEnoughSpace) c.from_residual.result (let e = c.from_residual.ensures in (e.0, e.1))
     (growth_short c.args.heap.now.bytes c.directory-directory.result.0 (length c.sys_body.result.now + 4) o.live c.in_err-sys_resize.field-0.0 o.there loose c.in_err-sys_resize.ensures.why).0
 
-pub sys_write-requires-clause-there : goal.sys_write-requires-clause-there
-sys_write-requires-clause-there c =
+pub sys_write-requires-clause-movable : goal.sys_write-requires-clause-movable
+sys_write-requires-clause-movable c =
     let o = the_directory c.args.heap.now.bytes c.directory-directory.result.0 c.requires.heap c.requires.some c.directory-directory.ensures in
-    ap is_some (sized_here c.args.heap.now.bytes c.sys_resize.new.self.bytes c.directory-directory.result.0 (length c.sys_body.result.now + 4) o.live c.in_ok-sys_resize.ensures.done o.there)
+    loose_movable c.sys_resize.new.self.bytes c.directory-directory.result.0 _ (sized_here c.args.heap.now.bytes c.sys_resize.new.self.bytes c.directory-directory.result.0 (length c.sys_body.result.now + 4) o.live c.in_ok-sys_resize.ensures.done o.there)
+    (managers_loose c.args.heap.now.bytes c.directory-directory.result.0 o.live c.requires.heap o.there o.own)
 
 pub sys_write-requires-clause-within : goal.sys_write-requires-clause-within
 sys_write-requires-clause-within c =

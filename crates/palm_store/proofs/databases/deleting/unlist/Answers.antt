@@ -1,7 +1,6 @@
 -- The directory has no lock, and a chunk without one is never refused to shrink.
 use Rattle.std.proofs.Common.{refl, ap, subst, ◌≡◌, ◌+◌, ◌-◌, ◌*◌, arith, ℕ, length, Result}
 use Rattle.std.specs.Prelude.{OnOk}
-use Rattle.std.specs.Option.{is_some}
 use Rattle.heap_model.specs.Leaving.{Leaves}
 use Rattle.heap_model.specs.Maps.{sized}
 use Rattle.heap_model.specs.MemorySteps.{growth_checks}
@@ -9,12 +8,12 @@ use Rattle.heap_model.specs.Reading.{held}
 use Rattle.heap_model.specs.Refusals.{FirstBrings}
 use Rattle.heap_model.specs.declared.refusal.Refusal.{Refusal}
 use Rattle.heap_model.specs.Store.{bytes_under}
-use Rattle.palm_store.proofs.ListedSlots.{the_directory}
+use Rattle.palm_store.proofs.ListedSlots.{the_directory, directory_loose}
 use Rattle.palm_store.proofs.UnlistedSlots.{never_refused, shrinks, unlisted, directory_slid, slid_movable, directory_long}
 use Rattle.palm_store.proofs.databases.deleting.unlist.Goals as goal
 
 pub sys_body-requires : goal.sys_body-requires
-sys_body-requires c = ap is_some (the_directory c.args.heap.now.bytes c.directory-directory.result.0 c.requires.heap c.requires.some c.directory-directory.ensures).there
+sys_body-requires c = directory_loose c.args.heap.now.bytes c.directory-directory.result.0 c.requires.heap (the_directory c.args.heap.now.bytes c.directory-directory.result.0 c.requires.heap c.requires.some c.directory-directory.ensures)
 
 pub overflow_cast-length : goal.overflow_cast-length
 overflow_cast-length c = let long = directory_long c.args.heap.now.bytes c.sys_body.result.now c.directory-directory.result.0 c.directory-directory.ensures c.sys_body.ensures in let few = c.requires.few in omega (arith, long, few)
@@ -22,8 +21,8 @@ overflow_cast-length c = let long = directory_long c.args.heap.now.bytes c.sys_b
 pub overflow_sub-length : goal.overflow_sub-length
 overflow_sub-length c = let long = directory_long c.args.heap.now.bytes c.sys_body.result.now c.directory-directory.result.0 c.directory-directory.ensures c.sys_body.ensures in let inside = c.requires.inside in omega (arith, long, inside)
 
-pub sys_slide-requires-clause-there : goal.sys_slide-requires-clause-there
-sys_slide-requires-clause-there c = ap is_some (the_directory c.args.heap.now.bytes c.directory-directory.result.0 c.requires.heap c.requires.some c.directory-directory.ensures).there
+pub sys_slide-requires-clause-movable : goal.sys_slide-requires-clause-movable
+sys_slide-requires-clause-movable c = directory_loose c.args.heap.now.bytes c.directory-directory.result.0 c.requires.heap (the_directory c.args.heap.now.bytes c.directory-directory.result.0 c.requires.heap c.requires.some c.directory-directory.ensures)
 
 pub sys_slide-requires-clause-from_within : goal.sys_slide-requires-clause-from_within
 sys_slide-requires-clause-from_within c =

@@ -13,7 +13,7 @@ use Rattle.laws_store.proofs.Doing.{handed_on}
 use Rattle.laws_store.proofs.Spellings.{length-header_bytes}
 use Rattle.palm_store.specs.Directory.{ListsNew}
 use Rattle.palm_store.proofs.Maps.{bytes_held}
-use Rattle.palm_store.proofs.ListedSlots.{chunk_of}
+use Rattle.palm_store.proofs.ListedSlots.{chunk_of, loose_movable}
 use Rattle.palm_store.proofs.Creation.{not_named, name_taken, too_many, header_put, created, not_created, empty_fits, header_spells, then_written}
 use Rattle.palm_store.proofs.Forwarding.{viewed, ask_viewed}
 use Rattle.palm_store.proofs.KnownIds.{nothing_known}
@@ -62,6 +62,11 @@ returns-in_err-slot c =
     viewed c.self.inside.heap c.args.self.now c.list_new.new.heap _ _ c.self.view_is
     (handed_on (λ db. replies.Database db) (calls.Database (Create c.args.name.now c.args.kind c.args.creator c.args.resources c.args.date)) c.from_residual.result (let e = c.from_residual.ensures in (e.0, e.1))
     (not_created c.self.inside.heap c.list_new.new.heap c.args.name.now c.args.kind c.args.creator c.args.resources c.args.date c.in_err-slot.field-0.0 c.self.invariant.accepted named few free c.in_err-slot.ensures.no_room c.in_err-slot.ensures.refusal c.in_err-slot.ensures.refused c.list_new.ensures.rest))
+
+pub sys_write-requires-clause-movable : goal.sys_write-requires-clause-movable
+sys_write-requires-clause-movable c =
+    let listed_new : ListsNew c.self.inside.heap.bytes c.list_new.new.heap.bytes c.in_ok-slot.slot.0 (replicate header_size 0) = c.in_ok-slot.ensures.lists in
+    loose_movable c.list_new.new.heap.bytes c.in_ok-slot.slot.0 (chunk_of (replicate header_size 0)) listed_new.chunk refl
 
 pub sys_write-requires-clause-within : goal.sys_write-requires-clause-within
 sys_write-requires-clause-within c =

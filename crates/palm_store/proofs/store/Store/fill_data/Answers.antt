@@ -1,14 +1,14 @@
 use Rattle.std.proofs.Common.{length, arith}
 use Rattle.heap_model.specs.Store.{store_of}
 use Rattle.palm_store.specs.Files.{HasDataOf}
-use Rattle.palm_store.proofs.FilledData.{data_there, data_long, filled_steps}
+use Rattle.palm_store.proofs.FilledData.{filled_movable, data_long, filled_steps}
 use Rattle.palm_store.proofs.KnownIds.{stand_still}
 use Rattle.palm_store.proofs.store.Store.fill_data.Goals as goal
 
-pub sys_write-requires-clause-there : goal.sys_write-requires-clause-there
-sys_write-requires-clause-there c =
+pub sys_write-requires-clause-movable : goal.sys_write-requires-clause-movable
+sys_write-requires-clause-movable c =
     let has : HasDataOf c.self.inside.heap.bytes c.args.name.0 (length c.args.bytes.now) = rw c.self.view_is c.requires in
-    data_there c.self.inside.heap.bytes c.args.name.0 (length c.args.bytes.now) has
+    filled_movable c.self.inside.heap.bytes c.args.name.0 (length c.args.bytes.now) c.self.invariant.accepted.heap has
 
 pub sys_write-requires-clause-within : goal.sys_write-requires-clause-within
 sys_write-requires-clause-within c =

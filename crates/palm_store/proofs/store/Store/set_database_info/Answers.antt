@@ -5,13 +5,13 @@ use Rattle.heap_model.specs.Bytes.{overwritten}
 use Rattle.heap_model.specs.Store.{store_of}
 use Rattle.heap_model.specs.DatabaseSteps.{IsTaken}
 use Rattle.palm_store.proofs.Forwarding.{viewed}
-use Rattle.palm_store.proofs.Numbers.{number_held}
+use Rattle.palm_store.proofs.Numbers.{number_movable}
 use Rattle.palm_store.proofs.HeaderInfos.{with_info, set_spelled, set_step}
 use Rattle.palm_store.proofs.KnownIds.{nothing_known}
 use Rattle.palm_store.proofs.store.Store.set_database_info.Goals as goal
 
-pub sys_write-requires-clause-there : goal.sys_write-requires-clause-there
-sys_write-requires-clause-there c = number_held c.self.inside.heap.bytes c.args.db.0 c.self.invariant.accepted c.in_ok-header.ensures.known
+pub sys_write-requires-clause-movable : goal.sys_write-requires-clause-movable
+sys_write-requires-clause-movable c = number_movable c.self.inside.heap.bytes c.args.db.0 c.self.invariant.accepted c.in_ok-header.ensures.known
 
 pub invariant_of-self : goal.invariant_of-self
 invariant_of-self c =
