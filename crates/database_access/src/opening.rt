@@ -51,7 +51,7 @@ impl EntryKind {
 /// A database that holds entries of a kind and may be used so.
 ///
 /// Refused: `NoSuchDatabase`; `NotRecordDatabase` or `NotResourceDatabase`; `ReadOnly`, where it is to be written.
-#[inline]
+#[inline(always)]
 pub fn open_database<'a>(
     store: &'a Store,
     db: Db,
@@ -74,7 +74,7 @@ pub fn open_database<'a>(
 /// How many entries a database has that holds those of a kind and may be used so.
 ///
 /// Refused: as `open_database`.
-#[inline]
+#[inline(always)]
 pub fn count_entries(store: &Store, db: Db, kind: EntryKind, access: Access) -> Result<u32, Refusal>
     ensures accepted { Accepted store.now.bytes }
     ensures known { OnOk result (HasNumber store.now.bytes db.0) }
@@ -90,7 +90,7 @@ pub fn count_entries(store: &Store, db: Db, kind: EntryKind, access: Access) -> 
 /// What the entry of an index says, of a database that holds entries of a kind and may be used so.
 ///
 /// Refused: as `open_database`; `IndexOutOfRange`.
-#[inline]
+#[inline(always)]
 pub fn find_entry(
     store: &Store,
     db: Db,
@@ -118,7 +118,7 @@ pub fn find_entry(
 }
 
 /// Looks whether a database with these attributes holds entries of a kind and may be used so.
-#[inline]
+#[inline(always)]
 fn check_attributes(attributes: DbAttrs, kind: EntryKind, access: Access) -> Result<(), Refusal>
     ensures kind { OnOk result (has_resources attributes.0 ≡ are_resources kind) }
     ensures passes { OnOk result (NoneHolds (attribute_checks attributes.0 kind access)) }

@@ -54,6 +54,7 @@ pub(crate) fn put_entry(heap: &mut Heap, db: Db, index: u16, entry: DbEntry, res
 
 /// Copies the entries from `first` on and below `end` to where the entry of the index `to` stands, or is to
 /// stand.
+#[inline]
 pub(crate) fn slide_entries(heap: &mut Heap, db: Db, first: u16, end: u16, to: u16, resources: bool)
     requires managers { IsManagers heap.old.bytes db.0 }
     requires order { first ≤ end }
@@ -78,6 +79,7 @@ pub(crate) fn slide_entries(heap: &mut Heap, db: Db, first: u16, end: u16, to: u
 
 /// Lets the chunk of a database have `size` bytes, its own and zeros behind them. Refused `NotEnoughSpace`
 /// alone, and then nothing has changed.
+#[inline(always)]
 pub(crate) fn grow(heap: &mut Heap, db: Db, size: u32) -> Result<(), Refusal>
     requires managers { IsManagers heap.old.bytes db.0 }
     ensures grows { OnOk result (Rebodies heap.old.bytes heap.new.bytes db.0
@@ -91,6 +93,7 @@ pub(crate) fn grow(heap: &mut Heap, db: Db, size: u32) -> Result<(), Refusal>
 }
 
 /// Leaves the chunk of a database its first `size` bytes.
+#[inline(always)]
 pub(crate) fn shrink(heap: &mut Heap, db: Db, size: u32)
     requires managers { IsManagers heap.old.bytes db.0 }
     requires inside { size ≤ length (bytes_under heap.old.bytes db.0) }

@@ -27,6 +27,7 @@ pub(crate) fn relock_at(region: &mut Region, found: Found, lock: u8)
 }
 
 /// Gives a live chunk to another owner.
+#[inline(always)]
 pub(crate) fn reown_at(region: &mut Region, found: Found, owner: u8)
     requires accepted { HeapAccepted region.old.bytes }
     requires found { IsOne region.old.bytes found }

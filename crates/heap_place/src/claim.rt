@@ -33,6 +33,7 @@ pub(crate) fn cut(region: &mut Region, room: Room, size: u32)
 }
 
 /// Writes the header of a free chunk of `size` bytes at `at`, unless there are none.
+#[inline(always)]
 pub(crate) fn write_rest(region: &mut Region, at: u32, size: u32)
     requires inside { at + size ≤ length region.old.bytes }
     requires small { length region.old.bytes < 2 ^ 24 }

@@ -92,6 +92,7 @@ fn size_at(region: &Region, at: u32) -> u32
 
 /// Takes the free chunks of room from their lists, and answers whether the others are in theirs still. Where
 /// the room is not one chunk among the first `probes` of its list, all lists are dropped.
+#[inline(always)]
 fn unlink(region: &mut Region, heads: &mut [u32; CLASSES], room: Room, probes: usize) -> bool
     requires accepted { HeapAccepted region.old.bytes }
     requires room { IsSpot region.old.bytes room.at room.size }
@@ -110,6 +111,7 @@ fn unlink(region: &mut Region, heads: &mut [u32; CLASSES], room: Room, probes: u
 }
 
 /// The same, where the room may have no bytes, and a few chunks are looked at.
+#[inline(always)]
 pub(crate) fn unlink_run(region: &mut Region, heads: &mut [u32; CLASSES], room: Room) -> bool
     requires accepted { HeapAccepted region.old.bytes }
     requires room { IsSpot region.old.bytes room.at room.size }

@@ -34,6 +34,7 @@ pub(crate) fn release(region: &mut Region, found: Found) -> u32
 }
 
 /// Makes a live chunk free, alone, and empties its slot, if it has one. Answers the size of the free chunk.
+#[inline(always)]
 pub(crate) fn release_alone(region: &mut Region, found: Found) -> u32
     requires accepted { HeapAccepted region.old.bytes }
     requires found { IsOne region.old.bytes found }
@@ -54,6 +55,7 @@ pub(crate) fn release_alone(region: &mut Region, found: Found) -> u32
 }
 
 /// Makes a live chunk free, alone, and puts it into its list. Answers the size of the free chunk.
+#[inline(always)]
 pub(crate) fn release_listed(region: &mut Region, heads: &mut [u32; CLASSES], found: Found) -> u32
     requires accepted { HeapAccepted region.old.bytes }
     requires found { IsOne region.old.bytes found }
@@ -72,6 +74,7 @@ pub(crate) fn release_listed(region: &mut Region, heads: &mut [u32; CLASSES], fo
 
 /// The size of the chunk at `at`, if a free one stands there, and else 0: a live one does, or the image
 /// ends there.
+#[inline(always)]
 pub(crate) fn free_size(region: &Region, at: u32) -> u32
     requires small { length region.now.bytes < 2 ^ 24 }
     requires chunks { ChunksFrom region.now.bytes at }

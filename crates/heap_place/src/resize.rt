@@ -20,7 +20,7 @@ use raw_region::Region;
 
 /// Gives a live chunk `count` bytes where it stands, out of its own and of `behind` bytes of free chunks
 /// directly behind it. Bytes that it gains are zero, and what is left is free: so many bytes are answered.
-#[inline]
+#[inline(always)]
 fn resize_at(region: &mut Region, found: Found, count: u32, behind: u32) -> u32
     requires accepted { HeapAccepted region.old.bytes }
     requires behind { RunBehind region.old.bytes found behind }
@@ -46,6 +46,7 @@ fn resize_at(region: &mut Region, found: Found, count: u32, behind: u32) -> u32
 
 /// The same, where the free chunks are in lists: those that are taken are taken from theirs, and what is left
 /// is put into its own. Answers whether all other free chunks are in theirs still.
+#[inline(always)]
 pub(crate) fn resize_listed(
     region: &mut Region,
     heads: &mut [u32; CLASSES],
@@ -80,6 +81,7 @@ pub(crate) fn resize_listed(
 }
 
 /// The header of a chunk that was found, with another length.
+#[inline(always)]
 fn header_with(found: Found, count: u32) -> Header
     ensures { result ≡ sized_header found count }
 {
@@ -99,7 +101,7 @@ fn header_with(found: Found, count: u32) -> Header
 
 /// Gives a live chunk `count` bytes where it stands, if its own and those of the free chunks directly
 /// behind it suffice, and answers whether they do. `built` is false afterwards where lists were dropped.
-#[inline]
+#[inline(always)]
 pub(crate) fn grow_in_place_at(
     region: &mut Region,
     heads: &mut [u32; CLASSES],
@@ -131,6 +133,7 @@ pub(crate) fn grow_in_place_at(
 }
 
 /// The sizes together of the free chunks that stand at `at` without one that is not free between them.
+#[inline]
 pub(crate) fn free_run(region: &Region, at: u32) -> u32
     requires accepted { HeapAccepted region.now.bytes }
     requires bound { IsBound region.now.bytes at }

@@ -248,6 +248,7 @@ impl Space {
 
     /// Makes a live chunk free, and answers how many bytes are free from its header on, up to where the
     /// next chunk begins. The slot of a movable chunk is emptied. The directory is not given back.
+    #[inline(always)]
     pub fn give_back(&mut self, found: Found) -> u32
         requires accepted { HeapAccepted self.old.bytes }
         requires found { IsOne self.old.bytes found }
@@ -294,6 +295,7 @@ impl Space {
     }
 
     /// Gives a live chunk to another owner.
+    #[inline(always)]
     pub fn reown(&mut self, found: Found, owner: u8)
         requires accepted { HeapAccepted self.old.bytes }
         requires found { IsOne self.old.bytes found }
@@ -407,7 +409,7 @@ impl Space {
     /// Gives a live chunk `count` bytes where it stands, if its own and those of the free chunks directly
     /// behind it suffice, and answers whether they do. Bytes that it gains are zero, and what is left is
     /// free. Nothing moves.
-    #[inline]
+    #[inline(always)]
     pub fn grow_in_place(&mut self, found: Found, count: u32) -> bool
         requires accepted { HeapAccepted self.old.bytes }
         requires found { IsOne self.old.bytes found }

@@ -10,6 +10,7 @@ use raw_region::Region;
 
 /// Takes a free chunk out of its list, and answers whether all others are in theirs still. Where it isn't
 /// among the first `probes` of its list, all lists are dropped.
+#[inline]
 pub(crate) fn take_out(
     region: &mut Region,
     heads: &mut [u32; CLASSES],
@@ -44,6 +45,7 @@ pub(crate) fn take_out(
 
 /// The chunk of a list in front of the one at `at`, which isn't its first: 0 where the list ends without it. None
 /// where the list goes on behind the first `probes`.
+#[inline(never)]
 fn find_before(
     region: &Region,
     heads: &[u32; CLASSES],

@@ -27,7 +27,8 @@ use Rattle.laws_store.proofs.Creating.{managers_loose}
 use Rattle.laws_store.proofs.Owners.{directory_owner}
 use Rattle.laws_store.proofs.Stepping.{drop_steps}
 use Rattle.palm_store.specs.Databases.{HasNumber, IsListedAt}
-use Rattle.palm_store.proofs.Numbers.{stands, has_number_is, in_store, length-listed, number_slot, number_held, no_directory}
+use Rattle.mem_manager.specs.Lookup.{IsMovable}
+use Rattle.palm_store.proofs.Numbers.{stands, has_number_is, in_store, length-listed, number_slot, number_movable, no_directory}
 use Rattle.palm_store.specs.Databases.{named_under}
 use Rattle.palm_store.specs.Directory.{Unlists}
 use Rattle.palm_store.proofs.Maps.{kept, is_gone, owned}
@@ -40,8 +41,8 @@ use Rattle.palm_store.proofs.Deletion.{went, directory_kept, index_inside, drops
 pub header_stays : (old mid : List ℕ) (db : ℕ) → Accepted old → HasNumber old db → Leaves old mid (all_gone (held old) (named_under old db)) → held mid db ≡ held old db
 header_stays old mid db a has l = kept old mid (named_under old db) db l (number_unnamed old db a has)
 
-pub header_left : (old mid : List ℕ) (db : ℕ) → Accepted old → HasNumber old db → Leaves old mid (all_gone (held old) (named_under old db)) → IsSome (held mid db)
-header_left old mid db a has l = subst (λ (o : Option LiveChunk). IsSome o) (sym (header_stays old mid db a has l)) (number_held old db a has)
+pub header_left : (old mid : List ℕ) (db : ℕ) → Accepted old → HasNumber old db → Leaves old mid (all_gone (held old) (named_under old db)) → IsMovable mid db
+header_left old mid db a has l = (let m = number_movable old db a has in record { live = m.live; is_held = header_stays old mid db a has l ∙ m.is_held; movable = m.movable })
 
 pub header_other : (old mid : List ℕ) (db : ℕ) → Accepted old → HasNumber old db → Leaves old mid (all_gone (held old) (named_under old db)) → db ≢ directory_of mid
 header_other old mid db a has l e = let slot = number_slot old db a has in slot.other (e ∙ l.frame.directory)

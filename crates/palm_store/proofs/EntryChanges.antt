@@ -158,12 +158,6 @@ slot_some image db index slot entry has at is there = (let same_name = data_here
 pub slot_kept : (old mid : List ℕ) (db : Db) (index slot : ℕ) (entry : Entry ℕ) (d : Database ℕ) → Accepted old → HasNumber old db.0 → slice_get (database_here old db.0).entries index ≡ Some entry → slot ≡ entry_data entry → Respells old mid db.0 d → held mid slot ≡ held old slot
 slot_kept old mid db index slot entry d a has at is l = l.map slot ∙ rewritten_apart (held old) db.0 slot (spelled d) (name_apart old db.0 slot a has (slot_owner old db index slot entry a has at is))
 
-pub slot_there : (old mid : List ℕ) (db : Db) (index slot : ℕ) (entry : Entry ℕ) (d : Database ℕ) → Accepted old → HasNumber old db.0 → slice_get (database_here old db.0).entries index ≡ Some entry → slot ≡ entry_data entry → Respells old mid db.0 d → 0 < slot
-    → IsSome (held mid slot)
-slot_there old mid db index slot entry d a has at is l some =
-    let chunk = for_data old slot (slot_owner old db index slot entry a has at is some) in
-    subst (λ (o : Option LiveChunk). IsSome o) (sym (slot_kept old mid db index slot entry d a has at is l ∙ chunk.there)) (search rules)
-
 pub slot_no_directory : (old mid : List ℕ) (db : Db) (index slot : ℕ) (entry : Entry ℕ) (d : Database ℕ) → Accepted old → HasNumber old db.0 → slice_get (database_here old db.0).entries index ≡ Some entry → slot ≡ entry_data entry → Respells old mid db.0 d → 0 < slot
     → slot ≢ directory_of mid
 slot_no_directory old mid db index slot entry d a has at is l some e = data_no_directory old slot a.heap some (slot_owner old db index slot entry a has at is some) (e ∙ l.frame.directory)

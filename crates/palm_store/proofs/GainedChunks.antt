@@ -26,7 +26,7 @@ use Rattle.laws_store.proofs.Listing.{same-yes, same-no, times-cons, times-appen
 use Rattle.laws_store.proofs.Owners.{directory_owner}
 use Rattle.laws_store.proofs.Creating.{slots_made}
 use Rattle.laws_store.proofs.Edited.{here as updated_here, apart as updated_apart}
-use Rattle.mem_manager.specs.Lookup.{MakesNew}
+use Rattle.mem_manager.specs.Lookup.{MakesNew, IsMovable}
 use Rattle.heap_model.specs.FileSteps.{makings}
 use Rattle.palm_store.specs.WholeDatabases.{size_of_data, data_sizes, numbers_in, IsGained, GainsZeros, RunsOut, Spends, MakesAll, AreOwnChunks}
 use Rattle.palm_store.proofs.Maps.{gone_out, gone_in, kept, owner_none, held_some, still_through}
@@ -172,7 +172,7 @@ makes_one old new name size h m lowers =
 
 pub own_chunks : (old new : List ℕ) (sizes : List (Option ℕ)) (names : List ℕ) → HeapAccepted old → MakesAll old new sizes names → AreOwnChunks new names
 own_chunks old new sizes names h m = record {
-  there = λ name some at. ap is_some (gained (held old) (held new) sizes names m.gains.each name some at).there;
+  movable = λ name some at. (let is = gained (held old) (held new) sizes names m.gains.each name some at in record { live = zeros_of is.size; is_held = is.there; movable = λ e. omega arith });
   once = m.gains.once;
   no_directory = λ name some at e.
       let is = gained (held old) (held new) sizes names m.gains.each name some at in
@@ -223,11 +223,12 @@ passed_once names index name at =
     let one = same-yes name name refl in
     omega (arith, whole, both, front, pieces, cons, one)
 
-pub own_there : (old mid : List ℕ) (names : List ℕ) (index name : ℕ) → AreOwnChunks old names → Leaves old mid (all_gone (held old) (take index names)) → IsAt names index name → 0 < name → IsSome (held mid name)
-own_there old mid names index name own l at some =
+pub own_movable : (old mid : List ℕ) (names : List ℕ) (index name : ℕ) → AreOwnChunks old names → Leaves old mid (all_gone (held old) (take index names)) → IsAt names index name → 0 < name → IsMovable mid name
+own_movable old mid names index name own l at some =
     let passed = passed_once names index name at in
     let once = own.once name some in
-    subst (λ (o : Option LiveChunk). IsSome o) (sym (kept old mid (take index names) name l (omega arith))) (own.there name some (omega arith))
+    let m = own.movable name some (omega arith) in
+    record { live = m.live; is_held = kept old mid (take index names) name l (omega arith) ∙ m.is_held; movable = m.movable }
 
 pub own_beside : (old mid : List ℕ) (names : List ℕ) (index name : ℕ) → AreOwnChunks old names → Leaves old mid (all_gone (held old) (take index names)) → IsAt names index name → 0 < name → name ≡ directory_of mid → ⊥
 own_beside old mid names index name own l at some e = (let passed = passed_once names index name at in own.no_directory name some (omega arith) (e ∙ l.frame.directory))

@@ -288,6 +288,12 @@ the_directory image name h some is = owned image name 0 (ap (owner_under image) 
 pub loose_movable : (image : List ℕ) (name : ℕ) (live : LiveChunk) → held image name ≡ Some live → live.lock ≡ 0 → IsMovable image name
 loose_movable image name live there loose = record { live = live; is_held = there; movable = λ e. omega arith }
 
+-- a chunk that was made has no lock
+pub made_movable : (old new : List ℕ) (name size owner : ℕ) → MakesNew old new name size owner → IsMovable new name
+made_movable old new name size owner m =
+    let chunk : LiveChunk = record { bytes = replicate size 0; lock = 0; owner = owner } in
+    loose_movable new name chunk (m.leaves.map name ∙ updated_here (held old) name (Some chunk) name refl) refl
+
 pub directory_loose : (image : List ℕ) (name : ℕ) → HeapAccepted image → Owned image name 0 → IsMovable image name
 directory_loose image name h o = loose_movable image name o.live o.there (managers_loose image name o.live h o.there o.own)
 

@@ -30,6 +30,7 @@ use Rattle.mem_manager.specs.Lookup.{IsMovable}
 use Rattle.palm_store.specs.Databases.{HasNumber}
 use Rattle.palm_store.proofs.Numbers.{stands, listed_at, number_slot, number_movable}
 use Rattle.palm_store.specs.Databases.{named_under}
+use Rattle.palm_store.proofs.DataChunks.{for_data, data_movable}
 use Rattle.palm_store.proofs.Deletion.{named_most}
 use Rattle.laws_store.proofs.Edited.{here as updated_here, apart as updated_apart}
 use Rattle.palm_store.proofs.Maps.{gone_out, gone_in, kept, is_gone, owned}
@@ -198,13 +199,11 @@ named_at image header body db index count slot header_is body_is count_is less r
 slot_owner : (image : List ℕ) (db index slot : ℕ) → Accepted image → HasNumber image db → IsNamedAt image db index slot → 0 < slot → owner_under image slot ≡ 15
 slot_owner image db index slot a has at some = named_owner image db slot a has some (times-some slot (named_under image db) index 0 at.below (sym at.is))
 
-pub slot_there : (image : List ℕ) (db index slot : ℕ) → Accepted image → HasNumber image db → IsNamedAt image db index slot → 0 < slot → IsSome (held image slot)
-slot_there image db index slot a has at some =
-    let o = owned image slot 15 (slot_owner image db index slot a has at some) (omega arith) in
-    ap is_some o.there
+pub slot_movable : (image : List ℕ) (db index slot : ℕ) → Accepted image → HasNumber image db → IsNamedAt image db index slot → 0 < slot → IsMovable image slot
+slot_movable image db index slot a has at some = data_movable image slot a.heap (for_data image slot (slot_owner image db index slot a has at some))
 
 -- it isn't freed with those before it
-pub slot_left : (old mid : List ℕ) (db index slot : ℕ) → Accepted old → HasNumber old db → Leaves old mid (all_gone (held old) (take index (named_under old db))) → IsNamedAt old db index slot → 0 < slot → IsSome (held mid slot)
+pub slot_left : (old mid : List ℕ) (db index slot : ℕ) → Accepted old → HasNumber old db → Leaves old mid (all_gone (held old) (take index (named_under old db))) → IsNamedAt old db index slot → 0 < slot → IsMovable mid slot
 slot_left old mid db index slot a has l at some =
     let names : List ℕ = named_under old db in
     let once = named_once old db slot a has some in
@@ -213,8 +212,8 @@ slot_left old mid db index slot a has l at some =
     let both = times-append slot (take index names) (get_or names index 0 ∷ []) in
     let last = times-cons slot (get_or names index 0) [] in
     let yes = same-yes (get_or names index 0) slot (sym at.is) in
-    let stays : held mid slot ≡ held old slot = kept old mid (take index names) slot l (omega arith) in
-    subst (λ (o : Option LiveChunk). IsSome o) (sym stays) (slot_there old db index slot a has at some)
+    let m = slot_movable old db index slot a has at some in
+    record { live = m.live; is_held = kept old mid (take index names) slot l (omega arith) ∙ m.is_held; movable = m.movable }
 
 pub slot_other : (old mid : List ℕ) (db index slot : ℕ) → Accepted old → HasNumber old db → directory_of mid ≡ directory_of old → IsNamedAt old db index slot → 0 < slot → slot ≡ directory_of mid → ⊥
 slot_other old mid db index slot a has word at some directory =

@@ -1,6 +1,6 @@
 -- Databases that are made whole: what is asked for, the database that comes of it, and the chunks that the
 -- store gains for its data.
-use Rattle.std.specs.Prelude.{◌≡◌, ◌≢◌, ◌≤◌, ◌<◌, ◌+◌, ◌++◌, ◌⊎◌, ℕ, Bool, true, false, List, [], ◌∷◌, length, map, drop, replicate, Option, Some, None, IsSome, All}
+use Rattle.std.specs.Prelude.{◌≡◌, ◌≢◌, ◌≤◌, ◌<◌, ◌+◌, ◌++◌, ◌⊎◌, ℕ, Bool, true, false, List, [], ◌∷◌, length, map, drop, replicate, Option, Some, None, All}
 use Rattle.std.specs.List.{AllZip, filter_map}
 use Rattle.heap_model.specs.Bytes.{u32_bytes}
 use Rattle.heap_model.specs.Slots.{slots_total}
@@ -22,6 +22,7 @@ use Rattle.heap_model.specs.FileSteps.{makings, whole_parts, whole_slots}
 use Rattle.heap_model.specs.declared.names.Name.{Name}
 use Rattle.heap_model.specs.declared.database.DbInfo.{DbInfo}
 use Rattle.heap_model.specs.declared.refusal.Refusal.TheVariants.{TooManyEntries}
+use Rattle.mem_manager.specs.Lookup.{IsMovable}
 use Rattle.palm_store.specs.Directory.{ListsLast}
 use Rattle.palm_store.specs.declared.databases.whole.WholeEntry.{WholeEntry}
 use Rattle.palm_store.specs.declared.databases.whole.WholeEntry.TheVariants as whole
@@ -198,6 +199,6 @@ pub record MakesAndLists (old new : List ℕ) (slot : ℕ) (sizes : List (Option
 -- Chunks of their own are under these names, where one isn't 0: each name stands there once, and none is the
 -- directory's.
 pub record AreOwnChunks (image : List ℕ) (names : List ℕ) : Type 0 where
-  pub there : (name : ℕ) → 0 < name → 0 < times name names → IsSome (held image name)
+  pub movable : (name : ℕ) → 0 < name → 0 < times name names → IsMovable image name
   pub once : (name : ℕ) → 0 < name → times name names ≤ 1
   pub no_directory : (name : ℕ) → 0 < name → 0 < times name names → name ≢ directory_of image

@@ -1,11 +1,12 @@
 //! The chunk of a slot that a database has, or of a name that it is to have.
 
-ghost use Rattle.std.specs.Prelude.{◌≡◌, ◌<◌, IsSome, OnOk, IfErr};
+ghost use Rattle.std.specs.Prelude.{◌≡◌, ◌<◌, OnOk, IfErr};
 ghost use Rattle.heap_model.specs.Heap.{HeapAccepted, directory_of};
 ghost use Rattle.heap_model.specs.Reading.{held};
 ghost use Rattle.heap_model.specs.Maps.{gone};
 ghost use Rattle.heap_model.specs.Leaving.{Leaves};
 ghost use Rattle.heap_model.specs.Refusals.{NoneHolds, FirstBrings};
+ghost use Rattle.mem_manager.specs.Lookup.{IsMovable};
 ghost use Rattle.palm_store.specs.EntryCalls.{MayBeGiven, checks_of_giving};
 
 use heap_model::{Name, Refusal};
@@ -15,7 +16,7 @@ use mem_manager::{DATA_OWNER, FIXED_LOCK, Heap, MANAGERS_OWNER};
 #[inline(always)]
 pub(crate) fn free_chunk_of(heap: &mut Heap, slot: Name)
     requires heap { HeapAccepted heap.old.bytes }
-    requires there { 0 < slot.0 → IsSome (held heap.old.bytes slot.0) }
+    requires movable { 0 < slot.0 → IsMovable heap.old.bytes slot.0 }
     requires no_directory { 0 < slot.0 → slot.0 ≡ directory_of heap.old.bytes → ⊥ }
     ensures leaves { Leaves heap.old.bytes heap.new.bytes (gone (held heap.old.bytes) slot.0) }
     ensures rest { heap.new ≡ record heap.old { bytes = heap.new.bytes } }
@@ -26,6 +27,7 @@ pub(crate) fn free_chunk_of(heap: &mut Heap, slot: Name)
 }
 
 /// Whether a database can take the chunk of a name. Refused: `InvalidHandle`, `OwnedByDatabase`, `ChunkFixed`.
+#[inline(always)]
 pub(crate) fn check_taken(heap: &Heap, name: Name) -> Result<(), Refusal>
     ensures may { OnOk result (MayBeGiven heap.now.bytes name.0) }
     ensures could { OnOk result (NoneHolds (checks_of_giving heap.now.bytes name.0)) }

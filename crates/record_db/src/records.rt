@@ -27,7 +27,7 @@ pub(crate) struct LiveRecord {
 }
 
 /// The record of an index, deleted or not, of a database that may be used so.
-#[inline]
+#[inline(always)]
 pub(crate) fn find_record(
     store: &Store,
     db: Db,
@@ -50,6 +50,7 @@ pub(crate) fn find_record(
 }
 
 /// The record of an index that is not deleted, of a database that may be used so.
+#[inline(always)]
 pub(crate) fn find_live(
     store: &Store,
     db: Db,

@@ -143,15 +143,15 @@ impl Heap {
         self.space.reown(found, owner);
     }
 
-    /// Frees any chunk but the directory.
+    /// Frees a movable chunk, any but the directory.
     #[inline(always)]
     pub fn sys_free(&mut self, name: Name)
-        requires there { IsSome (held self.old.bytes name.0) }
+        requires movable { IsMovable self.old.bytes name.0 }
         requires no_directory { name.0 ≢ directory_of self.old.bytes }
         ensures leaves { Leaves self.old.bytes self.new.bytes (gone (held self.old.bytes) name.0) }
         ensures rest { self.new ≡ record self.old { bytes = self.new.bytes } }
     {
-        let found = self.space.chunk(name);
+        let found = self.space.movable(name);
         self.used = used_without(self.used, name);
         self.known.forget(name);
         self.space.give_back(found);

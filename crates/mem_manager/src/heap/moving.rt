@@ -54,6 +54,7 @@ impl Heap {
 }
 
 /// Gives a movable chunk that was found `size` bytes, as `Heap::resize` does.
+#[inline(always)]
 pub(crate) fn resize_found(space: &mut Space, found: Found, size: u32) -> Result<(), Refusal>
     requires accepted { HeapAccepted space.old.bytes }
     requires found { IsOne space.old.bytes found }

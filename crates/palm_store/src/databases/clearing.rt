@@ -1,6 +1,6 @@
 //! The chunks that a database names: whether one is locked, and all of them freed.
 
-ghost use Rattle.std.specs.Prelude.{◌≡◌, ◌<◌, ◌↔◌, length, slice_index, IsTrue, IsSome, Any};
+ghost use Rattle.std.specs.Prelude.{◌≡◌, ◌<◌, ◌↔◌, length, slice_index, IsTrue, Any};
 ghost use Rattle.heap_model.specs.Heap.{HeapAccepted};
 ghost use Rattle.heap_model.specs.Reading.{held};
 ghost use Rattle.heap_model.specs.Maps.{callers_map};
@@ -9,6 +9,7 @@ ghost use Rattle.heap_model.specs.Database.{IsSpelled, database_in, data_in};
 ghost use Rattle.heap_model.specs.MemorySteps.{Of, IsLocked};
 ghost use Rattle.heap_model.specs.Store.{Accepted};
 ghost use Rattle.heap_model.specs.StoreWords.{all_gone};
+ghost use Rattle.mem_manager.specs.Lookup.{IsMovable};
 ghost use Rattle.palm_store.specs.Databases.{HasNumber};
 ghost use Rattle.palm_store.specs.Databases.{named_under};
 
@@ -43,7 +44,7 @@ fn slot_at(body: &[u8], index: u32) -> Name
 /// Whether a slot has a locked chunk.
 fn is_locked(heap: &Heap, slot: Name) -> bool
     requires heap { HeapAccepted heap.now.bytes }
-    requires there { 0 < slot.0 → IsSome (held heap.now.bytes slot.0) }
+    requires movable { 0 < slot.0 → IsMovable heap.now.bytes slot.0 }
     ensures { IsTrue result ↔ Of (held heap.now.bytes slot.0) IsLocked }
 {
     if slot.0 == 0 {

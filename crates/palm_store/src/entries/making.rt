@@ -64,6 +64,7 @@ pub(crate) fn put_in(
 
 /// Puts an entry in at an index, with a caller's chunk for its data; the database counts the call. Refused
 /// `NotEnoughSpace` alone, and then nothing has changed.
+#[inline(always)]
 pub(crate) fn take_in(
     heap: &mut Heap,
     db: Db,
@@ -103,6 +104,7 @@ pub(crate) struct MadeEntry {
 }
 
 /// The new entry: a record gets a fresh ID, the next one where that is known to be free.
+#[inline]
 pub(crate) fn new_entry(heap: &Heap, db: Db, entry: NewEntry, known: KnownIds) -> MadeEntry
     requires accepted { Accepted heap.now.bytes }
     requires number { HasNumber heap.now.bytes db.0 }

@@ -15,6 +15,7 @@ use heap_model::{Db, Entry};
 use mem_manager::Heap;
 
 /// How many entries a database has.
+#[inline(always)]
 pub(crate) fn count_entries(heap: &Heap, db: Db) -> u32
     requires accepted { Accepted heap.now.bytes }
     requires number { HasNumber heap.now.bytes db.0 }
@@ -40,6 +41,7 @@ pub(crate) fn read_entry(heap: &Heap, db: Db, index: u32) -> DbEntry
 }
 
 /// What the entry at an index says, of the database with these bytes, if there are so many.
+#[inline(always)]
 pub(crate) fn entry_at(body: &[u8], index: u32) -> Option<Entry>
     requires { HasShape body.now }
     ensures there { IfSome result

@@ -13,6 +13,7 @@ use db_format::{DbEntry, RecordAttrs, RecordEntry, ResourceEntry};
 use heap_model::{Entry, Name, RecordInfo, ResourceInfo};
 
 /// What callers hear of an entry.
+#[inline(always)]
 pub(crate) fn told(entry: DbEntry) -> Entry
     ensures { Tells result (entry_of entry) }
 {
@@ -31,6 +32,7 @@ pub(crate) fn told(entry: DbEntry) -> Entry
 }
 
 /// The name of the chunk in a slot; there is none for 0.
+#[inline(always)]
 fn name_of(slot: u32) -> Option<Name>
     ensures { IsNameOf slot result }
 {

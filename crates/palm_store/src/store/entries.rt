@@ -55,6 +55,7 @@ impl Store {
     /// The attributes of a database, and what its entry at an index says, if there is one.
     ///
     /// Refused: `NoSuchDatabase`.
+    #[inline(always)]
     pub fn find_entry(&self, db: Db, index: u32) -> Result<FoundEntry, Refusal>
         ensures accepted { Accepted self.now.bytes }
         ensures known { OnOk result (HasNumber self.now.bytes db.0) }
@@ -106,6 +107,7 @@ impl Store {
     /// Whether a database can take a chunk of a caller's.
     ///
     /// Refused: `InvalidHandle`; `OwnedByDatabase`, where it is one for data; `ChunkFixed`.
+    #[inline(always)]
     pub fn check_given(&self, name: Name) -> Result<(), Refusal>
         ensures may { OnOk result (MayBeGiven self.now.bytes name.0) }
         ensures could { OnOk result (NoneHolds (checks_of_giving self.now.bytes name.0)) }

@@ -24,8 +24,8 @@ slot_at-slot-requires-clause-inside c =
     let below : c.loop-index.index < length (data_in (database_in c.header_of.result.now)) = subst (λ (count : ℕ). c.loop-index.index < count) c.slot_count-count.ensures c.loop-index-test.true in
     subst (λ (body : List ℕ). c.loop-index.index < length (data_in (database_in body))) (sym same) below
 
-pub free_chunk_of-requires-clause-there : goal.free_chunk_of-requires-clause-there
-free_chunk_of-requires-clause-there c some =
+pub free_chunk_of-requires-clause-movable : goal.free_chunk_of-requires-clause-movable
+free_chunk_of-requires-clause-movable c some =
     let at = named_at c.args.heap.now.bytes c.header_of.result.now c.sys_body.result.now c.args.db.0 c.loop-index.index c.slot_count-count.result c.slot_at-slot.result.0 c.header_of.ensures.is
     (c.sys_body.ensures ∙ header_like c.args.heap.now.bytes c.loop-index.heap.bytes c.args.db.0 c.loop-index.index c.requires.accepted c.requires.number c.loop-index.invariant.leaves) c.slot_count-count.ensures c.loop-index-test.true c.slot_at-slot.ensures in
     slot_left c.args.heap.now.bytes c.loop-index.heap.bytes c.args.db.0 c.loop-index.index c.slot_at-slot.result.0 c.requires.accepted c.requires.number c.loop-index.invariant.leaves at some

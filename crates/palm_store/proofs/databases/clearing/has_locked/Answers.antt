@@ -5,14 +5,14 @@ use Rattle.heap_model.specs.Maps.{callers_map}
 use Rattle.heap_model.specs.Meaning.{LiveChunk}
 use Rattle.heap_model.specs.MemorySteps.{Of, IsLocked}
 use Rattle.palm_store.specs.Databases.{named_under}
-use Rattle.palm_store.proofs.NamedChunks.{named_at, slot_there, slot_shown, any_at, none_of}
+use Rattle.palm_store.proofs.NamedChunks.{named_at, slot_movable, slot_shown, any_at, none_of}
 use Rattle.palm_store.proofs.databases.clearing.has_locked.Goals as goal
 
-pub is_locked-requires-clause-there : goal.is_locked-requires-clause-there
-is_locked-requires-clause-there c some =
+pub is_locked-requires-clause-movable : goal.is_locked-requires-clause-movable
+is_locked-requires-clause-movable c some =
     let at = named_at c.args.heap.now.bytes c.header_of-body.result.now c.header_of-body.result.now c.args.db.0 c.loop-index.index c.slot_count-index-end.result c.slot_at.result.0 c.header_of-body.ensures.is c.header_of-body.ensures.is c.slot_count-index-end.ensures
     c.loop-index-test.true c.slot_at.ensures in
-    slot_there c.args.heap.now.bytes c.args.db.0 c.loop-index.index c.slot_at.result.0 c.requires.accepted c.requires.number at some
+    slot_movable c.args.heap.now.bytes c.args.db.0 c.loop-index.index c.slot_at.result.0 c.requires.accepted c.requires.number at some
 
 pub returns-then-is_locked : goal.returns-then-is_locked
 returns-then-is_locked c =

@@ -1,13 +1,18 @@
 -- The header's chunk is made, then the data, and then the slot is listed; or all of it is freed again.
 use Rattle.std.proofs.Common.{sym, subst, ◌≤◌, ◌∙◌, List, length, ℕ}
 use Rattle.palm_store.specs.WholeDatabases.{data_sizes, numbers_in}
-use Rattle.palm_store.proofs.ListedSlots.{few_bytes, made_directory, fresh_apart}
+use Rattle.palm_store.proofs.ListedSlots.{few_bytes, made_directory, made_movable, fresh_apart}
 use Rattle.palm_store.proofs.WholeListing.{no_rest_room, listed_whole}
 use Rattle.palm_store.proofs.databases.completing.list_whole.Goals as goal
 
 pub make_data_and_list-requires-clause-few : goal.make_data_and_list-requires-clause-few
 make_data_and_list-requires-clause-few c =
     subst (λ (bytes : List ℕ). length bytes ≤ 4096) (sym (made_directory c.args.heap.now.bytes c.sys_new.new.self.bytes c.in_ok-slot.slot.0 c.args.size c.requires.accepted.heap c.in_ok-slot.ensures.made)) (few_bytes c.args.heap.now.bytes c.requires.accepted)
+
+pub sys_free-requires-clause-movable : goal.sys_free-requires-clause-movable
+sys_free-requires-clause-movable c =
+    let m = made_movable c.args.heap.now.bytes c.sys_new.new.self.bytes c.in_ok-slot.slot.0 _ _ c.in_ok-slot.ensures.made in
+    record { live = m.live; is_held = c.in-Err.ensures.refused.map c.in_ok-slot.slot.0 ∙ m.is_held; movable = m.movable }
 
 pub sys_free-requires-clause-no_directory : goal.sys_free-requires-clause-no_directory
 sys_free-requires-clause-no_directory c e =

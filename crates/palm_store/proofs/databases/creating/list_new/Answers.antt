@@ -5,12 +5,17 @@ use Rattle.heap_model.specs.Heap.{directory_of}
 use Rattle.heap_model.specs.Maps.{gone}
 use Rattle.heap_model.specs.Leaving.{Leaves}
 use Rattle.heap_model.specs.Reading.{held}
-use Rattle.palm_store.proofs.ListedSlots.{listed_new, made_directory, few_bytes, given_back, no_listing, fresh_apart}
+use Rattle.mem_manager.specs.Lookup.{IsMovable}
+use Rattle.palm_store.proofs.ListedSlots.{made_movable, listed_new, made_directory, few_bytes, given_back, no_listing, fresh_apart}
 use Rattle.palm_store.proofs.databases.creating.list_new.Goals as goal
 
 pub list_last-requires-clause-few : goal.list_last-requires-clause-few
 list_last-requires-clause-few c =
     subst (λ (bytes : List ℕ). length bytes ≤ 4096) (sym (made_directory c.args.heap.now.bytes c.sys_new.new.self.bytes c.in_ok-slot.slot.0 78 c.requires.accepted.heap c.in_ok-slot.ensures.made)) (few_bytes c.args.heap.now.bytes c.requires.accepted)
+
+pub sys_free-requires-clause-movable : goal.sys_free-requires-clause-movable
+sys_free-requires-clause-movable c =
+    subst (λ (m : Memory). IsMovable m.bytes c.in_ok-slot.slot.0) (sym c.in-Err.ensures.refused) (made_movable c.args.heap.now.bytes c.sys_new.new.self.bytes c.in_ok-slot.slot.0 _ _ c.in_ok-slot.ensures.made)
 
 pub sys_free-requires-clause-no_directory : goal.sys_free-requires-clause-no_directory
 sys_free-requires-clause-no_directory c =

@@ -2,13 +2,13 @@
 use Rattle.std.proofs.Common.{refl}
 use Rattle.laws_store.proofs.Doing.{kept_then}
 use Rattle.palm_store.specs.WholeDatabases.{numbers_in}
-use Rattle.palm_store.proofs.GainedChunks.{number_at, own_there, own_beside, freed_upto}
+use Rattle.palm_store.proofs.GainedChunks.{number_at, own_movable, own_beside, freed_upto}
 use Rattle.palm_store.proofs.databases.gaining.free_named.Goals as goal
 
-pub free_chunk_of-requires-clause-there : goal.free_chunk_of-requires-clause-there
-free_chunk_of-requires-clause-there c some =
+pub free_chunk_of-requires-clause-movable : goal.free_chunk_of-requires-clause-movable
+free_chunk_of-requires-clause-movable c some =
     let at = number_at c.args.names.now c.loop-index.index _ c.loop-index-test.true refl in
-    own_there c.args.heap.now.bytes c.loop-index.heap.bytes (numbers_in c.args.names.now) c.loop-index.index _ c.requires.own c.loop-index.invariant.leaves at some
+    own_movable c.args.heap.now.bytes c.loop-index.heap.bytes (numbers_in c.args.names.now) c.loop-index.index _ c.requires.own c.loop-index.invariant.leaves at some
 
 pub free_chunk_of-requires-clause-no_directory : goal.free_chunk_of-requires-clause-no_directory
 free_chunk_of-requires-clause-no_directory c some directory =

@@ -8,8 +8,8 @@ pub returns-then-has_locked : goal.returns-then-has_locked
 returns-then-has_locked c =
     ask_viewed c.self.inside.heap c.args.self.now _ _ c.self.view_is (not_deleted c.self.inside.heap c.args.db c.self.invariant.accepted c.in_ok-find_header.ensures.known (c.has_locked.ensures.0 c.if-has_locked.true))
 
-pub sys_free-requires-clause-there : goal.sys_free-requires-clause-there
-sys_free-requires-clause-there c =
+pub sys_free-requires-clause-movable : goal.sys_free-requires-clause-movable
+sys_free-requires-clause-movable c =
     header_left c.self.inside.heap.bytes c.free_data.new.heap.bytes c.args.db.0 c.self.invariant.accepted c.in_ok-find_header.ensures.known c.free_data.ensures.leaves
 
 pub sys_free-requires-clause-no_directory : goal.sys_free-requires-clause-no_directory

@@ -9,7 +9,7 @@ use Rattle.db_format.specs.EitherEntry.{entry_of}
 use Rattle.laws_store.proofs.Numbered.{accepted_spells}
 use Rattle.palm_store.specs.EntryInfos.{MayOwn, dropped_to}
 use Rattle.palm_store.proofs.EntriesHere.{count_fits, index_below}
-use Rattle.palm_store.proofs.EntryChanges.{drop_steps, hand_over_steps, slot_there, slot_no_directory, slot_movable, slot_some}
+use Rattle.palm_store.proofs.EntryChanges.{drop_steps, hand_over_steps, slot_movable, slot_no_directory, slot_some}
 use Rattle.palm_store.specs.Databases.{HasNumber}
 use Rattle.palm_store.proofs.KnownIds.{go_free}
 use Rattle.palm_store.proofs.store.Store.entry_drop.Goals as goal
@@ -33,10 +33,10 @@ remove_entry-requires-clause-inside c =
     let inside : c.args.index < length (entries_in (store_of c.self.inside.heap.bytes) c.args.db) = rw c.self.view_is c.requires.inside in
     index_below c.self.inside.heap.bytes c.args.db c.args.index number inside
 
-pub free_chunk_of-requires-clause-there : goal.free_chunk_of-requires-clause-there
-free_chunk_of-requires-clause-there c =
+pub free_chunk_of-requires-clause-movable : goal.free_chunk_of-requires-clause-movable
+free_chunk_of-requires-clause-movable c =
     let number : HasNumber c.self.inside.heap.bytes c.args.db.0 = rw c.self.view_is c.requires.number in
-    slot_there c.self.inside.heap.bytes c.remove_entry.new.heap.bytes c.args.db c.args.index c.slot.result _ _ c.self.invariant.accepted number c.read_entry.ensures.is c.slot.ensures c.remove_entry.ensures.removed
+    slot_movable c.self.inside.heap.bytes c.remove_entry.new.heap.bytes c.args.db c.args.index c.slot.result _ _ c.self.invariant.accepted number c.read_entry.ensures.is c.slot.ensures c.remove_entry.ensures.removed
 
 pub free_chunk_of-requires-clause-no_directory : goal.free_chunk_of-requires-clause-no_directory
 free_chunk_of-requires-clause-no_directory c =

@@ -7,7 +7,7 @@ use Rattle.heap_model.specs.EntrySteps.{without_data, data_freed, resources_unde
 use Rattle.db_format.specs.EitherEntry.{entry_of}
 use Rattle.laws_store.proofs.Numbered.{accepted_spells}
 use Rattle.palm_store.proofs.EntriesHere.{count_fits, fits_here, index_below}
-use Rattle.palm_store.proofs.EntryChanges.{free_steps, slot_there, slot_no_directory}
+use Rattle.palm_store.proofs.EntryChanges.{free_steps, slot_movable, slot_no_directory}
 use Rattle.palm_store.proofs.EntryInfos.{emptied_names, emptied_id, emptied_data}
 use Rattle.heap_model.specs.Store.{store_of}
 use Rattle.palm_store.specs.Databases.{HasNumber}
@@ -37,10 +37,10 @@ pub write_entry-requires-clause-kind : goal.write_entry-requires-clause-kind
 write_entry-requires-clause-kind c =
     c.emptied.ensures.kind ∙ c.read_entry-entry.ensures.kind
 
-pub free_chunk_of-requires-clause-there : goal.free_chunk_of-requires-clause-there
-free_chunk_of-requires-clause-there c =
+pub free_chunk_of-requires-clause-movable : goal.free_chunk_of-requires-clause-movable
+free_chunk_of-requires-clause-movable c =
     let number : HasNumber c.self.inside.heap.bytes c.args.db.0 = rw c.self.view_is c.requires.number in
-    slot_there c.self.inside.heap.bytes c.write_entry.new.heap.bytes c.args.db c.args.index c.slot.result _ _ c.self.invariant.accepted number c.read_entry-entry.ensures.is c.slot.ensures c.write_entry.ensures.written
+    slot_movable c.self.inside.heap.bytes c.write_entry.new.heap.bytes c.args.db c.args.index c.slot.result _ _ c.self.invariant.accepted number c.read_entry-entry.ensures.is c.slot.ensures c.write_entry.ensures.written
 
 pub free_chunk_of-requires-clause-no_directory : goal.free_chunk_of-requires-clause-no_directory
 free_chunk_of-requires-clause-no_directory c =
