@@ -1,10 +1,10 @@
 -- One chunk of a layout is exchanged for others of its size: what names stand for then, and where.
-use Rattle.std.proofs.Common.{◌≡◌, ◌≢◌, ℕ, ◌+◌, ◌-◌, ◌<◌, ◌≤◌, List, [], ◌∷◌, ◌++◌, length, zero, suc, Option, Some, None, refl, sym, ap, subst, ◌∙◌, arith, inl, inr}
+use Rattle.std.proofs.Common.{◌≡◌, ◌≢◌, ℕ, ◌+◌, ◌<◌, List, [], ◌∷◌, ◌++◌, length, zero, suc, Option, Some, None, refl, sym, ap, subst, ◌∙◌, arith, inl, inr}
 use Rattle.std.specs.Prelude.{◌==◌, ◌↔◌}
 use Rattle.std.proofs.lemmas.Bool.{eq-eqb}
 use Rattle.std.proofs.lemmas.Bool.Decides.{nat_tests}
 use Rattle.heap_model.specs.Bytes.{u32_at}
-use Rattle.heap_model.specs.Chunk.{Chunk, free, movable, fixed, size_of, total}
+use Rattle.heap_model.specs.Chunk.{Chunk, free, size_of, total}
 use Rattle.heap_model.specs.Slots.{IsSlot, area_start}
 use Rattle.heap_model.specs.Heap.{BodyHere, IsBody, IsHeap, HeapAccepted}
 use Rattle.heap_model.specs.Placed.{EveryPlaced}
@@ -12,15 +12,15 @@ use Rattle.heap_model.specs.Meaning.{LiveChunk, NamedHere}
 use Rattle.heap_model.specs.Reading.{chunks_of, held, live_under}
 use Rattle.heap_model.specs.Space.{AllFree, place_under, place_of}
 use Rattle.heap_model.specs.Placing.{SameFrame}
-use Rattle.heap_model.specs.Layout.{free_onto, merged, layout_of, Becomes, exchanged, Exchanges, gap, in_front, IsRoom}
+use Rattle.heap_model.specs.Layout.{merged, layout_of, Becomes, exchanged, Exchanges, gap}
 use Rattle.laws_heap.proofs.Deciding.{cond-true, cond-false}
-use Rattle.laws_heap.proofs.Placed.{TakesBytes, SpelledAll-takes, EveryPlaced-split}
+use Rattle.laws_heap.proofs.Placed.{TakesBytes, SpelledAll-takes}
 use Rattle.laws_heap.proofs.Replacing.{any_replaced}
 use Rattle.laws_heap.proofs.Lives.{or_else, live_under-append, live_replaced, place_replaced, live_under-free, place_under-free, live_placed}
 use Rattle.laws_heap.proofs.Meanings.{named_once}
 use Rattle.laws_heap.proofs.Freeing.{any_free, unnamed, live_mid, place_mid, other_name, other_name_place, or_front, or_back, body_name}
 use Rattle.laws_heap.proofs.Finding.{read_heap}
-use Rattle.laws_heap.proofs.Layouts.{IsNotFree, merged-front, merged-left, merged-right, merged-live, merged-back, runs-merged, run-merged, takes-merged, total-merged, live_under-merged, place_under-merged, any-layout}
+use Rattle.laws_heap.proofs.Layouts.{IsNotFree, merged-front, merged-right, merged-live, merged-back, takes-merged, total-merged, live_under-merged, place_under-merged, any-layout}
 use Rattle.laws_heap.proofs.Becoming.{held-layout, place-layout, becomes_alike, becomes_held, becomes_place, becomes_slot}
 
 -- ---- where it stands
@@ -75,78 +75,6 @@ gap_free (suc n) = tt
 pub gap_total : (n : ℕ) → total (gap n) ≡ n
 gap_total zero = refl
 gap_total (suc n) = omega arith
-
--- a room as a free chunk of the layout, and what is left of it behind a chunk of so many bytes
-pub record RoomInLayout (image : List ℕ) (at size : ℕ) (before after : List Chunk) : Type 0 where
-  pub more : ℕ
-  pub behind : List Chunk
-  pub layout : layout_of image ≡ merged before ++ free more ∷ behind
-  pub within : size ≤ more
-  pub left : (taken : ℕ) → taken ≤ size → merged (gap (more - taken) ++ behind) ≡ merged (gap (size - taken) ++ after)
-
--- a gap and the free chunk behind it are one gap
-gap_more : (n m : ℕ) (cs : List Chunk) → 0 < m → merged (gap (n + m) ++ cs) ≡ merged (gap n ++ free m ∷ cs)
-gap_more n m cs some =
-    merged-left (gap (n + m)) (gap n ++ free m ∷ []) cs (runs-merged (gap (n + m)) (gap n ++ free m ∷ []) (gap_free (n + m)) (both n) (let e = gap_total (n + m) in omega arith) (gap_total (n + m) ∙ sums n)) ∙ ap merged (assoc n) where
-      both : (k : ℕ) → AllFree (gap k ++ free m ∷ [])
-      both zero = tt
-      both (suc k) = tt
-
-      sums : (k : ℕ) → k + m ≡ total (gap k ++ free m ∷ [])
-      sums zero = omega arith
-      sums (suc k) = omega arith
-
-      assoc : (k : ℕ) → (gap k ++ free m ∷ []) ++ cs ≡ gap k ++ free m ∷ cs
-      assoc zero = refl
-      assoc (suc k) = refl
-
-pub room_in_layout : (image : List ℕ) (at size : ℕ) → HeapAccepted image → 0 < size → (r : IsRoom image at size) → RoomInLayout image at size r.before r.after
-room_in_layout image at size h some r = by_run r.run r.all_free (r.sums) r.front r.chunks where
-  in_run : (xs ys : List Chunk) → chunks_of image ≡ r.before ++ (xs ++ ys) → EveryPlaced TakesBytes (area_start image) (r.before ++ (xs ++ ys))
-  in_run xs ys e = subst (λ (cs : List Chunk). EveryPlaced TakesBytes (area_start image) cs) e (SpelledAll-takes image (area_start image) (chunks_of image) (length image) (read_heap image h).tiles.area)
-
-  by_run : (run : List Chunk) → AllFree run → size ≡ total run → layout_of image ≡ merged r.before ++ merged (run ++ r.after) → chunks_of image ≡ r.before ++ (run ++ r.after) → RoomInLayout image at size r.before r.after
-  by_run [] f sums front chunks = absurd (omega arith)
-  by_run (movable bytes lock owner slot ∷ run) f sums front chunks = absurd f
-  by_run (fixed bytes owner ∷ run) f sums front chunks = absurd f
-  by_run (free n ∷ run) f sums front chunks = by_behind (merged r.after) refl (takes-merged _ r.after (EveryPlaced-split TakesBytes (area_start image + total r.before) (free n ∷ run) r.after (EveryPlaced-split TakesBytes (area_start image) r.before ((free n ∷ run) ++ r.after) (in_run (free n ∷ run) r.after chunks)).1).1) where
-    one : layout_of image ≡ merged r.before ++ free_onto size (merged r.after)
-    one = front ∙ ap (λ (cs : List Chunk). merged r.before ++ cs) (run-merged n run r.after f ∙ ap (λ (k : ℕ). free_onto k (merged r.after)) (sym sums))
-
-    apart : (behind : List Chunk) → merged r.after ≡ behind → layout_of image ≡ merged r.before ++ free size ∷ behind → RoomInLayout image at size r.before r.after
-    apart behind e layout = record {
-      more = size;
-      behind = behind;
-      layout = layout;
-      within = omega arith;
-      left = λ taken fits. ap (λ (cs : List Chunk). merged (gap (size - taken) ++ cs)) (sym e) ∙ merged-back (gap (size - taken)) r.after;
-    }
-
-    by_behind : (behind : List Chunk) → merged r.after ≡ behind → EveryPlaced TakesBytes (area_start image + total r.before + total (free n ∷ run)) behind → RoomInLayout image at size r.before r.after
-    by_behind [] e takes = apart [] e (one ∙ ap (λ (cs : List Chunk). merged r.before ++ free_onto size cs) e)
-    by_behind (movable bytes lock owner slot ∷ cs) e takes = apart (movable bytes lock owner slot ∷ cs) e (one ∙ ap (λ (ds : List Chunk). merged r.before ++ free_onto size ds) e)
-    by_behind (fixed bytes owner ∷ cs) e takes = apart (fixed bytes owner ∷ cs) e (one ∙ ap (λ (ds : List Chunk). merged r.before ++ free_onto size ds) e)
-    by_behind (free m ∷ cs) e takes = record {
-      more = size + m;
-      behind = cs;
-      layout = one ∙ ap (λ (ds : List Chunk). merged r.before ++ free_onto size ds) e;
-      within = omega arith;
-      left = λ taken fits.
-          let least = takes.0 in
-          let sum : size + m - taken ≡ size - taken + m = omega arith in
-          ap (λ (k : ℕ). merged (gap k ++ cs)) sum ∙ gap_more (size - taken) m cs (omega arith)
-          ∙ ap (λ (ds : List Chunk). merged (gap (size - taken) ++ ds)) (sym e) ∙ merged-back (gap (size - taken)) r.after;
-    }
-
--- a chunk at the front of a room, in parts of the image's chunks
-pub claims_parts : (old new : List ℕ) (at size : ℕ) (d : Chunk) → HeapAccepted old → 0 < size → (r : IsRoom old at size) → size_of d ≤ size → Becomes old new (r.before ++ ((d ∷ gap (size - size_of d)) ++ r.after)) → Exchanges old new at (in_front d)
-claims_parts old new at size d h some r fits b =
-    let room = room_in_layout old at size h some r in
-    let there : at ≡ area_start old + total (merged r.before) = r.there ∙ ap (λ (n : ℕ). area_start old + n) (sym (total-merged r.before)) in
-    let alike : merged (merged r.before ++ (d ∷ (gap (room.more - size_of d) ++ room.behind))) ≡ merged (r.before ++ (d ∷ (gap (size - size_of d) ++ r.after))) =
-    merged-front r.before (d ∷ (gap (room.more - size_of d) ++ room.behind)) ∙ merged-right r.before (d ∷ (gap (room.more - size_of d) ++ room.behind)) (d ∷ (gap (size - size_of d) ++ r.after))
-    (merged-right (d ∷ []) (gap (room.more - size_of d) ++ room.behind) (gap (size - size_of d) ++ r.after) (room.left (size_of d) fits)) in
-    (exchanges_layout old new at (in_front d) (merged r.before) (free room.more) room.behind h room.layout there).1 (becomes_alike old new _ _ (sym alike) b)
 
 -- ---- names
 

@@ -105,13 +105,6 @@ merged-twice xs = ap merged (sym (append-nil (merged xs))) ∙ merged-front xs [
 pub merged-back : (xs ys : List Chunk) → merged (xs ++ merged ys) ≡ merged (xs ++ ys)
 merged-back xs ys = merged-right xs (merged ys) ys (merged-twice ys)
 
--- a run of free chunks is one with what is behind it
-pub run-merged : (n : ℕ) (run ys : List Chunk) → AllFree run → merged (free n ∷ (run ++ ys)) ≡ free_onto (n + total run) (merged ys)
-run-merged n [] ys f = ap (λ (k : ℕ). free_onto k (merged ys)) (let e : n ≡ n + 0 = omega arith in e)
-run-merged n (free m ∷ run) ys f = ap (free_onto n) (run-merged m run ys f) ∙ sym (onto_twice n (m + total run) (merged ys))
-run-merged n (movable bytes lock owner slot ∷ run) ys f = absurd f
-run-merged n (fixed bytes owner ∷ run) ys f = absurd f
-
 takes_onto : (at n : ℕ) (cs : List Chunk) → 8 ≤ n → EveryPlaced TakesBytes (at + n) cs → EveryPlaced TakesBytes at (free_onto n cs)
 takes_onto at n [] least h = (least, tt)
 takes_onto at n (free m ∷ cs) least h =

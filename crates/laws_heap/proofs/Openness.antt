@@ -1,20 +1,20 @@
 -- What contracts over layouts leave open: whether a chunk that is given back is joined with its free
 -- neighbours, and how what a claim leaves of its room is split.
-use Rattle.std.proofs.Common.{◌≡◌, ℕ, zero, suc, ◌+◌, ◌-◌, ◌<◌, ◌≤◌, List, [], ◌∷◌, ◌++◌, refl, sym, ap, ◌∙◌, append_assoc, arith}
+use Rattle.std.proofs.Common.{◌≡◌, ℕ, zero, suc, ◌+◌, ◌-◌, ◌≤◌, List, [], ◌∷◌, ◌++◌, refl, sym, ap, ◌∙◌, append_assoc, arith}
 use Rattle.heap_model.specs.Chunk.{Chunk, free, movable, fixed, size_of, total}
 use Rattle.heap_model.specs.Slots.{area_start}
 use Rattle.heap_model.specs.Heap.{IsHeap, HeapAccepted}
 use Rattle.heap_model.specs.Placed.{EveryPlaced}
 use Rattle.heap_model.specs.Reading.{chunks_of}
 use Rattle.heap_model.specs.Space.{AllFree}
-use Rattle.heap_model.specs.Layout.{merged, Exchanges, Alters, gap, in_front, FreeUpTo, IsRoom, freed}
+use Rattle.heap_model.specs.Layout.{merged, Alters, gap, FreeUpTo, IsSpot, Claims, freed}
 use Rattle.laws_heap.proofs.Chunks.{total-append}
 use Rattle.laws_heap.proofs.Placed.{TakesBytes}
 use Rattle.laws_heap.proofs.Runs.{chunks_of-tiled}
 use Rattle.laws_heap.proofs.Replacing.{SameHead, same_start}
 use Rattle.laws_heap.proofs.Layouts.{IsNotFree, merged-middle, merged-right, runs-merged}
 use Rattle.laws_heap.proofs.Becoming.{becomes_heap, becomes_alike}
-use Rattle.laws_heap.proofs.Exchanging.{exchanges_parts, claims_parts, gap_free, gap_total}
+use Rattle.laws_heap.proofs.Exchanging.{exchanges_parts, gap_free, gap_total}
 
 -- ---- a chunk is given back
 
@@ -54,9 +54,9 @@ as_gap at (movable bytes lock owner slot ∷ left) count free_ones takes e = abs
 as_gap at (fixed bytes owner ∷ left) count free_ones takes e = absurd free_ones
 
 -- what is left of the room is split in any way
-pub left_as_split : (old new : List ℕ) (at size : ℕ) (d : Chunk) (left : List Chunk) → HeapAccepted old → 0 < size → (r : IsRoom old at size) → size_of d ≤ size → AllFree left → EveryPlaced TakesBytes (at + size_of d) left → total left ≡ size - size_of d → SameHead old new
-    → IsHeap new (r.before ++ ((d ∷ left) ++ r.after)) → Exchanges old new at (in_front d)
-left_as_split old new at size d left h some r fits free_ones takes e same heap =
+pub left_as_split : (old new : List ℕ) (at size : ℕ) (d : Chunk) (left : List Chunk) → AllFree left → EveryPlaced TakesBytes (at + size_of d) left → total left ≡ size - size_of d → SameHead old new
+    → ((r : IsSpot old at size) → IsHeap new (r.before ++ ((d ∷ left) ++ r.after))) → Claims old new at size d
+left_as_split old new at size d left free_ones takes e same heap = λ r.
     let alike : merged (r.before ++ ((d ∷ left) ++ r.after)) ≡ merged (r.before ++ ((d ∷ gap (size - size_of d)) ++ r.after)) =
     merged-middle r.before (d ∷ left) (d ∷ gap (size - size_of d)) r.after (merged-right (d ∷ []) left (gap (size - size_of d)) (sym (as_gap (at + size_of d) left (size - size_of d) free_ones takes e))) in
-    claims_parts old new at size d h some r fits (becomes_alike old new (r.before ++ ((d ∷ left) ++ r.after)) (r.before ++ ((d ∷ gap (size - size_of d)) ++ r.after)) alike (becomes_heap old new (r.before ++ ((d ∷ left) ++ r.after)) same heap))
+    becomes_alike old new (r.before ++ ((d ∷ left) ++ r.after)) (r.before ++ ((d ∷ gap (size - size_of d)) ++ r.after)) alike (becomes_heap old new (r.before ++ ((d ∷ left) ++ r.after)) same (heap r))

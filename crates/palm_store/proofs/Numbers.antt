@@ -106,15 +106,6 @@ slot_in image bytes index db same below is =
 pub slot_read : (image bytes : List ℕ) (index : ℕ) → bytes ≡ directory_bytes image → index < length (listed image) → u32_at bytes (4 * index) ≡ get_or (listed image) index 0
 slot_read image bytes index same below = ap (λ (bs : List ℕ). u32_at bs (4 * index)) same ∙ sym (slot_at image index below)
 
--- a number stands at some index
-pub index_exists : (image bytes : List ℕ) (db : ℕ) → bytes ≡ directory_bytes image → HasNumber image db → ((k : ℕ) → k < length bytes / 4 → u32_at bytes (4 * k) ≡ db → ⊥) → ⊥
-index_exists image bytes db same has none =
-    let there = contained-times db (listed image) (number_listed image db has) in
-    let len = length-listed image in
-    let long = ap length same in
-    let below = there.1 in
-    none there.0 (omega arith) (ap (λ (bs : List ℕ). u32_at bs (4 * there.0)) same ∙ sym (slot_at image there.0 below) ∙ sym (get_or_default_zero (listed image) there.0 db below) ∙ there.2)
-
 -- ---- the directory
 
 pub no_directory : (image : List ℕ) → HeapAccepted image → directory_of image ≡ 0 → directory_bytes image ≡ []

@@ -118,8 +118,6 @@ fn put_hex_turn<W: Write>(out: &mut Counted<W>, bytes: &[u8]) -> Result<(), Writ
 {
     let mut buffer = [0; 2 * TURN];
     let digits = &mut buffer[..2 * bytes.len()];
-    match hex::encode_to_slice(bytes, digits) {
-        Ok(()) => put_all(out, digits),
-        Err(_) => unreachable!(),
-    }
+    hex::encode_to_slice(bytes, digits).unwrap();
+    put_all(out, digits)
 }

@@ -1,6 +1,6 @@
 -- What `run` prints and writes. Where a definition ends in a `Bool`, it says whether all got through. Where one begins
 -- with `short`, a line was refused for want of memory only where that holds.
-use Rattle.std.specs.Prelude.{◌≡◌, ◌⊎◌, ℕ, Bool, true, false, List, Option, Some, Ok, Err}
+use Rattle.std.specs.Prelude.{◌≡◌, ◌≢◌, ◌⊎◌, ℕ, Bool, true, false, List, Option, Some, Ok, Err}
 use Rattle.heap_model.specs.Memory.{Memory}
 use Rattle.heap_model.specs.Counted.{Writing}
 use Rattle.heap_model.specs.Store.{Accepted}
@@ -10,6 +10,8 @@ use Rattle.script_lines.specs.declared.line.Line.{Line}
 use Rattle.palm_script.specs.Lines.{BreaksOffShort, RunsThroughShort}
 use Rattle.program_io.specs.FaultLines.{PutsBad, PutsFault}
 use Rattle.program_io.specs.Output.{Puts}
+use Rattle.program_io.specs.declared.status.Status.{Status}
+use Rattle.program_io.specs.declared.status.Status.TheVariants.{Done, Refused, BadWords, ReadFault, WriteFault, NoMemory}
 
 -- The image is no accepted one, and a line that starts with `bad` says why; or it is one and no script is
 -- read from the text, and a line says why.
@@ -72,3 +74,13 @@ RunsScript image script inputs contents old new image_contents image_old image_n
 
 abbrev pub RunBreaksOff : {W V : Type 0} → (image script : List ℕ) → List (List ℕ) → (V → Option (List ℕ)) → Writing V → Writing V → (W → Option (List ℕ)) → Writing W → Writing W → Type 0
 RunBreaksOff image script inputs contents old new image_contents image_old image_new = RunBreaksOffShort (Unit {0}) image script inputs contents old new image_contents image_old image_new
+
+-- what `run` wrote, by the status with which it ends, and the files that the script exports, where it was run
+pub record EndsRun {W V : Type 0} (image script : List ℕ) (inputs : List (List ℕ)) (contents : V → Option (List ℕ)) (old new : Writing V) (image_contents : W → Option (List ℕ)) (image_old image_new : Writing W) (files : List (List ℕ)) (status : Status) : Type 0 where
+  pub done : status ≡ Done → RunsScript image script inputs contents old new image_contents image_old image_new files true
+  pub refused : status ≡ Refused → PutsRefusal image script contents old new true
+  pub no_image : status ≡ Refused → image_new ≡ image_old
+  pub no_memory : status ≡ NoMemory → (image_new ≡ image_old) × (new ≡ old)
+  pub write_fault : status ≡ WriteFault → RunBreaksOff image script inputs contents old new image_contents image_old image_new
+  pub good_words : status ≢ BadWords
+  pub reads_nothing : status ≢ ReadFault

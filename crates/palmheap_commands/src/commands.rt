@@ -1,12 +1,7 @@
 //! The commands `new` and `check`, over bytes and writers.
 
-ghost use Rattle.std.specs.Prelude.{◌≡◌, ◌≢◌, codes, true, false, IfOk, OnErr, string_bytes};
-ghost use Rattle.heap_model.specs.Store.{Accepted};
-ghost use Rattle.chunk_format.specs.Blank.{IsRegionSize, LeavesRoom};
-ghost use Rattle.palmheap_commands.specs.Commands.{NewBreaksOff, PutsBlank, PutsSummary};
-ghost use Rattle.palmheap_commands.specs.Commands.{heap_line, summary_lines};
-ghost use Rattle.program_io.specs.FaultLines.{PutsBad};
-ghost use Rattle.program_io.specs.Output.{Puts};
+ghost use Rattle.std.specs.Prelude.{◌≡◌, IfOk, OnErr, string_bytes};
+ghost use Rattle.palmheap_commands.specs.Commands.{EndsCheck, EndsNew, heap_line, summary_lines};
 
 use crate::images::put_image;
 use allowance::Allowance;
@@ -29,19 +24,8 @@ pub fn cmd_new<W: Write, V: Write>(
     image_out: &mut Counted<W>,
     out: &mut Counted<V>,
 ) -> Status
-    ensures image { result ≡ Status.Done
-        → PutsBlank size slots W.contents image_out.old image_out.new true }
-    ensures ok { result ≡ Status.Done → Puts V.contents out.old out.new (codes "ok\n") true }
-    ensures bad_words { result ≡ Status.BadWords → PutsBad V.contents out.old out.new true }
-    ensures no_such_image { result ≡ Status.BadWords
-        → IsRegionSize size × LeavesRoom size slots → ⊥ }
-    ensures no_image { result ≡ Status.BadWords → image_out.new ≡ image_out.old }
-    ensures no_memory { result ≡ Status.NoMemory
-        → (image_out.new ≡ image_out.old) × (out.new ≡ out.old) }
-    ensures write_fault { result ≡ Status.WriteFault → NewBreaksOff size slots
-        W.contents image_out.old image_out.new V.contents out.old out.new }
-    ensures not_refused { result ≢ Status.Refused }
-    ensures reads_nothing { result ≢ Status.ReadFault }
+    ensures { EndsNew size slots W.contents image_out.old image_out.new
+        V.contents out.old out.new result }
 {
     cmd_new_from(&alloc, size, slots, image_out, out)
 }
@@ -54,19 +38,8 @@ pub fn cmd_new_from<A: Allowance, W: Write, V: Write>(
     image_out: &mut Counted<W>,
     out: &mut Counted<V>,
 ) -> Status
-    ensures image { result ≡ Status.Done
-        → PutsBlank size slots W.contents image_out.old image_out.new true }
-    ensures ok { result ≡ Status.Done → Puts V.contents out.old out.new (codes "ok\n") true }
-    ensures bad_words { result ≡ Status.BadWords → PutsBad V.contents out.old out.new true }
-    ensures no_such_image { result ≡ Status.BadWords
-        → IsRegionSize size × LeavesRoom size slots → ⊥ }
-    ensures no_image { result ≡ Status.BadWords → image_out.new ≡ image_out.old }
-    ensures no_memory { result ≡ Status.NoMemory
-        → (image_out.new ≡ image_out.old) × (out.new ≡ out.old) }
-    ensures write_fault { result ≡ Status.WriteFault → NewBreaksOff size slots
-        W.contents image_out.old image_out.new V.contents out.old out.new }
-    ensures not_refused { result ≢ Status.Refused }
-    ensures reads_nothing { result ≢ Status.ReadFault }
+    ensures ends { EndsNew size slots W.contents image_out.old image_out.new
+        V.contents out.old out.new result }
     ensures short { result ≡ Status.NoMemory → A.is_short memory.now }
 {
     let region = match blank_from(memory, size, slots) {
@@ -82,18 +55,7 @@ pub fn cmd_new_from<A: Allowance, W: Write, V: Write>(
 
 /// Checks an image, and prints its summary, or `bad` and the first fault.
 pub fn cmd_check<V: Write>(alloc: Global, image: &[u8], out: &mut Counted<V>) -> Status
-    ensures done { result ≡ Status.Done
-        → PutsSummary image.now V.contents out.old out.new true }
-    ensures accepted { result ≡ Status.Done → Accepted image.now }
-    ensures refused { result ≡ Status.Refused → Accepted image.now → ⊥ }
-    ensures fault { result ≡ Status.Refused → PutsBad V.contents out.old out.new true }
-    ensures no_memory { result ≡ Status.NoMemory → out.new ≡ out.old }
-    ensures summary_fault { result ≡ Status.WriteFault → Accepted image.now
-        → PutsSummary image.now V.contents out.old out.new false }
-    ensures bad_fault { result ≡ Status.WriteFault → (Accepted image.now → ⊥)
-        → PutsBad V.contents out.old out.new false }
-    ensures good_words { result ≢ Status.BadWords }
-    ensures reads_nothing { result ≢ Status.ReadFault }
+    ensures { EndsCheck image.now V.contents out.old out.new result }
 {
     cmd_check_from(&alloc, image, out)
 }
@@ -104,18 +66,7 @@ pub fn cmd_check_from<A: Allowance, V: Write>(
     image: &[u8],
     out: &mut Counted<V>,
 ) -> Status
-    ensures done { result ≡ Status.Done
-        → PutsSummary image.now V.contents out.old out.new true }
-    ensures accepted { result ≡ Status.Done → Accepted image.now }
-    ensures refused { result ≡ Status.Refused → Accepted image.now → ⊥ }
-    ensures fault { result ≡ Status.Refused → PutsBad V.contents out.old out.new true }
-    ensures no_memory { result ≡ Status.NoMemory → out.new ≡ out.old }
-    ensures summary_fault { result ≡ Status.WriteFault → Accepted image.now
-        → PutsSummary image.now V.contents out.old out.new false }
-    ensures bad_fault { result ≡ Status.WriteFault → (Accepted image.now → ⊥)
-        → PutsBad V.contents out.old out.new false }
-    ensures good_words { result ≢ Status.BadWords }
-    ensures reads_nothing { result ≢ Status.ReadFault }
+    ensures ends { EndsCheck image.now V.contents out.old out.new result }
     ensures short { result ≡ Status.NoMemory → A.is_short memory.now }
 {
     match Region::copied_from(memory, image) {
@@ -130,18 +81,7 @@ pub fn check_region_from<A: Allowance, V: Write>(
     region: &Region,
     out: &mut Counted<V>,
 ) -> Status
-    ensures done { result ≡ Status.Done
-        → PutsSummary region.now.bytes V.contents out.old out.new true }
-    ensures accepted { result ≡ Status.Done → Accepted region.now.bytes }
-    ensures refused { result ≡ Status.Refused → Accepted region.now.bytes → ⊥ }
-    ensures fault { result ≡ Status.Refused → PutsBad V.contents out.old out.new true }
-    ensures no_memory { result ≡ Status.NoMemory → out.new ≡ out.old }
-    ensures summary_fault { result ≡ Status.WriteFault → Accepted region.now.bytes
-        → PutsSummary region.now.bytes V.contents out.old out.new false }
-    ensures bad_fault { result ≡ Status.WriteFault → (Accepted region.now.bytes → ⊥)
-        → PutsBad V.contents out.old out.new false }
-    ensures good_words { result ≢ Status.BadWords }
-    ensures reads_nothing { result ≢ Status.ReadFault }
+    ensures ends { EndsCheck region.now.bytes V.contents out.old out.new result }
     ensures short { result ≡ Status.NoMemory → A.is_short memory.now }
 {
     match check_store_from(memory, region) {

@@ -3,8 +3,8 @@
 ghost use Rattle.std.specs.Prelude.{◌≡◌, ◌≢◌, ◌⊎◌, Ok, Err, IfOk, IfErr, OnOk, true, false};
 ghost use Rattle.heap_model.specs.Store.{Accepted};
 ghost use Rattle.script_lines.specs.Reading.{read_script};
-ghost use Rattle.palmheap_commands.specs.Runs.{EndsEarly, PrintingFails, PutsRefusal, RunBreaksOff, RunBreaksOffShort};
-ghost use Rattle.palmheap_commands.specs.Runs.{RunsAndFlushes, RunsAndWrites, RunsScript, RunsScriptShort};
+ghost use Rattle.palmheap_commands.specs.Runs.{EndsEarly, EndsRun, PrintingFails, PutsRefusal, RunBreaksOffShort};
+ghost use Rattle.palmheap_commands.specs.Runs.{RunsAndFlushes, RunsAndWrites, RunsScriptShort};
 
 use crate::images::put_image;
 use allowance::Allowance;
@@ -31,18 +31,9 @@ pub fn cmd_run<W: Write, V: Write>(
     files: &mut Vec<Bytes>,
     out: &mut Counted<V>,
 ) -> Status
-    ensures done { result ≡ Status.Done → RunsScript image.now script.now inputs.now
-        V.contents out.old out.new W.contents image_out.old image_out.new files.new.items true }
+    ensures ends { EndsRun image.now script.now inputs.now V.contents out.old out.new
+        W.contents image_out.old image_out.new files.new.items result }
     ensures files_kept { result ≢ Status.Done → files.new ≡ files.old }
-    ensures refused { result ≡ Status.Refused
-        → PutsRefusal image.now script.now V.contents out.old out.new true }
-    ensures no_image { result ≡ Status.Refused → image_out.new ≡ image_out.old }
-    ensures no_memory { result ≡ Status.NoMemory
-        → (image_out.new ≡ image_out.old) × (out.new ≡ out.old) }
-    ensures write_fault { result ≡ Status.WriteFault → RunBreaksOff image.now script.now inputs.now
-        V.contents out.old out.new W.contents image_out.old image_out.new }
-    ensures good_words { result ≢ Status.BadWords }
-    ensures reads_nothing { result ≢ Status.ReadFault }
 {
     cmd_run_from(&alloc, image, script, inputs, image_out, files, out)
 }
@@ -57,18 +48,9 @@ pub fn cmd_run_from<A: Allowance, W: Write, V: Write>(
     files: &mut Vec<Bytes>,
     out: &mut Counted<V>,
 ) -> Status
-    ensures done { result ≡ Status.Done → RunsScript image.now script.now inputs.now
-        V.contents out.old out.new W.contents image_out.old image_out.new files.new.items true }
+    ensures ends { EndsRun image.now script.now inputs.now V.contents out.old out.new
+        W.contents image_out.old image_out.new files.new.items result }
     ensures files_kept { result ≢ Status.Done → files.new ≡ files.old }
-    ensures refused { result ≡ Status.Refused
-        → PutsRefusal image.now script.now V.contents out.old out.new true }
-    ensures no_image { result ≡ Status.Refused → image_out.new ≡ image_out.old }
-    ensures no_memory { result ≡ Status.NoMemory
-        → (image_out.new ≡ image_out.old) × (out.new ≡ out.old) }
-    ensures write_fault { result ≡ Status.WriteFault → RunBreaksOff image.now script.now inputs.now
-        V.contents out.old out.new W.contents image_out.old image_out.new }
-    ensures good_words { result ≢ Status.BadWords }
-    ensures reads_nothing { result ≢ Status.ReadFault }
     ensures short { result ≡ Status.NoMemory → A.is_short memory.now }
     ensures done_short { result ≡ Status.Done → RunsScriptShort (A.is_short memory.now)
         image.now script.now inputs.now
@@ -93,19 +75,9 @@ pub fn run_region_from<A: Allowance, W: Write, V: Write>(
     files: &mut Vec<Bytes>,
     out: &mut Counted<V>,
 ) -> Status
-    ensures done { result ≡ Status.Done → RunsScript region.bytes script.now inputs.now
-        V.contents out.old out.new W.contents image_out.old image_out.new files.new.items true }
+    ensures ends { EndsRun region.bytes script.now inputs.now V.contents out.old out.new
+        W.contents image_out.old image_out.new files.new.items result }
     ensures files_kept { result ≢ Status.Done → files.new ≡ files.old }
-    ensures refused { result ≡ Status.Refused
-        → PutsRefusal region.bytes script.now V.contents out.old out.new true }
-    ensures no_image { result ≡ Status.Refused → image_out.new ≡ image_out.old }
-    ensures no_memory { result ≡ Status.NoMemory
-        → (image_out.new ≡ image_out.old) × (out.new ≡ out.old) }
-    ensures write_fault { result ≡ Status.WriteFault
-        → RunBreaksOff region.bytes script.now inputs.now
-        V.contents out.old out.new W.contents image_out.old image_out.new }
-    ensures good_words { result ≢ Status.BadWords }
-    ensures reads_nothing { result ≢ Status.ReadFault }
     ensures short { result ≡ Status.NoMemory → A.is_short memory.now }
     ensures done_short { result ≡ Status.Done → RunsScriptShort (A.is_short memory.now)
         region.bytes script.now inputs.now

@@ -1,6 +1,6 @@
 -- One entry of a file is planned, and then each of them.
 use Rattle.std.proofs.Common.{◌≡◌, ℕ, ◌+◌, ◌-◌, ◌<◌, Bool, true, false, Option, Some, None, List, [], ◌∷◌, ◌++◌, length, get_or, refl, sym, ap, subst, ◌∙◌, arith, length-append, inl, inr}
-use Rattle.std.specs.Option.{unwrap_or}
+use Rattle.std.specs.Prelude.{IsSome}
 use Rattle.std.proofs.lemmas.Bool.{cases_lt}
 use Rattle.std.proofs.lemmas.List.{get_or_append_left, get_or-append_right}
 use Rattle.heap_model.specs.Database.{Entry, a_record, a_resource, is_deleted, resources_in, entry_count_in, entry_in}
@@ -32,15 +32,20 @@ record_planned file ids index attributes id at given idle size good inside have 
       );
     }
 
-some_size : (size : Option ℕ) → (size ≡ None → ⊥) → Some (unwrap_or size 0) ≡ size
+some_size : (size : Option ℕ) → (size ≡ None → ⊥) → IsSome size
 some_size None some = absurd (some refl)
 some_size (Some n) some = refl
 
-pub resource_planned : (file ids : List ℕ) (index kind id at bytes : ℕ) (size : Option ℕ) → HasNoFault file → index < entry_count_in file → a_resource kind id at ≡ entry_in file index → true ≡ resources_in file
-    → size ≡ size_of_block (get_or (blocks_in file) (2 + index) None) → bytes ≡ unwrap_or size 0 → IsPlannedOf file ids index (whole.Resource kind id bytes)
-resource_planned file ids index kind id at bytes size good inside is resources sized gives = record {
+-- the block of a resource is there
+pub resource_has_size : (file : List ℕ) (index kind id at : ℕ) (size : Option ℕ) → HasNoFault file → index < entry_count_in file → a_resource kind id at ≡ entry_in file index → size ≡ size_of_block (get_or (blocks_in file) (2 + index) None) → IsSome size
+resource_has_size file index kind id at size good inside is sized =
+    some_size size (λ none. resource_block file index kind id at good inside is (none_planned file index (a_resource kind id at) inside is (sym sized ∙ none)))
+
+pub resource_planned : (file ids : List ℕ) (index kind id at bytes : ℕ) (size : Option ℕ) → a_resource kind id at ≡ entry_in file index → true ≡ resources_in file
+    → size ≡ size_of_block (get_or (blocks_in file) (2 + index) None) → size ≡ Some bytes → IsPlannedOf file ids index (whole.Resource kind id bytes)
+resource_planned file ids index kind id at bytes size is resources sized gives = record {
   planned = subst (λ (e : Entry ℕ). IsPlannedAs e (whole.Resource kind id bytes)) is (refl, refl);
-  size = ap (λ (n : ℕ). Some n) gives ∙ some_size size (λ none. resource_block file index kind id at good inside is (none_planned file index (a_resource kind id at) inside is (sym sized ∙ none))) ∙ sized;
+  size = sym gives ∙ sized;
   id = ap (λ (r : Bool). id_planned r ids index) resources;
   can = sym resources;
 }

@@ -6,14 +6,13 @@ use Rattle.heap_model.specs.Meaning.{ChunkMap}
 use Rattle.heap_model.specs.Maps.{gone}
 use Rattle.heap_model.specs.Lists.{times}
 use Rattle.heap_model.specs.Database.{Entry, entry_data, is_deleted}
-use Rattle.heap_model.specs.Store.{Accepted, store_of}
+use Rattle.heap_model.specs.Store.{Store, Accepted, store_of}
 use Rattle.heap_model.specs.StoreWords.{all_gone, with_number}
-use Rattle.heap_model.specs.EntrySteps.{entry_under, data_of_entry, data_under, without_data, data_freed, LeavesStore}
+use Rattle.heap_model.specs.EntrySteps.{entry_under, entry_changed, data_of_entry, data_under, without_data, with_chunks, data_freed, LeavesStore}
 use Rattle.heap_model.specs.Categories.{has_category, is_of, data_of_category, deleted_category}
 use Rattle.heap_model.specs.declared.names.Db.{Db}
 use Rattle.laws_heap.proofs.Deciding.{cond-true, cond-false}
 use Rattle.laws_store.proofs.Listing.{same-yes, same-no, times-cons}
-use Rattle.record_db.specs.Categories.{listed_if, one_deleted}
 use Rattle.database_access.proofs.EntriesChanged.{entry_alike, entry_kept}
 use Rattle.database_access.proofs.Raising.{left_as, itself}
 
@@ -32,6 +31,16 @@ isnt_of category entry other = by (is_of category entry) other where
   by false other = refl
 
 -- ---- deleted
+
+-- the entries of an option, one or none
+abbrev pub listed_if : Option (Entry ℕ) → List (Entry ℕ)
+listed_if None = []
+listed_if (Some entry) = entry ∷ []
+
+-- a store where the record of an index is deleted, if it is of a category, and its data freed
+abbrev pub one_deleted : Store → Db → ℕ → ℕ → Store
+one_deleted store db index category =
+    with_chunks (entry_changed store db index (deleted_category category)) (all_gone store.map (data_of_category category (listed_if (entry_under store db index))))
 
 one_gone : (chunks : ChunkMap) (slot name : ℕ) → gone chunks slot name ≡ all_gone chunks (slot ∷ []) name
 one_gone chunks slot name =

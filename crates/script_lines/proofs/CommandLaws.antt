@@ -1,6 +1,6 @@
 -- Laws that tie the tables of commands to each other.
-use Rattle.std.proofs.Common.{◌≡◌, ◌≢◌, ◌+◌, ℕ, if◌then◌else◌, List, [], ◌∷◌, ◌++◌, Bool, true, false, refl, ap, sym, ◌∙◌, append_assoc, append-nil}
-use Rattle.std.specs.Prelude.{Option, Some, None, Ok, Err, ◌^◌}
+use Rattle.std.proofs.Common.{◌≡◌, ◌+◌, ℕ, if◌then◌else◌, List, [], ◌∷◌, ◌++◌, Bool, true, false, refl, ap, sym, ◌∙◌, append_assoc, append-nil}
+use Rattle.std.specs.Prelude.{Option, Some, None, Ok, Err, ◌^◌, is_some, IsSome}
 use Rattle.std.specs.Option.{option_map, option_map_or}
 use Rattle.heap_model.specs.declared.names.Which as names
 use Rattle.script_lines.specs.declared.fault.ScriptFault.TheVariants.{BadWord}
@@ -141,8 +141,8 @@ adds_of_kinds number read after (kind ∷ kinds) (word ∷ words) e = by_word (r
         (front ++ more, behind ∙ ap (λ vs. vs ++ more) adds ∙ append_assoc read.values front more, goes_on kinds more fit)
 
 -- a command's words that were read make a line
-pub read_makes_line : (command : Command) (labels : Numberings) (words : List (List ℕ)) (after : WordsRead) → read_words 2 (none_read labels) (kinds_of command) words ≡ Ok after → line_of command after.values after.bytes ≢ None
-read_makes_line command labels words after e none =
+pub read_makes_line : (command : Command) (labels : Numberings) (words : List (List ℕ)) (after : WordsRead) → read_words 2 (none_read labels) (kinds_of command) words ≡ Ok after → IsSome (line_of command after.values after.bytes)
+read_makes_line command labels words after e =
     let (more, all, fit) = adds_of_kinds 2 (none_read labels) after (kinds_of command) words e in
     let (line, made) = makes_line command after.values after.bytes (rw all fit) in
-    let never : Some line ≡ None = sym made ∙ none in cc
+    ap is_some made

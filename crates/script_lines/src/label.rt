@@ -1,10 +1,12 @@
 //! The labels of a script, numbered in the order in which they first appear.
 
-ghost use Rattle.std.specs.Prelude.{◌≡◌, IfOk, OnErr, OnOk};
+ghost use Rattle.std.specs.Prelude.{◌≡◌, if◌then◌else◌, IfOk, OnErr, OnOk};
 ghost use Rattle.script_lines.specs.Numbering.{no_labels, label_number, with_label};
 ghost use Rattle.script_lines.specs.Numbering.{none_numbered};
+ghost use Rattle.script_lines.specs.Spellings as spellings;
 ghost use Rattle.script_lines.specs.Views.{numbering, numberings};
 
+use crate::spelling::is_label;
 use allowance::Allowance;
 use std::alloc::{AllocError, Global};
 use std::collections::BTreeMap;
@@ -26,7 +28,7 @@ impl<'a> Labels<'a> {
     }
 
     /// The number of the label that a word spells. A label that hasn't appeared takes the next one.
-    pub fn number<A: Allowance>(&mut self, memory: &A, word: &'a [u8]) -> Result<usize, AllocError>
+    fn number<A: Allowance>(&mut self, memory: &A, word: &'a [u8]) -> Result<usize, AllocError>
         ensures number { IfOk result (λ number.
             number ≡ label_number (numbering self.old) word.now) }
         ensures labels { OnOk result
@@ -42,6 +44,24 @@ impl<'a> Labels<'a> {
             Ok(_) => Ok(number),
             Err(_) => memory.outcome(Err(AllocError)),
         }
+    }
+
+    /// The same, if the word is a label.
+    pub fn number_if_label<A: Allowance>(
+        &mut self,
+        memory: &A,
+        word: &'a [u8],
+    ) -> Result<Option<usize>, AllocError>
+        ensures number { IfOk result (λ number. number ≡ if spellings.is_label word.now
+            then Some (label_number (numbering self.old) word.now) else None) }
+        ensures labels { OnOk result (numbering self.new ≡ if spellings.is_label word.now
+            then with_label (numbering self.old) word.now else numbering self.old) }
+        ensures short { OnErr result (A.is_short memory.now) }
+    {
+        if !is_label(word) {
+            return Ok(None);
+        }
+        Ok(Some(self.number(memory, word)?))
     }
 }
 

@@ -171,13 +171,7 @@ fn refused_growth<A: Allowance>(memory: &A, size: usize) -> AllocError
     requires large { 2 ^ 63 ≤ size }
     ensures short { A.is_short memory.now }
 {
-    match allowance::zeros(memory, size) {
-        Ok(zeros) => {
-            prove!(zeros.as_slice().len() < size);
-            unreachable!()
-        }
-        Err(error) => error,
-    }
+    allowance::zeros(memory, size).unwrap_err()
 }
 
 fn count_exports(lines: &[Line]) -> usize

@@ -80,10 +80,7 @@ fn read_command<'a, A: Allowance>(
         Ok(values) => values,
         Err(fault) => return Err(fault),
     };
-    let Some(line) = make_line(command, &values, bytes) else {
-        unreachable!();
-    };
-    Ok(line)
+    Ok(make_line(command, &values, bytes).unwrap())
 }
 
 /// A line, read from its text; none, where it is passed over.

@@ -7,7 +7,7 @@ ghost use Rattle.script_lines.specs.Views.{Adds, words_read};
 use crate::label::LabelTables;
 use crate::line::{ChunkLabel, DatabaseLabel};
 use crate::spelling::{
-    byte_of, bytes_of, flag_of, four_bytes_of, is_label, number_of, short_of, text_of, which_of,
+    byte_of, bytes_of, flag_of, four_bytes_of, number_of, short_of, text_of, which_of,
 };
 use allowance::Allowance;
 use heap_model::{Bytes, Which};
@@ -82,46 +82,6 @@ impl Values {
         allowance::push(memory, &mut self.values, value)
     }
 
-    /// Puts the number of a chunk's label behind the values, and answers whether the word is a label.
-    fn add_chunk<'a, A: Allowance>(
-        &mut self,
-        memory: &A,
-        word: &'a [u8],
-        labels: &mut LabelTables<'a>,
-    ) -> Result<bool, AllocError>
-        ensures adds { IfOk result (λ is_of_kind.
-            Adds (read_word (words_read self.old labels.old) Kind.Chunk word.now)
-            is_of_kind (words_read self.new labels.new)) }
-        ensures short { OnErr result (A.is_short memory.now) }
-    {
-        if !is_label(word) {
-            return Ok(false);
-        }
-        let number = labels.chunks.number(memory, word)?;
-        self.push(memory, Value::Chunk(ChunkLabel(number)))?;
-        Ok(true)
-    }
-
-    /// The same of a database's label.
-    fn add_database<'a, A: Allowance>(
-        &mut self,
-        memory: &A,
-        word: &'a [u8],
-        labels: &mut LabelTables<'a>,
-    ) -> Result<bool, AllocError>
-        ensures adds { IfOk result (λ is_of_kind.
-            Adds (read_word (words_read self.old labels.old) Kind.Database word.now)
-            is_of_kind (words_read self.new labels.new)) }
-        ensures short { OnErr result (A.is_short memory.now) }
-    {
-        if !is_label(word) {
-            return Ok(false);
-        }
-        let number = labels.databases.number(memory, word)?;
-        self.push(memory, Value::Database(DatabaseLabel(number)))?;
-        Ok(true)
-    }
-
     /// Puts a value behind the others, if there is one, and answers whether there is.
     fn add_value<A: Allowance>(
         &mut self,
@@ -172,8 +132,20 @@ impl Values {
         ensures short { OnErr result (A.is_short memory.now) }
     {
         match kind {
-            Kind::Chunk => self.add_chunk(memory, word, labels),
-            Kind::Database => self.add_database(memory, word, labels),
+            Kind::Chunk => {
+                let number = labels.chunks.number_if_label(memory, word)?;
+                self.add_value(
+                    memory,
+                    number.map(|number| Value::Chunk(ChunkLabel(number))),
+                )
+            }
+            Kind::Database => {
+                let number = labels.databases.number_if_label(memory, word)?;
+                self.add_value(
+                    memory,
+                    number.map(|number| Value::Database(DatabaseLabel(number))),
+                )
+            }
             Kind::Byte => self.add_value(memory, byte_of(word).map(Value::Byte)),
             Kind::Short => self.add_value(memory, short_of(word).map(Value::Short)),
             Kind::Number => self.add_value(memory, number_of(word).map(Value::Number)),

@@ -130,9 +130,7 @@ pub(crate) fn write_whole(
     ensures fits { DatabaseFits (whole_database info.now entries.now (numbers_in names.now)) }
     ensures rest { heap.new ≡ record heap.old { bytes = heap.new.bytes } }
 {
-    let Some(name) = NameField::of_name(info.name.as_slice()) else {
-        unreachable!()
-    };
+    let name = NameField::of_name(info.name.as_slice()).unwrap();
     let header = named_header(info, name, names[0], names[1]);
     heap.sys_write(slot, 0, &header.to_bytes());
     let resources = DbAttrs(info.attributes).has_resources();

@@ -54,10 +54,9 @@ pub(crate) fn index_of(heap: &Heap, db: Db) -> u32
     ensures { IsListedAt heap.now.bytes db.0 result }
 {
     let directory = directory_bytes(heap);
-    for index in 0..directory.len() / SLOT_SIZE {
-        if listed_in(directory, index) == db {
-            return index as u32;
-        }
+    let mut index = 0;
+    while listed_in(directory, index) != db {
+        index += 1;
     }
-    unreachable!()
+    index as u32
 }

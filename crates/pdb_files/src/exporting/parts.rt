@@ -1,6 +1,6 @@
 //! The parts of a file, in their order.
 
-ghost use Rattle.std.specs.Prelude.{◌≡◌, ◌+◌, ◌<◌, ◌^◌, None, is_ok, length};
+ghost use Rattle.std.specs.Prelude.{◌≡◌, ◌+◌, ◌<◌, ◌^◌, None, OnErr, is_ok, length};
 ghost use Rattle.std.specs.List.{flat_map};
 ghost use Rattle.heap_model.specs.Counted.{Writes};
 ghost use Rattle.heap_model.specs.Meaning.{ChunkMap};
@@ -28,6 +28,7 @@ pub(crate) fn put_file<W: Write>(
     requires { IsExportable store.now.bytes bytes.now }
     ensures text { Writes W.contents out.old out.new
         (file_of (content_of store.now.bytes bytes.now)) (is_ok result) }
+    ensures unflushed { OnErr result (out.new.flushed ≡ None) }
     ensures no_flush { out.old.flushed ≡ None → out.new.flushed ≡ None }
 {
     let places = find_places(store, bytes);
@@ -48,6 +49,7 @@ fn put_header<W: Write>(
     requires places { ArePlaces (content_of store.now.bytes bytes.now) places }
     ensures text { Writes W.contents out.old out.new
         (header_text (content_of store.now.bytes bytes.now)) (is_ok result) }
+    ensures unflushed { OnErr result (out.new.flushed ≡ None) }
     ensures no_flush { out.old.flushed ≡ None → out.new.flushed ≡ None }
 {
     let mut header = DbHeader::read(bytes);
@@ -68,6 +70,7 @@ fn put_entries<W: Write>(
         < 2 ^ 32 }
     ensures text { Writes W.contents out.old out.new
         (entries_text first (content_of store.now.bytes bytes.now).entries) (is_ok result) }
+    ensures unflushed { OnErr result (out.new.flushed ≡ None) }
     ensures no_flush { out.old.flushed ≡ None → out.new.flushed ≡ None }
 {
     let mut at = first;
@@ -104,6 +107,7 @@ fn put_blocks<W: Write>(store: &Store, bytes: &[u8], out: &mut Counted<W>) -> Re
     requires { HasShape bytes.now }
     ensures text { Writes W.contents out.old out.new
         (flat_map block_bytes (data_in (content_of store.now.bytes bytes.now))) (is_ok result) }
+    ensures unflushed { OnErr result (out.new.flushed ≡ None) }
     ensures no_flush { out.old.flushed ≡ None → out.new.flushed ≡ None }
 {
     put_all(out, block(store, app_info(bytes)))?;
@@ -116,6 +120,7 @@ fn put_data<W: Write>(store: &Store, bytes: &[u8], out: &mut Counted<W>) -> Resu
     requires { HasShape bytes.now }
     ensures text { Writes W.contents out.old out.new
         (data_text (content_of store.now.bytes bytes.now).entries) (is_ok result) }
+    ensures unflushed { OnErr result (out.new.flushed ≡ None) }
     ensures no_flush { out.old.flushed ≡ None → out.new.flushed ≡ None }
 {
     let resources = has_resources(bytes);

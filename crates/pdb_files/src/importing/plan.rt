@@ -154,7 +154,7 @@ fn plan_entry(file: &[u8], index: u16, ids: &[u32], size: Option<u32>) -> WholeE
         DbEntry::Resource(resource) => WholeEntry::Resource {
             kind: resource.kind,
             id: resource.id,
-            size: size.unwrap_or(0),
+            size: size.unwrap(),
         },
     }
 }

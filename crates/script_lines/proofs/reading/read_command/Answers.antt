@@ -1,5 +1,5 @@
-use Rattle.std.proofs.Common.{◌≡◌, sym, ◌∙◌}
-use Rattle.std.specs.Prelude.{Ok}
+use Rattle.std.proofs.Common.{◌≡◌, ap, ◌∙◌}
+use Rattle.std.specs.Prelude.{Ok, is_some}
 use Rattle.script_lines.specs.Commands.{kinds_of, line_of}
 use Rattle.script_lines.specs.Kinds.{read_words}
 use Rattle.script_lines.specs.Reading.{none_read, words_in}
@@ -8,12 +8,12 @@ use Rattle.script_lines.proofs.CommandLaws.{read_makes_line}
 use Rattle.script_lines.proofs.reading.read_command.Goals as goal
 
 -- words that were read make a line
-pub unreachable-requires : goal.unreachable-requires
-unreachable-requires g c =
+pub unwrap-requires : goal.unwrap-requires
+unwrap-requires g c =
     let command = c.in-Some.command in
     let labels = numberings c.args.labels.now in
     let words = words_in c.args.words.now in
     let after = words_read c.in-Ok.values c.read_values.new.labels in
     let read : read_words 2 (none_read labels) (kinds_of command) words ≡ Ok after = rw c.row_of.ensures.kinds at c.in-Ok.ensures.ok in
     let made : c.make_line.result ≡ line_of command c.in-Ok.values.values.items c.in-Ok.values.bytes = rw c.deref.ensures.value at c.make_line.ensures in
-    read_makes_line command labels words after read (sym made ∙ c.in_default-make_line.is)
+    ap is_some made ∙ read_makes_line command labels words after read

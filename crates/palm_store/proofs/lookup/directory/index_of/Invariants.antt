@@ -1,7 +1,10 @@
--- The number stands at none of the indexes that were passed.
-use Rattle.std.proofs.Common.{◌≡◌, ◌*◌, ◌<◌, ℕ}
-use Rattle.heap_model.specs.Bytes.{u32_at}
+-- The number is listed at the index or behind it.
+use Rattle.std.proofs.Common.{◌-◌, ◌/◌, ◌≤◌, ℕ, length}
+use Rattle.palm_store.specs.Databases.{IsListedAt}
 use Rattle.palm_store.proofs.lookup.directory.index_of.Given as goal
 
-abbrev pub invariant-loop-index : goal.invariant-loop-index
-invariant-loop-index l = (k : ℕ) → k < l.index → u32_at l.directory (4 * k) ≡ l.db.0 → ⊥
+abbrev pub invariant-loop-directory : goal.invariant-loop-directory
+invariant-loop-directory l = (k : ℕ) × (l.index ≤ k) × IsListedAt l.fn.heap.bytes l.db.0 k
+
+abbrev pub decreases-loop-directory : goal.decreases-loop-directory
+decreases-loop-directory l = length l.directory / 4 - l.index

@@ -1,4 +1,4 @@
-use Rattle.pdb_files.proofs.Planned.{record_planned, resource_planned}
+use Rattle.pdb_files.proofs.Planned.{record_planned, resource_planned, resource_has_size}
 use Rattle.std.proofs.Common.{refl}
 use Rattle.pdb_files.proofs.importing.plan.plan_entry.Goals as goal
 
@@ -7,7 +7,11 @@ returns-in-Record c =
     record_planned c.args.file.now c.args.ids.now c.args.index c.in-Record.record.attributes.0 c.in-Record.record.id c.in-Record.record.slot _ c.idle.result c.args.size c.requires.good c.requires.inside c.requires.ids
     c.in-Record.ensures.is c.in-Record.ensures.kind c.requires.size c.idle.ensures refl
 
+pub unwrap-requires : goal.unwrap-requires
+unwrap-requires c =
+    resource_has_size c.args.file.now c.args.index c.in-Resource.resource.kind c.in-Resource.resource.id c.in-Resource.resource.slot c.args.size c.requires.good c.requires.inside c.in-Resource.ensures.is c.requires.size
+
 pub returns-in-Resource : goal.returns-in-Resource
 returns-in-Resource c =
-    resource_planned c.args.file.now c.args.ids.now c.args.index c.in-Resource.resource.kind c.in-Resource.resource.id c.in-Resource.resource.slot c.unwrap_or.result c.args.size c.requires.good c.requires.inside
-    c.in-Resource.ensures.is c.in-Resource.ensures.kind c.requires.size c.unwrap_or.ensures
+    resource_planned c.args.file.now c.args.ids.now c.args.index c.in-Resource.resource.kind c.in-Resource.resource.id c.in-Resource.resource.slot c.unwrap.result c.args.size
+    c.in-Resource.ensures.is c.in-Resource.ensures.kind c.requires.size c.unwrap.ensures
