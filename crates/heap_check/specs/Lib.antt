@@ -1,4 +1,3 @@
 pub mod Faults
-pub mod Owners
 pub mod Summary
 pub mod Survey

@@ -1,20 +1,21 @@
 //! The check of a whole image.
 
-ghost use Rattle.std.specs.Prelude.{◌≤◌, length, IfOk, IfErr, OnOk, OnErr};
+ghost use Rattle.std.specs.Prelude.{◌≡◌, ◌≤◌, ℕ, false, length, slice_index_or, IfOk, IfErr, OnOk, OnErr};
 ghost use Rattle.heap_model.specs.Heap.{IsHead, HeapAccepted};
 ghost use Rattle.heap_check.specs.Faults.{IsFirstFault};
-ghost use Rattle.heap_check.specs.Owners.{NoneMarked, HasOwners};
 ghost use Rattle.heap_check.specs.Summary.{Summarizes};
 
 use crate::directory::has_directory;
 use crate::fault::HeapFault;
 use crate::head::check_head;
-use crate::marks::{MOST_MARKS, NO_OWNER};
 use crate::slots::find_unmarked;
 use crate::summary::Summary;
 use crate::survey::survey_chunks;
 use master_table::Table;
 use raw_region::Region;
+
+/// The most slots that a table can have, and one mark more.
+const MAX_SLOTS: usize = 65_536;
 
 /// Whether the bytes of a region are an accepted heap: its counts, or else its first fault. It takes
 /// no memory, reads each chunk's header once and each slot once, and changes nothing.
@@ -24,36 +25,31 @@ pub fn check_heap(region: &Region) -> Result<Summary, HeapFault>
     ensures fault { IfErr result (IsFirstFault region.now.bytes) }
     ensures refused { OnErr result (HeapAccepted region.now.bytes → ⊥) }
 {
-    let mut owners = [NO_OWNER; MOST_MARKS];
-    check_heap_noting(region, &mut owners)
-}
-
-/// `check_heap`, which marks each slot with the owner of its chunk on the way. The marks are those of
-/// all slots where the heap is accepted, and of some of them where it isn't.
-pub fn check_heap_noting(region: &Region, owners: &mut [u8]) -> Result<Summary, HeapFault>
-    requires room { 65535 ≤ length owners.old }
-    requires clear { NoneMarked owners.old }
-    ensures accepted { OnOk result (HeapAccepted region.now.bytes) }
-    ensures summary { IfOk result (Summarizes region.now.bytes) }
-    ensures fault { IfErr result (IsFirstFault region.now.bytes) }
-    ensures refused { OnErr result (HeapAccepted region.now.bytes → ⊥) }
-    ensures owners { OnOk result (HasOwners region.now.bytes owners.new) }
-{
     match check_head(region) {
-        Ok(()) => check_area(region, owners),
+        Ok(()) => check_with_marks(region),
         Err(fault) => Err(fault),
     }
 }
 
-/// Checks the chunks and the slots behind a right head, with a mark for the slot of each number.
-fn check_area(region: &Region, marks: &mut [u8]) -> Result<Summary, HeapFault>
+/// Checks the chunks and the slots behind a right head, with marks of its own.
+fn check_with_marks(region: &Region) -> Result<Summary, HeapFault>
     requires head { IsHead region.now.bytes }
-    requires room { 65535 ≤ length marks.old }
-    requires clear { NoneMarked marks.old }
     ensures accepted { OnOk result (HeapAccepted region.now.bytes) }
     ensures summary { IfOk result (Summarizes region.now.bytes) }
     ensures fault { IfErr result (IsFirstFault region.now.bytes) }
-    ensures owners { OnOk result (HasOwners region.now.bytes marks.new) }
+{
+    let mut marks = [false; MAX_SLOTS];
+    check_area(region, &mut marks)
+}
+
+/// Checks the chunks and the slots behind a right head, with a mark for the slot of each number.
+fn check_area(region: &Region, marks: &mut [bool]) -> Result<Summary, HeapFault>
+    requires head { IsHead region.now.bytes }
+    requires room { 65535 ≤ length marks.old }
+    requires clear { (k : ℕ) → slice_index_or marks.old k false ≡ false }
+    ensures accepted { OnOk result (HeapAccepted region.now.bytes) }
+    ensures summary { IfOk result (Summarizes region.now.bytes) }
+    ensures fault { IfErr result (IsFirstFault region.now.bytes) }
 {
     let table = Table::of(region);
     let survey = match survey_chunks(region, table, marks) {

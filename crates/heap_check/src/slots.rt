@@ -5,23 +5,22 @@ ghost use Rattle.heap_model.specs.Slots.{HasTable, StandsBehind, slots_total};
 ghost use Rattle.master_table.specs.Table.{IsTable};
 ghost use Rattle.heap_check.specs.Survey.{IsMarked, AllMarked, IsFirstUnmarked};
 
-use crate::marks::NO_OWNER;
 use master_table::Table;
 use raw_region::Region;
 
 /// Whether the slot behind so many others is marked, if it is in use.
 #[inline]
-fn is_marked(region: &Region, slot: u32, number: u32, marks: &[u8]) -> bool
+fn is_marked(region: &Region, slot: u32, number: u32, marks: &[bool]) -> bool
     requires has_table { HasTable region.now }
     requires stands { StandsBehind region.now.bytes slot number }
     requires room { number < length marks.now }
     ensures { IsTrue result ↔ IsMarked region.now.bytes marks.now slot }
 {
-    region.get_u32(slot as usize) == 0 || marks[number as usize] != NO_OWNER
+    region.get_u32(slot as usize) == 0 || marks[number as usize]
 }
 
 /// The offset of the first slot that is in use and not marked.
-pub(crate) fn find_unmarked(region: &Region, table: Table, marks: &[u8]) -> Option<u32>
+pub(crate) fn find_unmarked(region: &Region, table: Table, marks: &[bool]) -> Option<u32>
     requires has_table { HasTable region.now }
     requires table { IsTable region.now.bytes table }
     requires room { slots_total region.now.bytes ≤ length marks.now }

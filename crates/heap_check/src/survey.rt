@@ -1,12 +1,11 @@
 //! The one walk over the chunks.
 
-ghost use Rattle.std.specs.Prelude.{◌≡◌, ◌≢◌, ◌≤◌, ◌<◌, ◌+◌, ◌^◌, false, length, IfSome, IfNone, OnSome, IfOk, IfErr};
+ghost use Rattle.std.specs.Prelude.{◌≡◌, ◌≢◌, ◌≤◌, ◌<◌, ◌+◌, ◌^◌, ℕ, false, length, slice_index_or, IfSome, IfNone, OnSome, IfOk, IfErr};
 ghost use Rattle.heap_model.specs.Bytes.{u32_at};
 ghost use Rattle.heap_model.specs.Slots.{HasTable, IsSlot, StandsBehind, slots_total, area_start as model_start};
 ghost use Rattle.heap_check.specs.Faults.{IsBadChunk};
 ghost use Rattle.master_table.specs.Table.{IsTable};
-ghost use Rattle.heap_check.specs.Owners.{NoneMarked};
-ghost use Rattle.heap_check.specs.Survey.{noted, holds_place, AddsOwner, IsHolder, IsSurvey};
+ghost use Rattle.heap_check.specs.Survey.{noted, holds_place, AddsMarks, IsHolder, IsSurvey};
 
 use chunk_format::{DATA_OWNER, Header, MANAGERS_OWNER, area_start};
 use master_table::Table;
@@ -64,28 +63,21 @@ fn holder_of(region: &Region, table: Table, slot: u32, at: u32) -> Option<u32>
     Some(number)
 }
 
-/// Marks the slot at an offset with an owner if one stands there and holds the place of the chunk at
-/// `at`, and says whether that is so.
+/// Marks the slot at an offset if one stands there and holds the place of the chunk at `at`, and says
+/// whether that is so.
 #[inline]
-fn mark_holder(
-    region: &Region,
-    table: Table,
-    slot: u32,
-    at: u32,
-    owner: u8,
-    marks: &mut [u8],
-) -> bool
+fn mark_holder(region: &Region, table: Table, slot: u32, at: u32, marks: &mut [bool]) -> bool
     requires has_table { HasTable region.now }
     requires table { IsTable region.now.bytes table }
     requires small { at < 2 ^ 24 }
     requires room { slots_total region.now.bytes ≤ length marks.old }
     ensures holds { result ≡ holds_place region.now.bytes slot at }
-    ensures marked { AddsOwner region.now.bytes
-        (IsHolder region.now.bytes slot at) owner marks.old marks.new }
+    ensures marked { AddsMarks region.now.bytes
+        (IsHolder region.now.bytes slot at) marks.old marks.new }
 {
     match holder_of(region, table, slot, at) {
         Some(number) => {
-            marks[number as usize] = owner;
+            marks[number as usize] = true;
             true
         }
         None => false,
@@ -113,9 +105,9 @@ impl Survey {
         }
     }
 
-    /// Adds the chunk at `at`, and marks the slot that holds its place with its owner.
+    /// Adds the chunk at `at`, and marks the slot that holds its place.
     #[inline]
-    fn add(&mut self, region: &Region, at: u32, header: Header, table: Table, marks: &mut [u8])
+    fn add(&mut self, region: &Region, at: u32, header: Header, table: Table, marks: &mut [bool])
         requires has_table { HasTable region.now }
         requires table { IsTable region.now.bytes table }
         requires small { at < 2 ^ 24 }
@@ -132,9 +124,9 @@ impl Survey {
     {
         match header {
             Header::Free { size } => self.free += size,
-            Header::Movable { owner, slot, .. } => {
+            Header::Movable { slot, .. } => {
                 self.movable += 1;
-                let holds = mark_holder(region, table, slot, at, owner, marks);
+                let holds = mark_holder(region, table, slot, at, marks);
                 self.without_slot = note(self.without_slot, at, holds);
             }
             Header::Fixed { owner, .. } => {
@@ -150,14 +142,18 @@ impl Survey {
 }
 
 /// Walks over the chunks of an image with this table, and marks each slot that holds the place of a
-/// chunk which names it with the owner of that chunk. The error is the offset of the first chunk out of shape, or of what is left
+/// chunk which names it. The error is the offset of the first chunk out of shape, or of what is left
 /// at the end where that is less than a header.
-pub(crate) fn survey_chunks(region: &Region, table: Table, marks: &mut [u8]) -> Result<Survey, u32>
+pub(crate) fn survey_chunks(
+    region: &Region,
+    table: Table,
+    marks: &mut [bool],
+) -> Result<Survey, u32>
     requires small { length region.now.bytes < 2 ^ 24 }
     requires table { IsTable region.now.bytes table }
     requires inside { model_start region.now.bytes ≤ length region.now.bytes }
     requires room { slots_total region.now.bytes ≤ length marks.old }
-    requires clear { NoneMarked marks.old }
+    requires clear { (k : ℕ) → slice_index_or marks.old k false ≡ false }
     ensures surveyed { IfOk result (λ survey. IsSurvey region.now.bytes survey marks.new) }
     ensures stuck { IfErr result (IsBadChunk region.now.bytes) }
 {

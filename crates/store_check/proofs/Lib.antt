@@ -1,5 +1,4 @@
 pub mod LookupLaws
-pub mod OwnerLaws
 pub mod Indexing
 pub mod Counting
 pub mod FaultLaws

@@ -1,7 +1,6 @@
-use Rattle.std.proofs.Common.{◌∙◌, refl, arith}
+use Rattle.std.proofs.Common.{◌∙◌, refl}
 use Rattle.std.proofs.lemmas.Bool.{false≢true}
 use Rattle.heap_check.proofs.CheckLaws.{surveyed_mismatch, surveyed_without, surveyed_owner, passed_paired, passed_directory, passed_heap}
-use Rattle.heap_check.proofs.OwnerLaws.{all_owners}
 use Rattle.heap_check.proofs.check.check_area.Goals as goal
 
 pub returns-in-Some-clause-fault : goal.returns-in-Some-clause-fault
@@ -32,10 +31,3 @@ pub returns-clause-summary : goal.returns-clause-summary
 returns-clause-summary c =
     let s = c.in-Ok.ensures.surveyed.surveys in
     record { size = c.len.ensures; slots = c.count.ensures ∙ c.of-table.ensures; movable = s.movable; fixed = s.fixed; free = s.free }
-
-pub returns-clause-owners : goal.returns-clause-owners
-returns-clause-owners c =
-    all_owners c.args.region.now.bytes _ (omega arith)
-    (passed_heap c.args.region.now.bytes c.in-Ok.survey _ record { head = c.requires.head; surveyed = c.in-Ok.ensures.surveyed; marked = c.in_default.ensures.none; without_slot = c.in_default-without_slot.is; bad_owner = c.in_default-bad_owner.is }
-    (c.if-not-has_directory.ensures.0 refl))
-    c.in_default.ensures.none c.in-Ok.ensures.surveyed.surveys.owners

@@ -1,5 +1,8 @@
-use Rattle.heap_check.proofs.SlotLaws.{none_marked}
+use Rattle.heap_check.proofs.CheckLaws.{refuses, refused_by}
 use Rattle.heap_check.proofs.check.check_heap.Goals as goal
 
-pub check_heap_noting-requires-clause-clear : goal.check_heap_noting-requires-clause-clear
-check_heap_noting-requires-clause-clear c = none_marked 65536
+pub returns-in-Ok-clause-refused : goal.returns-in-Ok-clause-refused
+returns-in-Ok-clause-refused c = refused_by c.args.region.now.bytes c.check_with_marks.result c.check_with_marks.ensures.fault
+
+pub returns-in-Err-clause-refused : goal.returns-in-Err-clause-refused
+returns-in-Err-clause-refused c = refuses c.args.region.now.bytes c.in-Err.fault c.in-Err.ensures.fault

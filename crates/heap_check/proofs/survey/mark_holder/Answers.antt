@@ -13,7 +13,7 @@ returns-in-Some-clause-holds c =
 pub returns-in-Some-clause-marked : goal.returns-in-Some-clause-marked
 returns-in-Some-clause-marked c =
     let below : c.in-Some.number < slots_total c.args.region.now.bytes = c.in-Some.ensures.below in
-    mark_set c.args.region.now.bytes c.args.marks.now c.args.slot c.args.at c.args.owner c.in-Some.number c.in-Some.ensures.number c.in-Some.ensures.holds (omega arith)
+    mark_set c.args.region.now.bytes c.args.marks.now c.args.slot c.args.at c.in-Some.number c.in-Some.ensures.number c.in-Some.ensures.holds (omega arith)
 
 pub returns-in-None-clause-holds : goal.returns-in-None-clause-holds
 returns-in-None-clause-holds c = holds_false c.args.region.now.bytes c.args.slot c.args.at c.in-None.ensures.none
@@ -21,4 +21,4 @@ returns-in-None-clause-holds c = holds_false c.args.region.now.bytes c.args.slot
 pub returns-in-None-clause-marked : goal.returns-in-None-clause-marked
 returns-in-None-clause-marked c =
     let image = c.args.region.now.bytes in
-    mark_none image c.args.marks.now (IsHolder image c.args.slot c.args.at) c.args.owner (λ slot s holder. c.in-None.ensures.none (subst (λ (t : ℕ). IsSlot image t) (sym holder.0) s) (ap (u32_at image) holder.0 ∙ sym holder.1))
+    mark_none image c.args.marks.now (IsHolder image c.args.slot c.args.at) (λ slot s holder. c.in-None.ensures.none (subst (λ (t : ℕ). IsSlot image t) (sym holder.0) s) (ap (u32_at image) holder.0 ∙ sym holder.1))

@@ -1,23 +1,7 @@
-use Rattle.std.proofs.Common.{◌+◌, [], subst, sym, arith}
+use Rattle.std.proofs.Common.{◌+◌, subst, sym, arith}
 use Rattle.heap_check.specs.Survey.{HasSurveyed}
-use Rattle.heap_check.proofs.SurveyLaws.{Adds, surveys_none, walked_more, walked_all}
+use Rattle.heap_check.proofs.SurveyLaws.{Adds, walked_more, walked_all}
 use Rattle.heap_check.proofs.survey.survey_chunks.Goals as goal
-
-pub loop-at-init : goal.loop-at-init
-loop-at-init c =
-    let none = c.new-survey.ensures in
-    let start = c.area_start-at.ensures in
-    let inside = c.requires.inside in
-    let movable = none.movable in
-    let fixed = none.fixed in
-    let free = none.free in
-    record {
-      chunks = [];
-      spelled = sym start;
-      surveys = surveys_none c.args.region.now.bytes c.new-survey.result c.args.marks.now c.requires.room c.requires.clear none.movable none.fixed none.free none.without_slot none.bad_owner;
-      counts = omega arith;
-      inside = omega arith;
-    }
 
 pub loop-at-preserved : goal.loop-at-preserved
 loop-at-preserved c =
