@@ -164,7 +164,7 @@ pub slot_header : (image : List ℕ) (name place : ℕ) → HeapAccepted image �
 slot_header image name place h s = ap (option_map header_of) (finds_read image name s.live (movable s.live.bytes s.live.lock s.live.owner s.named) (place - 8) h s.finds)
 
 -- what is read at the place that a slot holds is its chunk
-pub slot_found : (image : List ℕ) (name : ℕ) (place : Place) (header : Header) → HeapAccepted image → Some header ≡ option_map header_of (chunk_at image (place.0 - 8)) → HoldsPlace image name place.0 → MatchOption (movable_by header place) ⊥ (IsFound image name)
+slot_found : (image : List ℕ) (name : ℕ) (place : Place) (header : Header) → HeapAccepted image → Some header ≡ option_map header_of (chunk_at image (place.0 - 8)) → HoldsPlace image name place.0 → MatchOption (movable_by header place) ⊥ (IsFound image name)
 slot_found image name place header h read holds =
     let s = in_slot image name place.0 h holds.is_slot holds.held holds.some in
     subst (λ (x : Header). MatchOption (movable_by x place) ⊥ (IsFound image name)) (sym (same s (read ∙ slot_header image name place.0 h s)))
@@ -174,18 +174,6 @@ slot_found image name place header h read holds =
 
 pub slot_unread : (image : List ℕ) (name place : ℕ) → HeapAccepted image → None ≡ option_map header_of (chunk_at image (place - 8)) → HoldsPlace image name place → ⊥
 slot_unread image name place h read holds = let s = in_slot image name place h holds.is_slot holds.held holds.some in let e = read ∙ slot_header image name place h s in absurd cc
-
-pub slot_behind : (image : List ℕ) (name : ℕ) (place : Option Place) (found : Place) → HeapAccepted image → MatchOption place (HoldsNothing image name) (λ place. HoldsPlace image name place.0) → place ≡ Some found → 8 ≤ found.0
-slot_behind image name place found h holds is =
-    let here : HoldsPlace image name found.0 = subst (λ (p : Option Place). MatchOption p (HoldsNothing image name) (λ place. HoldsPlace image name place.0)) is holds in
-    (in_slot image name found.0 h here.is_slot here.held here.some).behind_header
-
-pub slot_chunk : (image : List ℕ) (name : ℕ) (place : Option Place) (found : Place) → HeapAccepted image → MatchOption place (HoldsNothing image name) (λ place. HoldsPlace image name place.0) → place ≡ Some found → HasChunk image (found.0 - 8)
-slot_chunk image name place found h holds is =
-    let here : HoldsPlace image name found.0 = subst (λ (p : Option Place). MatchOption p (HoldsNothing image name) (λ place. HoldsPlace image name place.0)) is holds in
-    let s = in_slot image name found.0 h here.is_slot here.held here.some in
-    let chunk : Chunk = movable s.live.bytes s.live.lock s.live.owner s.named in
-    record { chunk = chunk; spelled = finds_spelled image name s.live chunk (found.0 - 8) h s.finds }
 
 -- ---- the movable chunk of a name
 

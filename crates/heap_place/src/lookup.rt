@@ -1,7 +1,7 @@
 //! Live chunks by their names and by their places.
 
-ghost use Rattle.std.specs.Prelude.{◌≡◌, ◌≢◌, ◌≤◌, ◌-◌, ℕ, IsSome, IfSome, IfNone, MatchOption, Some, None};
-ghost use Rattle.heap_model.specs.Chunk.{fixed_lock, HasChunk};
+ghost use Rattle.std.specs.Prelude.{◌≡◌, ◌≢◌, IsSome, IfSome, IfNone, Some, None};
+ghost use Rattle.heap_model.specs.Chunk.{fixed_lock};
 ghost use Rattle.heap_model.specs.Heap.{HeapAccepted};
 ghost use Rattle.heap_model.specs.Meaning.{LiveChunk};
 ghost use Rattle.heap_model.specs.Reading.{held};
@@ -36,7 +36,7 @@ pub(crate) fn in_slot(region: &Region, name: Name) -> Option<Found>
     ensures none { IfNone result (HoldsNothing region.now.bytes name.0) }
 {
     match resolve(region, name) {
-        Some(place) => movable_at(region, place),
+        Some(place) => Some(held_by(region, name, place)),
         None => None,
     }
 }
@@ -65,11 +65,20 @@ pub(crate) fn movable_named(region: &Region, name: Name) -> Found
         → live.lock ≢ fixed_lock }
     ensures { IsFound region.now.bytes name.0 result }
 {
-    let place = word_of(region, name.0);
-    let fields = live_fields(region, place - HEADER_SIZE);
+    held_by(region, name, Place(word_of(region, name.0)))
+}
+
+/// The chunk whose place a slot holds: a movable one that names the slot, so that its header isn't tested.
+#[inline(always)]
+fn held_by(region: &Region, slot: Name, place: Place) -> Found
+    requires accepted { HeapAccepted region.now.bytes }
+    requires holds { HoldsPlace region.now.bytes slot.0 place.0 }
+    ensures { IsFound region.now.bytes slot.0 result }
+{
+    let fields = live_fields(region, place.0 - HEADER_SIZE);
     Found {
-        name,
-        place: Place(place),
+        name: slot,
+        place,
         length: fields.length,
         lock: fields.lock,
         owner: fields.owner,
@@ -85,18 +94,6 @@ fn fixed_at(region: &Region, name: Name) -> Found
 {
     let header = Header::at(region, name.0 - HEADER_SIZE);
     as_fixed(header, Place(name.0), name).unwrap()
-}
-
-/// The movable chunk whose body is at a place, in front of which a chunk stands.
-#[inline]
-fn movable_at(region: &Region, place: Place) -> Option<Found>
-    requires accepted { HeapAccepted region.now.bytes }
-    requires behind_header { 8 ≤ place.0 }
-    requires chunk { HasChunk region.now.bytes (place.0 - 8) }
-    ensures { (name : ℕ) → HoldsPlace region.now.bytes name place.0
-        → MatchOption result ⊥ (IsFound region.now.bytes name) }
-{
-    as_movable(Header::at(region, place.0 - HEADER_SIZE), place)
 }
 
 /// The live chunk whose body is at a place. The header that seems to stand in front of it is believed

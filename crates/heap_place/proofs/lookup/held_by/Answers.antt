@@ -1,0 +1,11 @@
+use Rattle.heap_place.proofs.LookupLaws.{slot_low, slot_live, slot_fields}
+use Rattle.heap_place.proofs.lookup.held_by.Goals as goal
+
+pub overflow_sub-place : goal.overflow_sub-place
+overflow_sub-place c = slot_low c.args.region.now.bytes c.args.slot.0 c.args.place.0 c.requires.accepted c.requires.holds
+
+pub live_fields-fields-requires-clause-live : goal.live_fields-fields-requires-clause-live
+live_fields-fields-requires-clause-live c = slot_live c.args.region.now.bytes c.args.slot.0 c.args.place.0 c.requires.accepted c.requires.holds
+
+pub returns : goal.returns
+returns c = slot_fields c.args.region.now.bytes c.args.slot c.args.place.0 c.live_fields-fields.result c.requires.accepted c.requires.holds c.live_fields-fields.ensures
