@@ -15,11 +15,27 @@ use chunk_format::{chunk_size, size_of_body};
 use heap_model::Name;
 use heap_place::{Found, Space, Stretch};
 
-/// Gives a movable chunk without locks `count` bytes, where it or others of one stretch may move: its first
-/// ones, or all of them and zeros behind. Answers whether there is room for them: in a free run
+/// Gives a name's chunk, a movable one without locks, `count` bytes, where it or others of one stretch may move: its
+/// first ones, or all of them and zeros behind. Answers whether there is room for them: in a free run
 /// elsewhere, else in its own stretch, else in another, tried in this order. Where there is none, nothing
 /// has changed.
-pub fn resize_by_moving(space: &mut Space, found: Found, count: u32) -> bool
+#[inline(never)]
+pub fn resize_by_moving(space: &mut Space, name: Name, count: u32) -> bool
+    requires accepted { HeapAccepted space.old.bytes }
+    requires loose { IsLoose space.old.bytes name.0 }
+    ensures resized { OnTrue result (Resized space.old.bytes space.new.bytes name.0 count) }
+    ensures not_short { OnTrue result (ShortFor space.old.bytes name.0 (need count) → ⊥) }
+    ensures short { OnFalse result (ShortFor space.old.bytes name.0 (need count)) }
+    ensures one_stretch { MovesOneStretchAnd space.old.bytes space.new.bytes name.0 }
+    ensures refused { OnFalse result (space.new ≡ space.old) }
+    ensures rest { space.new ≡ record space.old { bytes = space.new.bytes; slid = space.new.slid } }
+{
+    let found = space.chunk(name);
+    resize_found(space, found, count)
+}
+
+/// The same, of a chunk that was found.
+fn resize_found(space: &mut Space, found: Found, count: u32) -> bool
     requires accepted { HeapAccepted space.old.bytes }
     requires found { IsOne space.old.bytes found }
     requires unlocked { found.lock ≡ 0 }

@@ -74,7 +74,7 @@ pub(crate) fn resize_found(space: &mut Space, found: Found, size: u32) -> Result
     if found.lock > 0 {
         return Err(Refusal::ChunkLocked);
     }
-    if !resize_by_moving(space, found, size) {
+    if !resize_by_moving(space, found.name, size) {
         return Err(Refusal::NotEnoughSpace);
     }
     Ok(())

@@ -2,7 +2,8 @@ use Rattle.std.proofs.Common.{◌≡◌, sym, subst, arith}
 use Rattle.heap_model.specs.Memory.{Memory}
 use Rattle.heap_model.specs.Chunk.{need}
 use Rattle.heap_model.specs.Space.{ShortFor, MovesOneStretchAnd}
-use Rattle.heap_compact.specs.Resized.{Resized}
+use Rattle.heap_compact.specs.Resized.{IsLoose, Resized}
+use Rattle.heap_compact.proofs.ResizedLaws.{is_loose}
 use Rattle.laws_heap.proofs.Unmoved.{nothing_alone, itself_alone}
 use Rattle.mem_manager.proofs.Growth.{never_fits, growth_locked, growth_short, grown_passes, grown_leaves, grown_moves_nothing, moved_passes}
 use Rattle.mem_manager.proofs.heap.moving.resize_found.Goals as goal
@@ -30,6 +31,11 @@ returns-then-found-gt0-clause-why c =
 pub returns-then-found-gt0-clause-one_stretch : goal.returns-then-found-gt0-clause-one_stretch
 returns-then-found-gt0-clause-one_stretch c =
     subst (λ (m : Memory). MovesOneStretchAnd c.args.space.now.bytes m.bytes c.args.found.name.0) (sym c.if-grow_in_place.ensures.refused) (itself_alone c.args.space.now.bytes c.args.found.name.0)
+
+pub resize_by_moving-requires-clause-loose : goal.resize_by_moving-requires-clause-loose
+resize_by_moving-requires-clause-loose c =
+    let none : c.args.found.lock ≡ 0 = let low = c.if-found-gt0.false in omega arith in
+    subst (λ (m : Memory). IsLoose m.bytes c.args.found.name.0) (sym c.if-grow_in_place.ensures.refused) (is_loose c.args.space.now.bytes c.args.found c.requires.accepted c.requires.found none)
 
 pub returns-then-not-resize_by_moving-clause-why : goal.returns-then-not-resize_by_moving-clause-why
 returns-then-not-resize_by_moving-clause-why c =
