@@ -143,7 +143,7 @@ impl Header {
     /// Writes the header at `at`: of a free chunk its first word alone, with every bit but the free
     /// bit and the size zero, and of a live one both words. The caller shows that the chunk lies
     /// within the region, and that its numbers fit their fields.
-    #[inline]
+    #[inline(always)]
     pub fn write(self, region: &mut Region, at: u32)
         requires inside { IsWithin region.old at (size_by self) }
         requires small { length region.old.bytes < 2 ^ 24 }

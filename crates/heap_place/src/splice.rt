@@ -10,7 +10,7 @@ use raw_region::Region;
 
 /// Takes a free chunk out of its list, and answers whether all others are in theirs still. Where it isn't
 /// among the first `probes` of its list, all lists are dropped.
-#[inline]
+#[inline(always)]
 pub(crate) fn take_out(
     region: &mut Region,
     heads: &mut [u32; CLASSES],

@@ -1,6 +1,6 @@
 -- Which name has its chunk at a place.
 use Rattle.std.proofs.Common.{◌≡◌, ◌≢◌, ℕ, ◌+◌, ◌-◌, ◌≤◌, Bool, true, false, cond, List, Option, Some, None, refl, sym, ap, subst, ◌∙◌, arith}
-use Rattle.std.specs.Prelude.{◌==◌}
+use Rattle.std.specs.Prelude.{◌==◌, Result, Ok, Err, OnErr}
 use Rattle.std.proofs.lemmas.Bool.{eq-eqb}
 use Rattle.heap_model.specs.Heap.{HeapAccepted}
 use Rattle.heap_model.specs.Meaning.{LiveChunk}
@@ -28,6 +28,11 @@ found_there image place found h f there positive = record { live = f.live; known
 -- a chunk of the manager's is no caller's
 pub managers_unknown : (image : List ℕ) (name : ℕ) (found : Found) → HeapAccepted image → IsFound image name found → found.owner ≡ 0 → callers_map image name ≡ None
 managers_unknown image name found h f e = callers_managers image name f.live (name_held image name found h f) (sym f.owner_is ∙ e)
+
+-- where what was found is refused as the manager's, callers know nothing of the name
+pub refused_unknown : {A E : Type 0} (image : List ℕ) (name : ℕ) (found : Found) (result : Result A E) → HeapAccepted image → IsFound image name found → OnErr result (found.owner ≡ 0) → OnErr result (callers_map image name ≡ None)
+refused_unknown image name found (Ok own) h f managers = tt
+refused_unknown image name found (Err refusal) h f managers = managers_unknown image name found h f managers
 
 -- what callers may name is held
 callers_held : (x : Option LiveChunk) (live : LiveChunk) → not_owned 0 x ≡ Some live → x ≡ Some live

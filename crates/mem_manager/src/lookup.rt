@@ -63,13 +63,16 @@ pub(crate) fn find(space: &Space, known: &KnownNames, name: Name) -> Result<Foun
     ensures none { OnErr result (callers_map space.now.bytes name.0 ≡ None) }
     ensures refusal { IfErr result (λ refusal. refusal ≡ Refusal.InvalidHandle) }
 {
-    match named(space, known, name) {
-        Some(found) if found.owner != MANAGERS_OWNER => Ok(found),
-        _ => Err(Refusal::InvalidHandle),
+    if let Some(found) = space.in_slot(name) {
+        return callers(found);
     }
+    if is_fixed(space, known, name) {
+        return callers(space.chunk(name));
+    }
+    Err(Refusal::InvalidHandle)
 }
 
-/// The caller's chunk that a name stands for, which is remembered where it is fixed.
+/// The caller's chunk that a name stands for, which is remembered where no slot holds the name: then it is a fixed one.
 #[inline(always)]
 pub(crate) fn find_again(
     space: &Space,
@@ -84,9 +87,26 @@ pub(crate) fn find_again(
     ensures refusal { IfErr result (λ refusal. refusal ≡ Refusal.InvalidHandle) }
     ensures remembered { KnowsHeld space.now.bytes known.new.names }
 {
-    let found = find(space, known, name)?;
-    if found.lock == FIXED_LOCK {
+    if let Some(found) = space.in_slot(name) {
+        return callers(found);
+    }
+    if is_fixed(space, known, name) {
         known.remember(name);
+        return callers(space.chunk(name));
+    }
+    Err(Refusal::InvalidHandle)
+}
+
+/// A chunk that was found, if it is a caller's.
+#[inline(always)]
+fn callers(found: Found) -> Result<Found, Refusal>
+    ensures is { IfOk result (λ own. own ≡ found) }
+    ensures callers { OnOk result (1 ≤ found.owner) }
+    ensures managers { OnErr result (found.owner ≡ 0) }
+    ensures refusal { IfErr result (λ refusal. refusal ≡ Refusal.InvalidHandle) }
+{
+    if found.owner == MANAGERS_OWNER {
+        return Err(Refusal::InvalidHandle);
     }
     Ok(found)
 }
