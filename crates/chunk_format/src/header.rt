@@ -280,7 +280,7 @@ pub fn live_fields(region: &Region, at: u32) -> LiveFields
 /// other fields.
 #[inline]
 pub fn put_lock(region: &mut Region, at: u32, lock: u8)
-    requires inside { IsWithin region.old at 8 }
+    requires inside { IsWithin region.old at HEADER_SIZE }
     requires lock { lock < fixed_lock }
     ensures after { region.new ≡ record region.old
         { bytes = with_lock_at region.old.bytes at lock } }
@@ -296,7 +296,7 @@ pub fn put_lock(region: &mut Region, at: u32, lock: u8)
 /// fields.
 #[inline]
 pub fn put_owner(region: &mut Region, at: u32, owner: u8)
-    requires inside { IsWithin region.old at 8 }
+    requires inside { IsWithin region.old at HEADER_SIZE }
     requires owner { owner < 16 }
     ensures after { region.new ≡ record region.old
         { bytes = with_owner_at region.old.bytes at owner } }

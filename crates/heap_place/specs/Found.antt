@@ -7,6 +7,7 @@ use Rattle.heap_model.specs.Slots.{area_start}
 use Rattle.heap_model.specs.Meaning.{LiveChunk}
 use Rattle.heap_model.specs.Space.{place_of}
 use Rattle.heap_model.specs.Placing.{Finds, NotFixedAs}
+use Rattle.heap_model.specs.Store.{data_owner}
 use Rattle.heap_model.specs.Layout.{Alters, with_bytes}
 use Rattle.heap_model.specs.declared.names.Name.{Name}
 use Rattle.heap_model.specs.declared.names.Place.{Place}
@@ -51,7 +52,7 @@ NothingAt image place = (name : ℕ) → place_of image name ≡ Some place → 
 pub record CanGoTo (image : List ℕ) (found : Found) (owner : ℕ) : Type 0 where
   pub fits : owner < 16
   pub locked : 0 < found.lock → 0 < owner
-  pub fixed : found.lock ≡ fixed_lock → owner < 15
+  pub fixed : found.lock ≡ fixed_lock → owner < data_owner
   pub directory : found.name.0 ≡ directory_of image → owner ≡ 0
 
 -- some bytes of the body of a found chunk stand at another offset within it too, as they were before

@@ -6,6 +6,7 @@ ghost use Rattle.heap_model.specs.Chunk.{movable, fixed, need};
 ghost use Rattle.heap_model.specs.Slots.{IsSlot};
 ghost use Rattle.heap_model.specs.Heap.{HeapAccepted};
 ghost use Rattle.heap_model.specs.Reading.{chunks_of};
+ghost use Rattle.heap_model.specs.Store.{data_owner};
 ghost use Rattle.heap_model.specs.Layout.{Becomes, IsSpot, WritesPlain};
 ghost use Rattle.heap_place.specs.Search.{WroteRest};
 ghost use Rattle.heap_place.specs.Lists.{IsFreeChunk, KeepsFree, Outside, ButAt, CutsRoom, Fills};
@@ -75,7 +76,7 @@ pub(crate) fn claim_fixed_at(region: &mut Region, at: u32, count: u32, owner: u8
     requires accepted { HeapAccepted region.old.bytes }
     requires free { IsFreeChunk region.old.bytes at (need count) }
     requires some_owner { 0 < owner }
-    requires most_owner { owner < 15 }
+    requires most_owner { owner < data_owner }
     ensures made { Fills region.old.bytes region.new.bytes at (need count)
         (fixed (replicate count 0) owner) }
     ensures keeps { KeepsFree (ButAt at) region.old.bytes region.new.bytes }

@@ -12,7 +12,7 @@ ghost use Rattle.heap_model.specs.Space.{NoRun, Short, free_total, moved_bytes, 
 ghost use Rattle.heap_model.specs.Packing.{packed, OpensBehind};
 ghost use Rattle.heap_model.specs.Resizing.{Shrinks, GrowsInPlace};
 ghost use Rattle.heap_model.specs.Placing.{SameFrame};
-ghost use Rattle.heap_model.specs.Store.{managers_owner, owner_under};
+ghost use Rattle.heap_model.specs.Store.{managers_owner, data_owner, owner_under};
 ghost use Rattle.heap_model.specs.Leaving.{NamesDirectory};
 ghost use Rattle.heap_model.specs.Layout.{Becomes, layout_of, owned_freed, Alters, freed, with_lock, with_owner, with_bytes, FreeUpTo, IsSpot, Claims, WritesPlain};
 ghost use Rattle.heap_place.specs.ByteChanges.{ChangesEvery};
@@ -230,10 +230,10 @@ impl Space {
         requires room { IsSpot self.old.bytes room.at room.size }
         requires enough { need count ≤ room.size }
         requires some_owner { 0 < owner }
-        requires most_owner { owner < 15 }
+        requires most_owner { owner < data_owner }
         ensures made { Claims self.old.bytes self.new.bytes room.at room.size
             (fixed (replicate count 0) owner) }
-        ensures name { result.0 ≡ room.at + 8 }
+        ensures name { result.0 ≡ room.at + HEADER_SIZE }
         ensures plain { WritesPlain self.old.bytes self.new.bytes }
         ensures rest { self.new ≡ record self.old { bytes = self.new.bytes } }
     {
