@@ -1,3 +1,4 @@
+pub mod InfoBlocks
 pub mod Chunks
 pub mod Databases
 pub mod Entries

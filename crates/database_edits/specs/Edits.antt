@@ -7,6 +7,8 @@ use Rattle.heap_model.specs.Lists.{moved}
 use Rattle.heap_model.specs.DatabaseFields.{entry_size}
 use Rattle.heap_model.specs.Database.{Entry, Database, has_resources}
 use Rattle.heap_model.specs.Store.{bytes_under}
+use Rattle.heap_model.specs.DatabaseSteps.{with_info_block}
+use Rattle.heap_model.specs.declared.names.Which.{Which}
 use Rattle.heap_model.specs.EntrySteps.{with_entry_at, raised_header}
 use Rattle.heap_model.specs.Leaving.{Respells, database_here}
 use Rattle.db_format.specs.Entries.{with_entry}
@@ -24,6 +26,10 @@ counted database = record database { header = raised_header database.header }
 abbrev pub counted_if : Bool → Database ℕ → Database ℕ
 counted_if true database = counted database
 counted_if false database = database
+
+-- a database with another info block, and a call counted
+abbrev pub with_block : Which → ℕ → Database ℕ → Database ℕ
+with_block which slot database = counted (with_info_block which slot database)
 
 -- an entry comes to stand at an index, and the call is counted
 abbrev pub entry_inserted : ℕ → Entry ℕ → Database ℕ → Database ℕ

@@ -6,15 +6,16 @@ ghost use Rattle.heap_model.specs.Database as databases;
 ghost use Rattle.heap_model.specs.Space.{MovesNothing};
 ghost use Rattle.heap_model.specs.Leaving.{SpellsHere, database_here};
 ghost use Rattle.heap_model.specs.Store.{bytes_under};
-ghost use Rattle.db_format.specs.Headers.{HasModificationNumber, HasSeed, HasEntryCount};
+ghost use Rattle.db_format.specs.Headers.{HasModificationNumber, HasSeed, HasEntryCount, HasInfoBlock};
 ghost use Rattle.database_edits.specs.Managers.{IsManagers, PutsHeader};
 ghost use Rattle.database_edits.specs.Headings.{IsHeading};
 
 use db_format::{
     ENTRY_COUNT_AT, MODIFICATION_NUMBER_AT, SEED_AT, entry_count, entry_count_bytes, has_resources,
-    modification_number, modification_number_bytes, seed, seed_bytes,
+    info_block_at, info_block_bytes, modification_number, modification_number_bytes, seed,
+    seed_bytes,
 };
-use heap_model::{Db, Name};
+use heap_model::{Db, Name, Which};
 use mem_manager::Heap;
 
 /// What edits need of the header of a database.
@@ -82,4 +83,17 @@ pub(crate) fn put_entry_count(heap: &mut Heap, db: Db, count: u16)
 {
     let bytes = entry_count_bytes(count);
     heap.sys_write(Name(db.0), ENTRY_COUNT_AT as u32, &bytes);
+}
+
+/// Writes the slot of an info block, or 0 for none, in a header.
+pub(crate) fn put_info_block(heap: &mut Heap, db: Db, which: Which, slot: u32)
+    requires managers { IsManagers heap.old.bytes db.0 }
+    requires inside { header_size ≤ length (bytes_under heap.old.bytes db.0) }
+    ensures puts { PutsHeader heap.old.bytes heap.new.bytes db.0 (HasInfoBlock which slot) }
+    ensures managers { IsManagers heap.new.bytes db.0 }
+    ensures inside { header_size ≤ length (bytes_under heap.new.bytes db.0) }
+    ensures rest { heap.new ≡ record heap.old { bytes = heap.new.bytes } }
+{
+    let bytes = info_block_bytes(slot);
+    heap.sys_write(Name(db.0), info_block_at(which) as u32, &bytes);
 }

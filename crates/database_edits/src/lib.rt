@@ -1,5 +1,5 @@
-//! The chunk of one database, whose bytes spell it: its entries changed, put in, taken out and moved, and
-//! its modification number raised.
+//! The chunk of one database, whose bytes spell it: its entries changed, put in, taken out and moved, its info
+//! blocks named, and its modification number raised.
 //!
 //! Each function takes a heap in which a chunk spells a database (`SpellsHere`), whatever else of the store
 //! is on its way, and promises which database it spells afterwards, and that all other chunks are as they
@@ -7,6 +7,7 @@
 #![tactic(auto)]
 
 mod attributes;
+mod blocks;
 mod bodies;
 mod headers;
 mod insertion;
@@ -17,6 +18,7 @@ mod replacement;
 mod writing;
 
 pub use attributes::change_attributes;
+pub use blocks::write_block;
 pub use insertion::insert_entry;
 pub use raising::raise_modification;
 pub use removal::remove_entry;

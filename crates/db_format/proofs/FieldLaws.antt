@@ -7,7 +7,9 @@ use Rattle.heap_model.specs.Database.{DatabaseHeader, Database, IsDatabaseName, 
 use Rattle.laws_heap.proofs.Frames.{length-overwritten}
 use Rattle.laws_store.proofs.Names.{length-name_field}
 use Rattle.laws_store.proofs.Spellings.{length-header_bytes}
-use Rattle.db_format.specs.Headers.{TakesHeader, HasModificationNumber, HasSeed, HasEntryCount, WritesField}
+use Rattle.heap_model.specs.declared.names.Which.{Which}
+use Rattle.heap_model.specs.declared.names.Which.TheVariants.{App, Sort}
+use Rattle.db_format.specs.Headers.{TakesHeader, HasModificationNumber, HasSeed, HasEntryCount, HasInfoBlock, WritesField, info_block_at}
 use Rattle.db_format.proofs.HeaderLaws.{fields, bytes_by, bytes_same}
 
 -- a piece is written over another of its length
@@ -60,6 +62,18 @@ by_number : (h : DatabaseHeader) (app sort count : ℕ) → bytes_by h app sort 
 unfolding bytes_by fields to_backup behind_number
 by_number h app sort count = simp append_assoc
 
+-- what stands behind the slot of the SortInfo block
+behind_sort : DatabaseHeader → ℕ → List ℕ
+behind_sort h count = u32_bytes h.kind ++ (u32_bytes h.creator ++ (u32_bytes h.seed ++ (u32_bytes 0 ++ (u16_bytes count ++ []))))
+
+by_app : (h : DatabaseHeader) (app sort count : ℕ) → bytes_by h app sort count ≡ (to_backup h ++ u32_bytes h.modification_number) ++ (u32_bytes app ++ (u32_bytes sort ++ behind_sort h count))
+unfolding bytes_by fields to_backup behind_sort
+by_app h app sort count = simp append_assoc
+
+by_sort : (h : DatabaseHeader) (app sort count : ℕ) → bytes_by h app sort count ≡ (to_backup h ++ u32_bytes h.modification_number ++ u32_bytes app) ++ (u32_bytes sort ++ behind_sort h count)
+unfolding bytes_by fields to_backup behind_sort
+by_sort h app sort count = simp append_assoc
+
 by_seed : (h : DatabaseHeader) (app sort count : ℕ) → bytes_by h app sort count ≡ to_creator h app sort ++ (u32_bytes h.seed ++ (u32_bytes 0 ++ (u16_bytes count ++ [])))
 unfolding bytes_by fields to_backup to_creator
 by_seed h app sort count = simp append_assoc
@@ -76,6 +90,20 @@ number_over h app sort count n name =
     ap (λ (xs : List ℕ). overwritten xs 48 (u32_bytes n)) (by_number h app sort count)
     ∙ over_piece (to_backup h) (u32_bytes h.modification_number) (behind_number h app sort count) (u32_bytes n) 48 (sym (length-to_backup h name)) (length-four h.modification_number ∙ sym (length-four n))
     ∙ sym (by_number (record h { modification_number = n }) app sort count)
+
+app_over : (h : DatabaseHeader) (app sort count n : ℕ) → IsDatabaseName h.name → overwritten (bytes_by h app sort count) 52 (u32_bytes n) ≡ bytes_by h n sort count
+app_over h app sort count n name =
+    ap (λ (xs : List ℕ). overwritten xs 52 (u32_bytes n)) (by_app h app sort count)
+    ∙ over_piece (to_backup h ++ u32_bytes h.modification_number) (u32_bytes app) (u32_bytes sort ++ behind_sort h count) (u32_bytes n) 52
+    (sym (four_more _ h.modification_number 48 (length-to_backup h name))) (length-four app ∙ sym (length-four n))
+    ∙ sym (by_app h n sort count)
+
+sort_over : (h : DatabaseHeader) (app sort count n : ℕ) → IsDatabaseName h.name → overwritten (bytes_by h app sort count) 56 (u32_bytes n) ≡ bytes_by h app n count
+sort_over h app sort count n name =
+    ap (λ (xs : List ℕ). overwritten xs 56 (u32_bytes n)) (by_sort h app sort count)
+    ∙ over_piece (to_backup h ++ u32_bytes h.modification_number ++ u32_bytes app) (u32_bytes sort) (behind_sort h count) (u32_bytes n) 56
+    (sym (four_more _ app 52 (four_more _ h.modification_number 48 (length-to_backup h name)))) (length-four sort ∙ sym (length-four n))
+    ∙ sym (by_sort h app n count)
 
 seed_over : (h : DatabaseHeader) (app sort count n : ℕ) → IsDatabaseName h.name → overwritten (bytes_by h app sort count) 68 (u32_bytes n) ≡ bytes_by (record h { seed = n }) app sort count
 unfolding to_creator to_backup
@@ -105,6 +133,14 @@ pub number_written : (number : ℕ) (bytes : List ℕ) → bytes ≡ u32_bytes n
 number_written number bytes is was now name takes =
     ap (overwritten (header_bytes was) 48) is ∙ ap (λ (xs : List ℕ). overwritten xs 48 (u32_bytes number)) (begins was)
     ∙ number_over was.header was.app_info was.sort_info (length was.entries) number name ∙ becomes was now (record was.header { modification_number = number }) (length was.entries) takes
+
+pub block_written : (slot : ℕ) (bytes : List ℕ) → bytes ≡ u32_bytes slot → (which : Which) → WritesField (info_block_at which) bytes (HasInfoBlock which slot)
+block_written slot bytes is App was now name takes =
+    ap (overwritten (header_bytes was) 52) is ∙ ap (λ (xs : List ℕ). overwritten xs 52 (u32_bytes slot)) (begins was)
+    ∙ app_over was.header was.app_info was.sort_info (length was.entries) slot name ∙ becomes (record was { app_info = slot }) now was.header (length was.entries) takes
+block_written slot bytes is Sort was now name takes =
+    ap (overwritten (header_bytes was) 56) is ∙ ap (λ (xs : List ℕ). overwritten xs 56 (u32_bytes slot)) (begins was)
+    ∙ sort_over was.header was.app_info was.sort_info (length was.entries) slot name ∙ becomes (record was { sort_info = slot }) now was.header (length was.entries) takes
 
 pub seed_written : (seed : ℕ) (bytes : List ℕ) → bytes ≡ u32_bytes seed → WritesField 68 bytes (HasSeed seed)
 seed_written seed bytes is was now name takes =

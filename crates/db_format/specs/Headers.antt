@@ -1,8 +1,11 @@
 -- The headers that are read and written, as those of a database.
 use Rattle.std.specs.Prelude.{◌≡◌, ◌≤◌, ℕ, List, length}
 use Rattle.heap_model.specs.Bytes.{u32_at, overwritten}
-use Rattle.heap_model.specs.DatabaseFields.{header_size, next_list_at}
+use Rattle.heap_model.specs.DatabaseFields.{header_size, next_list_at, app_info_at, sort_info_at}
 use Rattle.heap_model.specs.Database.{DatabaseHeader, Database, IsDatabaseName, header_bytes, has_resources, IsSpelled, resources_in, entry_count_in, entry_offset}
+use Rattle.heap_model.specs.DatabaseSteps.{with_info_block}
+use Rattle.heap_model.specs.declared.names.Which.{Which}
+use Rattle.heap_model.specs.declared.names.Which.TheVariants.{App, Sort}
 use Rattle.db_format.specs.declared.header.DbHeader.{DbHeader}
 
 -- what a header says of the database alone
@@ -55,6 +58,15 @@ HasSeed seed was now = TakesHeader was now (record was.header { seed = seed }) (
 
 abbrev pub HasEntryCount : ℕ → Database ℕ → Database ℕ → Type 0
 HasEntryCount count was now = TakesHeader was now was.header count
+
+-- where the slot of an info block stands
+abbrev pub info_block_at : Which → ℕ
+info_block_at App = app_info_at
+info_block_at Sort = sort_info_at
+
+-- the header of the one is that of the other but for the slot of an info block
+abbrev pub HasInfoBlock : Which → ℕ → Database ℕ → Database ℕ → Type 0
+HasInfoBlock which slot was now = TakesHeader (with_info_block which slot was) now was.header (length was.entries)
 
 -- Written there over the header of a database, these bytes make it the header of each that differs from that
 -- one so, and in nothing else that a header says.

@@ -1,10 +1,13 @@
 //! Fields of a header that are written alone, by their bytes.
 
-ghost use Rattle.std.specs.Prelude.{◌≡◌, length};
+ghost use Rattle.std.specs.Prelude.{◌≡◌};
 ghost use Rattle.heap_model.specs.DatabaseFields.{modification_number_at, seed_at, entry_count_at};
-ghost use Rattle.db_format.specs.Headers.{WritesField, HasModificationNumber, HasSeed, HasEntryCount};
+ghost use Rattle.db_format.specs.Headers as headers;
+ghost use Rattle.db_format.specs.Headers.{WritesField, HasModificationNumber, HasSeed, HasEntryCount, HasInfoBlock};
 
+use crate::fields::{APP_INFO_AT, SORT_INFO_AT};
 use crate::words::{put_u16, put_u32};
+use heap_model::Which;
 
 /// The bytes of a modification number, to be written at `MODIFICATION_NUMBER_AT`.
 #[inline]
@@ -34,4 +37,26 @@ pub fn entry_count_bytes(count: u16) -> [u8; 2]
     let mut bytes = [0; 2];
     put_u16(&mut bytes, 0, count);
     bytes
+}
+
+/// The bytes of the slot of an info block, or of 0 for none, to be written where `info_block_at` says.
+#[inline]
+pub fn info_block_bytes(slot: u32) -> [u8; 4]
+    ensures { (which : Which) → WritesField (headers.info_block_at which) result
+        (HasInfoBlock which slot) }
+{
+    let mut bytes = [0; 4];
+    put_u32(&mut bytes, 0, slot);
+    bytes
+}
+
+/// Where the slot of an info block stands, in bytes from the header's start.
+#[inline]
+pub fn info_block_at(which: Which) -> usize
+    ensures { result ≡ headers.info_block_at which }
+{
+    match which {
+        Which::App => APP_INFO_AT,
+        Which::Sort => SORT_INFO_AT,
+    }
 }

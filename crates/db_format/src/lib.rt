@@ -15,7 +15,7 @@
 //! The numbers are big-endian. A reader takes the bytes as a slice, which a heap lends; what is to be
 //! written comes as a small array, since no slice is lent over a write. To change a field, read the
 //! header or the entry, set the field, and write the bytes of the whole back; the modification number, the
-//! seed and the number of entries have bytes of their own too. `specs/Headers.antt` and
+//! seed, the number of entries and the slot of an info block have bytes of their own too. `specs/Headers.antt` and
 //! `specs/Entries.antt` say what such a write does to the database: start there.
 #![tactic(auto)]
 
@@ -45,7 +45,9 @@ pub use fields::{
     RECORD_SIZE, RESOURCE_SIZE, SEED_AT, entry_offset, entry_size,
 };
 pub use header::DbHeader;
-pub use header_fields::{entry_count_bytes, modification_number_bytes, seed_bytes};
+pub use header_fields::{
+    entry_count_bytes, info_block_at, info_block_bytes, modification_number_bytes, seed_bytes,
+};
 pub use name::{NameField, has_name, is_name, name_in};
 pub use record_attributes::{CATEGORIES, RecordAttrs};
 pub use view::DatabaseView;

@@ -17,13 +17,10 @@ use Rattle.heap_model.specs.declared.names.Db.{Db}
 use Rattle.heap_model.specs.declared.names.Which.{Which}
 use Rattle.heap_model.specs.declared.names.Which.TheVariants.{App, Sort}
 use Rattle.laws_store.proofs.Listing.{times-cons, same-no}
-use Rattle.laws_store.proofs.Edited.{put_respells}
 use Rattle.laws_store.proofs.Numbered.{accepted_sound, number_database, number_here}
-use Rattle.db_format.specs.declared.header.DbHeader.{DbHeader}
-use Rattle.db_format.specs.Headers.{HasHeader, with_header, WritesHeader}
 use Rattle.mem_manager.specs.Lookup.{IsMovable}
 use Rattle.palm_store.specs.Databases.{HasNumber}
-use Rattle.palm_store.specs.InfoBlocks.{with_block}
+use Rattle.database_edits.specs.Edits.{with_block}
 use Rattle.palm_store.proofs.DataChunks.{for_data, data_movable, data_no_directory}
 use Rattle.palm_store.proofs.EntryChanges.{name_apart, then_raised}
 use Rattle.palm_store.proofs.TwoSteps.{rewritten_apart}
@@ -55,30 +52,6 @@ names_block q Sort slot d =
     let later = times-cons q d.app_info (slot ∷ map entry_data d.entries) in
     let now = times-cons q slot (map entry_data d.entries) in
     omega arith
-
--- ---- the header that is written
-
-made : DatabaseHeader → ℕ → ℕ → List (Entry ℕ) → Database ℕ
-made header app_info sort_info entries = record { header = header; app_info = app_info; sort_info = sort_info; entries = entries }
-
-header_with : (d now : Database ℕ) (h : DbHeader) → HasHeader now h → now.entries ≡ d.entries → with_header d h ≡ now
-unfolding made
-header_with d now h has same_list =
-    ap (λ (x : DatabaseHeader). made x h.app_info h.sort_info d.entries) has.values
-    ∙ ap (λ (slot : ℕ). made now.header slot h.sort_info d.entries) has.app_info
-    ∙ ap (λ (slot : ℕ). made now.header now.app_info slot d.entries) has.sort_info
-    ∙ ap (made now.header now.app_info now.sort_info) (sym same_list)
-
-pub block_spelled : (body bytes : List ℕ) (which : Which) (slot : ℕ) (h : DbHeader) → IsSpelled (database_in body) body → HasHeader (with_block which slot (database_in body)) h → WritesHeader h bytes → IsSpelled (with_block which slot (database_in body)) (overwritten body 0 bytes)
-block_spelled body bytes which slot h spells has writes =
-    let d : Database ℕ = database_in body in
-    let entries = same_entries which slot d in
-    subst (λ (now : Database ℕ). IsSpelled now (overwritten body 0 bytes)) (header_with d (with_block which slot d) h has entries)
-    (writes d body spells (has.entry_count ∙ ap length entries) (ap (λ (x : DatabaseHeader). has_resources x.attributes) has.values ∙ ap has_resources (same_attributes which slot d)))
-
-pub block_respells : (old new : List ℕ) (db : ℕ) (bytes : List ℕ) (which : Which) (slot : ℕ) → Leaves old new (put (held old) db 0 bytes) → IsSpelled (with_block which slot (database_here old db)) (overwritten (bytes_under old db) 0 bytes)
-    → Respells old new db (with_block which slot (database_here old db))
-block_respells old new db bytes which slot l spells = put_respells old new db bytes (with_block which slot (database_here old db)) l spells.bytes_are
 
 -- ---- the block that there is
 

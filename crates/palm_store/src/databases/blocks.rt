@@ -1,23 +1,20 @@
 //! The info blocks of a database: chunks for data that its header names.
 
-ghost use Rattle.std.specs.Prelude.{◌≡◌, ◌<◌, ◌≤◌, ℕ, length, OnOk, IfOk, IfErr};
+ghost use Rattle.std.specs.Prelude.{◌≡◌, ◌<◌, ◌≤◌, length, OnOk, IfOk, IfErr};
 ghost use Rattle.heap_model.specs.DatabaseFields.{header_size};
-ghost use Rattle.heap_model.specs.Database.{Database, DatabaseFits, database_in};
+ghost use Rattle.heap_model.specs.Database.{database_in};
 ghost use Rattle.heap_model.specs.DatabaseSteps.{info_block, info_block_set, info_block_taken};
 ghost use Rattle.heap_model.specs.Refusals.{NoneHolds, FirstBrings};
 ghost use Rattle.heap_model.specs.EntrySteps.{raised, LeavesStore, MakesNone};
-ghost use Rattle.heap_model.specs.Leaving.{database_here};
 ghost use Rattle.heap_model.specs.Store.{Accepted, store_of};
-ghost use Rattle.database_edits.specs.Edits.{Changes};
-ghost use Rattle.db_format.specs.Headers.{HasHeader};
 ghost use Rattle.palm_store.specs.Databases.{HasNumber};
 ghost use Rattle.palm_store.specs.EntryCalls.{MayBeGiven};
 ghost use Rattle.palm_store.specs.EntryInfos.{MayOwn};
-ghost use Rattle.palm_store.specs.InfoBlocks as blocks;
 ghost use Rattle.palm_store.specs.InfoBlocks.{block_of_image, writing_checks};
 
 use crate::lookup::{find_header, header_of};
-use db_format::{DbAttrs, DbHeader, app_info, attributes, sort_info};
+use database_edits::write_block;
+use db_format::{DbAttrs, app_info, attributes, sort_info};
 use heap_model::{Db, Name, Refusal, Which};
 use mem_manager::{DATA_OWNER, Heap};
 
@@ -58,38 +55,6 @@ pub(crate) fn block_in(body: &[u8], which: Which) -> u32
     }
 }
 
-/// A header with an info block in this slot, which counts a call more.
-fn with_block(header: DbHeader, which: Which, slot: u32) -> DbHeader
-    ensures { (database : Database ℕ) → HasHeader database header
-        → HasHeader (blocks.with_block which slot database) result }
-{
-    let modification_number = header.modification_number.wrapping_add(1);
-    match which {
-        Which::App => DbHeader {
-            modification_number,
-            app_info: slot,
-            ..header
-        },
-        Which::Sort => DbHeader {
-            modification_number,
-            sort_info: slot,
-            ..header
-        },
-    }
-}
-
-/// Writes the slot of an info block in the header of a database, which counts the call.
-fn put_block(heap: &mut Heap, db: Db, which: Which, slot: u32)
-    requires accepted { Accepted heap.old.bytes }
-    requires number { HasNumber heap.old.bytes db.0 }
-    ensures written { Changes heap.old.bytes heap.new.bytes db.0 (blocks.with_block which slot) }
-    ensures fits { DatabaseFits (blocks.with_block which slot (database_here heap.old.bytes db.0)) }
-    ensures rest { heap.new ≡ record heap.old { bytes = heap.new.bytes } }
-{
-    let header = with_block(DbHeader::read(header_of(heap, db)), which, slot);
-    heap.sys_write(Name(db.0), 0, &header.to_bytes());
-}
-
 /// Makes a movable chunk of a caller's an info block of a database that doesn't have that one, and keeps its
 /// locks. The database counts the call.
 pub(crate) fn give_block(heap: &mut Heap, db: Db, which: Which, name: Name)
@@ -102,7 +67,7 @@ pub(crate) fn give_block(heap: &mut Heap, db: Db, which: Which, name: Name)
     ensures none_made { MakesNone heap.old.bytes heap.new.bytes }
     ensures rest { heap.new ≡ record heap.old { bytes = heap.new.bytes } }
 {
-    put_block(heap, db, which, name.0);
+    write_block(heap, db, which, name.0);
     heap.sys_set_owner(name, DATA_OWNER);
 }
 
@@ -120,7 +85,7 @@ pub(crate) fn take_block(heap: &mut Heap, db: Db, which: Which, owner: u8) -> Na
     ensures rest { heap.new ≡ record heap.old { bytes = heap.new.bytes } }
 {
     let name = block_of(heap, db, which);
-    put_block(heap, db, which, 0);
+    write_block(heap, db, which, 0);
     heap.sys_set_owner(name, owner);
     name
 }
