@@ -6,9 +6,6 @@ ghost use Rattle.db_format.specs.Attributes.{database_bits, with_kind_from};
 
 use bitflags::{Flag, Flags, bitflag_items};
 
-/// How many kinds of databases there are: the lowest bit of the attributes says which.
-const KINDS: u16 = 2;
-
 /// The attributes of a database (Palm OS File Format Specification, "PDB Format"). They are a set by the
 /// methods of `bitflags::Flags`, and bits that have no name here are kept.
 #[derive(Clone, Copy, PartialEq, Eq, Debug)]
@@ -65,10 +62,11 @@ impl DbAttrs {
     }
 
     /// These attributes, but whether there are resources is as in others.
+    #[tactic(auto, using(crate::proofs::AttributeLaws::kind_by_mask))]
     pub fn with_kind_of(self, other: DbAttrs) -> DbAttrs
         ensures { result.0 ≡ with_kind_from other.0 self.0 }
     {
-        let kind = other.0 % KINDS;
-        DbAttrs(self.0 / KINDS * KINDS + kind)
+        let kind = other.intersection(DbAttrs::RESOURCE);
+        self.difference(DbAttrs::RESOURCE).union(kind)
     }
 }

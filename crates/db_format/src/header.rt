@@ -63,7 +63,7 @@ impl DbHeader {
     }
 
     /// The bytes of the header.
-    pub fn to_bytes(&self) -> [u8; 78]
+    pub fn to_bytes(&self) -> [u8; HEADER_SIZE]
         ensures is { (database : Database ℕ) → HasHeader database self.now → result ≡ header_bytes database }
         ensures written { WritesHeader self.now result }
     {
@@ -86,7 +86,7 @@ impl DbHeader {
 }
 
 /// The bytes of a header with a name and nothing else yet.
-fn begin_with(name: NameField) -> [u8; 78]
+fn begin_with(name: NameField) -> [u8; HEADER_SIZE]
     ensures front { take name_size result ≡ name_field name }
     ensures valid { IsDatabaseName name }
 {

@@ -9,6 +9,7 @@ use Rattle.heap_model.specs.DatabaseFields.{seed_at}
 use Rattle.heap_model.specs.Lists.{times, numbered}
 use Rattle.heap_model.specs.Database.{Entry, a_record, a_resource, IsSpelled, header_in, entry_in, entry_count_in, database_in}
 use Rattle.heap_model.specs.Store.{unique_id, unique_ids}
+use Rattle.heap_model.specs.EntrySteps.{most_entries}
 use Rattle.heap_model.specs.UniqueIds.{id_behind, IsFresh, seed_in}
 use Rattle.laws_store.proofs.Fresh.{id_behind_is, id_behind_fits, fresh_exists}
 use Rattle.laws_store.proofs.RecordIds.{ids_upto, ids_index, index_ids}
@@ -104,7 +105,7 @@ first_within body taken seed steps h m room = record {
 }
 
 -- where the set has room for as many steps as there are records, and one more, it misses one
-missing_within : (body taken : List ℕ) (seed steps : ℕ) → seed ≤ 0xFFFFFF → length (unique_ids (database_in body)) < 65535 → length taken ≡ 8192 → HasTaken body seed taken (entry_count_in body) → IsFirstMissing taken steps → steps < 8 * length taken
+missing_within : (body taken : List ℕ) (seed steps : ℕ) → seed ≤ 0xFFFFFF → length (unique_ids (database_in body)) < most_entries → length taken ≡ 8192 → HasTaken body seed taken (entry_count_in body) → IsFirstMissing taken steps → steps < 8 * length taken
 missing_within body taken seed steps most few len h m = elim (cases_lt steps (8 * length taken)) [
   | inl less ↦ less
   | inr past ↦ absurd (fresh_exists (unique_ids (database_in body)) seed most (omega arith) (λ n within. elim (cases_lt 0 (times (id_behind seed n) (unique_ids (database_in body)))) [
@@ -142,7 +143,7 @@ fresh_here body field seed steps id read low first is =
     subst (λ (s : ℕ). IsFresh (unique_ids (database_in body)) s id) same fresh
 
 -- a set with room for all records has the first that is free
-pub first_of_all : (body taken : List ℕ) (seed steps : ℕ) → seed ≤ 0xFFFFFF → entry_count_in body < 65535 → length taken ≡ 8192 → HasTaken body seed taken (entry_count_in body) → IsFirstMissing taken steps → (steps < 0xFFFFFF) × IsFirstFree body seed steps
+pub first_of_all : (body taken : List ℕ) (seed steps : ℕ) → seed ≤ 0xFFFFFF → entry_count_in body < most_entries → length taken ≡ 8192 → HasTaken body seed taken (entry_count_in body) → IsFirstMissing taken steps → (steps < 0xFFFFFF) × IsFirstFree body seed steps
 first_of_all body taken seed steps most few len h m =
     let ids = ids_counted body in
     let within = missing_within body taken seed steps most (omega arith) len h m in

@@ -3,6 +3,7 @@
 ghost use Rattle.std.specs.Prelude.{◌≡◌, ◌<◌, ◌≤◌, false, length, IfSome};
 ghost use Rattle.heap_model.specs.Database.{IsSpelled, database_in, resources_in, entry_count_in};
 ghost use Rattle.heap_model.specs.Store.{unique_ids};
+ghost use Rattle.heap_model.specs.EntrySteps.{most_entries};
 ghost use Rattle.heap_model.specs.UniqueIds.{IsFresh, greatest_id, seed_in};
 ghost use Rattle.heap_model.specs.UniqueIds as ids;
 ghost use Rattle.bit_sets.specs.Sets.{HasNone};
@@ -95,7 +96,7 @@ fn first_free(body: &[u8], seed: u32) -> u32
     requires whole { IsWhole body.now }
     requires records { resources_in body.now ≡ false }
     requires seed { seed ≤ greatest_id }
-    requires few { entry_count_in body.now < 65535 }
+    requires few { entry_count_in body.now < most_entries }
     ensures below { result < greatest_id }
     ensures first { IsFirstFree body.now seed result }
 {
@@ -109,7 +110,7 @@ fn first_free(body: &[u8], seed: u32) -> u32
 fn fresh_id(body: &[u8]) -> u32
     requires spelled { IsSpelled (database_in body.now) body.now }
     requires records { resources_in body.now ≡ false }
-    requires few { entry_count_in body.now < 65535 }
+    requires few { entry_count_in body.now < most_entries }
     ensures fresh { IsFresh (unique_ids (database_in body.now)) (seed_in (database_in body.now).header.seed) result }
     ensures some { 0 < result }
     ensures most { result ≤ greatest_id }
@@ -147,7 +148,7 @@ fn end_of_free(body: &[u8], first: u32) -> u32
 pub fn free_ids(body: &[u8], known: FreeIds) -> FreeIds
     requires spelled { IsSpelled (database_in body.now) body.now }
     requires records { resources_in body.now ≡ false }
-    requires few { entry_count_in body.now < 65535 }
+    requires few { entry_count_in body.now < most_entries }
     requires known { AreFree (unique_ids (database_in body.now)) known }
     ensures fresh { IsFresh (unique_ids (database_in body.now)) (seed_in (database_in body.now).header.seed) result.first }
     ensures free { AreFree (unique_ids (database_in body.now)) result }

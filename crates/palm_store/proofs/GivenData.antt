@@ -19,7 +19,7 @@ use Rattle.heap_model.specs.Store.{managers_owner, data_owner, owner_of, bytes_u
 use Rattle.heap_model.specs.StoreWords.{with_changed}
 use Rattle.heap_model.specs.Counts.{IsSound}
 use Rattle.heap_model.specs.Leaving.{Leaves, Respells, rewritten, SpellsHere, database_here}
-use Rattle.heap_model.specs.EntrySteps.{entries_in, data_under, resources_under, with_entry_at, entry_attached, data_exchanged, entry_swapped, raised, LeavesStore, MakesNone}
+use Rattle.heap_model.specs.EntrySteps.{most_entries, entries_in, data_under, resources_under, with_entry_at, entry_attached, data_exchanged, entry_swapped, raised, LeavesStore, MakesNone}
 use Rattle.heap_model.specs.declared.names.Db.{Db}
 use Rattle.laws_heap.proofs.Deciding.{none_some, same_some}
 use Rattle.laws_heap.proofs.Meanings.{held-zero}
@@ -181,7 +181,7 @@ no_room_to_take image db resources kind s short =
 
 -- the entry that comes names the chunk
 pub attach_leaves : (old new : List ℕ) (db : Db) (at : ℕ) (entry : NewEntry) (one : Entry ℕ) (kind : Bool) (name : ℕ) → Accepted old → HasNumber old db.0 → IsMadeOf (store_of old) db entry 0 one → MayBeGiven old name
-    → TakesIn old new db.0 at (entry_with (λ none. name) one) name → kind ≡ resources_under (store_of old) db → EntryFits kind (entry_with (λ none. name) one) → at ≤ length (entries_in (store_of old) db) → length (entries_in (store_of old) db) < 65535
+    → TakesIn old new db.0 at (entry_with (λ none. name) one) name → kind ≡ resources_under (store_of old) db → EntryFits kind (entry_with (λ none. name) one) → at ≤ length (entries_in (store_of old) db) → length (entries_in (store_of old) db) < most_entries
     → LeavesStore old new (raised (entry_attached (store_of old) db at (entry_with (λ none. name) one)) db)
 unfolding store_of
 attach_leaves old new db at entry one kind name a has is may takes same_kind fits inside few =
@@ -199,7 +199,7 @@ attach_leaves old new db at entry one kind name a has is may takes same_kind fit
     (then_raised old new db put_in (record { map = reowned (callers_map old) name data_owner; databases = databases old }) store)
 
 pub attach_steps : (old new : List ℕ) (db : Db) (at : ℕ) (entry : NewEntry) (one : Entry ℕ) (kind : Bool) (name : ℕ) → Accepted old → HasNumber old db.0 → IsMadeOf (store_of old) db entry 0 one → MayBeGiven old name
-    → TakesIn old new db.0 at (entry_with (λ none. name) one) name → kind ≡ resources_under (store_of old) db → EntryFits kind (entry_with (λ none. name) one) → at ≤ length (entries_in (store_of old) db) → length (entries_in (store_of old) db) < 65535
+    → TakesIn old new db.0 at (entry_with (λ none. name) one) name → kind ≡ resources_under (store_of old) db → EntryFits kind (entry_with (λ none. name) one) → at ≤ length (entries_in (store_of old) db) → length (entries_in (store_of old) db) < most_entries
     → (made : Entry ℕ) × IsMadeOf (store_of old) db entry name made × LeavesStore old new (raised (entry_attached (store_of old) db at made) db)
 attach_steps old new db at entry one kind name a has is may takes same_kind fits inside few = (
   entry_with (λ none. name) one,

@@ -16,7 +16,7 @@ use Rattle.heap_model.specs.Store.{data_owner, owner_of, bytes_under, owner_unde
 use Rattle.heap_model.specs.UniqueIds.{IsFresh, seed_in}
 use Rattle.heap_model.specs.Counts.{NamesData}
 use Rattle.heap_model.specs.Leaving.{Leaves, Respells, rewritten, SpellsHere, database_here}
-use Rattle.heap_model.specs.EntrySteps.{entries_in, resources_under, with_entry_at, entry_made, raised, LeavesStore}
+use Rattle.heap_model.specs.EntrySteps.{most_entries, entries_in, resources_under, with_entry_at, entry_made, raised, LeavesStore}
 use Rattle.heap_model.specs.StoreSteps.{StoreAsBefore}
 use Rattle.heap_model.specs.declared.names.Db.{Db}
 use Rattle.laws_heap.proofs.Becoming.{frame_then}
@@ -164,7 +164,7 @@ put_some old after db at entry slot size puts =
 
 -- the entry that comes names its data
 pub new_leaves : (old after : List ℕ) (db : Db) (at : ℕ) (entry : NewEntry) (one : Entry ℕ) (kind : Bool) (slot size : ℕ) → Accepted old → HasNumber old db.0 → IsMadeOf (store_of old) db entry 0 one → PutsIn old after db.0 at (entry_with (λ none. slot) one) slot size
-    → kind ≡ resources_under (store_of old) db → EntryFits kind (entry_with (λ none. slot) one) → at ≤ length (entries_in (store_of old) db) → length (entries_in (store_of old) db) < 65535
+    → kind ≡ resources_under (store_of old) db → EntryFits kind (entry_with (λ none. slot) one) → at ≤ length (entries_in (store_of old) db) → length (entries_in (store_of old) db) < most_entries
     → LeavesStore old after (raised (entry_made (store_of old) db at (entry_with (λ none. slot) one) size) db)
 unfolding store_of chunk_made
 new_leaves old after db at entry one kind slot size a has is puts same_kind fits inside few =
@@ -182,7 +182,7 @@ new_leaves old after db at entry one kind slot size a has is puts same_kind fits
     (edit_steps old after db (entry_inserted at one_made) (one_change (entry_data one_made) (chunk_made size)) a has edit)
 
 pub new_steps : (old after : List ℕ) (db : Db) (at : ℕ) (entry : NewEntry) (one : Entry ℕ) (kind : Bool) (slot size : ℕ) → Accepted old → HasNumber old db.0 → IsMadeOf (store_of old) db entry 0 one → PutsIn old after db.0 at (entry_with (λ none. slot) one) slot size
-    → kind ≡ resources_under (store_of old) db → EntryFits kind (entry_with (λ none. slot) one) → at ≤ length (entries_in (store_of old) db) → length (entries_in (store_of old) db) < 65535
+    → kind ≡ resources_under (store_of old) db → EntryFits kind (entry_with (λ none. slot) one) → at ≤ length (entries_in (store_of old) db) → length (entries_in (store_of old) db) < most_entries
     → (made : Entry ℕ) × IsMadeOf (store_of old) db entry slot made × LeavesStore old after (raised (entry_made (store_of old) db at made size) db)
 new_steps old after db at entry one kind slot size a has is puts same_kind fits inside few = (
   entry_with (λ none. slot) one,

@@ -3,7 +3,7 @@
 use Rattle.std.specs.Prelude.{◌≡◌, ◌≢◌, ◌<◌, ◌+◌, ◌*◌, ◌++◌, ◌⊎◌, ℕ, List, length, take, drop, None, Some}
 use Rattle.heap_model.specs.Bytes.{u32_bytes}
 use Rattle.heap_model.specs.Chunk.{need}
-use Rattle.heap_model.specs.Slots.{slots_total}
+use Rattle.heap_model.specs.Slots.{slots_total, slot_size}
 use Rattle.heap_model.specs.Heap.{HeapAccepted, directory_of}
 use Rattle.heap_model.specs.Reading.{held}
 use Rattle.heap_model.specs.Space.{Still, ShortFor}
@@ -41,8 +41,8 @@ pub record ListsNew (old new : List ℕ) (slot : ℕ) (bytes : List ℕ) : Type 
 -- a directory of one slot can't be made where there is none, or the one that there is can't grow by a slot
 abbrev pub HasNoRoomToList : List ℕ → Type 0
 HasNoRoomToList image =
-    ((directory_of image ≡ 0) × HasNoRoomFor image 4)
-    ⊎ ((0 < directory_of image) × ShortFor image (directory_of image) (need (length (directory_bytes image) + 4)))
+    ((directory_of image ≡ 0) × HasNoRoomFor image slot_size)
+    ⊎ ((0 < directory_of image) × ShortFor image (directory_of image) (need (length (directory_bytes image) + slot_size)))
 
 -- The new image is an accepted heap of the same length with as many slots, and the directory is the same
 -- chunk. It has the bytes of the old one but the four of the slot at this index. Every other name stands for
@@ -54,4 +54,4 @@ pub record Unlists (old new : List ℕ) (index : ℕ) : Type 0 where
   pub directory : directory_of new ≡ directory_of old
   pub still : Still old new
   pub others : (name : ℕ) → name ≢ directory_of old → held new name ≡ held old name
-  pub left : directory_bytes new ≡ take (4 * index) (directory_bytes old) ++ drop (4 * index + 4) (directory_bytes old)
+  pub left : directory_bytes new ≡ take (slot_size * index) (directory_bytes old) ++ drop (slot_size * index + slot_size) (directory_bytes old)

@@ -2,7 +2,7 @@
 use Rattle.std.specs.Prelude.{◌≡◌, ◌<◌, ◌≤◌, ℕ, Bool, true, false, Option, Some, None}
 use Rattle.heap_model.specs.Database.{Entry, a_record, a_resource, is_deleted}
 use Rattle.heap_model.specs.UniqueIds.{greatest_id}
-use Rattle.heap_model.specs.Store.{Store}
+use Rattle.heap_model.specs.Store.{Store, managers_owner, data_owner}
 use Rattle.heap_model.specs.EntrySteps.{data_under, IsFreshIn, HasOther, entry_dropped, entry_handed_over}
 use Rattle.heap_model.specs.declared.names.Db.{Db}
 use Rattle.palm_store.specs.declared.entries.infos.EntryInfo.{EntryInfo}
@@ -47,7 +47,7 @@ CanHave store db resources index (infos.Resource kind id) = resources ≡ true
 
 -- an owner that a caller may give
 abbrev pub MayOwn : ℕ → Type 0
-MayOwn owner = (0 < owner) × (owner < 15)
+MayOwn owner = (managers_owner < owner) × (owner < data_owner)
 
 -- a store where an entry is dropped, and its data freed or handed over to an owner
 abbrev pub dropped_to : Store → Db → ℕ → Option ℕ → Store

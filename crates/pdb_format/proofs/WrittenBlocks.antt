@@ -1,5 +1,5 @@
 -- Blocks that stand one behind the other in a file are the blocks that are read from it.
-use Rattle.std.proofs.Common.{◌≡◌, ℕ, zero, suc, ◌+◌, ◌-◌, ◌<◌, ◌≤◌, Option, Some, None, List, [], ◌∷◌, ◌++◌, length, get_or, take, drop, refl, sym, ap, ◌∙◌, append_assoc, arith, length-append}
+use Rattle.std.proofs.Common.{◌≡◌, ℕ, zero, suc, ◌+◌, ◌-◌, ◌<◌, Option, Some, None, List, ◌∷◌, ◌++◌, length, get_or, take, drop, refl, sym, ap, ◌∙◌, append_assoc, arith, length-append}
 use Rattle.std.specs.Prelude.{min, slice_range, slice_index}
 use Rattle.std.specs.List.{fold}
 use Rattle.std.proofs.lemmas.Grind.{flat_map-append}
@@ -8,8 +8,7 @@ use Rattle.std.proofs.Math.Seq.{drop-cons}
 use Rattle.std.proofs.lemmas.List.FromFn.{fill_by_all}
 use Rattle.heap_model.specs.Lists.{numbered}
 use Rattle.heap_model.specs.Files.{starts_behind, block_bytes, block_size, block_offset, offsets_in, block_end, block_at, blocks_in}
-use Rattle.laws_heap.proofs.Deciding.{none_some}
-use Rattle.pdb_format.proofs.WrittenOffsets.{all_bytes, running, size_more, length-running, running-append, end_found}
+use Rattle.pdb_format.proofs.WrittenOffsets.{all_bytes, running, length-running, running-append, end_found}
 
 some : List ℕ → Option (List ℕ)
 some bytes = Some bytes
@@ -80,23 +79,3 @@ blocks_read file front blocks low is offsets =
     let long = ap length offsets ∙ length-running (length front) blocks in
     fill_by_all (λ i. block_at file i (slice_index (offsets_in file) i)) blocks (length blocks) None refl (λ i below. read_at file front blocks i None low is offsets below)
     ∙ ap (numbered (λ i. block_at file i (slice_index (offsets_in file) i))) (sym long)
-
--- ---- no offset is outside
-
--- each offset is 0, where there is no block, or lies behind the front and within the file
-pub offset_inside : (at : ℕ) (blocks : List (Option (List ℕ))) (i : ℕ) (d : Option (List ℕ)) → i < length blocks → get_or (running at blocks) i 0 ≤ at + length (all_bytes blocks)
-offset_inside at [] i d below = absurd (omega arith)
-offset_inside at (None ∷ blocks) zero d below = omega arith
-offset_inside at (Some bytes ∷ blocks) zero d below = omega arith
-offset_inside at (block ∷ blocks) (suc i) d below =
-    let more = size_more block blocks in
-    let ih = offset_inside (at + block_size block) blocks i d (omega arith) in
-    omega arith
-
-pub offset_behind : (at : ℕ) (blocks : List (Option (List ℕ))) (i : ℕ) (bytes : List ℕ) (d : Option (List ℕ)) → i < length blocks → get_or blocks i d ≡ Some bytes → at ≤ get_or (running at blocks) i 0
-offset_behind at [] i bytes d below is = absurd (omega arith)
-offset_behind at (None ∷ blocks) zero bytes d below is = absurd (none_some None bytes refl is)
-offset_behind at (Some other ∷ blocks) zero bytes d below is = omega arith
-offset_behind at (block ∷ blocks) (suc i) bytes d below is =
-    let ih = offset_behind (at + block_size block) blocks i bytes d (omega arith) is in
-    omega arith

@@ -1,5 +1,5 @@
 -- The IDs of the records of a written file are kept when it is read.
-use Rattle.std.proofs.Common.{◌≡◌, ◌≢◌, ℕ, Bool, true, false, cond, List, [], ◌∷◌, get_or, refl, sym, ap, ◌∙◌, arith, inl}
+use Rattle.std.proofs.Common.{◌≡◌, ◌≢◌, ℕ, Bool, true, false, List, [], ◌∷◌, get_or, refl, sym, ap, ◌∙◌, arith, inl}
 use Rattle.std.specs.Prelude.{◌==◌, ◌&&◌, not, All, ⊤}
 use Rattle.std.proofs.lemmas.Bool.{eq-eqb, ne_eqb}
 use Rattle.std.proofs.lemmas.List.Elements.{All-head, All-tail}
@@ -13,16 +13,6 @@ use Rattle.laws_store.proofs.Listing.{same-no, times-cons, Distinct-head, Distin
 abbrev AllKept : List ℕ → List ℕ → Type 0
 AllKept earlier [] = ⊤
 AllKept earlier (id ∷ ids) = (keeps_id earlier id ≡ true) × AllKept (id ∷ earlier) ids
-
-onto : ℕ → List ℕ → List ℕ
-onto x xs = x ∷ xs
-
-kept_are : (earlier ids : List ℕ) → AllKept earlier ids → kept_ids earlier ids ≡ ids
-unfolding onto
-kept_are earlier [] all = refl
-kept_are earlier (id ∷ ids) all =
-    ap (λ (b : Bool). cond b (id ∷ kept_ids (id ∷ earlier) ids) (kept_ids (id ∷ earlier) ids)) all.0
-    ∙ ap (onto id) (kept_are (id ∷ earlier) ids all.1)
 
 given_are : (taken earlier : List ℕ) (seed : ℕ) (ids : List ℕ) → AllKept earlier ids → AreGiven taken earlier seed ids ids seed
 given_are taken earlier seed [] all = refl

@@ -1,27 +1,20 @@
 -- What a call on a category leaves of one record.
-use Rattle.std.proofs.Common.{◌≡◌, ℕ, ◌%◌, Bool, true, false, List, [], ◌∷◌, map, Option, Some, None, refl, sym, ap, ◌∙◌, arith, inl, inr}
+use Rattle.std.proofs.Common.{◌≡◌, ℕ, Bool, true, false, List, [], ◌∷◌, map, Option, Some, None, refl, sym, ap, ◌∙◌, arith, inl, inr}
 use Rattle.std.proofs.lemmas.Bool.{cases_eq, eq-eqb, ne_eqb}
-use Rattle.std.specs.Prelude.{◌==◌, ◌&&◌, ◌||◌, not, IsSome}
+use Rattle.std.specs.Prelude.{◌==◌, IsSome}
 use Rattle.heap_model.specs.Meaning.{ChunkMap}
 use Rattle.heap_model.specs.Maps.{gone}
 use Rattle.heap_model.specs.Lists.{times}
-use Rattle.heap_model.specs.Database.{Entry, entry_data, is_deleted}
+use Rattle.heap_model.specs.Database.{Entry, entry_data}
 use Rattle.heap_model.specs.Store.{Store, Accepted, store_of}
 use Rattle.heap_model.specs.StoreWords.{all_gone, with_number}
 use Rattle.heap_model.specs.EntrySteps.{entry_under, entry_changed, data_of_entry, data_under, without_data, with_chunks, data_freed, LeavesStore}
-use Rattle.heap_model.specs.Categories.{has_category, is_of, data_of_category, deleted_category}
+use Rattle.heap_model.specs.Categories.{is_of, data_of_category, deleted_category}
 use Rattle.heap_model.specs.declared.names.Db.{Db}
 use Rattle.laws_heap.proofs.Deciding.{cond-true, cond-false}
 use Rattle.laws_store.proofs.Listing.{same-yes, same-no, times-cons}
 use Rattle.database_access.proofs.EntriesChanged.{entry_alike, entry_kept}
 use Rattle.database_access.proofs.Raising.{left_as, itself}
-
--- a record that is of a category isn't deleted
-pub alive : (category attributes : ℕ) → has_category category attributes ≡ true → is_deleted attributes ≡ false
-alive category attributes of = by (is_deleted attributes) ((category == 255) || (attributes % 16 == category)) of where
-  by : (deleted other : Bool) → not deleted && other ≡ true → deleted ≡ false
-  by true other e = absurd cc
-  by false other e = refl
 
 -- what isn't of a category
 pub isnt_of : (category : ℕ) (entry : Entry ℕ) → (is_of category entry ≡ true → ⊥) → is_of category entry ≡ false

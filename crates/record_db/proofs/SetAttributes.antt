@@ -83,6 +83,12 @@ may_have image db index attributes id slot now a has records e deleted =
     omega (arith, two, once)) in
     (records, omega (arith, positive), omega (arith, small), alone, λ none. deleted (sym (ap data_of_entry e) ∙ none))
 
+-- whatever is said of it, where it has data
+pub live_may_have : (image : List ℕ) (db : Db) (index attributes id slot now : ℕ) → Accepted image → IsSome (with_number (store_of image) db.0) → resources_under (store_of image) db ≡ false → entry_under (store_of image) db index ≡ Some (a_record attributes id slot)
+    → 0 < slot → CanHave (store_of image) db (resources_under (store_of image) db) index (infos.Record now id)
+live_may_have image db index attributes id slot now a has records e some =
+    may_have image db index attributes id slot now a has records e (λ none. absurd (omega (arith, none, some)))
+
 -- ---- what is said of a record with another ID
 
 -- the ID that is given is a record's own, or the one in the number

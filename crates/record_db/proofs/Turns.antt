@@ -39,10 +39,3 @@ next_changed change (suc count) (entry ∷ entries) below =
         by : (x : Option (Entry ℕ)) → replaced_if (first ∷ xs) (suc index) change x ≡ first ∷ replaced_if xs index change x
         by None = refl
         by (Some entry) = refl
-
--- as many as there were
-pub length-changed : (change : Entry ℕ → Entry ℕ) (count : ℕ) (entries : List (Entry ℕ)) → length (first_changed change count entries) ≡ length entries
-length-changed change zero [] = refl
-length-changed change zero (entry ∷ entries) = refl
-length-changed change (suc count) [] = refl
-length-changed change (suc count) (entry ∷ entries) = ap suc (length-changed change count entries)

@@ -2,8 +2,7 @@
 
 ghost use Rattle.std.specs.Prelude.{◌≡◌, ◌<◌, bit_or};
 ghost use Rattle.heap_model.specs.Database as databases;
-ghost use Rattle.heap_model.specs.EntrySteps.{deleted_bit};
-ghost use Rattle.heap_model.specs.RecordSteps.{busy_bit, new_attributes};
+ghost use Rattle.heap_model.specs.RecordSteps.{new_attributes};
 ghost use Rattle.heap_model.specs.Categories as categories;
 ghost use Rattle.heap_model.specs.RecordSteps as steps;
 ghost use Rattle.record_db.specs.Categories.{moved_attributes};
@@ -55,31 +54,11 @@ pub(crate) fn is_busy(attributes: u8) -> bool
     RecordAttrs::from_bits_retain(attributes).contains(RecordAttrs::BUSY)
 }
 
-/// The attributes of a record that is deleted from now on.
-pub(crate) fn marked_deleted(attributes: u8) -> u8
-    ensures { result ≡ bit_or attributes deleted_bit }
+/// The attributes of a record, with some bits set.
+pub(crate) fn marked(attributes: u8, bits: RecordAttrs) -> u8
+    ensures { result ≡ bit_or attributes bits.0 }
 {
-    RecordAttrs::from_bits_retain(attributes)
-        .union(RecordAttrs::DELETE)
-        .bits()
-}
-
-/// The attributes of a record that is dirty from now on.
-pub(crate) fn marked_dirty(attributes: u8) -> u8
-    ensures { result ≡ bit_or attributes categories.dirty_bit }
-{
-    RecordAttrs::from_bits_retain(attributes)
-        .union(RecordAttrs::DIRTY)
-        .bits()
-}
-
-/// The attributes of a record that is in use from now on.
-pub(crate) fn marked_busy(attributes: u8) -> u8
-    ensures { result ≡ bit_or attributes busy_bit }
-{
-    RecordAttrs::from_bits_retain(attributes)
-        .union(RecordAttrs::BUSY)
-        .bits()
+    RecordAttrs::from_bits_retain(attributes).union(bits).bits()
 }
 
 /// The attributes of a record that is no longer in use, and dirty then if `dirty` says so.

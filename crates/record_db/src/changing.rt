@@ -6,10 +6,10 @@ ghost use Rattle.heap_model.specs.declared.call.RecordCall.{RecordCall};
 ghost use Rattle.palm_store.specs.Replies.{done_or_refused, name_or_refused};
 ghost use Rattle.record_db.specs.Checks.{DoesRecord};
 
-use crate::attributes::{is_busy, marked_busy, marked_deleted, released, with_given};
+use crate::attributes::{is_busy, marked, released, with_given};
 use crate::records::{find_live, find_record, has_id, has_locked};
 use database_access::{Access, EntryKind, count_entries, is_locked};
-use db_format::GREATEST_ID;
+use db_format::{GREATEST_ID, RecordAttrs};
 use heap_model::{Db, Name, Refusal};
 use palm_store::{EntryInfo, Store, check_owner};
 
@@ -32,6 +32,7 @@ pub fn delete(store: &mut Store, db: Db, index: u32) -> Result<(), Refusal>
 /// Marks a record as deleted. Its data stays.
 ///
 /// Refused: `NoSuchDatabase`, `NotRecordDatabase`, `ReadOnly`, `IndexOutOfRange`, `RecordDeleted`.
+#[tactic(auto, using(crate::proofs::SetAttributes::live_may_have))]
 pub fn archive(store: &mut Store, db: Db, index: u32) -> Result<(), Refusal>
     ensures does { DoesRecord store.old (RecordCall.Archive db index)
         (done_or_refused result) store.new }
@@ -39,7 +40,7 @@ pub fn archive(store: &mut Store, db: Db, index: u32) -> Result<(), Refusal>
 {
     let live = find_live(store, db, index, Access::Write)?;
     let archived = EntryInfo::Record {
-        attributes: marked_deleted(live.attributes),
+        attributes: marked(live.attributes, RecordAttrs::DELETE),
         id: live.id,
     };
     store.entry_set(db, index, archived, true);
@@ -81,6 +82,7 @@ pub fn move_record(store: &mut Store, db: Db, from: u32, to: u32) -> Result<(), 
 /// The name of a record's data, for use: the record is busy until it is released.
 ///
 /// Refused: `NoSuchDatabase`, `NotRecordDatabase`, `IndexOutOfRange`, `RecordDeleted`, `RecordBusy`.
+#[tactic(auto, using(crate::proofs::SetAttributes::live_may_have))]
 pub fn get(store: &mut Store, db: Db, index: u32) -> Result<Name, Refusal>
     ensures does { DoesRecord store.old (RecordCall.Get db index) (name_or_refused result) store.new }
     ensures refused { OnErr result (store.new ≡ store.old) }
@@ -90,7 +92,7 @@ pub fn get(store: &mut Store, db: Db, index: u32) -> Result<Name, Refusal>
         return Err(Refusal::RecordBusy);
     }
     let busy = EntryInfo::Record {
-        attributes: marked_busy(live.attributes),
+        attributes: marked(live.attributes, RecordAttrs::BUSY),
         id: live.id,
     };
     store.entry_set(db, index, busy, false);

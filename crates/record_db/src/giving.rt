@@ -5,9 +5,10 @@ ghost use Rattle.heap_model.specs.declared.call.RecordCall.{RecordCall};
 ghost use Rattle.palm_store.specs.Replies.{name_or_refused, number_or_refused};
 ghost use Rattle.record_db.specs.Checks.{DoesRecord};
 
-use crate::attributes::{marked_dirty, of_attached_record};
+use crate::attributes::{marked, of_attached_record};
 use crate::records::find_live;
 use database_access::{Access, EntryKind, count_entries};
+use db_format::RecordAttrs;
 use heap_model::{Db, Name, Refusal};
 use palm_store::{EntryInfo, NewEntry, Store, check_owner};
 
@@ -38,6 +39,7 @@ pub fn attach(store: &mut Store, db: Db, at: u32, name: Name) -> Result<u32, Ref
 ///
 /// Refused: `NoSuchDatabase`, `NotRecordDatabase`, `ReadOnly`, `IndexOutOfRange`, `RecordDeleted`; `InvalidHandle`,
 /// `OwnedByDatabase` and `ChunkFixed`, where the chunk can't be given; `InvalidOwner`.
+#[tactic(auto, using(crate::proofs::SetAttributes::live_may_have))]
 pub fn attach_replacing(
     store: &mut Store,
     db: Db,
@@ -53,7 +55,7 @@ pub fn attach_replacing(
     store.check_given(name)?;
     check_owner(owner)?;
     let dirty = EntryInfo::Record {
-        attributes: marked_dirty(live.attributes),
+        attributes: marked(live.attributes, RecordAttrs::DIRTY),
         id: live.id,
     };
     store.entry_swap(db, index, dirty, name, owner);

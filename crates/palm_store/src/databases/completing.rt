@@ -9,6 +9,7 @@ ghost use Rattle.heap_model.specs.DatabaseFields.{header_size};
 ghost use Rattle.heap_model.specs.Database.{DatabaseFits, EntryFits, entry_bytes, has_resources, spelled};
 ghost use Rattle.heap_model.specs.Database as databases;
 ghost use Rattle.heap_model.specs.Store.{Accepted, managers_owner, bytes_under, owner_under, directory_bytes};
+ghost use Rattle.heap_model.specs.EntrySteps.{most_entries};
 ghost use Rattle.heap_model.specs.Leaving.{Leaves, rewritten};
 ghost use Rattle.heap_model.specs.FileSteps.{makings, listing_part, listing_slots, whole_parts, whole_slots};
 ghost use Rattle.palm_store.specs.WholeDatabases.{data_sizes, numbers_in, RunsOut, MakesAndLists, ListsWhole, CanBeWhole, CanCome, entries_named, whole_database, whole_size};
@@ -95,7 +96,7 @@ fn write_entries(
     requires body { length (bytes_under heap.old.bytes slot.0)
         ≡ databases.entry_offset resources (length entries.now) }
     requires entries { All (CanCome resources) entries.now }
-    requires few { length entries.now ≤ 65535 }
+    requires few { length entries.now ≤ most_entries }
     requires names { length names.now ≡ 2 + length entries.now }
     ensures written { Leaves heap.old.bytes heap.new.bytes (rewritten (held heap.old.bytes) slot.0
         (take header_size (bytes_under heap.old.bytes slot.0)

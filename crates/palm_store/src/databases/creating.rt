@@ -36,7 +36,7 @@ fn begin_directory(heap: &mut Heap, slot: Name) -> Result<(), Refusal>
     requires heap { HeapAccepted heap.old.bytes }
     requires none { directory_of heap.old.bytes ≡ 0 }
     ensures lists { OnOk result (ListsLast heap.old.bytes heap.new.bytes slot.0) }
-    ensures no_room { OnErr result (HasNoRoomFor heap.old.bytes 4) }
+    ensures no_room { OnErr result (HasNoRoomFor heap.old.bytes SLOT_SIZE) }
     ensures refusal { IfErr result (λ refusal. refusal ≡ Refusal.NotEnoughSpace) }
     ensures refused { OnErr result (heap.new ≡ heap.old) }
     ensures rest { heap.new ≡ record heap.old { bytes = heap.new.bytes; slid = heap.new.slid } }
@@ -54,7 +54,7 @@ fn extend_directory(heap: &mut Heap, slot: Name) -> Result<(), Refusal>
     requires few { length (directory_bytes heap.old.bytes) ≤ 4096 }
     ensures lists { OnOk result (ListsLast heap.old.bytes heap.new.bytes slot.0) }
     ensures no_room { OnErr result (ShortFor heap.old.bytes (directory_of heap.old.bytes)
-        (need (length (directory_bytes heap.old.bytes) + 4))) }
+        (need (length (directory_bytes heap.old.bytes) + SLOT_SIZE))) }
     ensures refusal { IfErr result (λ refusal. refusal ≡ Refusal.NotEnoughSpace) }
     ensures refused { OnErr result (heap.new ≡ heap.old) }
     ensures rest { heap.new ≡ record heap.old { bytes = heap.new.bytes; slid = heap.new.slid } }

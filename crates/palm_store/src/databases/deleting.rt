@@ -13,7 +13,7 @@ pub(crate) fn unlist(heap: &mut Heap, index: u32)
     requires heap { HeapAccepted heap.old.bytes }
     requires some { 0 < directory_of heap.old.bytes }
     requires few { length (directory_bytes heap.old.bytes) ≤ 4096 }
-    requires inside { 4 * index + 4 ≤ length (directory_bytes heap.old.bytes) }
+    requires inside { SLOT_SIZE * index + SLOT_SIZE ≤ length (directory_bytes heap.old.bytes) }
     ensures unlists { Unlists heap.old.bytes heap.new.bytes index }
     ensures rest { heap.new ≡ record heap.old { bytes = heap.new.bytes; slid = heap.new.slid } }
 {

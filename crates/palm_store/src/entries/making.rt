@@ -8,7 +8,7 @@ ghost use Rattle.heap_model.specs.DatabaseFields.{entry_size};
 ghost use Rattle.heap_model.specs.Database.{entry_with, EntryFits};
 ghost use Rattle.heap_model.specs.Store.{Accepted, bytes_under, store_of};
 ghost use Rattle.heap_model.specs.Leaving.{Leaves};
-ghost use Rattle.heap_model.specs.EntrySteps.{entries_in, resources_under, MakesNone};
+ghost use Rattle.heap_model.specs.EntrySteps.{most_entries, entries_in, resources_under, MakesNone};
 ghost use Rattle.db_format.specs.EitherEntry.{entry_of, is_resource, HasFittingId};
 ghost use Rattle.palm_store.specs.Databases.{HasNumber};
 ghost use Rattle.palm_store.specs.EntryInfos.{makes_resource, IsMadeOf};
@@ -39,7 +39,7 @@ pub(crate) fn put_in(
     requires accepted { Accepted heap.old.bytes }
     requires number { HasNumber heap.old.bytes db.0 }
     requires inside { at ≤ length (entries_in (store_of heap.old.bytes) db) }
-    requires few { length (entries_in (store_of heap.old.bytes) db) < 65535 }
+    requires few { length (entries_in (store_of heap.old.bytes) db) < most_entries }
     requires kind { is_resource entry ≡ resources_under (store_of heap.old.bytes) db }
     requires id { HasFittingId entry }
     ensures puts { IfOk result (λ name. PutsIn heap.old.bytes heap.new.bytes db.0 at
@@ -75,7 +75,7 @@ pub(crate) fn take_in(
     requires accepted { Accepted heap.old.bytes }
     requires number { HasNumber heap.old.bytes db.0 }
     requires inside { at ≤ length (entries_in (store_of heap.old.bytes) db) }
-    requires few { length (entries_in (store_of heap.old.bytes) db) < 65535 }
+    requires few { length (entries_in (store_of heap.old.bytes) db) < most_entries }
     requires kind { is_resource entry ≡ resources_under (store_of heap.old.bytes) db }
     requires id { HasFittingId entry }
     requires given { MayBeGiven heap.old.bytes name.0 }
@@ -109,7 +109,7 @@ pub(crate) fn new_entry(heap: &Heap, db: Db, entry: NewEntry, known: KnownIds) -
     requires accepted { Accepted heap.now.bytes }
     requires number { HasNumber heap.now.bytes db.0 }
     requires kind { makes_resource entry ≡ resources_under (store_of heap.now.bytes) db }
-    requires few { length (entries_in (store_of heap.now.bytes) db) < 65535 }
+    requires few { length (entries_in (store_of heap.now.bytes) db) < most_entries }
     requires known { StandFree (store_of heap.now.bytes) known }
     ensures is { IsMadeOf (store_of heap.now.bytes) db entry 0 (entry_of result.entry) }
     ensures kind { is_resource result.entry ≡ makes_resource entry }

@@ -11,13 +11,13 @@ use heap_model::Db;
 use mem_manager::Heap;
 
 /// What a number, the slot of a header, takes in the directory.
-pub(crate) const SLOT_SIZE: usize = 4;
+pub(crate) const SLOT_SIZE: usize = chunk_format::SLOT_SIZE as usize;
 
 /// The bytes of the directory, as they lie in the image. There are none where no database was made yet.
 pub(crate) fn directory_bytes(heap: &Heap) -> &[u8]
     requires { Accepted heap.now.bytes }
     ensures is { result.now ≡ stores.directory_bytes heap.now.bytes }
-    ensures listed { length (listed heap.now.bytes) ≡ length result.now / 4 }
+    ensures listed { length (listed heap.now.bytes) ≡ length result.now / SLOT_SIZE }
     ensures few { length (listed heap.now.bytes) ≤ most_databases }
 {
     let directory = heap.directory();
@@ -32,8 +32,8 @@ pub(crate) fn directory_bytes(heap: &Heap) -> &[u8]
 #[inline]
 #[tactic(auto, using(db_format::proofs::WordLaws::u32_at_part))]
 pub(crate) fn listed_in(directory: &[u8], index: usize) -> Db
-    requires { 4 * index + 4 ≤ length directory.now }
-    ensures { result.0 ≡ u32_at directory.now (4 * index) }
+    requires { SLOT_SIZE * index + SLOT_SIZE ≤ length directory.now }
+    ensures { result.0 ≡ u32_at directory.now (SLOT_SIZE * index) }
 {
     let at = index * SLOT_SIZE;
     Db(BigEndian::read_u32(&directory[at..at + SLOT_SIZE]))

@@ -1,4 +1,4 @@
-use Rattle.std.proofs.Common.{◌≡◌, ℕ, false, true, Option, refl, sym, ap, subst, ◌∙◌, arith, bit_or, inl, inr}
+use Rattle.std.proofs.Common.{◌≡◌, ℕ, false, true, Option, refl, sym, ap, subst, ◌∙◌, bit_or, inl, inr}
 use Rattle.heap_model.specs.Database.{Entry}
 use Rattle.heap_model.specs.Store.{store_of}
 use Rattle.heap_model.specs.EntrySteps.{entry_under, OfEntry, data_of_entry}
@@ -8,7 +8,7 @@ use Rattle.heap_model.specs.declared.call.RecordCall.TheVariants.{Get}
 use Rattle.heap_model.specs.declared.call.Reply.TheVariants.{Named}
 use Rattle.heap_model.specs.declared.refusal.Refusal.TheVariants.{RecordBusy}
 use Rattle.laws_store.proofs.Doing.{refused, changes}
-use Rattle.record_db.proofs.SetAttributes.{may_have, attributes_set}
+use Rattle.record_db.proofs.SetAttributes.{attributes_set}
 use Rattle.record_db.proofs.changing.get.Goals as goal
 
 pub returns-then-is_busy-clause-does : goal.returns-then-is_busy-clause-does
@@ -18,19 +18,13 @@ returns-then-is_busy-clause-does c =
     let busy = subst (λ (x : Option (Entry ℕ)). OfEntry x (HasAttributes is_busy)) (sym found.is) (sym c.is_busy.ensures ∙ c.if-is_busy.true) in
     refused c.args.store.now (calls.Record (Get c.args.db c.args.index)) RecordBusy found.accepted (inr (none.0, inr (none.1.0, inr (none.1.1.0, inr (none.1.1.1.0, inl (busy, refl))))))
 
-pub entry_set-requires-clause-info : goal.entry_set-requires-clause-info
-entry_set-requires-clause-info c =
-    let found = c.in_ok-live.ensures in
-    let some = found.some in
-    may_have c.args.store.now.bytes c.args.db c.args.index c.in_ok-live.live.attributes c.in_ok-live.live.id c.in_ok-live.live.«data».0 c.marked_busy.result found.accepted found.known found.records found.is (λ none. absurd (omega (arith, none, some)))
-
 pub returns-clause-does : goal.returns-clause-does
 returns-clause-does c =
     let found = c.in_ok-live.ensures in
     let none = found.passes in
     let is = found.is in
-    let leaves = attributes_set false c.args.store.now.bytes c.entry_set.new.self.bytes c.args.db c.args.index c.in_ok-live.live.attributes c.in_ok-live.live.id c.in_ok-live.live.«data».0 c.marked_busy.result (λ (attributes : ℕ). bit_or attributes busy_bit)
-    found.accepted found.known is c.marked_busy.ensures c.entry_set.ensures.set in
+    let leaves = attributes_set false c.args.store.now.bytes c.entry_set.new.self.bytes c.args.db c.args.index c.in_ok-live.live.attributes c.in_ok-live.live.id c.in_ok-live.live.«data».0 c.marked.result (λ (attributes : ℕ). bit_or attributes busy_bit)
+    found.accepted found.known is c.marked.ensures c.entry_set.ensures.set in
     let free : OfEntry (entry_under (store_of c.args.store.now.bytes) c.args.db c.args.index) (HasAttributes is_busy) → ⊥ = λ busy.
     (let yes : is_busy c.in_ok-live.live.attributes ≡ true = subst (λ (x : Option (Entry ℕ)). OfEntry x (HasAttributes is_busy)) is busy in
     let no : is_busy c.in_ok-live.live.attributes ≡ false = sym c.is_busy.ensures ∙ c.if-is_busy.false in

@@ -1,25 +1,19 @@
-use Rattle.std.proofs.Common.{ℕ, sym, ap, arith, bit_or}
+use Rattle.std.proofs.Common.{ℕ, sym, ap, bit_or}
 use Rattle.heap_model.specs.Categories.{dirty_bit}
 use Rattle.heap_model.specs.EntrySteps.{data_of_entry}
 use Rattle.heap_model.specs.declared.call.Call.TheVariants as calls
 use Rattle.heap_model.specs.declared.call.RecordCall.TheVariants.{AttachReplacing}
 use Rattle.heap_model.specs.declared.call.Reply.TheVariants.{Named}
 use Rattle.laws_store.proofs.Doing.{changes}
-use Rattle.record_db.proofs.SetAttributes.{may_have, data_swapped}
+use Rattle.record_db.proofs.SetAttributes.{data_swapped}
 use Rattle.record_db.proofs.giving.attach_replacing.Goals as goal
-
-pub entry_swap-requires-clause-info : goal.entry_swap-requires-clause-info
-entry_swap-requires-clause-info c =
-    let found = c.in_ok-live.ensures in
-    let some = found.some in
-    may_have c.args.store.now.bytes c.args.db c.args.index c.in_ok-live.live.attributes c.in_ok-live.live.id c.in_ok-live.live.«data».0 c.marked_dirty.result found.accepted found.known found.records found.is (λ none. absurd (omega (arith, none, some)))
 
 pub returns-clause-does : goal.returns-clause-does
 returns-clause-does c =
     let found = c.in_ok-live.ensures in
     let passes = found.passes in
     let given = c.in_ok-check_given.ensures.could in
-    let leaves = data_swapped c.args.store.now.bytes c.entry_swap.new.self.bytes c.args.db c.args.index c.in_ok-live.live.attributes c.in_ok-live.live.id c.in_ok-live.live.«data».0 c.marked_dirty.result c.args.name.0 c.args.owner (λ (attributes : ℕ). bit_or attributes dirty_bit)
-    found.accepted found.known found.is c.marked_dirty.ensures c.entry_swap.ensures.swapped in
+    let leaves = data_swapped c.args.store.now.bytes c.entry_swap.new.self.bytes c.args.db c.args.index c.in_ok-live.live.attributes c.in_ok-live.live.id c.in_ok-live.live.«data».0 c.marked.result c.args.name.0 c.args.owner (λ (attributes : ℕ). bit_or attributes dirty_bit)
+    found.accepted found.known found.is c.marked.ensures c.entry_swap.ensures.swapped in
     changes c.args.store.now c.entry_swap.new.self (calls.Record (AttachReplacing c.args.db c.args.index c.args.name c.args.owner)) (Named c.in_ok-live.live.«data») _ found.accepted leaves
     ((passes.0, (passes.1.0, (passes.1.1.0, (passes.1.1.1.0, (passes.1.1.1.1.0, (given.0, (given.1.0, (given.1.1.0, (c.in_ok-check_owner.ensures.ok, tt))))))))), (sym (ap data_of_entry found.is), leaves.same)) tt c.entry_swap.ensures.rest

@@ -9,6 +9,7 @@ use Rattle.heap_model.specs.Database.{Entry, Database, entry_with, has_resources
 use Rattle.db_format.specs.EitherEntry.{entry_of}
 use Rattle.laws_store.proofs.Numbered.{accepted_spells, entries_here, kind_here}
 use Rattle.mem_manager.specs.Lookup.{IsMovable}
+use Rattle.heap_model.specs.EntrySteps.{most_entries}
 use Rattle.palm_store.proofs.ListedSlots.{made_movable}
 use Rattle.palm_store.proofs.EntriesHere.{index_most}
 use Rattle.palm_store.proofs.NewEntries.{spells_still, database_still, made_no_directory, puts_in, no_header_room, given_back}
@@ -25,7 +26,7 @@ insert_entry-requires-clause-inside c =
 pub insert_entry-requires-clause-few : goal.insert_entry-requires-clause-few
 insert_entry-requires-clause-few c =
     let still = database_still c.args.heap.now.bytes c.sys_new.new.self.bytes c.args.db.0 c.in_ok-name.name.0 c.args.size (accepted_spells c.args.heap.now.bytes c.args.db.0 c.requires.accepted c.requires.number) c.in_ok-name.ensures.made in
-    subst (λ (d : Database ℕ). length d.entries < 65535) (sym still) (subst (λ (entries : List (Entry ℕ)). length entries < 65535) (entries_here c.args.heap.now.bytes c.args.db c.requires.number) c.requires.few)
+    subst (λ (d : Database ℕ). length d.entries < most_entries) (sym still) (subst (λ (entries : List (Entry ℕ)). length entries < most_entries) (entries_here c.args.heap.now.bytes c.args.db c.requires.number) c.requires.few)
 
 pub insert_entry-requires-clause-kind : goal.insert_entry-requires-clause-kind
 insert_entry-requires-clause-kind c =

@@ -4,6 +4,7 @@ use Rattle.heap_model.specs.Database.{Entry, entry_with}
 use Rattle.db_format.specs.EitherEntry.{entry_of}
 use Rattle.laws_heap.proofs.Results.{on_err}
 use Rattle.laws_store.proofs.Numbered.{accepted_spells, entries_here, kind_here}
+use Rattle.heap_model.specs.EntrySteps.{most_entries}
 use Rattle.palm_store.proofs.EntriesHere.{index_most}
 use Rattle.palm_store.proofs.GivenData.{given, given_kept, given_movable, given_no_directory, takes_in, takes_none, no_room_to_take}
 use Rattle.palm_store.proofs.entries.making.take_in.Goals as goal
@@ -15,7 +16,7 @@ pub insert_entry-requires-clause-inside : goal.insert_entry-requires-clause-insi
 insert_entry-requires-clause-inside c = index_most c.args.heap.now.bytes c.args.db c.args.at c.requires.number c.requires.inside
 
 pub insert_entry-requires-clause-few : goal.insert_entry-requires-clause-few
-insert_entry-requires-clause-few c = subst (λ (entries : List (Entry _)). length entries < 65535) (entries_here c.args.heap.now.bytes c.args.db c.requires.number) c.requires.few
+insert_entry-requires-clause-few c = subst (λ (entries : List (Entry _)). length entries < most_entries) (entries_here c.args.heap.now.bytes c.args.db c.requires.number) c.requires.few
 
 pub insert_entry-requires-clause-kind : goal.insert_entry-requires-clause-kind
 insert_entry-requires-clause-kind c = c.with_slot.ensures.kind ∙ c.requires.kind ∙ kind_here c.args.heap.now.bytes c.args.db c.requires.number

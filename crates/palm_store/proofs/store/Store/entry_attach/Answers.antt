@@ -1,6 +1,6 @@
 -- What came is the entry that was asked for, with the chunk that was given; what was refused has changed nothing.
 use Rattle.std.proofs.Common.{◌<◌, ◌∙◌, arith, inl, inr, ℕ, List, length, ◌≤◌, ◌≡◌}
-use Rattle.heap_model.specs.EntrySteps.{entries_in, resources_under}
+use Rattle.heap_model.specs.EntrySteps.{most_entries, entries_in, resources_under}
 use Rattle.heap_model.specs.Store.{store_of}
 use Rattle.heap_model.specs.Refusals.{FirstBrings}
 use Rattle.db_format.specs.EitherEntry.{entry_of}
@@ -31,7 +31,7 @@ invariant_of-self-2 c =
     let image : List ℕ = c.self.inside.heap.bytes in
     let count = c.count_entries.ensures in
     let below = c.if-count_entries-ge-MOST_ENTRIES.false in
-    let few : length (entries_in (store_of image) c.args.db) < 65535 = omega (arith, count, below) in
+    let few : length (entries_in (store_of image) c.args.db) < most_entries = omega (arith, count, below) in
     let left = (attach_leaves image c.take_in.new.heap.bytes c.args.db c.args.at c.args.entry (entry_of c.new_entry-made.result.entry) _ c.args.name.0 c.self.invariant.accepted number c.new_entry-made.ensures.is may c.in_ok-take_in.ensures.takes
     (c.new_entry-made.ensures.kind ∙ kind) (c.in_ok-take_in.ensures.name_fits c.new_entry-made.ensures.fits) inside few) in
     let made : Entry ℕ = entry_with (λ none. c.args.name.0) (entry_of c.new_entry-made.result.entry) in
@@ -48,6 +48,6 @@ returns-clause-attached c =
     rw (← c.self.view_is) (let image : List ℕ = c.self.inside.heap.bytes in
     let count = c.count_entries.ensures in
     let below = c.if-count_entries-ge-MOST_ENTRIES.false in
-    let few : length (entries_in (store_of image) c.args.db) < 65535 = omega (arith, count, below) in
+    let few : length (entries_in (store_of image) c.args.db) < most_entries = omega (arith, count, below) in
     attach_steps image c.take_in.new.heap.bytes c.args.db c.args.at c.args.entry (entry_of c.new_entry-made.result.entry) _ c.args.name.0 c.self.invariant.accepted number c.new_entry-made.ensures.is may c.in_ok-take_in.ensures.takes
     (c.new_entry-made.ensures.kind ∙ kind) (c.in_ok-take_in.ensures.name_fits c.new_entry-made.ensures.fits) inside few)

@@ -1,6 +1,6 @@
 -- What came is the entry that was asked for; what was refused has left the store as it was.
 use Rattle.std.proofs.Common.{◌<◌, ◌∙◌, arith, inl, inr, ℕ, List, length, ◌≤◌, ◌≡◌}
-use Rattle.heap_model.specs.EntrySteps.{entries_in, resources_under}
+use Rattle.heap_model.specs.EntrySteps.{most_entries, entries_in, resources_under}
 use Rattle.heap_model.specs.Store.{store_of}
 use Rattle.db_format.specs.EitherEntry.{entry_of}
 use Rattle.laws_store.proofs.Editing.{same_steps}
@@ -44,7 +44,7 @@ invariant_of-self-2 c =
     let image : List ℕ = c.self.inside.heap.bytes in
     let count = c.count_entries.ensures in
     let below = c.if-count_entries-ge-MOST_ENTRIES.false in
-    let few : length (entries_in (store_of image) c.args.db) < 65535 = omega (arith, count, below) in
+    let few : length (entries_in (store_of image) c.args.db) < most_entries = omega (arith, count, below) in
     let left = (new_leaves image c.put_in.new.heap.bytes c.args.db c.args.at c.args.entry (entry_of c.new_entry-made.result.entry) _ c.in_ok-name.name.0 c.args.size c.self.invariant.accepted number c.new_entry-made.ensures.is c.in_ok-name.ensures.puts
     (c.new_entry-made.ensures.kind ∙ kind) (c.in_ok-name.ensures.name_fits c.new_entry-made.ensures.fits) inside few) in
     let made : Entry ℕ = entry_with (λ none. c.in_ok-name.name.0) (entry_of c.new_entry-made.result.entry) in
@@ -60,6 +60,6 @@ returns-clause-made c =
     rw (← c.self.view_is) (let image : List ℕ = c.self.inside.heap.bytes in
     let count = c.count_entries.ensures in
     let below = c.if-count_entries-ge-MOST_ENTRIES.false in
-    let few : length (entries_in (store_of image) c.args.db) < 65535 = omega (arith, count, below) in
+    let few : length (entries_in (store_of image) c.args.db) < most_entries = omega (arith, count, below) in
     new_steps image c.put_in.new.heap.bytes c.args.db c.args.at c.args.entry (entry_of c.new_entry-made.result.entry) _ c.in_ok-name.name.0 c.args.size c.self.invariant.accepted number c.new_entry-made.ensures.is c.in_ok-name.ensures.puts
     (c.new_entry-made.ensures.kind ∙ kind) (c.in_ok-name.ensures.name_fits c.new_entry-made.ensures.fits) inside few)
