@@ -73,7 +73,8 @@ impl fmt::Debug for NotAStore {
 
 impl Store {
     /// Takes a region that is an accepted image, and hands back any other. Takes memory for the check: a
-    /// mark for each slot, and 2 MiB for the IDs of a database; it is free again afterwards.
+    /// mark for each slot, and then a bit for each number up to the greatest ID, 32 KiB at least and 2 MiB at
+    /// most; it is free again afterwards.
     pub fn check(alloc: Global, region: Region) -> Result<Store, NotAStore>
         ensures accepted { OnOk result (Accepted region.bytes) }
         ensures same { IfOk result (λ store. store ≡ region) }

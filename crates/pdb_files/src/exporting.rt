@@ -79,7 +79,8 @@ pub fn exported<A: Allowance>(memory: &A, store: &Store, db: Db) -> Result<Bytes
     }
 }
 
-/// The file of a database, given by its bytes. A write into memory fails only where a growth is refused.
+/// The file of a database, given by its bytes. A vector takes each write, or it can't grow: so a write that failed is
+/// what a growth came to.
 fn file_bytes<A: Allowance>(memory: &A, store: &Store, bytes: &[u8]) -> Result<Bytes, AllocError>
     requires { IsExportable store.now.bytes bytes.now }
     ensures file { IfOk result (λ file. file ≡ file_of (content_of store.now.bytes bytes.now)) }

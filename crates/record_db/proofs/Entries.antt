@@ -1,5 +1,5 @@
 -- The records of an accepted image, by their indexes.
-use Rattle.std.proofs.Common.{◌≡◌, ℕ, List, Option, Some, None, sym, ap, subst, ◌∙◌, arith, inl, inr, true}
+use Rattle.std.proofs.Common.{◌≡◌, ℕ, List, Option, Some, None, refl, sym, ap, subst, ◌∙◌, arith, inl, inr, true, false}
 use Rattle.std.specs.Prelude.{◌↔◌, IsSome, IsSomeAnd}
 use Rattle.heap_model.specs.Meaning.{LiveChunk}
 use Rattle.heap_model.specs.Maps.{not_owned, callers_map}
@@ -32,6 +32,15 @@ no_data image db index attributes id slot a has e none =
       | inl deleted ↦ deleted.1
       | inr own ↦ let some = owned_some image slot 15 a.heap own (omega arith) in absurd (omega (arith, some, none))
     ]
+
+-- and one that is not has data
+pub has_data : (image : List ℕ) (db : Db) (index : ℕ) (info : RecordInfo) → Accepted image → IsSome (with_number (store_of image) db.0) → OfEntry (entry_under (store_of image) db index) (IsInfoOf info) → is_deleted info.attributes ≡ false → IsSome info.«data»
+has_data image db index info a has told alive =
+    let is = info_is (entry_under (store_of image) db index) info told in
+    by info.«data» is.0 is.2 (λ none. no_data image db index info.attributes info.id is.0 a has is.1 none) where
+      by : (x : Option Name) (slot : ℕ) → IsNameOf slot x → (slot ≡ 0 → is_deleted info.attributes ≡ true) → IsSome x
+      by None slot none gone = let deleted = gone none in absurd cc
+      by (Some name) slot some gone = refl
 
 -- ---- its data
 

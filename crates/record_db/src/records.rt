@@ -73,13 +73,10 @@ pub(crate) fn find_live(
     if is_deleted(info.attributes) {
         return Err(Refusal::RecordDeleted);
     }
-    let Some(data) = info.data else {
-        unreachable!()
-    };
     Ok(LiveRecord {
         attributes: info.attributes,
         id: info.id,
-        data,
+        data: info.data.unwrap(),
     })
 }
 
