@@ -1,7 +1,10 @@
-//! Readers and writers that fail, and memory that is refused.
+//! Readers and writers that fail, and memory that is refused; and what a test says where a value isn't the one
+//! that is wanted.
 //!
 //! Nothing but tests uses this crate.
 #![tactic(auto)]
+
+mod wanted;
 
 ghost use Rattle.std.specs.Prelude.{⊤};
 
@@ -10,6 +13,7 @@ use std::alloc::{AllocError, Global};
 use std::cell::Cell;
 use std::io;
 use std::io::{ErrorKind, Read, Write};
+pub use wanted::{equal, holds};
 
 /// A reader of `left` bytes, of which a read gives at most `step`. The read number `fails_at`
 /// fails, and says so by `kind`.

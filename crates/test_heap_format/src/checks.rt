@@ -4,23 +4,26 @@ use crate::found::found;
 use chunk_format::blank;
 use heap_check::{HeapFault, Summary, check_heap};
 use raw_region::Region;
-use std::process::Abort;
+use std::alloc::{AllocError, Global};
 use std::test::*;
+use test_fakes::equal;
 use test_images::{BLANK, DATABASE, ONE_CHUNK, bytes_of, image};
 
+/// What the checker finds in a region has this text.
+fn check_found(alloc: Global, spot: &str, region: &Region, text: &str) -> Result<(), Fail> {
+    let found = found(alloc, region)?;
+    equal(spot, found.as_str(), text)
+}
+
+fn check_case(alloc: Global, listing: &str, changes: &str, text: &str) -> Result<(), Fail> {
+    let region = image(alloc, listing, changes)?;
+    check_found(alloc, changes, &region, text)
+}
+
 /// Each case has changes of the listing's image, and the text of what the checker finds then.
-fn check_changed(
-    rt: &(impl Abort + AllocGlobal),
-    listing: &str,
-    cases: &[(&str, &str)],
-) -> Result<(), Fail> {
+fn check_changed(rt: &impl AllocGlobal, listing: &str, cases: &[(&str, &str)]) -> Result<(), Fail> {
     for (changes, text) in cases {
-        let region = image(rt.alloc(), listing, changes)?;
-        assert_eq!(rt;
-            found(rt.alloc(), &region)?.as_str(),
-            *text,
-            "changed: {changes}"
-        );
+        check_case(rt.alloc(), listing, changes, text)?;
     }
     Ok(())
 }
@@ -35,10 +38,10 @@ fn a_heap_has_its_counts(rt: HostRuntime) -> Result<(), Fail> {
         fixed: 0,
         free: 8,
     };
-    assert_eq!(rt; check_heap(&region), Ok(summary));
+    equal("the image", check_heap(&region), Ok(summary))?;
     let region = image(rt.alloc(), DATABASE, "175: BA")?;
-    assert_eq!(rt; check_heap(&region), Err(HeapFault::SlotMismatch(24)));
-    Ok(())
+    let fault = HeapFault::SlotMismatch(24);
+    equal("175: BA", check_heap(&region), Err(fault))
 }
 
 const OF_DATABASE: [(&str, &str); 14] = [
@@ -68,12 +71,21 @@ fn a_database_is_checked(rt: HostRuntime) -> Result<(), Fail> {
 #[test]
 fn every_shorter_prefix_is_too_short(rt: HostRuntime) -> Result<(), Fail> {
     let bytes = bytes_of(rt.alloc(), DATABASE)?;
-    assert_eq!(rt; bytes.len(), 208);
+    equal("bytes", bytes.len(), 208)?;
     for n in 0..bytes.len() {
-        let region = Region::from_bytes(rt.alloc(), &bytes[..n])?;
-        assert_eq!(rt; check_heap(&region), Err(HeapFault::TooShort), "{n} bytes");
+        check_too_short(rt.alloc(), &bytes[..n])?;
     }
     Ok(())
+}
+
+fn check_too_short(alloc: Global, bytes: &[u8]) -> Result<(), Fail> {
+    let region = Region::from_bytes(alloc, bytes)?;
+    let fault = HeapFault::TooShort;
+    equal(
+        format_args!("{} bytes", bytes.len()),
+        check_heap(&region),
+        Err(fault),
+    )
 }
 
 const ACCEPTED: &str = "size 128 slots 4 movable 1 fixed 0 free 72";
@@ -219,10 +231,14 @@ const LENGTHS: [(&str, &str); 11] = [
 #[test]
 fn lengths_have_their_limits(rt: HostRuntime) -> Result<(), Fail> {
     for (listing, text) in &LENGTHS {
-        let region = image(rt.alloc(), listing, "")?;
-        assert_eq!(rt; found(rt.alloc(), &region)?.as_str(), *text, "{listing}");
+        check_length(rt.alloc(), listing, text)?;
     }
     Ok(())
+}
+
+fn check_length(alloc: Global, listing: &str, text: &str) -> Result<(), Fail> {
+    let region = image(alloc, listing, "")?;
+    check_found(alloc, listing, &region, text)
 }
 
 /// The greatest image is accepted, and one of the next length isn't.
@@ -230,10 +246,19 @@ fn lengths_have_their_limits(rt: HostRuntime) -> Result<(), Fail> {
 fn the_greatest_length_is_16_777_208(rt: HostRuntime) -> Result<(), Fail> {
     let region = blank(rt.alloc(), 16_777_208, 65_535)?;
     let text = "size 16777208 slots 65535 movable 0 fixed 0 free 16515048";
-    assert_eq!(rt; found(rt.alloc(), &region)?.as_str(), text);
-    let mut region = Region::zeroed(rt.alloc(), 16_777_216)?;
+    check_found(rt.alloc(), "the greatest", &region, text)?;
+    let region = greater(rt.alloc())?;
+    equal(
+        "a greater one",
+        check_heap(&region),
+        Err(HeapFault::BadSize),
+    )
+}
+
+/// A blank image of one slot and 16,777,216 bytes.
+fn greater(alloc: Global) -> Result<Region, AllocError> {
+    let mut region = Region::zeroed(alloc, 16_777_216)?;
     region.write(0, b"PHI1\x01\0\0\0\0\x01\0\0");
     region.write(24, b"\x80\xFF\xFF\xE8");
-    assert_eq!(rt; check_heap(&region), Err(HeapFault::BadSize));
-    Ok(())
+    Ok(region)
 }

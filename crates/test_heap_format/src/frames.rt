@@ -9,7 +9,7 @@ use chunk_format::{
 use raw_region::Region;
 use std::alloc::Global;
 use std::test::*;
-use test_fakes::RefusesOne;
+use test_fakes::{RefusesOne, equal};
 use test_images::{BLANK, bytes_of};
 
 /// 16 bytes of which only the slot count isn't zero.
@@ -28,12 +28,14 @@ fn the_words_of_a_frame_are_read(rt: HostRuntime) -> Result<(), Fail> {
     if region.len() != 16 {
         return Err("no frame")?;
     }
-    assert!(rt; has_magic(&region));
-    assert_eq!(rt; size_field(&region), 0x0102_0304);
-    assert_eq!(rt; slot_count(&region), 0x0506);
-    assert_eq!(rt; reserved(&region), 0x0708);
-    assert_eq!(rt; directory(&region), 0x090A_0B0C);
-    Ok(())
+    let found = (has_magic(&region), size_field(&region));
+    equal("magic, size", found, (true, 0x0102_0304))?;
+    let found = (slot_count(&region), reserved(&region), directory(&region));
+    equal(
+        "slots, reserved, directory",
+        found,
+        (0x0506, 0x0708, 0x090A_0B0C),
+    )
 }
 
 /// How many slots there are, where they end, and where the chunks begin.
@@ -48,20 +50,25 @@ const HEADS: [(u16, u32, u32); 5] = [
 #[test]
 fn chunks_begin_behind_the_padding(rt: HostRuntime) -> Result<(), Fail> {
     for (slots, end, start) in &HEADS {
-        let region = frame_of(rt.alloc(), *slots)?;
-        assert!(rt; !has_magic(&region));
-        assert_eq!(rt; head_end(&region), *end, "{slots} slots");
-        assert_eq!(rt; area_start(&region), *start, "{slots} slots");
+        check_head(rt.alloc(), *slots, *end, *start)?;
     }
     Ok(())
+}
+
+fn check_head(alloc: Global, slots: u16, end: u32, start: u32) -> Result<(), Fail> {
+    let region = frame_of(alloc, slots)?;
+    equal(
+        format_args!("{slots} slots"),
+        (has_magic(&region), head_end(&region), area_start(&region)),
+        (false, end, start),
+    )
 }
 
 #[test]
 fn a_blank_image_has_one_free_chunk(rt: HostRuntime) -> Result<(), Fail> {
     let region = blank(rt.alloc(), 128, 4)?;
     let listed = bytes_of(rt.alloc(), BLANK)?;
-    assert_eq!(rt; region.slice(0, region.len()), listed.as_slice());
-    Ok(())
+    equal("bytes", region.as_slice(), listed.as_slice())
 }
 
 /// The least size and the greatest, each with as many slots as it may have.
@@ -71,7 +78,7 @@ const SIZES: [(u32, u16); 2] = [(64, 10), (16_777_208, 65_535)];
 fn a_blank_image_has_its_size(rt: HostRuntime) -> Result<(), Fail> {
     for (size, slots) in &SIZES {
         let region = blank(rt.alloc(), *size, *slots)?;
-        assert_eq!(rt; region.len(), *size as usize);
+        equal("bytes", region.len(), *size as usize)?;
     }
     Ok(())
 }
@@ -91,9 +98,22 @@ const LIMITS: [(u32, u16, BlankFault); 7] = [
 fn a_blank_image_has_its_limits(rt: HostRuntime) -> Result<(), Fail> {
     for (size, slots, fault) in &LIMITS {
         let found = blank(rt.alloc(), *size, *slots).err();
-        assert_eq!(rt; found, Some(*fault), "{size} bytes and {slots} slots");
+        check_fault(found, *size, *slots, *fault)?;
     }
     Ok(())
+}
+
+fn check_fault(
+    found: Option<BlankFault>,
+    size: u32,
+    slots: u16,
+    fault: BlankFault,
+) -> Result<(), Fail> {
+    equal(
+        format_args!("{size} bytes and {slots} slots"),
+        found,
+        Some(fault),
+    )
 }
 
 /// A size and a slot count, and the fault where no memory is granted.
@@ -103,12 +123,16 @@ const WITHOUT_MEMORY: [(u32, u16, BlankFault); 3] = [
     (128, 4, BlankFault::OutOfMemory),
 ];
 
+fn fault_without(alloc: Global, size: u32, slots: u16) -> Option<BlankFault> {
+    let memory = RefusesOne::behind(alloc, 0);
+    blank_from(&memory, size, slots).err()
+}
+
 #[test]
 fn a_blank_image_asks_for_memory_last(rt: HostRuntime) -> Result<(), Fail> {
     for (size, slots, fault) in &WITHOUT_MEMORY {
-        let memory = RefusesOne::behind(rt.alloc(), 0);
-        let found = blank_from(&memory, *size, *slots).err();
-        assert_eq!(rt; found, Some(*fault), "{size} bytes and {slots} slots");
+        let found = fault_without(rt.alloc(), *size, *slots);
+        check_fault(found, *size, *slots, *fault)?;
     }
     Ok(())
 }
@@ -122,7 +146,8 @@ const NAMES: [(BlankFault, &str); 3] = [
 #[test]
 fn faults_have_their_names(rt: HostRuntime) -> Result<(), Fail> {
     for (fault, text) in &NAMES {
-        assert_eq!(rt; format!(in rt.alloc(); "{fault}")?.as_str(), *text);
+        let said = format!(in rt.alloc(); "{fault}")?;
+        equal("its name", said.as_str(), *text)?;
     }
     Ok(())
 }

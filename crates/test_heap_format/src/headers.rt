@@ -1,13 +1,14 @@
 //! Sizes, headers and walks, by the format's own numbers.
 
-ghost use Rattle.std.specs.Prelude.{◌≤◌, ◌<◌, ◌^◌, length};
+ghost use Rattle.std.specs.Prelude.{◌≡◌, ◌≤◌, ◌<◌, ◌^◌, length, IfOk};
 ghost use Rattle.chunk_format.specs.Header.{IsWritable, size_by};
 
 use chunk_format::{Header, Walk, chunk_size, put_lock, put_owner};
 use heap_model::Place;
 use raw_region::Region;
-use std::alloc::Global;
+use std::alloc::{AllocError, Global};
 use std::test::*;
+use test_fakes::equal;
 
 /// The length of a body, and the size of its chunk.
 const SIZES: [(u32, Option<u32>); 8] = [
@@ -22,10 +23,15 @@ const SIZES: [(u32, Option<u32>); 8] = [
 ];
 
 #[test]
-fn sizes_are_rounded_up(rt: HostRuntime) {
+fn sizes_are_rounded_up() -> Result<(), Fail> {
     for (length, size) in &SIZES {
-        assert_eq!(rt; chunk_size(*length), *size, "a body of {length} bytes");
+        equal(
+            format_args!("a body of {length} bytes"),
+            chunk_size(*length),
+            *size,
+        )?;
     }
+    Ok(())
 }
 
 /// The header at 24 of 64 bytes, where these words stand: as it is looked for, and where there is one,
@@ -114,18 +120,27 @@ const WORDS: [(u32, u32, Option<Header>); 19] = [
 #[test]
 fn headers_are_read(rt: HostRuntime) -> Result<(), Fail> {
     for (first, second, header) in &WORDS {
-        let found = header_by(rt.alloc(), *first, *second)?;
-        assert_eq!(rt; found, *header, "{first:08x} {second:08x}");
+        check_header(rt.alloc(), *first, *second, *header)?;
     }
     Ok(())
+}
+
+fn check_header(
+    alloc: Global,
+    first: u32,
+    second: u32,
+    header: Option<Header>,
+) -> Result<(), Fail> {
+    let found = header_by(alloc, first, second)?;
+    equal(format_args!("{first:08x} {second:08x}"), found, header)
 }
 
 #[test]
 fn no_header_is_read_at_the_end(rt: HostRuntime) -> Result<(), Fail> {
     let mut region = Region::zeroed(rt.alloc(), 64)?;
     region.put_u32(60, 0x8000_0008);
-    for at in [60, 64, u32::MAX] {
-        assert_eq!(rt; Header::read(&region, at), None, "at {at}");
+    for at in &[60, 64, u32::MAX] {
+        equal(format_args!("at {at}"), Header::read(&region, *at), None)?;
     }
     Ok(())
 }
@@ -147,8 +162,7 @@ fn written(alloc: Global, header: Header) -> Result<([u32; 2], Option<Header>), 
 fn a_free_header_leaves_its_second_word(rt: HostRuntime) -> Result<(), Fail> {
     let header = Header::Free { size: 40 };
     let found = written(rt.alloc(), header)?;
-    assert_eq!(rt; found, ([0x8000_0028, 0xAAAA_AAAA], Some(header)));
-    Ok(())
+    equal("free", found, ([0x8000_0028, 0xAAAA_AAAA], Some(header)))
 }
 
 /// The first slot stands in front of the chunk, and the second one behind it.
@@ -161,7 +175,8 @@ fn a_movable_header_names_its_slot(rt: HostRuntime) -> Result<(), Fail> {
         slot: 16,
     };
     let found = written(rt.alloc(), header)?;
-    assert_eq!(rt; found, ([0x0600_0018, 0x21FF_FFFC], Some(header)));
+    let words = [0x0600_0018, 0x21FF_FFFC];
+    equal("slot 16", found, (words, Some(header)))?;
     let header = Header::Movable {
         length: 8,
         lock: 0,
@@ -169,8 +184,8 @@ fn a_movable_header_names_its_slot(rt: HostRuntime) -> Result<(), Fail> {
         slot: 40,
     };
     let found = written(rt.alloc(), header)?;
-    assert_eq!(rt; found, ([0x0000_0010, 0x0F00_0008], Some(header)));
-    Ok(())
+    let words = [0x0000_0010, 0x0F00_0008];
+    equal("slot 40", found, (words, Some(header)))
 }
 
 #[test]
@@ -180,8 +195,7 @@ fn a_fixed_header_has_lock_15(rt: HostRuntime) -> Result<(), Fail> {
         owner: 14,
     };
     let found = written(rt.alloc(), header)?;
-    assert_eq!(rt; found, ([0x0700_0010, 0xFE00_0000], Some(header)));
-    Ok(())
+    equal("fixed", found, ([0x0700_0010, 0xFE00_0000], Some(header)))
 }
 
 /// Each change leaves the first word, and all else of the second.
@@ -191,51 +205,61 @@ fn the_second_word_is_written_alone(rt: HostRuntime) -> Result<(), Fail> {
     region.put_u32(24, 0x0600_0018);
     region.put_u32(28, 0x21FF_FFFC);
     put_lock(&mut region, 24, 14);
-    assert_eq!(rt; region.get_u32(28), 0xE1FF_FFFC);
+    let locked = region.get_u32(28);
     put_owner(&mut region, 24, 15);
-    assert_eq!(rt; region.get_u32(28), 0xEFFF_FFFC);
+    let owned = region.get_u32(28);
     put_lock(&mut region, 24, 0);
     put_owner(&mut region, 24, 0);
-    assert_eq!(rt; region.get_u32(28), 0x00FF_FFFC);
-    assert_eq!(rt; region.get_u32(24), 0x0600_0018);
-    Ok(())
+    let found = [locked, owned, region.get_u32(28), region.get_u32(24)];
+    let wanted = [0xE1FF_FFFC, 0xEFFF_FFFC, 0x00FF_FFFC, 0x0600_0018];
+    equal("words", found, wanted)
 }
 
 /// From 24 on: a free chunk, a movable one, a fixed one and a free one. Then the fixed one's hOffset
 /// puts it out of shape.
 #[test]
 fn walks_over_chunks(rt: HostRuntime) -> Result<(), Fail> {
-    let mut region = Region::zeroed(rt.alloc(), 88)?;
+    check_walk(rt.alloc(), 0xF100_0000, &CHUNKS)?;
+    check_walk(rt.alloc(), 0xF100_0001, &CHUNKS[..2])
+}
+
+const CHUNKS: [(Place, Header); 4] = [
+    (Place(32), Header::Free { size: 8 }),
+    (
+        Place(40),
+        Header::Movable {
+            length: 10,
+            lock: 0,
+            owner: 1,
+            slot: 16,
+        },
+    ),
+    (
+        Place(64),
+        Header::Fixed {
+            length: 8,
+            owner: 1,
+        },
+    ),
+    (Place(80), Header::Free { size: 16 }),
+];
+
+/// The chunks with this word as the fixed one's second.
+fn chunks_with(alloc: Global, second: u32) -> Result<Region, AllocError>
+    ensures { IfOk result (λ region. length region.bytes ≡ 88) }
+{
+    let mut region = Region::zeroed(alloc, 88)?;
     region.put_u32(24, 0x8000_0008);
     region.put_u32(32, 0x0600_0018);
     region.put_u32(36, 0x01FF_FFF8);
     region.put_u32(56, 0x0000_0010);
-    region.put_u32(60, 0xF100_0000);
+    region.put_u32(60, second);
     region.put_u32(72, 0x8000_0010);
-    let chunks = [
-        (Place(32), Header::Free { size: 8 }),
-        (
-            Place(40),
-            Header::Movable {
-                length: 10,
-                lock: 0,
-                owner: 1,
-                slot: 16,
-            },
-        ),
-        (
-            Place(64),
-            Header::Fixed {
-                length: 8,
-                owner: 1,
-            },
-        ),
-        (Place(80), Header::Free { size: 16 }),
-    ];
-    let walked = Walk::new(&region, 24).collect::<Vec<_>>(rt.alloc())?;
-    assert_eq!(rt; walked.as_slice(), chunks.as_slice());
-    region.put_u32(60, 0xF100_0001);
-    let walked = Walk::new(&region, 24).collect::<Vec<_>>(rt.alloc())?;
-    assert_eq!(rt; walked.as_slice(), &chunks[..2]);
-    Ok(())
+    Ok(region)
+}
+
+fn check_walk(alloc: Global, second: u32, chunks: &[(Place, Header)]) -> Result<(), Fail> {
+    let region = chunks_with(alloc, second)?;
+    let walked = Walk::new(&region, 24).collect::<Vec<_>>(alloc)?;
+    equal(format_args!("{second:08x}"), walked.as_slice(), chunks)
 }

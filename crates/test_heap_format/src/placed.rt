@@ -1,10 +1,11 @@
 //! The bytes that are left where chunks are placed, claimed and given back.
 
 use crate::heaps::{CheckedSpace, heap, image};
-use crate::steps::{Step, Told, check, check_steps, check_words};
+use crate::steps::{Step, Told, check, check_on, check_steps};
 use heap_model::{Name, Place};
 use heap_place::{Found, Space};
 use std::test::*;
+use test_fakes::equal;
 
 type Words = &'static [(usize, u32)];
 
@@ -178,7 +179,7 @@ const FROM_THE_FRONT: &[Told] = &[
 #[test]
 fn free_neighbours_are_found_as_one_run(rt: HostRuntime) -> Result<(), Fail> {
     let mut space = heap(rt.alloc(), TWO)?;
-    check_steps(&rt, &mut space, FROM_THE_FRONT)
+    check_steps(&mut space, FROM_THE_FRONT)
 }
 
 const MAKES_FIXED: &[Told] = &[
@@ -213,7 +214,7 @@ const GIVES_FIXED_BACK: &[Told] = &[
 fn a_fixed_chunk_is_given_back(rt: HostRuntime) -> Result<(), Fail> {
     check(&rt, &[], MAKES_FIXED, FIXED)?;
     let mut space = heap(rt.alloc(), FIXED)?;
-    check_steps(&rt, &mut space, GIVES_FIXED_BACK)
+    check_steps(&mut space, GIVES_FIXED_BACK)
 }
 
 const TAKES_SLOTS: &[Told] = &[
@@ -230,9 +231,8 @@ const TAKES_SLOTS: &[Told] = &[
 #[test]
 fn the_first_empty_slot_is_taken(rt: HostRuntime) -> Result<(), Fail> {
     let mut space = heap(rt.alloc(), &[])?;
-    check_steps(&rt, &mut space, TAKES_SLOTS)?;
-    assert_eq!(rt; space.bytes().len(), 128);
-    Ok(())
+    check_steps(&mut space, TAKES_SLOTS)?;
+    equal("bytes", space.bytes().len(), 128)
 }
 
 /// A space gives its region back as it was taken.
@@ -240,8 +240,7 @@ fn the_first_empty_slot_is_taken(rt: HostRuntime) -> Result<(), Fail> {
 fn a_region_comes_back(rt: HostRuntime) -> Result<(), Fail> {
     let before = image(rt.alloc(), &[(40, 7)])?;
     let region = Space::new(image(rt.alloc(), &[(40, 7)])?).into_region();
-    assert_eq!(rt; region.as_slice(), before.as_slice());
-    Ok(())
+    equal("bytes", region.as_slice(), before.as_slice())
 }
 
 /// A heap of a database's kind: the directory, whose owner is 0, of the slot 16, and a chunk of owner 15
@@ -297,12 +296,22 @@ const BY_PLACE: [(u32, Option<Found>); 6] = [
 fn chunks_of_every_owner_are_found(rt: HostRuntime) -> Result<(), Fail> {
     let space = heap(rt.alloc(), WITH_DIRECTORY)?;
     for (name, found) in &BY_NAME {
-        assert_eq!(rt; space.find(Name(*name)), *found, "the name {name}");
+        check_name(&space, *name, *found)?;
     }
     for (place, found) in &BY_PLACE {
-        assert_eq!(rt; space.find_at(Place(*place)), *found, "the place {place}");
+        check_place(&space, *place, *found)?;
     }
     Ok(())
+}
+
+fn check_name(space: &CheckedSpace, name: u32, wanted: Option<Found>) -> Result<(), Fail> {
+    let found = space.find(Name(name));
+    equal(format_args!("the name {name}"), found, wanted)
+}
+
+fn check_place(space: &CheckedSpace, place: u32, wanted: Option<Found>) -> Result<(), Fail> {
+    let found = space.find_at(Place(place));
+    equal(format_args!("the place {place}"), found, wanted)
 }
 
 /// The same with 14 locks on the record.
@@ -347,13 +356,10 @@ const GIVES_RECORDS_BACK: &[Told] = &[
 #[test]
 fn chunks_of_owner_15_change(rt: HostRuntime) -> Result<(), Fail> {
     let mut space = heap(rt.alloc(), WITH_DIRECTORY)?;
-    check_steps(&rt, &mut space, LOCKS_RECORD)?;
-    check_words(&rt, &space, WITH_LOCKED)?;
-    check_steps(&rt, &mut space, REFUSED_OR_NONE)?;
-    check_words(&rt, &space, WITH_LOCKED)?;
-    check_steps(&rt, &mut space, GIVES_RECORDS_BACK)?;
-    check_found(&space)?;
-    Ok(())
+    check_on(rt.alloc(), &mut space, LOCKS_RECORD, WITH_LOCKED)?;
+    check_on(rt.alloc(), &mut space, REFUSED_OR_NONE, WITH_LOCKED)?;
+    check_steps(&mut space, GIVES_RECORDS_BACK)?;
+    check_found(&space)
 }
 
 /// Checks that the directory is there, and no record.

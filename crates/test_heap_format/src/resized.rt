@@ -5,6 +5,7 @@ use heap_model::Name;
 use raw_region::Region;
 use std::alloc::Global;
 use std::test::*;
+use test_fakes::equal;
 use test_images::image;
 
 /// A heap of 128 bytes with 4 slots, in which these chunks stand from 32 up to 80, the first of the slot 16.
@@ -53,6 +54,22 @@ fn grown(
     Ok((answer, has(alloc, &space, after, kind)?))
 }
 
+fn check_grown(
+    alloc: Global,
+    kind: &str,
+    name: Name,
+    count: u32,
+    after: &str,
+    can: bool,
+) -> Result<(), Fail> {
+    let told = grown(alloc, kind, name, count, after)?;
+    equal(
+        format_args!("{name:?}, {count} bytes"),
+        told,
+        (Some(can), true),
+    )
+}
+
 /// How many bytes the chunk gets, and the chunks that it leaves.
 const GROWTHS: [(u32, &str); 7] = [
     (
@@ -88,8 +105,7 @@ const GROWTHS: [(u32, &str); 7] = [
 #[test]
 fn a_chunk_grows_in_its_place(rt: HostRuntime) -> Result<(), Fail> {
     for (count, after) in &GROWTHS {
-        let told = grown(rt.alloc(), "", Name(16), *count, after)?;
-        assert_eq!(rt; told, (Some(true), true), "{count} bytes");
+        check_grown(rt.alloc(), "", Name(16), *count, after, true)?;
     }
     Ok(())
 }
@@ -100,8 +116,7 @@ const TOO_MANY: [u32; 3] = [41, 0x00FF_FFF8, 0xFFFF_FFFF];
 #[test]
 fn a_refused_growth_changes_nothing(rt: HostRuntime) -> Result<(), Fail> {
     for count in &TOO_MANY {
-        let told = grown(rt.alloc(), "", Name(16), *count, SMALL)?;
-        assert_eq!(rt; told, (Some(false), true), "{count} bytes");
+        check_grown(rt.alloc(), "", Name(16), *count, SMALL, false)?;
     }
     Ok(())
 }
@@ -118,6 +133,18 @@ fn shrunk(
     let mut space = accepted(heap_with(alloc, before, kind)?)?;
     let is_done = space.shrink(name, count).is_some();
     Ok((is_done, has(alloc, &space, after, changes)?))
+}
+
+fn check_shrunk(
+    alloc: Global,
+    before: (&str, &str),
+    name: Name,
+    count: u32,
+    after: (&str, &str),
+    can: bool,
+) -> Result<(), Fail> {
+    let told = shrunk(alloc, before, name, count, after)?;
+    equal(format_args!("{name:?}, {count} bytes"), told, (can, true))
 }
 
 /// How many bytes the chunk of 40 gets, and the chunks that it leaves.
@@ -150,8 +177,7 @@ const SHRINKS: [(u32, &str); 5] = [
 #[test]
 fn a_chunk_shrinks_in_its_place(rt: HostRuntime) -> Result<(), Fail> {
     for (count, after) in &SHRINKS {
-        let told = shrunk(rt.alloc(), (LARGE, ""), Name(16), *count, (after, ""))?;
-        assert_eq!(rt; told, (true, true), "{count} bytes");
+        check_shrunk(rt.alloc(), (LARGE, ""), Name(16), *count, (after, ""), true)?;
     }
     Ok(())
 }
@@ -167,8 +193,8 @@ const OF_SLACK: [(u32, bool, &str); 3] = [
 #[test]
 fn a_chunk_takes_of_its_slack(rt: HostRuntime) -> Result<(), Fail> {
     for (count, can, changes) in &OF_SLACK {
-        let told = shrunk(rt.alloc(), (SMALL, ""), Name(16), *count, (SMALL, changes))?;
-        assert_eq!(rt; told, (*can, true), "{count} bytes");
+        let after = (SMALL, *changes);
+        check_shrunk(rt.alloc(), (SMALL, ""), Name(16), *count, after, *can)?;
     }
     Ok(())
 }
@@ -183,10 +209,9 @@ const THAT_STAY: [(Name, &str); 2] = [
 #[test]
 fn chunks_that_stay_get_other_lengths(rt: HostRuntime) -> Result<(), Fail> {
     for (name, kind) in &THAT_STAY {
-        let told = grown(rt.alloc(), kind, *name, 24, GROWN)?;
-        assert_eq!(rt; told, (Some(true), true), "{name:?}");
-        let told = shrunk(rt.alloc(), (SMALL, kind), *name, 3, (SHRUNK, kind))?;
-        assert_eq!(rt; told, (true, true), "{name:?}");
+        check_grown(rt.alloc(), kind, *name, 24, GROWN, true)?;
+        let before = (SMALL, *kind);
+        check_shrunk(rt.alloc(), before, *name, 3, (SHRUNK, kind), true)?;
     }
     Ok(())
 }
@@ -214,6 +239,17 @@ fn relocated(
     let is_done = space.relocate(Name(16), count).is_some();
     let after = image(alloc, after, kept)?;
     Ok((is_done, space.bytes() == after.as_slice()))
+}
+
+fn check_relocated(
+    alloc: Global,
+    before: (&str, &str),
+    count: u32,
+    after: (&str, &str),
+    can: bool,
+) -> Result<(), Fail> {
+    let told = relocated(alloc, before, count, after)?;
+    equal(format_args!("{count} bytes"), told, (can, true))
 }
 
 /// Images, how many bytes the chunk gets, and the images that it leaves.
@@ -247,8 +283,7 @@ const RELOCATIONS: [(&str, u32, &str); 3] = [
 #[test]
 fn a_chunk_goes_to_room_elsewhere(rt: HostRuntime) -> Result<(), Fail> {
     for (before, count, after) in &RELOCATIONS {
-        let told = relocated(rt.alloc(), (before, ""), *count, (after, ""))?;
-        assert_eq!(rt; told, (true, true), "{count} bytes");
+        check_relocated(rt.alloc(), (before, ""), *count, (after, ""), true)?;
     }
     Ok(())
 }
@@ -259,8 +294,7 @@ fn the_directory_goes_to_room_elsewhere(rt: HostRuntime) -> Result<(), Fail> {
     let [(_, count, after), ..] = RELOCATIONS;
     let before = (IN_FRONT, "12: 00000010, 36: 00FFFFF8");
     let after = (after, "12: 00000010, 76: 00FFFFE4");
-    assert_eq!(rt; relocated(rt.alloc(), before, count, after)?, (true, true));
-    Ok(())
+    check_relocated(rt.alloc(), before, count, after, true)
 }
 
 /// What is changed in the image, and how many bytes the chunk would get.
@@ -271,8 +305,7 @@ const WITHOUT_ROOM: [(&str, u32); 2] = [("", 49), ("36: 11FFFFF8", 12)];
 fn a_chunk_without_room_elsewhere_stays(rt: HostRuntime) -> Result<(), Fail> {
     for (changes, count) in &WITHOUT_ROOM {
         let image = (IN_FRONT, *changes);
-        let told = relocated(rt.alloc(), image, *count, image)?;
-        assert_eq!(rt; told, (false, true), "{count} bytes");
+        check_relocated(rt.alloc(), image, *count, image, false)?;
     }
     Ok(())
 }

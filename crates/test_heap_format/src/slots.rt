@@ -11,6 +11,7 @@ use master_table::{
 use raw_region::Region;
 use std::alloc::Global;
 use std::test::*;
+use test_fakes::equal;
 
 /// A region of 32 bytes with four slots, which hold these words.
 fn table(alloc: Global, words: [u32; 4]) -> Result<Region, Fail>
@@ -47,22 +48,30 @@ const SLOTS: [(u32, u16, Option<u32>); 10] = [
 #[test]
 fn slots_stand_behind_16_bytes(rt: HostRuntime) -> Result<(), Fail> {
     for (slot, slots, number) in &SLOTS {
-        let region = frame_of(rt.alloc(), *slots)?;
-        let table = Table::of(&region);
-        assert_eq!(rt; table.count(), u32::from(*slots));
-        assert_eq!(rt; table.number(*slot), *number, "slot {slot} of {slots}");
-        assert_eq!(rt;
-            slots_before(&region, Name(*slot)),
-            *number,
-            "slot {slot} of {slots}"
-        );
-        if let Some(number) = number
-            && *number < table.count()
-        {
-            assert_eq!(rt; table.slot(*number), *slot, "number {number}");
-        }
+        check_slot(rt.alloc(), *slot, *slots, *number)?;
     }
     Ok(())
+}
+
+fn check_slot(alloc: Global, slot: u32, slots: u16, number: Option<u32>) -> Result<(), Fail> {
+    let region = frame_of(alloc, slots)?;
+    let table = Table::of(&region);
+    let found = (
+        table.count(),
+        table.number(slot),
+        slots_before(&region, Name(slot)),
+    );
+    equal(
+        format_args!("slot {slot} of {slots}"),
+        found,
+        (u32::from(slots), number, number),
+    )?;
+    match number {
+        Some(number) if number < table.count() => {
+            equal(format_args!("number {number}"), table.slot(number), slot)
+        }
+        _ => Ok(()),
+    }
 }
 
 /// A name, and the place that it resolves to.
@@ -85,7 +94,8 @@ const PLACES: [(u32, Option<Place>); 11] = [
 fn a_slot_resolves_to_its_place(rt: HostRuntime) -> Result<(), Fail> {
     let region = table(rt.alloc(), [40, 0, 0xFFFF_FFFF, 64])?;
     for (name, place) in &PLACES {
-        assert_eq!(rt; resolve(&region, Name(*name)), *place, "name {name}");
+        let found = resolve(&region, Name(*name));
+        equal(format_args!("name {name}"), found, *place)?;
     }
     Ok(())
 }
@@ -129,12 +139,21 @@ const FREE_SLOTS: [([u32; 4], Option<EmptySlot>, u32); 5] = [
 
 #[test]
 fn the_first_empty_slot_is_found(rt: HostRuntime) -> Result<(), Fail> {
-    for (words, found, free) in &FREE_SLOTS {
-        let region = table(rt.alloc(), *words)?;
-        assert_eq!(rt; slots_free(&region), *free, "{words:?}");
-        assert_eq!(rt; first_empty_slot(&region, 0), *found, "{words:?}");
+    for (words, first, free) in &FREE_SLOTS {
+        check_empty(rt.alloc(), *words, *first, *free)?;
     }
     Ok(())
+}
+
+fn check_empty(
+    alloc: Global,
+    words: [u32; 4],
+    first: Option<EmptySlot>,
+    free: u32,
+) -> Result<(), Fail> {
+    let region = table(alloc, words)?;
+    let found = (slots_free(&region), first_empty_slot(&region, 0));
+    equal(format_args!("{words:?}"), found, (free, first))
 }
 
 /// A search that begins at the first empty slot finds it again.
@@ -142,8 +161,8 @@ fn the_first_empty_slot_is_found(rt: HostRuntime) -> Result<(), Fail> {
 fn a_search_passes_over_used_slots(rt: HostRuntime) -> Result<(), Fail> {
     let region = table(rt.alloc(), [40, 56, 0, 0])?;
     if let Some(slot) = first_empty_slot(&region, 0) {
-        assert_eq!(rt; slot.before, 2);
-        assert_eq!(rt; first_empty_slot(&region, slot.before), Some(slot));
+        let again = first_empty_slot(&region, slot.before);
+        equal("slots", (slot.before, again), (2, Some(slot)))?;
     }
     Ok(())
 }
@@ -152,20 +171,14 @@ fn a_search_passes_over_used_slots(rt: HostRuntime) -> Result<(), Fail> {
 fn a_slot_is_set(rt: HostRuntime) -> Result<(), Fail> {
     let mut region = table(rt.alloc(), [40, 0, 64, 72])?;
     set(&mut region, Name(20), Place(0x0001_0238));
-    assert_eq!(rt;
-        region.slice(0, 32),
-        b"\0\0\0\0\0\0\0\0\0\x04\0\0\0\0\0\0\0\0\0\x28\0\x01\x02\x38\0\0\0\x40\0\0\0\x48".as_slice()
-    );
-    Ok(())
+    let words = b"\0\0\0\0\0\0\0\0\0\x04\0\0\0\0\0\0\0\0\0\x28\0\x01\x02\x38\0\0\0\x40\0\0\0\x48";
+    equal("bytes", region.as_slice(), words.as_slice())
 }
 
 #[test]
 fn a_slot_is_emptied(rt: HostRuntime) -> Result<(), Fail> {
     let mut region = table(rt.alloc(), [40, 56, 0x0001_0238, 72])?;
     clear(&mut region, Name(24));
-    assert_eq!(rt;
-        region.slice(0, 32),
-        b"\0\0\0\0\0\0\0\0\0\x04\0\0\0\0\0\0\0\0\0\x28\0\0\0\x38\0\0\0\0\0\0\0\x48".as_slice()
-    );
-    Ok(())
+    let words = b"\0\0\0\0\0\0\0\0\0\x04\0\0\0\0\0\0\0\0\0\x28\0\0\0\x38\0\0\0\0\0\0\0\x48";
+    equal("bytes", region.as_slice(), words.as_slice())
 }

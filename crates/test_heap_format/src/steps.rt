@@ -2,8 +2,9 @@
 
 use crate::heaps::{CheckedSpace, heap, image};
 use heap_model::Name;
-use std::process::Abort;
+use std::alloc::Global;
 use std::test::*;
+use test_fakes::equal;
 
 /// A call. Names stand as their numbers.
 #[derive(Clone, Copy)]
@@ -42,36 +43,38 @@ fn do_step(space: &mut CheckedSpace, step: Step) -> Option<u32> {
 }
 
 /// Does steps, each of which must answer what stands beside it.
-pub(crate) fn check_steps(
-    rt: &(impl Abort + AllocGlobal),
-    space: &mut CheckedSpace,
-    steps: &[Told],
-) -> Result<(), Fail> {
+pub(crate) fn check_steps(space: &mut CheckedSpace, steps: &[Told]) -> Result<(), Fail> {
     for (number, (step, answer)) in steps.iter().enumerate() {
-        assert_eq!(rt; do_step(space, *step), *answer, "step {number}");
+        let said = do_step(space, *step);
+        equal(format_args!("step {number}"), said, *answer)?;
     }
     Ok(())
 }
 
 /// Checks that a space has the bytes of a blank heap in which words are changed.
-pub(crate) fn check_words(
-    rt: &(impl Abort + AllocGlobal),
-    space: &CheckedSpace,
-    words: &[(usize, u32)],
+fn check_words(alloc: Global, space: &CheckedSpace, words: &[(usize, u32)]) -> Result<(), Fail> {
+    let image = image(alloc, words)?;
+    equal("bytes", space.bytes(), image.as_slice())
+}
+
+/// Does steps, and checks the words that they leave.
+pub(crate) fn check_on(
+    alloc: Global,
+    space: &mut CheckedSpace,
+    steps: &[Told],
+    after: &[(usize, u32)],
 ) -> Result<(), Fail> {
-    let image = image(rt.alloc(), words)?;
-    assert_eq!(rt; space.bytes(), image.as_slice());
-    Ok(())
+    check_steps(space, steps)?;
+    check_words(alloc, space, after)
 }
 
 /// Does steps on the heap of some words, and checks the words that they leave.
 pub(crate) fn check(
-    rt: &(impl Abort + AllocGlobal),
+    rt: &impl AllocGlobal,
     before: &[(usize, u32)],
     steps: &[Told],
     after: &[(usize, u32)],
 ) -> Result<(), Fail> {
     let mut space = heap(rt.alloc(), before)?;
-    check_steps(rt, &mut space, steps)?;
-    check_words(rt, &space, after)
+    check_on(rt.alloc(), &mut space, steps, after)
 }
