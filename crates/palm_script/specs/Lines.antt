@@ -109,33 +109,43 @@ OnWant (Reads name at count) fact = Unit {0}
 
 -- ---- what each line binds
 
--- a label of a chunk is bound to the name that was answered
-abbrev pub bound_to : Bindings → ℕ → Reply → Bindings
-bound_to bound label (Refused refusal) = bound
-bound_to bound label Done = bound
-bound_to bound label (Number number) = bound
-bound_to bound label (Named name) = record bound { chunks = bind bound.chunks label name }
-bound_to bound label (Locked place count) = bound
-bound_to bound label (Data bytes) = bound
-bound_to bound label (Database db) = bound
-bound_to bound label (Info info) = bound
-bound_to bound label (Made index name) = record bound { chunks = bind bound.chunks label name }
-bound_to bound label (Record info) = bound
-bound_to bound label (Resource info) = record bound { chunks = bind bound.chunks label info.data }
+-- the chunk that an answer names: that of a name, of what is new, or the data of a resource
+abbrev pub chunk_in : Reply → Option Name
+chunk_in (Refused refusal) = None
+chunk_in Done = None
+chunk_in (Number number) = None
+chunk_in (Named name) = Some name
+chunk_in (Locked place count) = None
+chunk_in (Data bytes) = None
+chunk_in (Database db) = None
+chunk_in (Info info) = None
+chunk_in (Made index name) = Some name
+chunk_in (Record info) = None
+chunk_in (Resource info) = Some info.data
 
--- a label of a database is bound to the number that was answered
-abbrev pub bound_to_database : Bindings → ℕ → Reply → Bindings
-bound_to_database bound label (Refused refusal) = bound
-bound_to_database bound label Done = bound
-bound_to_database bound label (Number number) = bound
-bound_to_database bound label (Named name) = bound
-bound_to_database bound label (Locked place count) = bound
-bound_to_database bound label (Data bytes) = bound
-bound_to_database bound label (Database db) = record bound { databases = bind bound.databases label db }
-bound_to_database bound label (Info info) = bound
-bound_to_database bound label (Made index name) = bound
-bound_to_database bound label (Record info) = bound
-bound_to_database bound label (Resource info) = bound
+-- the database that an answer names
+abbrev pub database_in : Reply → Option Db
+database_in (Refused refusal) = None
+database_in Done = None
+database_in (Number number) = None
+database_in (Named name) = None
+database_in (Locked place count) = None
+database_in (Data bytes) = None
+database_in (Database db) = Some db
+database_in (Info info) = None
+database_in (Made index name) = None
+database_in (Record info) = None
+database_in (Resource info) = None
+
+-- a label of a chunk is bound to the one that was answered, if one was
+abbrev pub bound_to : Bindings → ℕ → Option Name → Bindings
+bound_to bound label None = bound
+bound_to bound label (Some name) = record bound { chunks = bind bound.chunks label name }
+
+-- and a label of a database
+abbrev pub bound_to_database : Bindings → ℕ → Option Db → Bindings
+bound_to_database bound label None = bound
+bound_to_database bound label (Some db) = record bound { databases = bind bound.databases label db }
 
 -- A line that is accepted binds its label: to the name given, or to that of the new chunk or of the data of
 -- a record or a resource, or to the database. A refused one binds nothing.
@@ -144,9 +154,9 @@ bound_after bound (Bind label name) (Refused refusal) = bound
 bound_after bound (Bind label name) reply = record bound { chunks = bind bound.chunks label.0 (record { 0 = name }) }
 bound_after bound (Print call) reply = bound
 bound_after bound (Silent call) reply = bound
-bound_after bound (BindChunk label call) reply = bound_to bound label.0 reply
-bound_after bound (BindDatabase label call) reply = bound_to_database bound label.0 reply
-bound_after bound (Import label file) reply = bound_to_database bound label.0 reply
+bound_after bound (BindChunk label call) reply = bound_to bound label.0 (chunk_in reply)
+bound_after bound (BindDatabase label call) reply = bound_to_database bound label.0 (database_in reply)
+bound_after bound (Import label file) reply = bound_to_database bound label.0 (database_in reply)
 bound_after bound (Export label) reply = bound
 
 -- ---- what is printed

@@ -3,6 +3,7 @@
 ghost use Rattle.std.specs.Prelude.{◌≡◌, ◌≤◌, ◌<◌, List, length};
 ghost use Rattle.script_lines.specs.Labels.{chunk_label_end, database_label_end};
 ghost use Rattle.palm_script.specs.Lines.{bind, bound_after, no_database, no_name, table, tables};
+ghost use Rattle.palm_script.specs.Lines as answers;
 
 use heap_model::{Db, Name, Reply};
 use script_lines::{ChunkLabel, DatabaseLabel, Line};
@@ -56,7 +57,8 @@ impl Given<Db> for DatabaseLabel {
     }
 }
 
-/// Binds what a line binds that was answered so.
+/// Binds what a line binds that was answered so: an answer that names nothing of the kind, as a refusal, binds
+/// nothing.
 pub(crate) fn bind_line(names: &mut [Name], databases: &mut [Db], line: &Line, reply: &Reply)
     requires chunks { chunk_label_end line.now ≤ length names.old }
     requires databases { database_label_end line.now ≤ length databases.old }
@@ -64,18 +66,56 @@ pub(crate) fn bind_line(names: &mut [Name], databases: &mut [Db], line: &Line, r
         ≡ bound_after (tables names.old databases.old) line.now reply.now }
 {
     match (line, reply) {
-        (_, Reply::Refused(_)) => {}
+        (Line::Bind { .. }, Reply::Refused(_)) => {}
         (Line::Bind { label, name }, _) => bind_chunk(names, *label, Name(*name)),
-        (Line::BindChunk(label, _), Reply::Named(name) | Reply::Made { name, .. }) => {
-            bind_chunk(names, *label, *name)
+        (Line::BindChunk(label, _), _) => {
+            if let Some(name) = chunk_in(reply) {
+                bind_chunk(names, *label, name);
+            }
         }
-        (Line::BindChunk(label, _), Reply::Resource(info)) => {
-            bind_chunk(names, *label, info.data)
+        (Line::BindDatabase(label, _) | Line::Import { label, .. }, _) => {
+            if let Some(db) = database_in(reply) {
+                bind_database(databases, *label, db);
+            }
         }
-        (Line::BindDatabase(label, _) | Line::Import { label, .. }, Reply::Database(db)) => {
-            bind_database(databases, *label, *db)
-        }
-        _ => {}
+        (Line::Print(_) | Line::Silent(_) | Line::Export(_), _) => {}
+    }
+}
+
+/// The chunk that an answer names.
+fn chunk_in(reply: &Reply) -> Option<Name>
+    ensures { result ≡ answers.chunk_in reply.now }
+{
+    match reply {
+        Reply::Named(name) | Reply::Made { name, .. } => Some(*name),
+        Reply::Resource(info) => Some(info.data),
+        Reply::Refused(_)
+        | Reply::Done
+        | Reply::Number(_)
+        | Reply::Locked { .. }
+        | Reply::Data(_)
+        | Reply::Database(_)
+        | Reply::Info(_)
+        | Reply::Record(_) => None,
+    }
+}
+
+/// The database that an answer names.
+fn database_in(reply: &Reply) -> Option<Db>
+    ensures { result ≡ answers.database_in reply.now }
+{
+    match reply {
+        Reply::Database(db) => Some(*db),
+        Reply::Refused(_)
+        | Reply::Done
+        | Reply::Number(_)
+        | Reply::Named(_)
+        | Reply::Locked { .. }
+        | Reply::Data(_)
+        | Reply::Info(_)
+        | Reply::Made { .. }
+        | Reply::Record(_)
+        | Reply::Resource(_) => None,
     }
 }
 

@@ -4,6 +4,7 @@ ghost use Rattle.std.specs.Prelude.{is_ok};
 ghost use Rattle.program_io.specs.Output.{Puts};
 
 use heap_model::Counted;
+use palm_store::Store;
 use palm_text::WriteFault;
 use program_io::put;
 use raw_region::Region;
@@ -17,4 +18,15 @@ pub(crate) fn put_image<W: Write>(
     ensures { Puts W.contents image_out.old image_out.new region.now.bytes (is_ok result) }
 {
     put(image_out, region.slice(0, region.len()))
+}
+
+/// Writes the whole image of a store, and flushes.
+pub(crate) fn put_store<W: Write>(
+    image_out: &mut Counted<W>,
+    store: &Store,
+) -> Result<(), WriteFault>
+    ensures { Puts W.contents image_out.old image_out.new store.now.bytes (is_ok result) }
+{
+    store.write_image(image_out)?;
+    image_out.flush().map_err(|_| WriteFault)
 }

@@ -6,7 +6,7 @@ ghost use Rattle.script_lines.specs.Reading.{read_script};
 ghost use Rattle.palmheap_commands.specs.Runs.{EndsEarly, EndsRun, PrintingFails, PutsRefusal, RunBreaksOffShort};
 ghost use Rattle.palmheap_commands.specs.Runs.{RunsAndFlushes, RunsAndWrites, RunsScriptShort};
 
-use crate::images::put_image;
+use crate::images::put_store;
 use allowance::Allowance;
 use heap_model::{Bytes, Counted};
 use palm_script::{RunFault, Script, ScriptFault, run_from};
@@ -161,7 +161,7 @@ fn run_script<A: Allowance, W: Write, V: Write>(
         Ok(exported) => exported,
         Err(status) => return status,
     };
-    match put_image(image_out, &store.into_region()) {
+    match put_store(image_out, &store) {
         Ok(()) => {
             *files = exported;
             Status::Done
