@@ -28,3 +28,8 @@ pub record AnswersAsRun (image : Memory) (calls : List Call) (replies : List Rep
 abbrev pub HandsBack : Memory → NotRun → Type 0
 HandsBack region (NotAStore error) = (error.region ≡ region) × ((error.fault ≡ CheckOutOfMemory) ⊎ (Accepted region.bytes → ⊥))
 HandsBack region (OutOfMemory store) = store ≡ region
+
+-- memory was refused, for the check or for the replies
+abbrev pub WantsMemory : NotRun → Type 0
+WantsMemory (NotAStore error) = error.fault ≡ CheckOutOfMemory
+WantsMemory (OutOfMemory store) = Unit

@@ -29,7 +29,9 @@ mod resources;
 mod runs;
 
 pub use calls::{do_call, do_call_from};
-pub use lists::{NotRun, OutOfMemory, check_and_run, run_calls, run_calls_from};
+pub use lists::{
+    NotRun, OutOfMemory, check_and_run, check_and_run_from, run_calls, run_calls_from,
+};
 pub use palm_store::{WriteFault, put_all};
 pub use runs::{RunFault, run, run_from};
 pub use script_lines::{

@@ -4,7 +4,7 @@ ghost use Rattle.std.specs.Prelude.{◌≡◌, All, IfErr, IfOk, OnErr};
 ghost use Rattle.heap_model.specs.Runs.{Run};
 ghost use Rattle.heap_model.specs.declared.call.Reply.{Reply};
 ghost use Rattle.heap_model.specs.declared.refusal.Refusal.{Refusal};
-ghost use Rattle.palm_script.specs.Headline.{AnswersAsRun, HandsBack};
+ghost use Rattle.palm_script.specs.Headline.{AnswersAsRun, HandsBack, WantsMemory};
 
 use crate::calls::do_call_from;
 use allowance::{Allowance, room_for};
@@ -86,11 +86,27 @@ pub fn check_and_run(
     ensures run { IfOk result (λ done. AnswersAsRun region calls.now done.1.items done.0) }
     ensures not_run { IfErr result (HandsBack region) }
 {
-    let mut store = match Store::check(alloc, region) {
+    check_and_run_from(&alloc, region, calls)
+}
+
+/// `check_and_run`, where each growth asks for a grant. Only a refused growth is answered by `OutOfMemory`, by
+/// the check, by the whole list and by each call of it.
+pub fn check_and_run_from<A: Allowance>(
+    memory: &A,
+    region: Region,
+    calls: &[Call],
+) -> Result<(Store, Vec<Reply>), NotRun>
+    ensures run { IfOk result (λ done. AnswersAsRun region calls.now done.1.items done.0) }
+    ensures not_run { IfErr result (HandsBack region) }
+    ensures short { IfErr result (λ error. WantsMemory error → A.is_short memory.now) }
+    ensures no_memory { IfOk result (λ done. All (λ reply.
+        reply ≡ Reply.Refused Refusal.OutOfMemory → A.is_short memory.now) done.1.items) }
+{
+    let mut store = match Store::check_from(memory, region) {
         Ok(store) => store,
         Err(error) => return Err(NotRun::NotAStore(error)),
     };
-    match run_calls(alloc, &mut store, calls) {
+    match run_calls_from(memory, &mut store, calls) {
         Ok(replies) => Ok((store, replies)),
         Err(OutOfMemory) => Err(NotRun::OutOfMemory(store)),
     }
