@@ -8,9 +8,8 @@ use record_db::{archive, delete, get, new_record, release};
 use resource_db::new_resource;
 use std::alloc::Global;
 use std::io::ErrorKind;
-use std::process::Abort;
 use std::test::*;
-use test_fakes::{Narrow, RefusesOne, WhenFull};
+use test_fakes::{Narrow, RefusesOne, WhenFull, equal};
 use test_images::bytes_of;
 
 /// The file of `make_records`. Its blocks stand at 0x70, 0x73, 0x75 and 0x7a.
@@ -63,17 +62,26 @@ fn make_records(store: &mut Store) -> Result<Db, Refusal> {
         false,
         0xC000_0001,
     )?;
+    make_four(store, db)?;
+    change_four(store, db)?;
+    make_block(store, db, Which::Sort, &[1, 2])?;
+    make_block(store, db, Which::App, b"abc")?;
+    Ok(db)
+}
+
+fn make_four(store: &mut Store, db: Db) -> Result<(), Refusal> {
     make_record(store, db, b"first")?;
     make_record(store, db, b"kept")?;
     make_record(store, db, b"gone")?;
-    make_record(store, db, b"")?;
+    make_record(store, db, b"")
+}
+
+fn change_four(store: &mut Store, db: Db) -> Result<(), Refusal> {
     archive(store, db, 1)?;
     delete(store, db, 2)?;
     release(store, db, 0, false)?;
     get(store, db, 0)?;
-    make_block(store, db, Which::Sort, &[1, 2])?;
-    make_block(store, db, Which::App, b"abc")?;
-    Ok(db)
+    Ok(())
 }
 
 /// Makes a database with two resources, the second of which has no byte.
@@ -99,23 +107,29 @@ fn export_cut(
     (answer, taken)
 }
 
+/// What comes of an export to a writer with room for so many bytes: the answer, and what that took.
+fn check_cut(alloc: Global, store: &Store, db: Db, file: &[u8], room: usize) -> Result<(), Fail> {
+    let (answer, taken) = export_cut(alloc, store, db, room);
+    let wanted = if room < file.len() {
+        Err(ExportFault::Write)
+    } else {
+        Ok(file.len().min(9_999) as u32)
+    };
+    let front = file.get(..room).unwrap_or(file);
+    equal(
+        format_args!("{room}"),
+        (answer, taken.as_slice()),
+        (wanted, front),
+    )
+}
+
 /// A database has this file, and a writer that breaks off has a front of it.
-fn check_file(
-    rt: &(impl Abort + AllocGlobal),
-    store: &Store,
-    db: Db,
-    listing: &str,
-) -> Result<(), Fail> {
-    let alloc = rt.alloc();
+fn check_file(alloc: Global, store: &Store, db: Db, listing: &str) -> Result<(), Fail> {
     let file = bytes_of(alloc, listing)?;
-    assert_eq!(rt; exported(&alloc, store, db)?.as_slice(), file.as_slice());
-    let (answer, taken) = export_cut(alloc, store, db, file.len());
-    assert_eq!(rt; answer, Ok(file.len().min(9_999) as u32));
-    assert_eq!(rt; taken.as_slice(), file.as_slice());
-    for room in 0..file.len() {
-        let (answer, taken) = export_cut(alloc, store, db, room);
-        assert_eq!(rt; answer, Err(ExportFault::Write), "{room}");
-        assert_eq!(rt; taken.as_slice(), &file[..room]);
+    let whole = exported(&alloc, store, db)?;
+    equal(listing, whole.as_slice(), file.as_slice())?;
+    for room in 0..=file.len() {
+        check_cut(alloc, store, db, &file, room)?;
     }
     Ok(())
 }
@@ -124,7 +138,7 @@ fn check_file(
 fn records_have_their_file(rt: HostRuntime) -> Result<(), Fail> {
     let mut store = blank_store(rt.alloc())?;
     let db = make_records(&mut store)?;
-    check_file(&rt, &store, db, RECORDS)
+    check_file(rt.alloc(), &store, db, RECORDS)
 }
 
 #[test]
@@ -132,39 +146,54 @@ fn resources_have_their_file(rt: HostRuntime) -> Result<(), Fail> {
     let mut store = blank_store(rt.alloc())?;
     make_records(&mut store)?;
     let db = make_resources(&mut store)?;
-    check_file(&rt, &store, db, RESOURCES)
+    check_file(rt.alloc(), &store, db, RESOURCES)
+}
+
+/// No database has this number.
+fn check_no_file(alloc: Global, store: &Store, number: u32) -> Result<(), Fail> {
+    let (answer, taken) = export_cut(alloc, store, Db(number), 99);
+    let none = Err(ExportFault::NoSuchDatabase);
+    equal(
+        format_args!("{number}"),
+        (answer, taken.as_slice()),
+        (none, b"".as_slice()),
+    )?;
+    let refused = exported(&alloc, store, Db(number)).err();
+    equal(
+        format_args!("{number}"),
+        refused,
+        Some(Refusal::NoSuchDatabase),
+    )
 }
 
 /// A number of no database has no file, also where a chunk has it.
 #[test]
 fn no_database_has_no_file(rt: HostRuntime) -> Result<(), Fail> {
-    let alloc = rt.alloc();
-    let mut store = blank_store(alloc)?;
+    let mut store = blank_store(rt.alloc())?;
     let Name(chunk) = store.handle_new(200, 1)?;
-    for number in [0, chunk, 9_999] {
-        let (answer, taken) = export_cut(alloc, &store, Db(number), 99);
-        assert_eq!(rt; answer, Err(ExportFault::NoSuchDatabase));
-        assert!(rt; taken.is_empty());
-        assert_eq!(rt;
-            exported(&alloc, &store, Db(number)).err(),
-            Some(Refusal::NoSuchDatabase)
-        );
+    for number in &[0, chunk, 9_999] {
+        check_no_file(rt.alloc(), &store, *number)?;
     }
     Ok(())
+}
+
+/// The same of a file for which no memory is granted.
+fn check_refused_without(
+    alloc: Global,
+    store: &Store,
+    db: Db,
+    refusal: Refusal,
+) -> Result<(), Fail> {
+    let memory = RefusesOne::behind(alloc, 0);
+    let refused = exported(&memory, store, db).err();
+    equal(format_args!("{db:?}"), refused, Some(refusal))
 }
 
 #[test]
 fn a_file_takes_memory(rt: HostRuntime) -> Result<(), Fail> {
     let mut store = blank_store(rt.alloc())?;
     let db = make_resources(&mut store)?;
-    let memory = RefusesOne::behind(rt.alloc(), 0);
-    assert_eq!(rt;
-        exported(&memory, &store, Db(0)).err(),
-        Some(Refusal::NoSuchDatabase)
-    );
-    assert_eq!(rt;
-        exported(&memory, &store, db).err(),
-        Some(Refusal::OutOfMemory)
-    );
-    Ok(())
+    let none = Refusal::NoSuchDatabase;
+    check_refused_without(rt.alloc(), &store, Db(0), none)?;
+    check_refused_without(rt.alloc(), &store, db, Refusal::OutOfMemory)
 }

@@ -1,15 +1,14 @@
 //! Databases that are read from files, entry by entry and byte by byte.
 
 use chunk_format::blank;
-use heap_model::{Db, DbInfo, DbName, FileFault, RecordInfo, Refusal, ResourceInfo, Which};
+use heap_model::{Db, DbInfo, DbName, FileFault, Name, RecordInfo, Refusal, ResourceInfo, Which};
 use palm_store::Store;
-use pdb_files::{import, import_from};
+use pdb_files::import;
 use record_db::{new_record, num_records, record_info};
 use resource_db::{find_resource, find_type, num_resources, remove_resource, resource_info};
 use std::alloc::Global;
-use std::process::Abort;
 use std::test::*;
-use test_fakes::RefusesOne;
+use test_fakes::equal;
 use test_images::{EMPTY_FILE, ORDER_FILE, TINY_FILE, bytes_of};
 
 /// A file of two records, whose seed is the last but one.
@@ -75,80 +74,119 @@ fn import_listed(
     Ok(import(alloc, store, &bytes_of(alloc, listing)?))
 }
 
-/// The records of a database are these.
-fn check_records(
-    rt: &(impl Abort + AllocGlobal),
-    store: &Store,
-    db: Db,
+/// Reading a listed file is refused.
+fn check_refused(
+    alloc: Global,
+    store: &mut Store,
+    listing: &str,
+    refusal: Refusal,
+) -> Result<(), Fail> {
+    let answer = import_listed(alloc, store, listing)?;
+    equal(listing, answer, Err(refusal))
+}
+
+/// A listed file is read, and the records of its database are these.
+fn check_read(
+    alloc: Global,
+    store: &mut Store,
+    listing: &str,
     records: &[Read],
 ) -> Result<(), Fail> {
-    assert_eq!(rt; num_records(store, db)? as usize, records.len());
+    let db = import_listed(alloc, store, listing)??;
+    check_records(alloc, store, db, records)
+}
+
+/// The records of a database are these.
+fn check_records(alloc: Global, store: &Store, db: Db, records: &[Read]) -> Result<(), Fail> {
+    equal("records", num_records(store, db)? as usize, records.len())?;
     let mut index = 0u32;
-    for (attributes, id, listing) in records {
-        let info = record_info(store, db, index)?;
-        assert_eq!(rt; info.attributes, *attributes, "record {index}");
-        assert_eq!(rt; info.id, *id, "record {index}");
-        match (info.data, listing) {
-            (Some(name), Some(listing)) => {
-                let bytes = bytes_of(rt.alloc(), listing)?;
-                assert_eq!(rt;
-                    store.read(name, 0, store.size(name)?)?,
-                    bytes.as_slice(),
-                    "record {index}"
-                );
-                assert_eq!(rt; store.owner(name)?, 15);
-                assert_eq!(rt; store.locks(name)?, 0);
-            }
-            (None, None) => {}
-            _ => Err("data of a record that is there or not")?,
-        }
+    for record in records {
+        check_record(alloc, store, db, index, *record)?;
         index = index.saturating_add(1);
     }
     Ok(())
 }
 
+fn check_record(
+    alloc: Global,
+    store: &Store,
+    db: Db,
+    index: u32,
+    (attributes, id, listing): Read,
+) -> Result<(), Fail> {
+    let info = record_info(store, db, index)?;
+    equal(
+        format_args!("record {index}"),
+        (info.attributes, info.id),
+        (attributes, id),
+    )?;
+    match (info.data, listing) {
+        (Some(name), Some(listing)) => check_data(alloc, store, name, listing),
+        (None, None) => Ok(()),
+        _ => Err("data of a record that is there or not")?,
+    }
+}
+
+/// The data of a record has these bytes and no lock.
+fn check_data(alloc: Global, store: &Store, name: Name, listing: &str) -> Result<(), Fail> {
+    check_bytes(alloc, store, name, listing)?;
+    let found = (store.owner(name)?, store.locks(name)?);
+    equal("owner, locks", found, (15, 0))
+}
+
+/// A chunk has these bytes.
+fn check_bytes(alloc: Global, store: &Store, name: Name, listing: &str) -> Result<(), Fail> {
+    let bytes = bytes_of(alloc, listing)?;
+    equal(
+        format_args!("{name:?}"),
+        store.read(name, 0, store.size(name)?)?,
+        bytes.as_slice(),
+    )
+}
+
 /// An info block has these bytes.
 fn check_block(
-    rt: &(impl Abort + AllocGlobal),
+    alloc: Global,
     store: &Store,
     db: Db,
     which: Which,
     listing: &str,
 ) -> Result<(), Fail> {
-    let name = store.info_block(db, which)?;
-    let bytes = bytes_of(rt.alloc(), listing)?;
-    assert_eq!(rt; store.read(name, 0, store.size(name)?)?, bytes.as_slice());
-    Ok(())
+    check_bytes(alloc, store, store.info_block(db, which)?, listing)
+}
+
+/// A listed file is read, and its info blocks have these bytes.
+fn check_blocks(
+    alloc: Global,
+    store: &mut Store,
+    listing: &str,
+    app: &str,
+    sort: &str,
+) -> Result<(), Fail> {
+    let db = import_listed(alloc, store, listing)??;
+    check_block(alloc, store, db, Which::App, app)?;
+    check_block(alloc, store, db, Which::Sort, sort)
 }
 
 #[test]
 fn records_are_read(rt: HostRuntime) -> Result<(), Fail> {
     let mut store = blank_store(rt.alloc(), 2048, 64)?;
-    for (listing, records) in RECORDS_READ {
-        let db = import_listed(rt.alloc(), &mut store, listing)??;
-        check_records(&rt, &store, db, records)?;
+    for (listing, records) in &RECORDS_READ {
+        check_read(rt.alloc(), &mut store, listing, records)?;
     }
-    assert_eq!(rt; store.count(), 4);
-    Ok(())
+    equal("databases", store.count(), 4)
 }
 
 #[test]
 fn info_blocks_are_read(rt: HostRuntime) -> Result<(), Fail> {
     let mut store = blank_store(rt.alloc(), 1024, 32)?;
-    let db = import_listed(rt.alloc(), &mut store, BACKWARD)??;
-    check_block(&rt, &store, db, Which::App, "07")?;
-    check_block(&rt, &store, db, Which::Sort, "05 06")?;
-    let db = import_listed(rt.alloc(), &mut store, ODD)??;
-    check_block(&rt, &store, db, Which::App, "")?;
-    check_block(&rt, &store, db, Which::Sort, "")?;
-    Ok(())
+    check_blocks(rt.alloc(), &mut store, BACKWARD, "07", "05 06")?;
+    check_blocks(rt.alloc(), &mut store, ODD, "", "")
 }
 
-#[test]
-fn headers_are_read(rt: HostRuntime) -> Result<(), Fail> {
-    let mut store = blank_store(rt.alloc(), 1024, 32)?;
-    let db = import_listed(rt.alloc(), &mut store, ODD)??;
-    let info = DbInfo {
+/// What the header of `ODD` says.
+fn odd_header() -> DbInfo {
+    DbInfo {
         name: DbName::of(&[0x41; 31]),
         attributes: 0xFFF8,
         version: 0x0102,
@@ -160,169 +198,211 @@ fn headers_are_read(rt: HostRuntime) -> Result<(), Fail> {
         creator: 0x5465_7374,
         seed: 0xB000_0003,
         entry_count: 5,
-    };
-    assert_eq!(rt; store.database_info(db)?, info);
-    Ok(())
+    }
 }
 
 #[test]
+fn headers_are_read(rt: HostRuntime) -> Result<(), Fail> {
+    let mut store = blank_store(rt.alloc(), 1024, 32)?;
+    let db = import_listed(rt.alloc(), &mut store, ODD)??;
+    equal("its header", store.database_info(db)?, odd_header())
+}
+
+const TWO_NAMES: &str =
+    "4142 00 4343434343434343434343434343434343434343434343434343434343 0000 0000 00*24 44415441 54657374 00000000 00000000 0000";
+
+#[test]
 fn bytes_behind_a_name_are_passed_over(rt: HostRuntime) -> Result<(), Fail> {
-    let listing =
-        "4142 00 4343434343434343434343434343434343434343434343434343434343 0000 0000 00*24 44415441 54657374 00000000 00000000 0000";
     let mut store = blank_store(rt.alloc(), 256, 8)?;
-    let db = import_listed(rt.alloc(), &mut store, listing)??;
-    assert_eq!(rt; store.database_info(db)?.name, DbName::of(b"AB"));
-    assert_eq!(rt; store.find(&DbName::of(b"AB")), Ok(db));
-    Ok(())
+    let db = import_listed(rt.alloc(), &mut store, TWO_NAMES)??;
+    let name = DbName::of(b"AB");
+    let found = (store.database_info(db)?.name, store.find(&name));
+    equal("name, database", found, (name, Ok(db)))
 }
 
 #[test]
 fn the_seed_goes_on(rt: HostRuntime) -> Result<(), Fail> {
     let mut store = blank_store(rt.alloc(), 1024, 16)?;
     let db = import_listed(rt.alloc(), &mut store, IDS)??;
-    let (index, name) = new_record(&mut store, db, 65_535, 0)?;
-    assert_eq!(rt; index, 2);
+    check_new(&mut store, db)?;
+    let info = store.database_info(db)?;
+    equal(
+        "modification number, seed, entries",
+        (info.modification_number, info.seed, info.entry_count),
+        (1, 0x0700_0002, 3),
+    )
+}
+
+/// A record that is made comes behind the two that were read, and has the first ID that is free behind the seed.
+fn check_new(store: &mut Store, db: Db) -> Result<(), Fail> {
+    let (index, name) = new_record(store, db, 65_535, 0)?;
     let made = RecordInfo {
         attributes: 0x60,
         id: 2,
         data: Some(name),
     };
-    assert_eq!(rt; record_info(&store, db, 2)?, made);
-    let info = store.database_info(db)?;
-    assert_eq!(rt; info.modification_number, 1);
-    assert_eq!(rt; info.seed, 0x0700_0002);
-    assert_eq!(rt; info.entry_count, 3);
-    Ok(())
+    equal("made", (index, record_info(store, db, 2)?), (2, made))
 }
 
 #[test]
 fn resources_are_read(rt: HostRuntime) -> Result<(), Fail> {
     let mut store = blank_store(rt.alloc(), 1024, 16)?;
     let db = import_listed(rt.alloc(), &mut store, TINY_FILE)??;
-    assert_eq!(rt; num_resources(&store, db)?, 2);
-    assert_eq!(rt; find_resource(&store, db, 0x7453_5452, 1001)?, 1);
-    assert_eq!(rt; find_type(&store, db, 0x7453_5452, 0)?, 0);
-    assert_eq!(rt;
-        find_type(&store, db, 0x7453_5452, 2),
-        Err(Refusal::ResourceNotFound)
-    );
+    check_found(&store, db)?;
     remove_resource(&mut store, db, 0)?;
-    let ResourceInfo { kind, id, data } = resource_info(&store, db, 0)?;
-    assert_eq!(rt; kind, 0x7453_5452);
-    assert_eq!(rt; id, 1001);
-    assert_eq!(rt; store.read(data, 0, store.size(data)?)?, b"Yo\0".as_slice());
-    Ok(())
+    check_second(&store, db)
+}
+
+/// There are two resources, and they are found.
+fn check_found(store: &Store, db: Db) -> Result<(), Fail> {
+    let count = num_resources(store, db);
+    let by_id = find_resource(store, db, 0x7453_5452, 1001);
+    equal("count, by ID", (count, by_id), (Ok(2), Ok(1)))?;
+    let first = find_type(store, db, 0x7453_5452, 0);
+    let third = find_type(store, db, 0x7453_5452, 2);
+    equal(
+        "by type",
+        (first, third),
+        (Ok(0), Err(Refusal::ResourceNotFound)),
+    )
+}
+
+/// The second of them is the first now.
+fn check_second(store: &Store, db: Db) -> Result<(), Fail> {
+    let ResourceInfo { kind, id, data } = resource_info(store, db, 0)?;
+    equal("type, ID", (kind, id), (0x7453_5452, 1001))?;
+    let bytes = store.read(data, 0, store.size(data)?)?;
+    equal("data", bytes, b"Yo\0".as_slice())
 }
 
 /// A file of no records with other words: where its AppInfo and SortInfo blocks are, and its list goes on.
 fn empty_with(alloc: Global, app: u8, sort: u8, next: u8) -> Result<Vec<u8>, Fail> {
     let mut bytes = bytes_of(alloc, EMPTY_FILE)?;
-    for (at, byte) in [(55, app), (59, sort), (75, next)] {
-        match bytes.get_mut(at) {
-            Some(place) => *place = byte,
-            None => return Err("a short file")?,
-        }
-    }
+    put_byte(&mut bytes, 55, app);
+    put_byte(&mut bytes, 59, sort);
+    put_byte(&mut bytes, 75, next);
     Ok(bytes)
+}
+
+fn put_byte(bytes: &mut [u8], at: usize, byte: u8) {
+    if let Some(place) = bytes.get_mut(at) {
+        *place = byte;
+    }
+}
+
+/// Where such a file says that its AppInfo and SortInfo blocks are, and that its list goes on; and its fault.
+const BAD_WORDS: [(u8, u8, u8, FileFault); 3] = [
+    (0x10, 0, 0, FileFault::BadInfo(Which::App)),
+    (0, 0x4F, 0, FileFault::BadInfo(Which::Sort)),
+    (0x10, 0x4F, 1, FileFault::ChainedList),
+];
+
+/// Other files, and their faults.
+const BAD_FILES: [(&str, FileFault); 4] = [
+    ("", FileFault::Truncated),
+    ("456d707479 00*72", FileFault::Truncated),
+    ("00*78", FileFault::EmptyName),
+    (
+        "54696e79 00*28 0001 0001 00*24 6170706c 54657374 00000000 00000000 0002 \
+         74535452 03e8 00000000 74535452 03e9 00000067 0000 486900 596f00",
+        FileFault::BadOffset(0),
+    ),
+];
+
+fn check_words(
+    alloc: Global,
+    store: &mut Store,
+    app: u8,
+    sort: u8,
+    next: u8,
+    fault: FileFault,
+) -> Result<(), Fail> {
+    let file = empty_with(alloc, app, sort, next)?;
+    let answer = import(alloc, store, &file);
+    equal(
+        format_args!("{app} {sort} {next}"),
+        answer,
+        Err(Refusal::BadFile(fault)),
+    )
+}
+
+#[test]
+fn files_with_a_bad_word_are_refused(rt: HostRuntime) -> Result<(), Fail> {
+    let mut store = blank_store(rt.alloc(), 1024, 16)?;
+    for (app, sort, next, fault) in &BAD_WORDS {
+        check_words(rt.alloc(), &mut store, *app, *sort, *next, *fault)?;
+    }
+    equal("databases", store.count(), 0)
 }
 
 #[test]
 fn files_with_a_fault_are_refused(rt: HostRuntime) -> Result<(), Fail> {
     let mut store = blank_store(rt.alloc(), 1024, 16)?;
-    for (app, sort, next, fault) in [
-        (0x10, 0, 0, FileFault::BadInfo(Which::App)),
-        (0, 0x4F, 0, FileFault::BadInfo(Which::Sort)),
-        (0x10, 0x4F, 1, FileFault::ChainedList),
-    ] {
-        let file = empty_with(rt.alloc(), app, sort, next)?;
-        assert_eq!(rt;
-            import(rt.alloc(), &mut store, &file),
-            Err(Refusal::BadFile(fault))
-        );
+    for (listing, fault) in &BAD_FILES {
+        let refusal = Refusal::BadFile(*fault);
+        check_refused(rt.alloc(), &mut store, listing, refusal)?;
     }
-    for (listing, fault) in [
-        ("", FileFault::Truncated),
-        ("456d707479 00*72", FileFault::Truncated),
-        ("00*78", FileFault::EmptyName),
-        (
-            "54696e79 00*28 0001 0001 00*24 6170706c 54657374 00000000 00000000 0002 \
-             74535452 03e8 00000000 74535452 03e9 00000067 0000 486900 596f00",
-            FileFault::BadOffset(0),
-        ),
-    ] {
-        assert_eq!(rt;
-            import_listed(rt.alloc(), &mut store, listing)?,
-            Err(Refusal::BadFile(fault))
-        );
-    }
-    assert_eq!(rt; store.count(), 0);
+    equal("databases", store.count(), 0)
+}
+
+#[test]
+fn an_info_block_may_begin_where_the_file_ends(rt: HostRuntime) -> Result<(), Fail> {
+    let mut store = blank_store(rt.alloc(), 1024, 16)?;
     let file = empty_with(rt.alloc(), 0x4E, 0, 0)?;
     let db = import(rt.alloc(), &mut store, &file)?;
-    check_block(&rt, &store, db, Which::App, "")
+    check_block(rt.alloc(), &store, db, Which::App, "")
 }
 
 #[test]
 fn a_name_is_taken_once(rt: HostRuntime) -> Result<(), Fail> {
     let mut store = blank_store(rt.alloc(), 1024, 16)?;
     import_listed(rt.alloc(), &mut store, EMPTY_FILE)??;
-    assert_eq!(rt;
-        import_listed(rt.alloc(), &mut store, EMPTY_FILE)?,
-        Err(Refusal::AlreadyExists)
-    );
-    assert_eq!(rt; store.count(), 1);
-    Ok(())
+    let taken = Refusal::AlreadyExists;
+    check_refused(rt.alloc(), &mut store, EMPTY_FILE, taken)?;
+    equal("databases", store.count(), 1)
 }
 
-#[test]
-fn databases_are_1024_at_most(rt: HostRuntime) -> Result<(), Fail> {
-    let mut store = blank_store(rt.alloc(), 131_072, 1100)?;
+/// A store with 1,024 databases.
+fn full_store(alloc: Global) -> Result<Store, Fail> {
+    let mut store = blank_store(alloc, 131_072, 1100)?;
     for first in 65u8..97 {
         for second in 65u8..97 {
             store.create(&DbName::of(&[first, second]), 0, 0, false, 0)?;
         }
     }
-    assert_eq!(rt;
-        import_listed(rt.alloc(), &mut store, EMPTY_FILE)?,
-        Err(Refusal::TooManyEntries)
-    );
-    assert_eq!(rt; store.count(), 1024);
-    Ok(())
+    Ok(store)
 }
 
 #[test]
-fn nothing_is_left_where_room_is_short(rt: HostRuntime) -> Result<(), Fail> {
-    for (size, slots) in [(128, 4), (256, 4), (240, 16)] {
-        let mut store = blank_store(rt.alloc(), size, slots)?;
-        let free = store.free_bytes();
-        assert_eq!(rt;
-            import_listed(rt.alloc(), &mut store, ORDER_FILE)?,
-            Err(Refusal::NotEnoughSpace)
-        );
-        assert_eq!(rt; store.count(), 0);
-        assert_eq!(rt; store.free_bytes(), free);
-        for _ in 0..4 {
-            store.handle_new(0, 1)?;
-        }
+fn databases_are_1024_at_most(rt: HostRuntime) -> Result<(), Fail> {
+    let mut store = full_store(rt.alloc())?;
+    let too_many = Refusal::TooManyEntries;
+    check_refused(rt.alloc(), &mut store, EMPTY_FILE, too_many)?;
+    equal("databases", store.count(), 1024)
+}
+
+/// In a store of this size and with so many slots there is no room, and nothing is left of what was begun.
+fn check_short(alloc: Global, size: u32, slots: u16) -> Result<(), Fail> {
+    let mut store = blank_store(alloc, size, slots)?;
+    let free = store.free_bytes();
+    let no_room = Refusal::NotEnoughSpace;
+    check_refused(alloc, &mut store, ORDER_FILE, no_room)?;
+    let left = (store.count(), store.free_bytes());
+    equal(format_args!("{size} {slots}"), left, (0, free))?;
+    take_four_slots(&mut store)
+}
+
+fn take_four_slots(store: &mut Store) -> Result<(), Fail> {
+    for _ in 0..4 {
+        store.handle_new(0, 1)?;
     }
     Ok(())
 }
 
 #[test]
-fn each_growth_can_be_refused(rt: HostRuntime) -> Result<(), Fail> {
-    for (listing, growths) in [(ORDER_FILE, 10), (TINY_FILE, 6)] {
-        let file = bytes_of(rt.alloc(), listing)?;
-        let mut store = blank_store(rt.alloc(), 1024, 16)?;
-        let before = store.summary();
-        for granted in 0..growths {
-            let memory = RefusesOne::behind(rt.alloc(), granted);
-            assert_eq!(rt;
-                import_from(&memory, &mut store, &file),
-                Err(Refusal::OutOfMemory)
-            );
-            assert_eq!(rt; store.summary(), before, "{granted}");
-        }
-        let memory = RefusesOne::behind(rt.alloc(), growths);
-        assert!(rt; import_from(&memory, &mut store, &file).is_ok());
+fn nothing_is_left_where_room_is_short(rt: HostRuntime) -> Result<(), Fail> {
+    for (size, slots) in &[(128, 4), (256, 4), (240, 16)] {
+        check_short(rt.alloc(), *size, *slots)?;
     }
     Ok(())
 }
