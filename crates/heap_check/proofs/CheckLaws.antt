@@ -76,9 +76,6 @@ not_without image n at f = FirstWithout-not (NamesItsSlot image) (area_start ima
 not_owner : (image : List ℕ) → Owned image → (at : ℕ) → IsBadFixedOwner image at → ⊥
 not_owner image o at f = FirstWithout-not IsCallersIfFixed (area_start image) (chunks_of image) at f.1 o
 
-pub first_chunk : (image : List ℕ) (at : ℕ) → IsHead image → IsBadChunk image at → IsFirstFault image (BadChunk at)
-first_chunk image at h f = past_head image (BadChunk at) h (inl (at, f, refl))
-
 -- no chunk out of shape either
 past_chunks : (image : List ℕ) (fault : HeapFault) → Tiles image (chunks_of image) → FirstBrought (slot_faults image) fault → IsFirstFault image fault
 past_chunks image fault t f = past_head image fault t.head (inr (λ other b. not_chunk image t b.0 b.1, f))

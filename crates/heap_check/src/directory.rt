@@ -7,7 +7,7 @@ ghost use Rattle.heap_model.specs.Reading.{chunks_of};
 ghost use Rattle.master_table.specs.Table.{IsTable};
 ghost use Rattle.heap_check.specs.Survey.{IsPaired, IsManagersBody};
 
-use chunk_format::{Header, MANAGERS_OWNER, directory};
+use chunk_format::{HEADER_SIZE, Header, MANAGERS_OWNER, directory};
 use master_table::Table;
 use raw_region::Region;
 
@@ -34,10 +34,10 @@ fn is_managers(region: &Region, place: u32) -> bool
     requires small { length region.now.bytes < 2 ^ 24 }
     ensures { IsTrue result ↔ IsManagersBody region.now.bytes place }
 {
-    if place < 8 {
+    if place < HEADER_SIZE {
         return false;
     }
-    match Header::read(region, place - 8) {
+    match Header::read(region, place - HEADER_SIZE) {
         Some(Header::Movable { owner, .. }) => owner == MANAGERS_OWNER,
         _ => false,
     }

@@ -9,7 +9,8 @@ ghost use Rattle.heap_check.specs.Faults.{IsTooShort, HasBadMagic, HasBadSize, H
 
 use crate::fault::HeapFault;
 use chunk_format::{
-    FRAME_SIZE, area_start, has_magic, head_end, is_image_size, reserved, size_field, slot_count,
+    FRAME_SIZE, HEADER_SIZE, area_start, has_magic, head_end, is_image_size, reserved, size_field,
+    slot_count,
 };
 use raw_region::Region;
 
@@ -39,7 +40,7 @@ fn has_bad_slot_count(region: &Region) -> bool
     requires { HasFrame region.now }
     ensures { IsTrue result ↔ HasBadSlotCount region.now.bytes }
 {
-    slot_count(region) == 0 || region.len() < area_start(region) as usize + 8
+    slot_count(region) == 0 || region.len() < area_start(region) as usize + HEADER_SIZE as usize
 }
 
 fn has_bad_reserved(region: &Region) -> bool
@@ -50,7 +51,7 @@ fn has_bad_reserved(region: &Region) -> bool
 }
 
 fn has_bad_padding(region: &Region) -> bool
-    requires { IsWithin region.now (model_start region.now.bytes) 8 }
+    requires { IsWithin region.now (model_start region.now.bytes) HEADER_SIZE }
     ensures { IsTrue result ↔ HasBadPadding region.now.bytes }
 {
     let end = head_end(region);

@@ -9,7 +9,7 @@ ghost use Rattle.heap_check.specs.Owners.{NoneMarked};
 ghost use Rattle.heap_check.specs.Survey.{noted, holds_place, AddsMark, IsHolder, AreNoted, IsSurvey};
 
 use crate::marks::Mark;
-use chunk_format::{DATA_OWNER, Header, MANAGERS_OWNER, area_start};
+use chunk_format::{DATA_OWNER, HEADER_SIZE, Header, MANAGERS_OWNER, area_start};
 use master_table::Table;
 use raw_region::Region;
 
@@ -54,12 +54,12 @@ fn holder_of(region: &Region, table: Table, slot: u32, at: u32) -> Option<u32>
     requires small { at < 2 ^ 24 }
     ensures below { IfSome result (λ number. number < slots_total region.now.bytes) }
     ensures number { IfSome result (StandsBehind region.now.bytes slot) }
-    ensures holds { OnSome result (u32_at region.now.bytes slot ≡ at + 8) }
+    ensures holds { OnSome result (u32_at region.now.bytes slot ≡ at + HEADER_SIZE) }
     ensures none { IfNone result (IsSlot region.now.bytes slot
-        → u32_at region.now.bytes slot ≢ at + 8) }
+        → u32_at region.now.bytes slot ≢ at + HEADER_SIZE) }
 {
     let number = table.number(slot)?;
-    if region.get_u32(slot as usize) != at + 8 {
+    if region.get_u32(slot as usize) != at + HEADER_SIZE {
         return None;
     }
     Some(number)
@@ -178,7 +178,7 @@ pub(crate) fn survey_chunks<M: Mark>(
 {
     let mut survey = Survey::new();
     let mut at = area_start(region);
-    while at as usize + 8 <= region.len() {
+    while at as usize + HEADER_SIZE as usize <= region.len() {
         let Some((header, size)) = Header::read_with_size(region, at) else {
             return Err(at);
         };

@@ -9,7 +9,7 @@ ghost use Rattle.store_check.specs.Lookup.{IsMovable, IsHeld, SlotsFind, movable
 ghost use Rattle.store_check.specs.Owners.{NotOurs};
 
 use crate::words::word_at;
-use chunk_format::{Header, directory};
+use chunk_format::{HEADER_SIZE, Header, directory};
 use heap_model::{Name, Place};
 use master_table::resolve;
 use raw_region::Region;
@@ -39,11 +39,11 @@ fn movable_under(region: &Region, slot: u32) -> Option<Movable>
 fn movable_at(region: &Region, place: Place) -> Movable
     requires accepted { HeapAccepted region.now.bytes }
     requires held { IsHeld region.now.bytes place.0 }
-    requires behind_header { 8 ≤ place.0 }
-    requires chunk { HasChunk region.now.bytes (place.0 - 8) }
+    requires behind_header { HEADER_SIZE ≤ place.0 }
+    requires chunk { HasChunk region.now.bytes (place.0 - HEADER_SIZE) }
     ensures { SlotsFind region.now.bytes place.0 result }
 {
-    as_movable(Header::at(region, place.0 - 8), place).unwrap()
+    as_movable(Header::at(region, place.0 - HEADER_SIZE), place).unwrap()
 }
 
 /// The chunk with this header, if it is a movable one.
