@@ -13,7 +13,7 @@ use Rattle.laws_store.proofs.Found.{found_stands}
 use Rattle.database_access.specs.Checks.{are_resources, IsTold, IsOfKind}
 use Rattle.database_access.specs.declared.opening.EntryKind.{EntryKind}
 use Rattle.database_access.specs.declared.opening.EntryKind.TheVariants.{Records, Resources}
-use Rattle.database_access.proofs.Raising.{is_there}
+use Rattle.database_access.proofs.TwoChanges.{is_there}
 
 -- ---- the database
 

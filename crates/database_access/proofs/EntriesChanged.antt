@@ -10,9 +10,9 @@ use Rattle.heap_model.specs.Store.{StoredDatabase, databases, Accepted, store_of
 use Rattle.heap_model.specs.StoreWords.{with_changed, with_number}
 use Rattle.heap_model.specs.EntrySteps.{entry_under, replaced_if, replaced, entry_changed, LeavesStore}
 use Rattle.heap_model.specs.declared.names.Db.{Db}
-use Rattle.laws_heap.proofs.Deciding.{cond-true, cond-false, same_some, none_some}
+use Rattle.laws_heap.proofs.Tests.{cond-true, cond-false, same_some, none_some}
 use Rattle.laws_store.proofs.Found.{changed_by_number, changed_twice}
-use Rattle.laws_store.proofs.Stepping.{number_once}
+use Rattle.laws_store.proofs.ChangeSteps.{number_once}
 use Rattle.palm_store.specs.EntryCalls.{raised_if}
 use Rattle.database_access.proofs.Entries.{Here, here, entry_is}
 

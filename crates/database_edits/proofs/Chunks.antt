@@ -10,10 +10,10 @@ use Rattle.heap_model.specs.Maps.{changed, changed_at, put, sized}
 use Rattle.heap_model.specs.Store.{managers_owner, bytes_of, owner_of, bytes_under, owner_under}
 use Rattle.heap_model.specs.Database.{Database, spelled}
 use Rattle.heap_model.specs.Leaving.{Leaves, Respells, rewritten}
-use Rattle.laws_heap.proofs.Deciding.{cond-true, cond-false, same_some}
+use Rattle.laws_heap.proofs.Tests.{cond-true, cond-false, same_some}
 use Rattle.laws_heap.proofs.Frames.{length-overwritten}
-use Rattle.laws_heap.proofs.Becoming.{same_frame, frame_then}
-use Rattle.laws_store.proofs.Creating.{managers_loose}
+use Rattle.laws_heap.proofs.SameLayouts.{same_frame, frame_then}
+use Rattle.laws_store.proofs.NewDatabases.{managers_loose}
 use Rattle.mem_manager.specs.Lookup.{IsMovable}
 use Rattle.database_edits.specs.Managers.{IsManagers, Rebodies}
 

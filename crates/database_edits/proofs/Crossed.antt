@@ -9,12 +9,12 @@ use Rattle.heap_model.specs.Database.{Entry, a_record, Database, has_resources, 
 use Rattle.heap_model.specs.Leaving.{SpellsHere, Leaves, rewritten, database_here}
 use Rattle.heap_model.specs.Store.{bytes_under}
 use Rattle.heap_model.specs.Reading.{held}
-use Rattle.laws_store.proofs.Moving.{length-moved}
+use Rattle.laws_store.proofs.MovedElements.{length-moved}
 use Rattle.laws_store.proofs.Spellings.{length-header_bytes, entry_read}
 use Rattle.database_edits.specs.Managers.{Rebodies}
 use Rattle.database_edits.proofs.Chunks.{leaves_as, through, unchanged}
 use Rattle.database_edits.proofs.Databases.{managers}
-use Rattle.database_edits.proofs.Crossing.{bytes_of, moved_back, moved_front, moved_nowhere, crossed_back, crossed_front, cut_back, cut_front}
+use Rattle.database_edits.proofs.MovedEntries.{bytes_of, moved_back, moved_front, moved_nowhere, crossed_back, crossed_front, cut_back, cut_front}
 
 pub with_entries : Database ℕ → List (Entry ℕ) → Database ℕ
 with_entries d entries = record d { entries = entries }

@@ -13,7 +13,7 @@ use Rattle.database_edits.specs.Managers.{Rebodies, PutsHeader}
 use Rattle.database_edits.specs.Edits.{counted, with_block}
 use Rattle.database_edits.proofs.Databases.{managers, counted_fits}
 use Rattle.database_edits.proofs.HeadersHere.{heading_spelled, header_put, header_put_twice}
-use Rattle.database_edits.proofs.Counting.{number_put}
+use Rattle.database_edits.proofs.RaisedNumbers.{number_put}
 
 -- it stands within the header
 pub block_within : (which : Which) (bytes : List ℕ) → length bytes ≡ 4 → info_block_at which + length bytes ≤ 78

@@ -2,12 +2,12 @@ pub mod InfoBlocks
 pub mod Chunks
 pub mod Databases
 pub mod Entries
-pub mod Growing
-pub mod Closing
-pub mod Opening
-pub mod Crossing
+pub mod Lengths
+pub mod RemovedEntries
+pub mod InsertedEntries
+pub mod MovedEntries
 pub mod Crossed
 pub mod Pieces
 pub mod HeadersHere
-pub mod Counting
+pub mod RaisedNumbers
 pub mod Recorded

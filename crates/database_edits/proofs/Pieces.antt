@@ -5,7 +5,7 @@ use Rattle.std.proofs.lemmas.List.{append-nil, take-append-drop, take_all, lengt
 use Rattle.std.specs.Prelude.{slice_range}
 use Rattle.heap_model.specs.Bytes.{overwritten, sized_to}
 use Rattle.laws_store.proofs.Numbers.{take_both}
-use Rattle.laws_store.proofs.Deleting.{closed_up}
+use Rattle.laws_store.proofs.DroppedDatabases.{closed_up}
 use Rattle.db_format.proofs.FieldLaws.{over_piece}
 
 -- the piece between two others

@@ -10,8 +10,8 @@ use Rattle.heap_model.specs.Database.{resources_in, entry_count_in, entry_offset
 use Rattle.heap_model.specs.Store.{unique_id, unique_ids}
 use Rattle.heap_model.specs.UniqueIds.{greatest_id}
 use Rattle.heap_model.specs.Files.{keeps_id, kept_ids, AreGiven, HaveIds}
-use Rattle.laws_heap.proofs.Deciding.{cond-true, cond-false, true_or_false}
-use Rattle.laws_store.proofs.Listing.{same-yes, same-no, times-cons, times-distinct}
+use Rattle.laws_heap.proofs.Tests.{cond-true, cond-false, true_or_false}
+use Rattle.laws_store.proofs.Times.{same-yes, same-no, times-cons, times-distinct}
 use Rattle.laws_store.proofs.Fresh.{fresh_fits}
 use Rattle.file_ids.specs.Passes.{kept_or_none, AreFilled}
 use Rattle.file_ids.proofs.KeptLaws.{kept_is_new, times-kept_yes, times-kept_no, kept_once}

@@ -9,8 +9,8 @@ use Rattle.heap_model.specs.Lists.{times}
 use Rattle.heap_model.specs.UniqueIds.{greatest_id}
 use Rattle.heap_model.specs.Files.{keeps_id, kept_ids}
 use Rattle.bit_sets.specs.Sets.{HasNumber, HasNone, AddsNumber}
-use Rattle.laws_heap.proofs.Deciding.{cond-true, cond-false, true_or_false}
-use Rattle.laws_store.proofs.Listing.{same-yes, same-no, times-cons, times-append}
+use Rattle.laws_heap.proofs.Tests.{cond-true, cond-false, true_or_false}
+use Rattle.laws_store.proofs.Times.{same-yes, same-no, times-cons, times-append}
 use Rattle.file_ids.specs.Passes.{HasIds, kept_or_none}
 
 -- ---- one ID more

@@ -9,7 +9,7 @@ use Rattle.heap_model.specs.Heap.{HeapAccepted}
 use Rattle.heap_model.specs.Placed.{EveryOne}
 use Rattle.heap_model.specs.Reading.{chunk_at, chunks_of}
 use Rattle.heap_model.specs.Store.{owner_of, owner_under}
-use Rattle.laws_heap.proofs.Finding.{read_heap, InSlot, in_slot, finds_held, finds_read}
+use Rattle.laws_heap.proofs.FoundChunks.{read_heap, InSlot, in_slot, finds_held, finds_read}
 use Rattle.laws_heap.proofs.Meanings.{held-is, empty_unheld}
 use Rattle.laws_heap.proofs.Shapes.{chunk_at-spelled}
 use Rattle.laws_heap.proofs.Slots.{each_slot, stands_slot}

@@ -10,7 +10,7 @@ use Rattle.heap_model.specs.Chunk.{Chunk}
 use Rattle.heap_model.specs.Slots.{IsSlot, StandsBehind, slots_of, slots_total, first_slots}
 use Rattle.heap_model.specs.Placed.{EveryOne, FirstOne}
 use Rattle.heap_model.specs.Pairing.{HoldsBody}
-use Rattle.laws_heap.proofs.Deciding.{true_or_false}
+use Rattle.laws_heap.proofs.Tests.{true_or_false}
 use Rattle.laws_heap.proofs.Slots.{Decides-slot, slot_stands, stands_slot, stands_below, same_number, same_slot, every_slot, first_slots-front}
 use Rattle.laws_heap.proofs.Placed.{EveryOne-like, FirstOne-like}
 use Rattle.heap_check.specs.Owners.{NoneMarked}

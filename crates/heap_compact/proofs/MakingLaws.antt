@@ -4,8 +4,8 @@ use Rattle.heap_model.specs.Heap.{HeapAccepted}
 use Rattle.heap_model.specs.Reading.{chunks_of}
 use Rattle.heap_model.specs.Space.{Short, moved_bytes}
 use Rattle.heap_model.specs.Packing.{SlidesOneStretch}
-use Rattle.laws_heap.proofs.Becoming.{same_frame}
-use Rattle.laws_heap.proofs.Compacting.{packs_one, one_packed_moved, unmoved_bytes}
+use Rattle.laws_heap.proofs.SameLayouts.{same_frame}
+use Rattle.laws_heap.proofs.SlidImages.{packs_one, one_packed_moved, unmoved_bytes}
 use Rattle.laws_heap.proofs.Fits.{stretch_not_short}
 use Rattle.heap_place.specs.declared.stretch.Stretch.{Stretch}
 use Rattle.heap_place.specs.Stretches.{HasRoom, PacksStretch, SlidesStretch}

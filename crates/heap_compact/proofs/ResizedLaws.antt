@@ -13,12 +13,12 @@ use Rattle.heap_model.specs.Space.{NoRun, ShortFor, Short, FitsInPlace, MovesAlo
 use Rattle.heap_model.specs.Layout.{IsSpot}
 use Rattle.heap_model.specs.Packing.{SlidesOneStretch, OpensBehind}
 use Rattle.heap_model.specs.Resizing.{with_length, GrowsInPlace, Relocates}
-use Rattle.laws_heap.proofs.Becoming.{frame_then}
-use Rattle.laws_heap.proofs.Exchanging.{ChangesName}
+use Rattle.laws_heap.proofs.SameLayouts.{frame_then}
+use Rattle.laws_heap.proofs.Exchanges.{ChangesName}
 use Rattle.laws_heap.proofs.Resizings.{live_sized, grow_changes, finds_behind, opened_behind}
 use Rattle.laws_heap.proofs.Relocation.{relocate_changes}
 use Rattle.laws_heap.proofs.Fits.{spot_not_short_for}
-use Rattle.laws_heap.proofs.Compacting.{slides_alike, slides_move_one, opens_one}
+use Rattle.laws_heap.proofs.SlidImages.{slides_alike, slides_move_one, opens_one}
 use Rattle.laws_heap.proofs.Stretches.{short_for_parts, room_of-middle}
 use Rattle.laws_heap.proofs.ChangedName.{held_updated}
 use Rattle.heap_place.proofs.FoundLaws.{name_held, found_inside, middle_of, heap_in_parts, one_held, when_movable}

@@ -6,7 +6,7 @@ use Rattle.heap_model.specs.Slots.{area_start}
 use Rattle.heap_model.specs.Heap.{HeapAccepted}
 use Rattle.heap_model.specs.Reading.{chunks_of}
 use Rattle.heap_model.specs.Layout.{merged, Becomes, IsSpot}
-use Rattle.laws_heap.proofs.Becoming.{frame_start, frame_then, same_frame}
+use Rattle.laws_heap.proofs.SameLayouts.{frame_start, frame_then, same_frame}
 use Rattle.laws_heap.proofs.Plain.{plain_same}
 use Rattle.heap_place.specs.declared.found.Found.{Found}
 use Rattle.heap_place.specs.Resizes.{RunBehind, Resizes}

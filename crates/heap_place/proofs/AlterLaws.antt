@@ -10,12 +10,12 @@ use Rattle.heap_model.specs.Meaning.{LiveChunk}
 use Rattle.heap_model.specs.Placing.{Finds}
 use Rattle.heap_model.specs.Layout.{Becomes, Alters, with_lock, with_owner, with_bytes, WritesPlain}
 use Rattle.laws_heap.proofs.Frames.{overwritten-behind}
-use Rattle.laws_heap.proofs.Writing.{WroteWithin, wrote_word, wrote_wider}
+use Rattle.laws_heap.proofs.Writes.{WroteWithin, wrote_word, wrote_wider}
 use Rattle.laws_heap.proofs.FixedNames.{fixed_live_is}
-use Rattle.laws_heap.proofs.Finding.{finds_spelled}
-use Rattle.laws_heap.proofs.Exchanging.{exchanges_parts}
-use Rattle.laws_heap.proofs.Changing.{named_live_chunk}
-use Rattle.laws_heap.proofs.Altering.{body_written, movable_relabelled, fixed_relabelled}
+use Rattle.laws_heap.proofs.FoundChunks.{finds_spelled}
+use Rattle.laws_heap.proofs.Exchanges.{exchanges_parts}
+use Rattle.laws_heap.proofs.ExchangedNames.{named_live_chunk}
+use Rattle.laws_heap.proofs.AlteredChunks.{body_written, movable_relabelled, fixed_relabelled}
 use Rattle.chunk_format.specs.Header.{Relocks, Reowns}
 use Rattle.heap_place.specs.declared.found.Found.{Found}
 use Rattle.heap_place.specs.Found.{IsOne, CanGoTo, SlidesWithin}

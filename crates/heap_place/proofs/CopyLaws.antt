@@ -8,8 +8,8 @@ use Rattle.heap_model.specs.Heap.{IsHeap, HeapAccepted}
 use Rattle.laws_heap.proofs.Frames.{SameBetween, SameBetween-within, u32_at-written}
 use Rattle.laws_heap.proofs.Chunks.{total-append, SpelledAll-split, SameWords}
 use Rattle.laws_heap.proofs.Slots.{heap_hold_none}
-use Rattle.laws_heap.proofs.Replacing.{head_slots, same_directory, replaced_tiles}
-use Rattle.laws_heap.proofs.Writing.{WroteWithin, wrote_part, wrote_word, wrote_wider, wrote_then, WroteArea, area_replaces, wrote_slot}
+use Rattle.laws_heap.proofs.Replacements.{head_slots, same_directory, replaced_tiles}
+use Rattle.laws_heap.proofs.Writes.{WroteWithin, wrote_part, wrote_word, wrote_wider, wrote_then, WroteArea, area_replaces, wrote_slot}
 use Rattle.chunk_format.specs.Header.{HasHeader}
 use Rattle.chunk_format.specs.declared.header.Header.TheVariants as headers
 use Rattle.heap_place.specs.Lifting.{all_carried, Lifting, FreeBehind, HasFreeBehind}

@@ -13,14 +13,14 @@ use Rattle.laws_heap.proofs.Frames.{u32_at-written, slice-same, slice-overwritte
 use Rattle.laws_heap.proofs.Chunks.{Spelled-same}
 use Rattle.laws_heap.proofs.Runs.{chunks_of-tiled}
 use Rattle.laws_heap.proofs.Slots.{head_table, slot_facts, free_hold_none, slot_beside}
-use Rattle.laws_heap.proofs.Replacing.{SameHead, head_same, slot_there, Replaces, replaced_total, same_start}
-use Rattle.laws_heap.proofs.Writing.{WroteWithin, wrote_none, wrote_part, wrote_word, wrote_wider, wrote_then, wrote_apart, wrote_word_apart, WroteArea, area_replaces, wrote_slots, area_slots, beside_same, beside_word}
-use Rattle.laws_heap.proofs.Freeing.{free_replaced, OtherSlots, claimed}
+use Rattle.laws_heap.proofs.Replacements.{SameHead, head_same, slot_there, Replaces, replaced_total, same_start}
+use Rattle.laws_heap.proofs.Writes.{WroteWithin, wrote_none, wrote_part, wrote_word, wrote_wider, wrote_then, wrote_apart, wrote_word_apart, WroteArea, area_replaces, wrote_slots, area_slots, beside_same, beside_word}
+use Rattle.laws_heap.proofs.FreeChunks.{free_replaced, OtherSlots, claimed}
 use Rattle.laws_heap.proofs.Layouts.{merged-left, merged-right, runs-merged}
-use Rattle.laws_heap.proofs.Becoming.{becomes_heap, becomes_alike}
-use Rattle.laws_heap.proofs.Exchanging.{gap_free}
+use Rattle.laws_heap.proofs.SameLayouts.{becomes_heap, becomes_alike}
+use Rattle.laws_heap.proofs.Exchanges.{gap_free}
 use Rattle.laws_heap.proofs.Plain.{free_plain, lives_plain, replaced_plain}
-use Rattle.laws_heap.proofs.Altering.{overwritten_body, claimed_fixed}
+use Rattle.laws_heap.proofs.AlteredChunks.{overwritten_body, claimed_fixed}
 use Rattle.chunk_format.specs.declared.header.Header.TheVariants as headers
 use Rattle.chunk_format.specs.Header.{header_of, HasHeader, header_bytes, live_words, h_offset_to}
 use Rattle.heap_place.specs.Search.{WroteRest}

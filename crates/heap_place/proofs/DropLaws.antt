@@ -13,11 +13,11 @@ use Rattle.laws_heap.proofs.Chunks.{total-append, Spelled-same, SpelledAll-split
 use Rattle.laws_heap.proofs.Bodies.{IsBody-low, IsBody-high}
 use Rattle.laws_heap.proofs.Placed.{AnyPlaced-mid, AnyPlaced-split, AnyPlaced-left, AnyPlaced-right}
 use Rattle.laws_heap.proofs.Slots.{SlotFacts, slot_facts, free_hold_none, IsBeside, slot_beside}
-use Rattle.laws_heap.proofs.Replacing.{replaced_heap, kept_directory}
-use Rattle.laws_heap.proofs.Writing.{WroteWithin, wrote_part, wrote_word, wrote_wider, wrote_then, wrote_none, wrote_apart, WroteArea, area_replaces, wrote_slots, area_slots, beside_same, beside_word}
+use Rattle.laws_heap.proofs.Replacements.{replaced_heap, kept_directory}
+use Rattle.laws_heap.proofs.Writes.{WroteWithin, wrote_part, wrote_word, wrote_wider, wrote_then, wrote_none, wrote_apart, WroteArea, area_replaces, wrote_slots, area_slots, beside_same, beside_word}
 use Rattle.laws_heap.proofs.Runs.{chunks_of-tiled}
 use Rattle.laws_heap.proofs.Plain.{free_plain, replaced_plain}
-use Rattle.laws_heap.proofs.Freeing.{free_replaced}
+use Rattle.laws_heap.proofs.FreeChunks.{free_replaced}
 use Rattle.chunk_format.specs.Header.{HasHeader, live_words, h_offset_to}
 use Rattle.chunk_format.specs.declared.header.Header.TheVariants as headers
 use Rattle.laws_heap.proofs.CarriedBytes.{Carries, slice-carried, slid_down}
@@ -25,7 +25,7 @@ use Rattle.heap_place.specs.Packs.{BecomesExactly, Droppable}
 use Rattle.heap_place.specs.Lists.{KeepsFree}
 use Rattle.heap_place.specs.Gathers.{Before}
 use Rattle.heap_place.proofs.FoundLaws.{heap_in_parts, Middle, middle_of}
-use Rattle.laws_heap.proofs.Exchanging.{gap_free, gap_total}
+use Rattle.laws_heap.proofs.Exchanges.{gap_free, gap_total}
 use Rattle.heap_place.proofs.RoomLaws.{free_push}
 use Rattle.heap_place.proofs.CutLaws.{has_free, header_movable, wrote_words}
 use Rattle.heap_place.proofs.ExactLaws.{exactly_heap}

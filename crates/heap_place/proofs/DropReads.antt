@@ -5,8 +5,8 @@ use Rattle.heap_model.specs.Chunk.{Chunk, free, movable, need}
 use Rattle.heap_model.specs.Slots.{IsSlot, table_end}
 use Rattle.heap_model.specs.Heap.{HeapAccepted}
 use Rattle.laws_heap.proofs.Slots.{head_table}
-use Rattle.laws_heap.proofs.Replacing.{head_same, slot_there}
-use Rattle.laws_heap.proofs.Writing.{WroteWithin, wrote_part, wrote_word, wrote_wider, wrote_then}
+use Rattle.laws_heap.proofs.Replacements.{head_same, slot_there}
+use Rattle.laws_heap.proofs.Writes.{WroteWithin, wrote_part, wrote_word, wrote_wider, wrote_then}
 use Rattle.chunk_format.specs.Header.{size_by, HasHeader, IsWritable, live_words, h_offset_to, header_bytes}
 use Rattle.chunk_format.specs.declared.header.Header.{Header}
 use Rattle.chunk_format.specs.declared.header.Header.TheVariants as headers

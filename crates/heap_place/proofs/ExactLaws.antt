@@ -6,8 +6,8 @@ use Rattle.heap_model.specs.Heap.{IsHeap, HeapAccepted}
 use Rattle.heap_model.specs.Reading.{chunks_of}
 use Rattle.heap_model.specs.Layout.{merged, Becomes, WritesPlain}
 use Rattle.laws_heap.proofs.Runs.{chunks_of-tiled}
-use Rattle.laws_heap.proofs.Replacing.{SameHead}
-use Rattle.laws_heap.proofs.Becoming.{frame_of, same_frame, frame_then, becomes_start}
+use Rattle.laws_heap.proofs.Replacements.{SameHead}
+use Rattle.laws_heap.proofs.SameLayouts.{frame_of, same_frame, frame_then, becomes_start}
 use Rattle.laws_heap.proofs.Plain.{plain_same, plain_then}
 use Rattle.heap_place.specs.Packs.{BecomesExactly}
 use Rattle.heap_place.specs.Lists.{SameChunks}

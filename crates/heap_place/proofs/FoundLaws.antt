@@ -10,7 +10,7 @@ use Rattle.laws_heap.proofs.Chunks.{Spelled-size, SpelledAll-split, SpelledAll-e
 use Rattle.laws_heap.proofs.Placed.{AnyPlaced-mid}
 use Rattle.laws_heap.proofs.Accepted.{heap_of_read}
 use Rattle.laws_heap.proofs.FixedNames.{fixed_live_is}
-use Rattle.laws_heap.proofs.Finding.{finds_held, named_size, finds_spelled, finds_body}
+use Rattle.laws_heap.proofs.FoundChunks.{finds_held, named_size, finds_spelled, finds_body}
 use Rattle.heap_place.specs.declared.found.Found.{Found}
 use Rattle.heap_place.specs.Found.{IsFound, IsOne}
 

@@ -6,7 +6,7 @@ use Rattle.heap_model.specs.Heap.{HeapAccepted}
 use Rattle.heap_model.specs.Reading.{chunks_of}
 use Rattle.heap_model.specs.Layout.{Becomes, IsSpot}
 use Rattle.laws_heap.proofs.Chunks.{total-append, Spelled-size, SpelledAll-end, SpelledAll-split}
-use Rattle.laws_heap.proofs.Becoming.{frame_then}
+use Rattle.laws_heap.proofs.SameLayouts.{frame_then}
 use Rattle.laws_heap.proofs.Resizings.{front_parts}
 use Rattle.chunk_format.specs.declared.header.Header.{Header}
 use Rattle.chunk_format.specs.Header.{HasHeader, size_by}

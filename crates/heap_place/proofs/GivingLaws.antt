@@ -5,8 +5,8 @@ use Rattle.heap_model.specs.Slots.{area_start}
 use Rattle.heap_model.specs.Heap.{HeapAccepted}
 use Rattle.heap_model.specs.Reading.{chunks_of}
 use Rattle.heap_model.specs.Layout.{merged, layout_of, exchanged, Becomes, Alters, freed}
-use Rattle.laws_heap.proofs.Becoming.{becomes_held, becomes_place, becomes_start, frame_then}
-use Rattle.laws_heap.proofs.Exchanging.{held_parts}
+use Rattle.laws_heap.proofs.SameLayouts.{becomes_held, becomes_place, becomes_start, frame_then}
+use Rattle.laws_heap.proofs.Exchanges.{held_parts}
 use Rattle.heap_place.specs.declared.found.Found.{Found}
 use Rattle.heap_place.specs.Found.{IsOne}
 use Rattle.heap_place.proofs.FoundLaws.{one_held}

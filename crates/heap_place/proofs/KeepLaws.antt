@@ -12,10 +12,10 @@ use Rattle.heap_model.specs.Layout.{IsFreeAt, BeginsFree, WritesPlain}
 use Rattle.laws_heap.proofs.Frames.{u32_at-written}
 use Rattle.laws_heap.proofs.Runs.{chunks_of-tiled}
 use Rattle.laws_heap.proofs.Placed.{TakesBytes, SpelledAll-takes, EveryPlaced-split, AnyPlaced-left, AnyPlaced-right, AnyPlaced-split, AnyPlaced-mid}
-use Rattle.laws_heap.proofs.Replacing.{Replaces, replaced_total, same_start}
-use Rattle.laws_heap.proofs.Writing.{WroteWithin, wrote_none, wrote_word, wrote_wider, wrote_word_apart, WroteArea, area_replaces, wrote_slots}
-use Rattle.laws_heap.proofs.Freeing.{free_replaced}
-use Rattle.laws_heap.proofs.Becoming.{frame_start, becomes_heap}
+use Rattle.laws_heap.proofs.Replacements.{Replaces, replaced_total, same_start}
+use Rattle.laws_heap.proofs.Writes.{WroteWithin, wrote_none, wrote_word, wrote_wider, wrote_word_apart, WroteArea, area_replaces, wrote_slots}
+use Rattle.laws_heap.proofs.FreeChunks.{free_replaced}
+use Rattle.laws_heap.proofs.SameLayouts.{frame_start, becomes_heap}
 use Rattle.laws_heap.proofs.Plain.{free_inside, free_word}
 use Rattle.heap_place.specs.Lists.{IsOfClass, class_count, ButAt, Outside, KeepsFree, IsFreeChunk, Links, Pushes}
 use Rattle.heap_place.proofs.FoundLaws.{heap_in_parts, middle_of}

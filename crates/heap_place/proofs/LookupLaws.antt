@@ -15,14 +15,14 @@ use Rattle.heap_model.specs.Space.{place_of}
 use Rattle.heap_model.specs.Placing.{Finds, NotFixedAs}
 use Rattle.heap_model.specs.declared.names.Name.{Name}
 use Rattle.heap_model.specs.declared.names.Place.{Place}
-use Rattle.laws_heap.proofs.Deciding.{cond-true, cond-false}
+use Rattle.laws_heap.proofs.Tests.{cond-true, cond-false}
 use Rattle.laws_heap.proofs.Placed.{EveryPlaced-push, EveryPlaced-split, AnyPlaced-mid}
 use Rattle.laws_heap.proofs.Slots.{heap_hold_none}
 use Rattle.laws_heap.proofs.FixedNames.{fixed_name, fixed_live, fixed_live_is, fixed_has_name, fixed_name_is, fixed_place, fixed_not, not_fixed_as}
-use Rattle.laws_heap.proofs.Finding.{finds_spelled, InSlot, in_slot, finds_read, held_finds, none_held, read_heap}
+use Rattle.laws_heap.proofs.FoundChunks.{finds_spelled, InSlot, in_slot, finds_read, held_finds, none_held, read_heap}
 use Rattle.laws_heap.proofs.Shapes.{chunk_at-spelled}
 use Rattle.laws_heap.proofs.Lives.{live_placed}
-use Rattle.laws_heap.proofs.Altering.{finds_place}
+use Rattle.laws_heap.proofs.AlteredChunks.{finds_place}
 use Rattle.master_table.specs.Table.{HoldsPlace, HoldsNothing}
 use Rattle.chunk_format.specs.declared.header.Header.{Header}
 use Rattle.chunk_format.specs.declared.header.Header.TheVariants as headers

@@ -10,13 +10,13 @@ use Rattle.laws_heap.proofs.Chunks.{total-append, Spelled-size, Spelled-same, Sa
 use Rattle.laws_heap.proofs.Slots.{SlotFacts, slot_facts, IsBeside, slot_beside, slot_alike, start_listed}
 use Rattle.laws_heap.proofs.Bodies.{IsBody-low, IsBody-high}
 use Rattle.laws_heap.proofs.Placed.{EveryPlaced-split, AnyPlaced-mid, AnyPlaced-split}
-use Rattle.laws_heap.proofs.Replacing.{same_count, head_slots, same_directory, slot_there, Replaces, replaced_tiles}
-use Rattle.laws_heap.proofs.Writing.{WroteWithin, wrote_word, wrote_wider, WroteArea, area_replaces, area_slots, beside_same}
+use Rattle.laws_heap.proofs.Replacements.{same_count, head_slots, same_directory, slot_there, Replaces, replaced_tiles}
+use Rattle.laws_heap.proofs.Writes.{WroteWithin, wrote_word, wrote_wider, WroteArea, area_replaces, area_slots, beside_same}
 use Rattle.chunk_format.specs.Header.{header_of, size_by, HasHeader, IsWritable, live_words, h_offset_to}
 use Rattle.chunk_format.specs.declared.header.Header.{Header}
 use Rattle.chunk_format.specs.declared.header.Header.TheVariants as headers
 use Rattle.heap_place.specs.Lifting.{carried, all_carried, Lifting}
-use Rattle.laws_heap.proofs.Altering.{body_stays}
+use Rattle.laws_heap.proofs.AlteredChunks.{body_stays}
 use Rattle.heap_place.proofs.CarriedLaws.{carried_total}
 use Rattle.heap_place.proofs.FoundLaws.{total_whole}
 use Rattle.heap_place.proofs.CutLaws.{header_movable, wrote_words, wrote_head}

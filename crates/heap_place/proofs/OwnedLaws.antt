@@ -12,15 +12,15 @@ use Rattle.heap_model.specs.Reading.{chunks_of}
 use Rattle.heap_model.specs.Space.{AllFree}
 use Rattle.heap_model.specs.Placing.{Finds}
 use Rattle.heap_model.specs.Layout.{merged, layout_of, Becomes, Alters, FreeUpTo, freed, owned_freed, WritesPlain}
-use Rattle.laws_heap.proofs.Deciding.{cond-true, cond-false, true_or_false}
+use Rattle.laws_heap.proofs.Tests.{cond-true, cond-false, true_or_false}
 use Rattle.laws_heap.proofs.Chunks.{total-append, SpelledAll-split, SpelledAll-end}
 use Rattle.laws_heap.proofs.Plain.{plain_same, plain_then}
 use Rattle.laws_heap.proofs.Placed.{TakesBytes, SpelledAll-takes, AnyPlaced-left, AnyPlaced-split, EveryPlaced-split}
 use Rattle.laws_heap.proofs.FixedNames.{fixed_live, fixed_has_name}
-use Rattle.laws_heap.proofs.Finding.{read_heap, finds_held}
+use Rattle.laws_heap.proofs.FoundChunks.{read_heap, finds_held}
 use Rattle.laws_heap.proofs.Layouts.{IsNotFree, any-merged}
-use Rattle.laws_heap.proofs.Becoming.{same_frame, frame_then, becomes_start}
-use Rattle.laws_heap.proofs.Exchanging.{exchanges_parts}
+use Rattle.laws_heap.proofs.SameLayouts.{same_frame, frame_then, becomes_start}
+use Rattle.laws_heap.proofs.Exchanges.{exchanges_parts}
 use Rattle.laws_heap.proofs.OwnedChunks.{owned, counted_one, owned-merged, freed_if, owned_freed-append, owned_freed-merged, owned_freed-layout, owned_freed-none, not_directory}
 use Rattle.chunk_format.specs.declared.header.Header.{Header}
 use Rattle.chunk_format.specs.declared.header.Header.TheVariants as headers

@@ -11,7 +11,7 @@ use Rattle.heap_model.specs.Packing.{packed_behind, packed, moved_behind, moved_
 use Rattle.heap_model.specs.Layout.{Becomes, gap}
 use Rattle.laws_heap.proofs.Chunks.{total-append, Spelled-size, SpelledAll-split, SpelledAll-end}
 use Rattle.laws_heap.proofs.Accepted.{heap_of_read}
-use Rattle.laws_heap.proofs.Deciding.{cond-false}
+use Rattle.laws_heap.proofs.Tests.{cond-false}
 use Rattle.std.proofs.lemmas.Bool.{cases_eq}
 use Rattle.std.proofs.lemmas.Bool.Decides.{nat_tests}
 use Rattle.chunk_format.specs.Header.{header_of, size_by, HasHeader, IsWritable}
@@ -24,7 +24,7 @@ use Rattle.heap_place.proofs.FoundLaws.{heap_in_parts}
 use Rattle.heap_place.proofs.MendLaws.{header_there}
 use Rattle.heap_place.proofs.ExactLaws.{exactly_itself, exactly_then, exactly_becomes, exactly_start, exactly_linked}
 use Rattle.heap_place.proofs.DropLaws.{gap_some, gap_none, join_facts, joined}
-use Rattle.laws_heap.proofs.Exchanging.{gap_total}
+use Rattle.laws_heap.proofs.Exchanges.{gap_total}
 use Rattle.chunk_format.proofs.HeaderLaws.{size_by-header_of}
 use Rattle.heap_place.proofs.CutLaws.{free_header}
 

@@ -9,11 +9,11 @@ use Rattle.heap_model.specs.Layout.{BeginsFree, IsFreeAt, gap, IsSpot}
 use Rattle.heap_model.specs.Placing.{Finds}
 use Rattle.heap_model.specs.Resizing.{with_length}
 use Rattle.laws_heap.proofs.Chunks.{total-append}
-use Rattle.laws_heap.proofs.Changing.{named_live_chunk}
+use Rattle.laws_heap.proofs.ExchangedNames.{named_live_chunk}
 use Rattle.laws_heap.proofs.Runs.{chunks_of-tiled}
 use Rattle.laws_heap.proofs.Placed.{TakesBytes, SpelledAll-takes, EveryPlaced-split, AnyPlaced-split}
 use Rattle.laws_heap.proofs.Plain.{free_inside}
-use Rattle.laws_heap.proofs.Replacing.{same_start}
+use Rattle.laws_heap.proofs.Replacements.{same_start}
 use Rattle.laws_heap.proofs.Resizings.{size_of-with_length}
 use Rattle.heap_place.specs.declared.found.Found.{Found}
 use Rattle.heap_place.specs.Resizes.{RunBehind, Resizes}

@@ -19,15 +19,15 @@ use Rattle.laws_heap.proofs.Chunks.{Spelled-size, Spelled-same}
 use Rattle.laws_heap.proofs.Shapes.{chunk_at-spelled, chunk_at-none}
 use Rattle.laws_heap.proofs.Runs.{chunks_of-tiled}
 use Rattle.laws_heap.proofs.Slots.{slot_facts, free_hold_none, named_hold_none, slot_beside}
-use Rattle.laws_heap.proofs.Replacing.{Replaces, same_start}
+use Rattle.laws_heap.proofs.Replacements.{Replaces, same_start}
 use Rattle.laws_heap.proofs.Layouts.{merged-middle, runs-merged}
-use Rattle.laws_heap.proofs.Becoming.{becomes_heap, becomes_alike}
-use Rattle.laws_heap.proofs.Finding.{finds_spelled}
-use Rattle.laws_heap.proofs.Exchanging.{exchanges_parts}
-use Rattle.laws_heap.proofs.Changing.{named_live_chunk}
-use Rattle.laws_heap.proofs.Writing.{WroteWithin, wrote_none, wrote_word, wrote_wider, WroteArea, area_replaces, wrote_slot, area_slots, beside_same, beside_word}
+use Rattle.laws_heap.proofs.SameLayouts.{becomes_heap, becomes_alike}
+use Rattle.laws_heap.proofs.FoundChunks.{finds_spelled}
+use Rattle.laws_heap.proofs.Exchanges.{exchanges_parts}
+use Rattle.laws_heap.proofs.ExchangedNames.{named_live_chunk}
+use Rattle.laws_heap.proofs.Writes.{WroteWithin, wrote_none, wrote_word, wrote_wider, WroteArea, area_replaces, wrote_slot, area_slots, beside_same, beside_word}
 use Rattle.laws_heap.proofs.Plain.{free_plain, replaced_plain}
-use Rattle.laws_heap.proofs.Freeing.{OtherSlots, ClearsSlot, released}
+use Rattle.laws_heap.proofs.FreeChunks.{OtherSlots, ClearsSlot, released}
 use Rattle.laws_heap.proofs.FixedNames.{fixed_live_is}
 use Rattle.chunk_format.specs.declared.header.Header.TheVariants as headers
 use Rattle.chunk_format.specs.Header.{HasHeader}

@@ -14,21 +14,21 @@ use Rattle.heap_model.specs.Space.{NoRun, place_of}
 use Rattle.heap_model.specs.Placing.{Finds}
 use Rattle.heap_model.specs.Layout.{Becomes, Alters, freed, with_bytes, IsSpot, Claims, WritesPlain}
 use Rattle.heap_model.specs.Resizing.{with_length, Relocates}
-use Rattle.laws_heap.proofs.Finding.{held_finds, finds_spelled, finds_body}
-use Rattle.laws_heap.proofs.Altering.{finds_place, body_stays}
-use Rattle.laws_heap.proofs.Exchanging.{ChangesName}
+use Rattle.laws_heap.proofs.FoundChunks.{held_finds, finds_spelled, finds_body}
+use Rattle.laws_heap.proofs.AlteredChunks.{finds_place, body_stays}
+use Rattle.laws_heap.proofs.Exchanges.{ChangesName}
 use Rattle.laws_heap.proofs.FixedNames.{fixed_name, fixed_live, fixed_has_name, fixed_live_is}
-use Rattle.laws_heap.proofs.Changing.{bytes_changes, freed_changes}
+use Rattle.laws_heap.proofs.ExchangedNames.{bytes_changes, freed_changes}
 use Rattle.laws_heap.proofs.Spots.{claims_change, spot_unheld, spot_is_run}
 use Rattle.laws_heap.proofs.Resizings.{length-sized_to}
 use Rattle.laws_heap.proofs.Relocation.{relocates}
-use Rattle.laws_heap.proofs.Compacting.{slot_unheld}
+use Rattle.laws_heap.proofs.SlidImages.{slot_unheld}
 use Rattle.laws_heap.proofs.Chunks.{Spelled-same}
 use Rattle.laws_heap.proofs.Frames.{u32_at-written, length-overwritten}
 use Rattle.laws_heap.proofs.Slots.{slot_facts, named_hold_none, slot_beside}
-use Rattle.laws_heap.proofs.Writing.{WroteWithin, wrote_wider, wrote_word, WroteArea, area_replaces, area_slots, beside_same}
-use Rattle.laws_heap.proofs.Freeing.{OtherSlots, claimed}
-use Rattle.laws_heap.proofs.Becoming.{becomes_heap, slot_kept}
+use Rattle.laws_heap.proofs.Writes.{WroteWithin, wrote_wider, wrote_word, WroteArea, area_replaces, area_slots, beside_same}
+use Rattle.laws_heap.proofs.FreeChunks.{OtherSlots, claimed}
+use Rattle.laws_heap.proofs.SameLayouts.{becomes_heap, slot_kept}
 use Rattle.laws_heap.proofs.Plain.{lives_plain, replaced_plain}
 use Rattle.chunk_format.specs.declared.header.Header.TheVariants as headers
 use Rattle.chunk_format.specs.Header.{HasHeader, live_words, h_offset_to}

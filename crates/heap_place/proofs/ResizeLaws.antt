@@ -13,17 +13,17 @@ use Rattle.heap_model.specs.Placing.{Finds}
 use Rattle.heap_model.specs.Packing.{lives}
 use Rattle.heap_model.specs.Layout.{Becomes, gap, IsFreeAt, WritesPlain}
 use Rattle.heap_model.specs.Resizing.{with_length, shrunk, Shrinks}
-use Rattle.laws_heap.proofs.Deciding.{cond-true, cond-false}
+use Rattle.laws_heap.proofs.Tests.{cond-true, cond-false}
 use Rattle.laws_heap.proofs.Frames.{SameBetween, SameBetween-then, slice-same, slice-overwritten-within}
 use Rattle.laws_heap.proofs.Layouts.{IsNotFree}
 use Rattle.laws_heap.proofs.FixedNames.{fixed_live_is}
-use Rattle.laws_heap.proofs.Finding.{finds_spelled}
-use Rattle.laws_heap.proofs.Changing.{named_live_chunk}
-use Rattle.laws_heap.proofs.Writing.{WroteWithin, wrote_part, wrote_wider, wrote_then, wrote_apart}
-use Rattle.laws_heap.proofs.Becoming.{becomes_heap}
-use Rattle.laws_heap.proofs.Replacing.{Replaces}
-use Rattle.laws_heap.proofs.Exchanging.{exchanges_parts, gap_free}
-use Rattle.laws_heap.proofs.Altering.{TiedAlike, rewritten, finds_callers}
+use Rattle.laws_heap.proofs.FoundChunks.{finds_spelled}
+use Rattle.laws_heap.proofs.ExchangedNames.{named_live_chunk}
+use Rattle.laws_heap.proofs.Writes.{WroteWithin, wrote_part, wrote_wider, wrote_then, wrote_apart}
+use Rattle.laws_heap.proofs.SameLayouts.{becomes_heap}
+use Rattle.laws_heap.proofs.Replacements.{Replaces}
+use Rattle.laws_heap.proofs.Exchanges.{exchanges_parts, gap_free}
+use Rattle.laws_heap.proofs.AlteredChunks.{TiedAlike, rewritten, finds_callers}
 use Rattle.laws_heap.proofs.Plain.{lives_plain, replaced_plain}
 use Rattle.laws_heap.proofs.Resizings.{length-sized_to, size_of-with_length}
 use Rattle.chunk_format.specs.declared.header.Header.{Header}

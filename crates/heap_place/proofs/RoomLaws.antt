@@ -8,7 +8,7 @@ use Rattle.heap_model.specs.Space.{AllFree, NoRun}
 use Rattle.heap_model.specs.Layout.{merged, IsRoom}
 use Rattle.laws_heap.proofs.Chunks.{total-append, Spelled-size, SpelledAll-end, SpelledAll-push}
 use Rattle.laws_heap.proofs.Runs.{chunk_there, chunks_after, chunks_of-tiled}
-use Rattle.laws_heap.proofs.Freeing.{free_sum}
+use Rattle.laws_heap.proofs.FreeChunks.{free_sum}
 use Rattle.laws_heap.proofs.Layouts.{IsNotFree, merged-live}
 use Rattle.chunk_format.specs.declared.header.Header.{Header}
 use Rattle.chunk_format.specs.declared.header.Header.TheVariants as headers

@@ -8,7 +8,7 @@ use Rattle.heap_model.specs.Layout.{Becomes, gap}
 use Rattle.heap_model.specs.Resizing.{with_length, behind_front, GrowsInPlace}
 use Rattle.laws_heap.proofs.Chunks.{total-append, Spelled-size, SpelledAll-split}
 use Rattle.laws_heap.proofs.Shapes.{chunk_at-spelled, chunk_at-none}
-use Rattle.laws_heap.proofs.Changing.{named_live_chunk}
+use Rattle.laws_heap.proofs.ExchangedNames.{named_live_chunk}
 use Rattle.laws_heap.proofs.Resizings.{front_parts, grows_parts}
 use Rattle.chunk_format.specs.Header.{header_of, HasHeader}
 use Rattle.chunk_format.specs.declared.header.Header.{Header}

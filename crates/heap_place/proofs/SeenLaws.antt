@@ -9,7 +9,7 @@ use Rattle.heap_model.specs.Reading.{chunks_of}
 use Rattle.heap_model.specs.Space.{stays, NoneStays}
 use Rattle.heap_model.specs.Packing.{EndsStaying, BeginsStaying}
 use Rattle.heap_model.specs.Meaning.{LiveChunk, NamedHere}
-use Rattle.laws_heap.proofs.Sliding.{none_stays-append}
+use Rattle.laws_heap.proofs.Slides.{none_stays-append}
 use Rattle.laws_heap.proofs.Chunks.{Spelled-size, Spelled-unique, SpelledAll-split, SpelledAll-end, SpelledAll-push, SpelledAll-rest}
 use Rattle.laws_heap.proofs.Runs.{chunk_there, chunks_after}
 use Rattle.laws_heap.proofs.FixedNames.{fixed_live_is}

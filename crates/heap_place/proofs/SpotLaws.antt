@@ -4,7 +4,7 @@ use Rattle.heap_model.specs.Chunk.{Chunk, free, need, size_of, total}
 use Rattle.heap_model.specs.Memory.{Memory}
 use Rattle.heap_model.specs.Reading.{chunks_of}
 use Rattle.heap_model.specs.Layout.{Becomes, gap, IsSpot, Claims}
-use Rattle.laws_heap.proofs.Becoming.{frame_start, frame_then}
+use Rattle.laws_heap.proofs.SameLayouts.{frame_start, frame_then}
 use Rattle.heap_place.specs.Lists.{IsFreeChunk, CutsRoom, Fills}
 
 pub chunk_spot : (image : List ℕ) (at size : ℕ) → IsFreeChunk image at size → IsSpot image at size

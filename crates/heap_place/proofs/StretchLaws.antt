@@ -14,10 +14,10 @@ use Rattle.heap_model.specs.Layout.{Becomes, gap, merged, IsRoom, WritesPlain}
 use Rattle.heap_model.specs.Packing.{packed, lives, EndsStaying, WholeStretch, opened, OpensBehind}
 use Rattle.laws_heap.proofs.Chunks.{total-append, SpelledAll-split, SpelledAll-end}
 use Rattle.laws_heap.proofs.Placed.{AnyPlaced-mid}
-use Rattle.laws_heap.proofs.Compacting.{moved_within}
-use Rattle.laws_heap.proofs.Exchanging.{gap_free, gap_total}
+use Rattle.laws_heap.proofs.SlidImages.{moved_within}
+use Rattle.laws_heap.proofs.Exchanges.{gap_free, gap_total}
 use Rattle.laws_heap.proofs.Layouts.{IsNotFree}
-use Rattle.laws_heap.proofs.Sliding.{lives-append, lives_total, lives_twice, stretch_packed}
+use Rattle.laws_heap.proofs.Slides.{lives-append, lives_total, lives_twice, stretch_packed}
 use Rattle.laws_heap.proofs.Stretches.{room_of-middle, one_stretch}
 use Rattle.heap_place.specs.declared.stretch.Stretch.{Stretch}
 use Rattle.heap_place.specs.Lifting.{FreeBehind}

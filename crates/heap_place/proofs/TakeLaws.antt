@@ -8,7 +8,7 @@ use Rattle.heap_model.specs.Heap.{HeapAccepted}
 use Rattle.heap_model.specs.Reading.{chunks_of, size_field}
 use Rattle.heap_model.specs.Space.{AllFree}
 use Rattle.heap_model.specs.Layout.{merged, layout_of, Becomes, BeginsFree, IsFreeAt, gap, IsSpot}
-use Rattle.laws_heap.proofs.Becoming.{frame_start, frame_then}
+use Rattle.laws_heap.proofs.SameLayouts.{frame_start, frame_then}
 use Rattle.laws_heap.proofs.Placed.{PlacedParts, AnyPlaced-parts}
 use Rattle.heap_place.specs.Lists.{class_count, AreLists, HasLists, ButAt, Outside, KeepsFree, IsFreeChunk, Links, Pushes, CutsRoom}
 use Rattle.heap_place.proofs.FoundLaws.{heap_in_parts, middle_of}

@@ -17,11 +17,11 @@ use Rattle.laws_heap.proofs.Directory.{named_start}
 use Rattle.laws_heap.proofs.Frames.{overwritten-behind}
 use Rattle.laws_heap.proofs.Chunks.{Spelled-size, SpelledAll-split, SpelledAll-same, SpelledAll-end}
 use Rattle.laws_heap.proofs.Runs.{chunk_there, chunks_of-tiled}
-use Rattle.laws_heap.proofs.Finding.{read_heap}
+use Rattle.laws_heap.proofs.FoundChunks.{read_heap}
 use Rattle.laws_heap.proofs.Placed.{SpelledAll-takes}
 use Rattle.laws_heap.proofs.Plain.{free_inside}
-use Rattle.laws_heap.proofs.Replacing.{SameHead, same_start, Replaces, replaced_tiles}
-use Rattle.laws_heap.proofs.Writing.{WroteWithin, wrote_none, wrote_part, wrote_word, wrote_wider, wrote_apart, wrote_word_apart, WroteArea, area_replaces}
+use Rattle.laws_heap.proofs.Replacements.{SameHead, same_start, Replaces, replaced_tiles}
+use Rattle.laws_heap.proofs.Writes.{WroteWithin, wrote_none, wrote_part, wrote_word, wrote_wider, wrote_apart, wrote_word_apart, WroteArea, area_replaces}
 use Rattle.heap_place.specs.declared.found.Found.{Found}
 use Rattle.heap_place.specs.Found.{IsOne}
 use Rattle.heap_place.specs.Lists.{Any, KeepsFree, HasLists}

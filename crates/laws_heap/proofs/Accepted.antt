@@ -13,7 +13,7 @@ use Rattle.heap_model.specs.Heap.{IsHead, Tiles, BodyHere, IsCallersIfFixed, Man
 use Rattle.heap_model.specs.Placed.{EveryPlaced, AnyPlaced, EveryOne}
 use Rattle.heap_model.specs.Pairing.{HoldsBody, NamesItsSlot}
 use Rattle.heap_model.specs.Reading.{chunks_of, head_tests, area_tests, is_body_here, holds_body, names_its_slot, is_callers_if_fixed, is_managers_here, is_accepted}
-use Rattle.laws_heap.proofs.Deciding.{Decides-nat_le}
+use Rattle.laws_heap.proofs.Tests.{Decides-nat_le}
 use Rattle.laws_heap.proofs.Chunks.{SpelledAll-end}
 use Rattle.laws_heap.proofs.Placed.{Decides-every, Decides-any, Decides-every_one}
 use Rattle.laws_heap.proofs.Slots.{Decides-slot}

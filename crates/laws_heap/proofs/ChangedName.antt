@@ -6,8 +6,8 @@ use Rattle.std.specs.Prelude.{◌==◌}
 use Rattle.heap_model.specs.Meaning.{LiveChunk}
 use Rattle.heap_model.specs.Reading.{held}
 use Rattle.heap_model.specs.Maps.{updated}
-use Rattle.laws_heap.proofs.Deciding.{cond-true, cond-false}
-use Rattle.laws_heap.proofs.Exchanging.{ChangesName}
+use Rattle.laws_heap.proofs.Tests.{cond-true, cond-false}
+use Rattle.laws_heap.proofs.Exchanges.{ChangesName}
 
 pub held_updated : (old new : List ℕ) (name : ℕ) (now : Option LiveChunk) (there : Option ℕ) → ChangesName old new name now there → (n : ℕ) → held new n ≡ updated (held old) name now n
 held_updated old new name now there ch n = elim (cases_eq n name) [

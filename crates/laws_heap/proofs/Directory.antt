@@ -21,10 +21,10 @@ use Rattle.laws_heap.proofs.Slots.{slot_facts, same_slots, slot_alike, start_ali
 use Rattle.laws_heap.proofs.Runs.{chunks_of-tiled}
 use Rattle.laws_heap.proofs.Placed.{EveryPlaced-split, AnyPlaced-mid, SpelledAll-takes}
 use Rattle.laws_heap.proofs.FixedNames.{fixed_live_is}
-use Rattle.laws_heap.proofs.Finding.{read_heap, held_finds}
+use Rattle.laws_heap.proofs.FoundChunks.{read_heap, held_finds}
 use Rattle.laws_heap.proofs.Plain.{free_inside}
 use Rattle.laws_heap.proofs.OwnedChunks.{not_directory}
-use Rattle.laws_heap.proofs.Writing.{WroteWithin, wrote_word, wrote_word_apart}
+use Rattle.laws_heap.proofs.Writes.{WroteWithin, wrote_word, wrote_word_apart}
 
 -- a chunk of the manager's has this name
 is_managers : (image : List ℕ) (name : ℕ) → HeapAccepted image → owner_under image name ≡ managers_owner → AnyPlaced (ManagersHere name) (area_start image) (chunks_of image)

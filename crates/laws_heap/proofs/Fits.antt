@@ -14,10 +14,10 @@ use Rattle.heap_model.specs.Placing.{Finds}
 use Rattle.heap_model.specs.Layout.{IsSpot}
 use Rattle.heap_model.specs.Packing.{WholeStretch}
 use Rattle.heap_model.specs.Resizing.{behind_front}
-use Rattle.laws_heap.proofs.Freeing.{free_sum}
+use Rattle.laws_heap.proofs.FreeChunks.{free_sum}
 use Rattle.laws_heap.proofs.Layouts.{short_no_run, marks, marked, mark_onto, marks_onto, marked_rooms}
 use Rattle.laws_heap.proofs.Chunks.{SpelledAll-end}
-use Rattle.laws_heap.proofs.Finding.{read_heap}
+use Rattle.laws_heap.proofs.FoundChunks.{read_heap}
 use Rattle.laws_heap.proofs.Resizings.{front_parts}
 use Rattle.laws_heap.proofs.Stretches.{with_freed-append, freed_middle, room_among, All-back}
 

@@ -4,7 +4,7 @@ use Rattle.std.specs.Prelude.{◌==◌}
 use Rattle.heap_model.specs.Chunk.{Chunk, free, movable, fixed, need, total}
 use Rattle.heap_model.specs.Meaning.{LiveChunk}
 use Rattle.heap_model.specs.Reading.{live_under}
-use Rattle.laws_heap.proofs.Deciding.{none_some}
+use Rattle.laws_heap.proofs.Tests.{none_some}
 use Rattle.laws_heap.proofs.FixedNames.{is_fixed_name, fixed_live}
 use Rattle.heap_model.specs.Space.{AllFree, place_under}
 

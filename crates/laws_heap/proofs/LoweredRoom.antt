@@ -15,13 +15,13 @@ use Rattle.heap_model.specs.Space.{NoneStays, stretches, room_of, rooms_of, room
 use Rattle.heap_model.specs.Layout.{Becomes, gap, IsSpot, Claims}
 use Rattle.heap_model.specs.Packing.{SlidesOneStretch}
 use Rattle.heap_model.specs.Rooms.{is_movable_as, stretch_of, LowersOne, Lowers}
-use Rattle.laws_heap.proofs.Freeing.{free_sum}
+use Rattle.laws_heap.proofs.FreeChunks.{free_sum}
 use Rattle.laws_heap.proofs.Layouts.{rooms-merged}
-use Rattle.laws_heap.proofs.Becoming.{rooms-layout, same_frame}
-use Rattle.laws_heap.proofs.Exchanging.{gap_free, gap_total}
+use Rattle.laws_heap.proofs.SameLayouts.{rooms-layout, same_frame}
+use Rattle.laws_heap.proofs.Exchanges.{gap_free, gap_total}
 use Rattle.laws_heap.proofs.Spots.{spot_layout}
 use Rattle.laws_heap.proofs.StretchNumbers.{LiveAlone, stretch_with, becomes_stretch}
-use Rattle.laws_heap.proofs.Compacting.{slides_alike}
+use Rattle.laws_heap.proofs.SlidImages.{slides_alike}
 use Rattle.laws_heap.proofs.Stretches.{stretch_between, rooms_of-append, room_of-middle}
 
 -- ---- one of some numbers is lowered

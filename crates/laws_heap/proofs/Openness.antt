@@ -11,10 +11,10 @@ use Rattle.heap_model.specs.Layout.{merged, Alters, gap, FreeUpTo, IsSpot, Claim
 use Rattle.laws_heap.proofs.Chunks.{total-append}
 use Rattle.laws_heap.proofs.Placed.{TakesBytes}
 use Rattle.laws_heap.proofs.Runs.{chunks_of-tiled}
-use Rattle.laws_heap.proofs.Replacing.{SameHead, same_start}
+use Rattle.laws_heap.proofs.Replacements.{SameHead, same_start}
 use Rattle.laws_heap.proofs.Layouts.{IsNotFree, merged-middle, merged-right, runs-merged}
-use Rattle.laws_heap.proofs.Becoming.{becomes_heap, becomes_alike}
-use Rattle.laws_heap.proofs.Exchanging.{exchanges_parts, gap_free, gap_total}
+use Rattle.laws_heap.proofs.SameLayouts.{becomes_heap, becomes_alike}
+use Rattle.laws_heap.proofs.Exchanges.{exchanges_parts, gap_free, gap_total}
 
 -- ---- a chunk is given back
 

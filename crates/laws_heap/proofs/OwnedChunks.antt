@@ -13,17 +13,17 @@ use Rattle.heap_model.specs.Maps.{not_owned}
 use Rattle.heap_model.specs.Reading.{chunks_of, held, live_under}
 use Rattle.heap_model.specs.Space.{place_under, place_of}
 use Rattle.heap_model.specs.Layout.{free_onto, merged, layout_of, Becomes, freed, owned_freed}
-use Rattle.laws_heap.proofs.Deciding.{cond-true, cond-false}
+use Rattle.laws_heap.proofs.Tests.{cond-true, cond-false}
 use Rattle.laws_heap.proofs.Placed.{AnyPlaced-parts, AnyPlaced-mid}
 use Rattle.laws_heap.proofs.Lives.{or_else, live_under-append, live_placed}
 use Rattle.laws_heap.proofs.Meanings.{held-is, held-zero, live_under-is}
-use Rattle.laws_heap.proofs.Freeing.{or_front, or_back, live_mid, place_mid}
+use Rattle.laws_heap.proofs.FreeChunks.{or_front, or_back, live_mid, place_mid}
 use Rattle.laws_heap.proofs.FixedNames.{fixed_live_is}
-use Rattle.laws_heap.proofs.Finding.{read_heap, Found, held_finds}
-use Rattle.laws_heap.proofs.Altering.{named_live, named_place, finds_place}
+use Rattle.laws_heap.proofs.FoundChunks.{read_heap, Found, held_finds}
+use Rattle.laws_heap.proofs.AlteredChunks.{named_live, named_place, finds_place}
 use Rattle.laws_heap.proofs.Layouts.{onto_twice, merged-right, count-merged}
-use Rattle.laws_heap.proofs.Becoming.{becomes_alike, becomes_held, becomes_place}
-use Rattle.laws_heap.proofs.Exchanging.{NotBeside, named_beside}
+use Rattle.laws_heap.proofs.SameLayouts.{becomes_alike, becomes_held, becomes_place}
+use Rattle.laws_heap.proofs.Exchanges.{NotBeside, named_beside}
 
 -- ---- how many there are
 

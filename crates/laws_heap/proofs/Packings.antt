@@ -9,7 +9,7 @@ use Rattle.heap_model.specs.Layout.{merged, gap}
 use Rattle.heap_model.specs.Packing.{FreeIsLast, Packed, lives, staying, Slid, packed_behind, packed, BeginsStaying}
 use Rattle.laws_heap.proofs.Chunks.{total-append}
 use Rattle.laws_heap.proofs.Placed.{TakesBytes}
-use Rattle.laws_heap.proofs.Exchanging.{gap_total}
+use Rattle.laws_heap.proofs.Exchanges.{gap_total}
 
 -- ---- what packing leaves is its own layout
 

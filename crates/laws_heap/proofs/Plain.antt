@@ -11,7 +11,7 @@ use Rattle.heap_model.specs.Packing.{lives}
 use Rattle.laws_heap.proofs.Chunks.{SameWords}
 use Rattle.laws_heap.proofs.Runs.{chunks_of-tiled}
 use Rattle.laws_heap.proofs.Placed.{TakesBytes, AnyPlaced-left, AnyPlaced-right, AnyPlaced-split}
-use Rattle.laws_heap.proofs.Replacing.{Replaces, replaced_total, same_start}
+use Rattle.laws_heap.proofs.Replacements.{Replaces, replaced_total, same_start}
 
 -- where it begins among chunks
 pub free_inside : (there at : ℕ) (cs : List Chunk) → EveryPlaced TakesBytes at cs → AnyPlaced (IsFreeAt there) at cs → (at ≤ there) × (there + 8 ≤ at + total cs)

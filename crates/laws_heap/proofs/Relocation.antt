@@ -14,18 +14,18 @@ use Rattle.heap_model.specs.Space.{AllFree, place_under, place_of}
 use Rattle.heap_model.specs.Placing.{Finds}
 use Rattle.heap_model.specs.Layout.{merged, layout_of, Becomes, Alters, gap, in_front, freed, IsSpot, Claims}
 use Rattle.heap_model.specs.Resizing.{with_length, relocated, Relocates}
-use Rattle.laws_heap.proofs.Deciding.{cond-true, cond-false}
+use Rattle.laws_heap.proofs.Tests.{cond-true, cond-false}
 use Rattle.laws_heap.proofs.Chunks.{total-append}
 use Rattle.laws_heap.proofs.Placed.{TakesBytes, SpelledAll-takes, EveryPlaced-append, EveryPlaced-split, AnyPlaced-right, AnyPlaced-map}
-use Rattle.laws_heap.proofs.Replacing.{any_replaced}
+use Rattle.laws_heap.proofs.Replacements.{any_replaced}
 use Rattle.laws_heap.proofs.Meanings.{held-is, live_under-is}
-use Rattle.laws_heap.proofs.Finding.{read_heap}
+use Rattle.laws_heap.proofs.FoundChunks.{read_heap}
 use Rattle.laws_heap.proofs.Lives.{live_replaced, place_replaced}
 use Rattle.laws_heap.proofs.Layouts.{IsNotFree, any-layout, merged-front, merged-right, merged-live, merged-twice, total-merged}
-use Rattle.laws_heap.proofs.Becoming.{frame_then, becomes_start, becomes_held, becomes_place, becomes_body, becomes_slot}
-use Rattle.laws_heap.proofs.Exchanging.{exchanges_layout, gap_free, gap_total, NoOther, free_no_other, named_no_other, held_parts, place_parts, ChangesName}
-use Rattle.laws_heap.proofs.Changing.{changes_as}
-use Rattle.laws_heap.proofs.Compacting.{body_placed}
+use Rattle.laws_heap.proofs.SameLayouts.{frame_then, becomes_start, becomes_held, becomes_place, becomes_body, becomes_slot}
+use Rattle.laws_heap.proofs.Exchanges.{exchanges_layout, gap_free, gap_total, NoOther, free_no_other, named_no_other, held_parts, place_parts, ChangesName}
+use Rattle.laws_heap.proofs.ExchangedNames.{changes_as}
+use Rattle.laws_heap.proofs.SlidImages.{body_placed}
 use Rattle.laws_heap.proofs.Spots.{spot_layout}
 use Rattle.laws_heap.proofs.Stretches.{heads}
 use Rattle.laws_heap.proofs.Resizings.{live_sized, named_sized, size_of-with_length}

@@ -17,18 +17,18 @@ use Rattle.heap_model.specs.Placing.{Finds}
 use Rattle.heap_model.specs.Layout.{free_onto, merged, layout_of, Becomes, gap}
 use Rattle.heap_model.specs.Packing.{lives, packed, BeginsStaying, WholeStretch, opened, OpensBehind}
 use Rattle.heap_model.specs.Resizing.{with_length, behind_front, grown, GrowsInPlace}
-use Rattle.laws_heap.proofs.Deciding.{cond-true, cond-false, none_some}
+use Rattle.laws_heap.proofs.Tests.{cond-true, cond-false, none_some}
 use Rattle.laws_heap.proofs.FixedNames.{is_fixed_name, fixed_with_bytes}
 use Rattle.laws_heap.proofs.Placed.{TakesBytes}
-use Rattle.laws_heap.proofs.Freeing.{or_front, or_back}
-use Rattle.laws_heap.proofs.Altering.{named_live, named_place}
+use Rattle.laws_heap.proofs.FreeChunks.{or_front, or_back}
+use Rattle.laws_heap.proofs.AlteredChunks.{named_live, named_place}
 use Rattle.laws_heap.proofs.Lives.{or_else, live_under-append}
 use Rattle.laws_heap.proofs.Layouts.{IsNotFree, free_front-merged, merged-front, merged-right, merged-back, merged-live, merged-twice, total-merged, live_under-merged}
-use Rattle.laws_heap.proofs.Becoming.{becomes_alike, becomes_behind}
-use Rattle.laws_heap.proofs.Exchanging.{layout_takes, gap_free, gap_total, NotBeside, named_no_other, named_beside, ChangesName, run_changes}
-use Rattle.laws_heap.proofs.Changing.{changes_as, some_place, named_live_chunk}
+use Rattle.laws_heap.proofs.SameLayouts.{becomes_alike, becomes_behind}
+use Rattle.laws_heap.proofs.Exchanges.{layout_takes, gap_free, gap_total, NotBeside, named_no_other, named_beside, ChangesName, run_changes}
+use Rattle.laws_heap.proofs.ExchangedNames.{changes_as, some_place, named_live_chunk}
 use Rattle.laws_heap.proofs.Packings.{no_true, packed_slid}
-use Rattle.laws_heap.proofs.Sliding.{slid_live, none_stays-append, stretch_packed}
+use Rattle.laws_heap.proofs.Slides.{slid_live, none_stays-append, stretch_packed}
 
 -- ---- a chunk with another length
 

@@ -8,7 +8,7 @@ use Rattle.std.specs.Bool.{Decides}
 use Rattle.heap_model.specs.Bytes.{u32_at}
 use Rattle.heap_model.specs.Chunk.{Chunk, free, movable, fixed, need, slot_named, Spelled, IsFree, IsLive}
 use Rattle.heap_model.specs.Reading.{size_field, above_size, lock_field, owner_field, h_offset_field, has_live_word, is_in_shape, chunk_by_words, chunk_at}
-use Rattle.laws_heap.proofs.Deciding.{Decides-nat_le, cond-true, cond-false, true_or_false, guarded, some, leb-is-true, lt-leb-false}
+use Rattle.laws_heap.proofs.Tests.{Decides-nat_le, cond-true, cond-false, true_or_false, guarded, some, leb-is-true, lt-leb-false}
 
 -- what the test of a second word decides
 abbrev LiveWord : ℕ → Type 0

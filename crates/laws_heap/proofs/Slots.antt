@@ -13,7 +13,7 @@ use Rattle.heap_model.specs.Heap.{IsHead, Tiles, IsCallersIfFixed, IsHeap}
 use Rattle.heap_model.specs.Meaning.{LiveChunk, NamedHere}
 use Rattle.heap_model.specs.Placed.{EveryPlaced, EveryOne}
 use Rattle.heap_model.specs.Space.{AllFree}
-use Rattle.laws_heap.proofs.Deciding.{Decides-nat_le}
+use Rattle.laws_heap.proofs.Tests.{Decides-nat_le}
 use Rattle.laws_heap.proofs.Chunks.{SpelledAll-split, SpellsAgain, spells_same}
 use Rattle.laws_heap.proofs.Placed.{EveryPlaced-split}
 use Rattle.laws_heap.proofs.FixedNames.{fixed_name, fixed_place}

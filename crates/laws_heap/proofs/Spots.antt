@@ -9,11 +9,11 @@ use Rattle.heap_model.specs.Reading.{chunks_of, held}
 use Rattle.heap_model.specs.Space.{AllFree, NoRun, Short}
 use Rattle.heap_model.specs.Layout.{merged, layout_of, gap, IsRoom, IsSpot, Claims}
 use Rattle.laws_heap.proofs.Layouts.{merged-right, merged-left, runs-merged, short_no_run}
-use Rattle.laws_heap.proofs.Freeing.{free_sum}
+use Rattle.laws_heap.proofs.FreeChunks.{free_sum}
 use Rattle.laws_heap.proofs.FixedNames.{fixed_name}
-use Rattle.laws_heap.proofs.Exchanging.{ChangesName, free_no_other, named_no_other, gap_free, gap_total, unheld_beside, exchange_changes}
-use Rattle.laws_heap.proofs.Altering.{named_live, named_place}
-use Rattle.laws_heap.proofs.Changing.{changes_as, some_place, free_unheld}
+use Rattle.laws_heap.proofs.Exchanges.{ChangesName, free_no_other, named_no_other, gap_free, gap_total, unheld_beside, exchange_changes}
+use Rattle.laws_heap.proofs.AlteredChunks.{named_live, named_place}
+use Rattle.laws_heap.proofs.ExchangedNames.{changes_as, some_place, free_unheld}
 
 -- room at the front of a run of free chunks
 pub room_spot : (image : List ℕ) (at size : ℕ) → IsRoom image at size → IsSpot image at size

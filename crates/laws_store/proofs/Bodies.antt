@@ -5,7 +5,7 @@ use Rattle.heap_model.specs.Heap.{HeapAccepted}
 use Rattle.heap_model.specs.Meaning.{LiveChunk}
 use Rattle.heap_model.specs.Reading.{held}
 use Rattle.heap_model.specs.Store.{bytes_of, bytes_under}
-use Rattle.laws_heap.proofs.Finding.{held_finds, finds_body}
+use Rattle.laws_heap.proofs.FoundChunks.{held_finds, finds_body}
 use Rattle.laws_store.proofs.Numbers.{AreBytes-slice}
 
 pub held_bytes : (image : List ℕ) (name : ℕ) → HeapAccepted image → AreBytes image → AreBytes (bytes_under image name)

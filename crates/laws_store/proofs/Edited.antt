@@ -13,9 +13,9 @@ use Rattle.heap_model.specs.Leaving.{Leaves, rewritten, Respells}
 use Rattle.heap_model.specs.Database.{Database, data_in, spelled}
 use Rattle.heap_model.specs.Store.{managers_owner, data_owner, bytes_of, owner_of, bytes_under, owner_under}
 use Rattle.heap_model.specs.EntrySteps.{KeepsLocks}
-use Rattle.laws_heap.proofs.Deciding.{cond-true, cond-false, same_some}
+use Rattle.laws_heap.proofs.Tests.{cond-true, cond-false, same_some}
 use Rattle.laws_store.specs.Changes.{Change, all_updated, IsCallersChange}
-use Rattle.laws_store.proofs.Listing.{same-yes, same-no}
+use Rattle.laws_store.proofs.Times.{same-yes, same-no}
 
 -- ---- what names stand for
 

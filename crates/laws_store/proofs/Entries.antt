@@ -16,11 +16,11 @@ use Rattle.heap_model.specs.UniqueIds.{IsFresh, seed_in}
 use Rattle.heap_model.specs.Counts.{NamesData, IsSound}
 use Rattle.heap_model.specs.EntrySteps.{OfEntry, replaced, replaced_if, seeded_by, with_entry_at, raised_header}
 use Rattle.laws_store.specs.Entries.{HasNewId, HasOwnId}
-use Rattle.laws_store.proofs.Listing.{same-yes, same-no}
-use Rattle.laws_store.proofs.Naming.{has_id, times-data, times-ids, unique_counts, counts_unique}
+use Rattle.laws_store.proofs.Times.{same-yes, same-no}
+use Rattle.laws_store.proofs.NameCounts.{has_id, times-data, times-ids, unique_counts, counts_unique}
 use Rattle.laws_store.proofs.Fresh.{fresh_fits}
-use Rattle.laws_store.proofs.Counting.{same-is}
-use Rattle.laws_store.proofs.Moving.{moved_is, length-moved, sum_by-moved}
+use Rattle.laws_store.proofs.Counts.{same-is}
+use Rattle.laws_store.proofs.MovedElements.{moved_is, length-moved, sum_by-moved}
 
 -- ---- all elements, where one is put in, taken out or moved
 

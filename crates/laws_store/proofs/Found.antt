@@ -10,11 +10,11 @@ use Rattle.heap_model.specs.Database.{Database}
 use Rattle.heap_model.specs.Store.{StoredDatabase, owner_under, IsHeaderSlot, numbers_of}
 use Rattle.heap_model.specs.StoreWords.{changed_if, with_changed, without_database}
 use Rattle.heap_model.specs.Counts.{HasDatabases}
-use Rattle.laws_heap.proofs.Deciding.{cond-true, cond-false, same_some, none_some}
-use Rattle.laws_store.proofs.Listing.{same-yes, same-no, times-cons, times-some, all-times, distinct-times}
+use Rattle.laws_heap.proofs.Tests.{cond-true, cond-false, same_some, none_some}
+use Rattle.laws_store.proofs.Times.{same-yes, same-no, times-cons, times-some, all-times, distinct-times}
 use Rattle.laws_store.proofs.Owners.{owned_some}
-use Rattle.laws_store.proofs.Counting.{length-numbers, header_slots}
-use Rattle.laws_store.proofs.Rewriting.{number_at}
+use Rattle.laws_store.proofs.Counts.{length-numbers, header_slots}
+use Rattle.laws_store.proofs.RewrittenDatabases.{number_at}
 
 -- ---- whether there is one
 

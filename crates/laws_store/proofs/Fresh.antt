@@ -7,8 +7,8 @@ use Rattle.std.specs.Prelude.{nat_lt, All}
 use Rattle.std.specs.List.{remove}
 use Rattle.heap_model.specs.Lists.{numbered, times, Distinct}
 use Rattle.heap_model.specs.UniqueIds.{next_id, id_behind, IsFresh}
-use Rattle.laws_heap.proofs.Deciding.{cond-true, cond-false}
-use Rattle.laws_store.proofs.Listing.{same-no, times-remove, contained-times, Distinct-tail, Distinct-head, least_once}
+use Rattle.laws_heap.proofs.Tests.{cond-true, cond-false}
+use Rattle.laws_store.proofs.Times.{same-no, times-remove, contained-times, Distinct-tail, Distinct-head, least_once}
 
 -- ---- IDs behind a seed
 

@@ -14,11 +14,11 @@ use Rattle.heap_model.specs.Database.{data_in}
 use Rattle.heap_model.specs.Store.{StoredDatabase, numbers_of, named_by, names_of}
 use Rattle.heap_model.specs.Counts.{IsWhole, HasDatabases}
 use Rattle.laws_store.specs.Changes.{Appends, Drops}
-use Rattle.laws_store.proofs.Listing.{same-yes, same-no, times-cons, times-append, times-remove}
-use Rattle.laws_store.proofs.Naming.{times-named, named-remove}
-use Rattle.laws_store.proofs.Counting.{length-numbers, header_slots}
-use Rattle.laws_store.proofs.Keeping.{bytes_like, whole_like, number_owner}
-use Rattle.laws_store.proofs.Rewriting.{number_at, other_number, get-any}
+use Rattle.laws_store.proofs.Times.{same-yes, same-no, times-cons, times-append, times-remove}
+use Rattle.laws_store.proofs.NameCounts.{times-named, named-remove}
+use Rattle.laws_store.proofs.Counts.{length-numbers, header_slots}
+use Rattle.laws_store.proofs.KeptDatabases.{bytes_like, whole_like, number_owner}
+use Rattle.laws_store.proofs.RewrittenDatabases.{number_at, other_number, get-any}
 
 same-swap : (a b : ℕ) → same a b ≡ same b a
 same-swap a b = elim (cases_eq a b) [

@@ -14,9 +14,9 @@ use Rattle.heap_model.specs.EntrySteps.{entries_of, entries_in, entry_under, dat
 use Rattle.heap_model.specs.declared.names.Db.{Db}
 use Rattle.heap_model.specs.Counts.{NamesData, IsWhole, IsSound}
 use Rattle.heap_model.specs.Leaving.{database_here, SpellsHere}
-use Rattle.laws_heap.proofs.Deciding.{cond-true, cond-false}
-use Rattle.laws_store.proofs.Listing.{times-cons, same-yes, same-no, all-times}
-use Rattle.laws_store.proofs.Counting.{has_databases}
+use Rattle.laws_heap.proofs.Tests.{cond-true, cond-false}
+use Rattle.laws_store.proofs.Times.{times-cons, same-yes, same-no, all-times}
+use Rattle.laws_store.proofs.Counts.{has_databases}
 use Rattle.laws_store.proofs.Owners.{owned_some}
 use Rattle.laws_store.proofs.Found.{found_stands}
 

@@ -10,7 +10,7 @@ use Rattle.heap_model.specs.Reading.{chunks_of, held}
 use Rattle.heap_model.specs.Store.{managers_owner, data_owner, owner_of, owner_under}
 use Rattle.laws_heap.proofs.Placed.{AnyPlaced-parts, AnyPlaced-mid, EveryPlaced-split}
 use Rattle.laws_heap.proofs.FixedNames.{fixed_live_is}
-use Rattle.laws_heap.proofs.Finding.{read_heap, finds_held, held_finds}
+use Rattle.laws_heap.proofs.FoundChunks.{read_heap, finds_held, held_finds}
 use Rattle.laws_heap.proofs.Meanings.{held-zero}
 
 -- the name 0 has no owner

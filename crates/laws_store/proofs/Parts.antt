@@ -18,11 +18,11 @@ use Rattle.heap_model.specs.Reading.{chunks_of, live_under, held}
 use Rattle.heap_model.specs.Space.{stays, NoneStays, onto_first, runs_between, has_chunk, stretches, room_of, rooms_of, rooms, with_freed, Short, ShortFor}
 use Rattle.heap_model.specs.Store.{bytes_of, bytes_under}
 use Rattle.heap_model.specs.Rooms.{is_movable_as, stretch_of, KeepsStretches, Lowers, Part, makes, grows, growth, rooms_for, Stuck}
-use Rattle.laws_heap.proofs.Deciding.{none_some}
+use Rattle.laws_heap.proofs.Tests.{none_some}
 use Rattle.laws_heap.proofs.FixedNames.{is_fixed_name, fixed_live_is}
-use Rattle.laws_heap.proofs.Finding.{held_finds}
-use Rattle.laws_heap.proofs.Exchanging.{named_beside}
-use Rattle.laws_heap.proofs.Sliding.{none_stays-append}
+use Rattle.laws_heap.proofs.FoundChunks.{held_finds}
+use Rattle.laws_heap.proofs.Exchanges.{named_beside}
+use Rattle.laws_heap.proofs.Slides.{none_stays-append}
 use Rattle.laws_heap.proofs.Stretches.{loose_behind, loose_front, stretch_mid, rooms_of-append, room_of-middle, freed_middle}
 
 -- ---- the number of a stretch

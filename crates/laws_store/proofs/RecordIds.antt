@@ -6,7 +6,7 @@ use Rattle.std.specs.List.{filter_map}
 use Rattle.heap_model.specs.Lists.{times, numbered}
 use Rattle.heap_model.specs.Database.{Entry, a_record, a_resource}
 use Rattle.heap_model.specs.Store.{unique_id}
-use Rattle.laws_store.proofs.Listing.{same-yes, same-no, times-cons, times-append}
+use Rattle.laws_store.proofs.Times.{same-yes, same-no, times-cons, times-append}
 use Rattle.laws_store.proofs.Numbers.{numbered_more}
 
 -- those of the entries in front of an index

@@ -8,13 +8,13 @@ use Rattle.heap_model.specs.Reading.{held}
 use Rattle.heap_model.specs.Maps.{put}
 use Rattle.heap_model.specs.Store.{bytes_under}
 use Rattle.heap_model.specs.Leaving.{Leaves}
-use Rattle.laws_heap.proofs.Exchanging.{ChangesName}
+use Rattle.laws_heap.proofs.Exchanges.{ChangesName}
 use Rattle.raw_region.specs.ByteChanges.{changed_every}
 use Rattle.heap_place.specs.declared.found.Found.{Found}
 use Rattle.heap_place.specs.Found.{IsFound}
 use Rattle.heap_place.specs.ByteChanges.{ChangesEvery}
 use Rattle.heap_place.proofs.ByteLaws.{changed_part, length-changed_part}
-use Rattle.mem_manager.proofs.Stepping.{one_of, altered}
+use Rattle.mem_manager.proofs.StepWords.{one_of, altered}
 use Rattle.mem_manager.proofs.ChunkCalls.{write_changes}
 use Rattle.mem_manager.proofs.StoreCalls.{within_viewed, slice_found}
 

@@ -16,15 +16,15 @@ use Rattle.heap_model.specs.declared.call.MemoryCall.TheVariants.{Lock, Unlock, 
 use Rattle.heap_model.specs.declared.call.Reply.TheVariants.{Refused, Done, Number, Locked, Data}
 use Rattle.heap_model.specs.declared.refusal.Refusal.TheVariants.{OwnedByDatabase, ChunkNotLocked, LockOverflow, ChunkFixed, InvalidOwner, OutOfBounds}
 use Rattle.laws_heap.proofs.Frames.{slice-of_slice}
-use Rattle.laws_heap.proofs.Finding.{finds_spelled, finds_body}
-use Rattle.laws_heap.proofs.Exchanging.{ChangesName}
+use Rattle.laws_heap.proofs.FoundChunks.{finds_spelled, finds_body}
+use Rattle.laws_heap.proofs.Exchanges.{ChangesName}
 use Rattle.laws_heap.proofs.FixedNames.{fixed_live_is}
-use Rattle.laws_heap.proofs.Changing.{lock_changes, owner_changes, bytes_changes}
+use Rattle.laws_heap.proofs.ExchangedNames.{lock_changes, owner_changes, bytes_changes}
 use Rattle.laws_heap.proofs.OwnedChunks.{not_directory}
 use Rattle.heap_place.proofs.FoundLaws.{name_held}
 use Rattle.heap_place.specs.declared.found.Found.{Found}
 use Rattle.heap_place.specs.Found.{IsFound, CanGoTo}
-use Rattle.mem_manager.proofs.Stepping.{OnlyBytes, known, of_known, not_of_known, is_known, unchanged, refused, altered}
+use Rattle.mem_manager.proofs.StepWords.{OnlyBytes, known, of_known, not_of_known, is_known, unchanged, refused, altered}
 
 -- ---- the chunk that is there
 

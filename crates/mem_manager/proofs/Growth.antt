@@ -20,12 +20,12 @@ use Rattle.heap_model.specs.declared.call.MemoryCall.TheVariants.{Resize}
 use Rattle.heap_model.specs.declared.call.Reply.TheVariants.{Refused, Done}
 use Rattle.heap_model.specs.declared.refusal.Refusal.{Refusal}
 use Rattle.heap_model.specs.declared.refusal.Refusal.TheVariants.{OwnedByDatabase, ChunkFixed, ChunkLocked, NotEnoughSpace}
-use Rattle.laws_heap.proofs.Deciding.{cond-true, cond-false}
+use Rattle.laws_heap.proofs.Tests.{cond-true, cond-false}
 use Rattle.laws_heap.proofs.Slots.{slot_alike}
-use Rattle.laws_heap.proofs.Becoming.{frame_slots}
-use Rattle.laws_heap.proofs.Exchanging.{ChangesName}
+use Rattle.laws_heap.proofs.SameLayouts.{frame_slots}
+use Rattle.laws_heap.proofs.Exchanges.{ChangesName}
 use Rattle.laws_heap.proofs.Resizings.{live_sized, grow_changes, finds_behind}
-use Rattle.laws_heap.proofs.Compacting.{slot_unheld}
+use Rattle.laws_heap.proofs.SlidImages.{slot_unheld}
 use Rattle.laws_heap.proofs.Fits.{fits_not_short_for}
 use Rattle.heap_place.proofs.FoundLaws.{name_held, one_held, when_movable}
 use Rattle.heap_place.specs.declared.found.Found.{Found}
@@ -34,7 +34,7 @@ use Rattle.heap_place.specs.Resizes.{TellsWhetherInPlace}
 use Rattle.heap_compact.specs.Resized.{Resized}
 use Rattle.master_table.proofs.TableLaws.{used_still}
 use Rattle.mem_manager.specs.Lookup.{IsManaged}
-use Rattle.mem_manager.proofs.Stepping.{known, of_known, not_of_known, is_known, refused, altered, stays_in_place, OnlyBytes}
+use Rattle.mem_manager.proofs.StepWords.{known, of_known, not_of_known, is_known, refused, altered, stays_in_place, OnlyBytes}
 use Rattle.mem_manager.proofs.ChunkCalls.{lock_small}
 use Rattle.mem_manager.proofs.SlidChunks.{BytesAndSlid}
 

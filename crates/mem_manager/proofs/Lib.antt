@@ -1,5 +1,5 @@
-pub mod Knowing
-pub mod Stepping
+pub mod RememberedNames
+pub mod StepWords
 pub mod ChunkCalls
 pub mod NewChunks
 pub mod Texts

@@ -23,23 +23,23 @@ use Rattle.heap_model.specs.declared.refusal.Refusal.{Refusal}
 use Rattle.heap_model.specs.declared.refusal.Refusal.TheVariants.{OwnedByDatabase, ChunkLocked, NotEnoughSpace}
 use Rattle.master_table.specs.Table.{IsFirstEmpty, NotAmong, UsedBefore}
 use Rattle.master_table.proofs.TableLaws.{used_fewer, used_apart, used_set}
-use Rattle.laws_heap.proofs.Deciding.{cond-true, cond-false}
+use Rattle.laws_heap.proofs.Tests.{cond-true, cond-false}
 use Rattle.laws_heap.proofs.Meanings.{held-is, empty_unheld}
 use Rattle.laws_heap.proofs.Accepted.{heap_of_read}
-use Rattle.laws_heap.proofs.Exchanging.{ChangesName}
+use Rattle.laws_heap.proofs.Exchanges.{ChangesName}
 use Rattle.laws_heap.proofs.FixedNames.{fixed_name, fixed_has_name, fixed_place}
 use Rattle.laws_heap.proofs.Spots.{claims_change, spot_unheld}
 use Rattle.laws_heap.proofs.OwnedChunks.{owned-merged, owned_held, owned_place}
 use Rattle.heap_place.specs.declared.found.Found.{Found}
 use Rattle.heap_place.specs.Found.{IsFound}
-use Rattle.laws_heap.proofs.Becoming.{frame_then, frame_slots}
-use Rattle.laws_heap.proofs.Compacting.{slides_alike}
+use Rattle.laws_heap.proofs.SameLayouts.{frame_then, frame_slots}
+use Rattle.laws_heap.proofs.SlidImages.{slides_alike}
 use Rattle.laws_heap.proofs.LoweredRoom.{claimed_lowers}
 use Rattle.mem_manager.specs.Lookup.{IsManaged, MakesNew, HasNoRoomFor}
 use Rattle.mem_manager.proofs.SlidChunks.{BytesAndSlid, rest_then, held_then, still_then, first_slid, used_slid}
-use Rattle.mem_manager.proofs.Stepping.{known, of_known, not_of_known, is_known, refused, OnlyBytes, still_others, used_altered, with_names}
+use Rattle.mem_manager.proofs.StepWords.{known, of_known, not_of_known, is_known, refused, OnlyBytes, still_others, used_altered, with_names}
 use Rattle.mem_manager.specs.Known.{IsKnown, Remembers}
-use Rattle.mem_manager.proofs.Knowing.{remembered_held}
+use Rattle.mem_manager.proofs.RememberedNames.{remembered_held}
 use Rattle.laws_heap.proofs.ChangedName.{held_updated}
 
 -- ---- free

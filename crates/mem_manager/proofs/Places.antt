@@ -9,15 +9,15 @@ use Rattle.heap_model.specs.Maps.{callers_map, not_owned}
 use Rattle.heap_model.specs.Space.{place_of}
 use Rattle.heap_model.specs.Placing.{Finds}
 use Rattle.heap_model.specs.MemorySteps.{IsNowhere, Of}
-use Rattle.laws_heap.proofs.Deciding.{cond-true}
-use Rattle.laws_heap.proofs.Finding.{held_finds, finds_one, callers_managers}
-use Rattle.laws_heap.proofs.Altering.{finds_place}
+use Rattle.laws_heap.proofs.Tests.{cond-true}
+use Rattle.laws_heap.proofs.FoundChunks.{held_finds, finds_one, callers_managers}
+use Rattle.laws_heap.proofs.AlteredChunks.{finds_place}
 use Rattle.heap_place.proofs.FoundLaws.{name_held}
 use Rattle.heap_place.proofs.RelocateLaws.{one_placed}
 use Rattle.heap_place.specs.declared.found.Found.{Found}
 use Rattle.heap_place.specs.Found.{IsFound, IsOne, NothingAt}
 use Rattle.mem_manager.specs.Lookup.{IsThere}
-use Rattle.mem_manager.proofs.Stepping.{known}
+use Rattle.mem_manager.proofs.StepWords.{known}
 
 -- the chunk that was found there is a caller's
 pub found_there : (image : List ℕ) (place : ℕ) (found : Found) → HeapAccepted image → (f : IsOne image found) → found.place.0 ≡ place → 1 ≤ found.owner → IsThere image place found.name.0

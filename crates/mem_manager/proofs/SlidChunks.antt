@@ -16,15 +16,15 @@ use Rattle.heap_model.specs.MemorySteps.{Does}
 use Rattle.heap_model.specs.declared.call.MemoryCall.TheVariants.{Compact}
 use Rattle.heap_model.specs.declared.call.Reply.TheVariants.{Number}
 use Rattle.laws_heap.proofs.Slots.{slot_alike}
-use Rattle.laws_heap.proofs.Becoming.{frame_slots}
+use Rattle.laws_heap.proofs.SameLayouts.{frame_slots}
 use Rattle.laws_heap.specs.Laws.{SlidAlike}
-use Rattle.laws_heap.proofs.Exchanging.{ChangesName}
+use Rattle.laws_heap.proofs.Exchanges.{ChangesName}
 use Rattle.laws_heap.proofs.ChangedName.{held_updated}
-use Rattle.laws_heap.proofs.Compacting.{packed_alike, slot_unheld, slides_alike, slides_move_one, changes_move_nothing, moves_then_nothing, nothing_moves_one, unmoved_bytes, moved_with}
+use Rattle.laws_heap.proofs.SlidImages.{packed_alike, slot_unheld, slides_alike, slides_move_one, changes_move_nothing, moves_then_nothing, nothing_moves_one, unmoved_bytes, moved_with}
 use Rattle.master_table.specs.Table.{IsFirstEmpty}
 use Rattle.master_table.proofs.TableLaws.{used_still}
 use Rattle.mem_manager.specs.Lookup.{IsManaged}
-use Rattle.mem_manager.proofs.Stepping.{OnlyBytes, none_there}
+use Rattle.mem_manager.proofs.StepWords.{OnlyBytes, none_there}
 
 -- of a region's value its bytes and the count of slid ones have changed
 abbrev pub BytesAndSlid : Memory → Memory → Type 0

@@ -14,15 +14,15 @@ use Rattle.heap_model.specs.Leaving.{Leaves, NamesDirectory}
 use Rattle.laws_heap.proofs.Frames.{slice-of_slice}
 use Rattle.laws_heap.proofs.Slots.{slot_alike}
 use Rattle.laws_heap.proofs.Directory.{named_slots}
-use Rattle.laws_heap.proofs.Exchanging.{ChangesName}
+use Rattle.laws_heap.proofs.Exchanges.{ChangesName}
 use Rattle.laws_heap.proofs.ChangedName.{held_updated}
-use Rattle.laws_heap.proofs.Compacting.{slot_unheld}
+use Rattle.laws_heap.proofs.SlidImages.{slot_unheld}
 use Rattle.master_table.proofs.TableLaws.{used_still}
 use Rattle.heap_place.proofs.FoundLaws.{name_held, bytes_inside}
 use Rattle.heap_place.specs.declared.found.Found.{Found}
 use Rattle.heap_place.specs.Found.{IsFound, IsOne, CanGoTo, SlidesWithin}
 use Rattle.mem_manager.specs.Lookup.{IsManaged, IsMovable}
-use Rattle.mem_manager.proofs.Stepping.{one_of, still_others, altered}
+use Rattle.mem_manager.proofs.StepWords.{one_of, still_others, altered}
 use Rattle.mem_manager.proofs.ChunkCalls.{body_there, write_changes}
 
 -- ---- a name's chunk that was found

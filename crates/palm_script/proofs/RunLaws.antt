@@ -8,7 +8,7 @@ use Rattle.heap_model.specs.Store.{Accepted}
 use Rattle.heap_model.specs.StoreSteps.{Call, DoesInStore, StoreStep}
 use Rattle.heap_model.specs.Runs.{Run}
 use Rattle.heap_model.specs.declared.call.Reply.{Reply}
-use Rattle.laws_store.proofs.Meaning.{read_is_meant}
+use Rattle.laws_store.proofs.MeantStore.{read_is_meant}
 use Rattle.palm_script.specs.Headline.{AnswersAsRun}
 
 -- ---- a run that goes on

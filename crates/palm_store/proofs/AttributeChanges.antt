@@ -12,7 +12,7 @@ use Rattle.heap_model.specs.Leaving.{Respells, database_here}
 use Rattle.heap_model.specs.EntrySteps.{with_attributes, with_entries, resources_under, LeavesStore}
 use Rattle.heap_model.specs.declared.names.Db.{Db}
 use Rattle.laws_store.proofs.Numbered.{accepted_sound, kind_here}
-use Rattle.laws_store.proofs.Editing.{respell_steps}
+use Rattle.laws_store.proofs.EditedStores.{respell_steps}
 use Rattle.database_edits.specs.Recorded.{attributes_changed}
 use Rattle.palm_store.specs.AttributeChanges.{MayChange}
 use Rattle.palm_store.specs.Databases.{HasNumber}

@@ -14,7 +14,7 @@ use Rattle.heap_model.specs.declared.call.Call.TheVariants as calls
 use Rattle.heap_model.specs.declared.call.DatabaseCall.TheVariants.{InfoBlock}
 use Rattle.heap_model.specs.declared.call.Reply.TheVariants.{Named, Refused}
 use Rattle.heap_model.specs.declared.refusal.Refusal.TheVariants.{ReadOnly, NoInfoBlock}
-use Rattle.laws_store.proofs.Doing.{asks, same_store, refused}
+use Rattle.laws_store.proofs.CallSteps.{asks, same_store, refused}
 use Rattle.palm_store.specs.InfoBlocks.{block_of_image, writing_checks}
 
 -- ---- the database

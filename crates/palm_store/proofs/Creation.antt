@@ -30,17 +30,17 @@ use Rattle.heap_model.specs.declared.call.Call.TheVariants as calls
 use Rattle.heap_model.specs.declared.call.Reply.TheVariants as replies
 use Rattle.laws_heap.proofs.Frames.{length-u32_bytes}
 use Rattle.laws_heap.proofs.Slots.{slot_facts}
-use Rattle.laws_heap.proofs.Finding.{read_heap, callers_managers}
-use Rattle.laws_heap.proofs.Holding.{as_before}
+use Rattle.laws_heap.proofs.FoundChunks.{read_heap, callers_managers}
+use Rattle.laws_heap.proofs.FreeCounts.{as_before}
 use Rattle.laws_store.specs.Changes.{Appends}
-use Rattle.laws_store.proofs.Listing.{same-yes, same-no, times-cons}
+use Rattle.laws_store.proofs.Times.{same-yes, same-no, times-cons}
 use Rattle.laws_store.proofs.Owners.{owned_slot, directory_owner, owned_some}
-use Rattle.laws_store.proofs.Counting.{has_databases, listed_numbers, length-numbers}
-use Rattle.laws_store.proofs.Rewriting.{get-any}
-use Rattle.laws_store.proofs.Keeping.{directory_like, number_owner}
-use Rattle.laws_store.proofs.Creating.{managers_loose, u32s_push}
-use Rattle.laws_store.proofs.Doing.{refused}
-use Rattle.laws_store.proofs.Stepping.{create_steps, same_steps}
+use Rattle.laws_store.proofs.Counts.{has_databases, listed_numbers, length-numbers}
+use Rattle.laws_store.proofs.RewrittenDatabases.{get-any}
+use Rattle.laws_store.proofs.KeptDatabases.{directory_like, number_owner}
+use Rattle.laws_store.proofs.NewDatabases.{managers_loose, u32s_push}
+use Rattle.laws_store.proofs.CallSteps.{refused}
+use Rattle.laws_store.proofs.ChangeSteps.{create_steps, same_steps}
 use Rattle.palm_store.specs.Directory.{ListsNew}
 use Rattle.palm_store.proofs.Maps.{owner_held, owner_none, owner_alike, bytes_held, owned, held_some, still_through}
 use Rattle.palm_store.proofs.ListedSlots.{chunk_of, put_here, put_apart, all_written, lock_of}

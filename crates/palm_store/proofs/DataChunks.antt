@@ -10,7 +10,7 @@ use Rattle.heap_model.specs.Maps.{callers_map}
 use Rattle.heap_model.specs.Store.{owner_of, owner_under, data_owner}
 use Rattle.laws_heap.proofs.Placed.{EveryPlaced-split}
 use Rattle.laws_heap.proofs.FixedNames.{fixed_live_is}
-use Rattle.laws_heap.proofs.Finding.{read_heap, held_finds, finds_spelled, callers_some}
+use Rattle.laws_heap.proofs.FoundChunks.{read_heap, held_finds, finds_spelled, callers_some}
 use Rattle.mem_manager.specs.Lookup.{IsMovable}
 use Rattle.laws_store.proofs.Owners.{directory_owner}
 

@@ -22,10 +22,10 @@ use Rattle.heap_model.specs.declared.call.DatabaseCall.TheVariants.{Delete}
 use Rattle.heap_model.specs.declared.call.Call.TheVariants as calls
 use Rattle.heap_model.specs.declared.call.Reply.TheVariants as replies
 use Rattle.laws_heap.proofs.Meanings.{held-zero}
-use Rattle.laws_store.proofs.Listing.{times-cons, times-append}
-use Rattle.laws_store.proofs.Creating.{managers_loose}
+use Rattle.laws_store.proofs.Times.{times-cons, times-append}
+use Rattle.laws_store.proofs.NewDatabases.{managers_loose}
 use Rattle.laws_store.proofs.Owners.{directory_owner}
-use Rattle.laws_store.proofs.Stepping.{drop_steps}
+use Rattle.laws_store.proofs.ChangeSteps.{drop_steps}
 use Rattle.palm_store.specs.Databases.{HasNumber, IsListedAt}
 use Rattle.mem_manager.specs.Lookup.{IsMovable}
 use Rattle.palm_store.proofs.Numbers.{stands, has_number_is, in_store, length-listed, number_slot, number_movable, no_directory}

@@ -11,13 +11,13 @@ use Rattle.heap_model.specs.Store.{StoredDatabase, owner_under, directory_bytes,
 use Rattle.heap_model.specs.StoreWords.{all_gone}
 use Rattle.laws_heap.proofs.Meanings.{held-zero}
 use Rattle.laws_store.specs.Changes.{Drops, Clears}
-use Rattle.laws_store.proofs.Listing.{same-yes, same-no, times-cons}
-use Rattle.laws_store.proofs.Naming.{named-remove}
+use Rattle.laws_store.proofs.Times.{same-yes, same-no, times-cons}
+use Rattle.laws_store.proofs.NameCounts.{named-remove}
 use Rattle.laws_store.proofs.Owners.{directory_owner, owned_some}
-use Rattle.laws_store.proofs.Counting.{has_databases, same-is, header_slots, length-numbers}
-use Rattle.laws_store.proofs.Rewriting.{number_at}
-use Rattle.laws_store.proofs.Keeping.{directory_like}
-use Rattle.laws_store.proofs.Deleting.{u32s_remove}
+use Rattle.laws_store.proofs.Counts.{has_databases, same-is, header_slots, length-numbers}
+use Rattle.laws_store.proofs.RewrittenDatabases.{number_at}
+use Rattle.laws_store.proofs.KeptDatabases.{directory_like}
+use Rattle.laws_store.proofs.DroppedDatabases.{u32s_remove}
 use Rattle.palm_store.proofs.Numbers.{Stands, length-listed, length-databases}
 use Rattle.palm_store.specs.Directory.{Unlists}
 use Rattle.palm_store.proofs.Maps.{kept, is_gone, owner_none, owner_alike}

@@ -16,15 +16,15 @@ use Rattle.heap_model.specs.Leaving.{Leaves, Respells, database_here}
 use Rattle.heap_model.specs.EntrySteps.{entry_under, data_of_entry, data_under, replaced, without_data, with_entries, entry_changed, data_freed, entry_dropped, entry_handed_over, raised, LeavesStore, MakesNone}
 use Rattle.heap_model.specs.declared.names.Db.{Db}
 use Rattle.db_format.specs.Entries.{with_entry}
-use Rattle.laws_heap.proofs.Deciding.{same_some, none_some}
+use Rattle.laws_heap.proofs.Tests.{same_some, none_some}
 use Rattle.laws_store.specs.Entries.{HasOwnId}
 use Rattle.laws_store.proofs.Found.{changed_twice}
-use Rattle.laws_store.proofs.Listing.{same-no}
+use Rattle.laws_store.proofs.Times.{same-no}
 use Rattle.laws_store.proofs.Owners.{owned_some}
 use Rattle.laws_store.proofs.Numbered.{accepted_sound, number_slot, number_some, number_held, data_here, entry_here, entry_owner}
 use Rattle.laws_store.specs.Changes.{Change}
 use Rattle.laws_store.proofs.Edited.{one_change, edited, gone_balance}
-use Rattle.laws_store.proofs.Editing.{edit_steps, each_one, respell_steps}
+use Rattle.laws_store.proofs.EditedStores.{edit_steps, each_one, respell_steps}
 use Rattle.laws_store.proofs.Entries.{raised_sound, replaced_is, replaced_kept, replaced_own, replaced_names, removed_sound, removed_names, moved_sound, moved_names}
 use Rattle.mem_manager.specs.Lookup.{IsMovable}
 use Rattle.database_edits.specs.Edits.{counted, counted_if, with_moved, entry_moved, entry_written, entry_removed}

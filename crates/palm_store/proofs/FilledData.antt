@@ -11,7 +11,7 @@ use Rattle.heap_model.specs.MemorySteps.{Of}
 use Rattle.heap_model.specs.Store.{managers_owner, data_owner, bytes_of, bytes_under, owner_under, Accepted, store_of}
 use Rattle.heap_model.specs.EntrySteps.{LeavesStore}
 use Rattle.laws_store.proofs.Edited.{hidden, shown}
-use Rattle.laws_store.proofs.Editing.{change_steps}
+use Rattle.laws_store.proofs.EditedStores.{change_steps}
 use Rattle.mem_manager.specs.Lookup.{IsMovable}
 use Rattle.palm_store.specs.Files.{HasDataOf, data_filled}
 use Rattle.palm_store.proofs.DataChunks.{data_movable}

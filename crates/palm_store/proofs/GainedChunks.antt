@@ -20,11 +20,11 @@ use Rattle.heap_model.specs.declared.names.Name.{Name}
 use Rattle.heap_model.specs.declared.refusal.Refusal.{Refusal}
 use Rattle.palm_store.specs.declared.databases.whole.WholeEntry.{WholeEntry}
 use Rattle.palm_store.specs.declared.databases.whole.BlockSizes.{BlockSizes}
-use Rattle.laws_heap.proofs.Becoming.{frame_then}
+use Rattle.laws_heap.proofs.SameLayouts.{frame_then}
 use Rattle.laws_heap.proofs.Meanings.{held-zero}
-use Rattle.laws_store.proofs.Listing.{same-yes, same-no, times-cons, times-append}
+use Rattle.laws_store.proofs.Times.{same-yes, same-no, times-cons, times-append}
 use Rattle.laws_store.proofs.Owners.{directory_owner}
-use Rattle.laws_store.proofs.Creating.{slots_made}
+use Rattle.laws_store.proofs.NewDatabases.{slots_made}
 use Rattle.laws_store.proofs.Edited.{here as updated_here, apart as updated_apart}
 use Rattle.mem_manager.specs.Lookup.{MakesNew, IsMovable}
 use Rattle.heap_model.specs.FileSteps.{makings}

@@ -21,13 +21,13 @@ use Rattle.heap_model.specs.Counts.{IsSound}
 use Rattle.heap_model.specs.Leaving.{Leaves, Respells, rewritten, SpellsHere, database_here}
 use Rattle.heap_model.specs.EntrySteps.{most_entries, entries_in, data_under, resources_under, with_entry_at, entry_attached, data_exchanged, entry_swapped, raised, LeavesStore, MakesNone}
 use Rattle.heap_model.specs.declared.names.Db.{Db}
-use Rattle.laws_heap.proofs.Deciding.{none_some, same_some}
+use Rattle.laws_heap.proofs.Tests.{none_some, same_some}
 use Rattle.laws_heap.proofs.Meanings.{held-zero}
 use Rattle.laws_store.specs.Entries.{HasOwnId}
 use Rattle.laws_store.specs.Changes.{Change, IsCallersChange}
 use Rattle.laws_store.proofs.Entries.{inserted_sound, inserted_names, raised_sound, replaced_own, replaced_names, seeded_name}
 use Rattle.laws_store.proofs.Edited.{hidden, shown, one_change, edited, made_balance, exchanged_balance, apart as updated_apart}
-use Rattle.laws_store.proofs.Editing.{edit_steps, each_one}
+use Rattle.laws_store.proofs.EditedStores.{edit_steps, each_one}
 use Rattle.laws_store.proofs.Numbered.{accepted_sound, number_slot, number_held, data_here, entries_here, kind_here}
 use Rattle.laws_store.proofs.Owners.{directory_owner}
 use Rattle.laws_store.proofs.Parts.{one_grown}

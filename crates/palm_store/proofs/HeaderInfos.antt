@@ -19,7 +19,7 @@ use Rattle.heap_model.specs.declared.call.Reply.TheVariants as replies
 use Rattle.laws_store.specs.Changes.{HasStore}
 use Rattle.laws_store.proofs.Numbered.{accepted_sound}
 use Rattle.laws_store.proofs.Edited.{put_respells}
-use Rattle.laws_store.proofs.Editing.{rename_steps}
+use Rattle.laws_store.proofs.EditedStores.{rename_steps}
 use Rattle.db_format.specs.declared.header.DbHeader.{DbHeader}
 use Rattle.db_format.specs.Headers.{header_of, HasHeader, with_header, WritesHeader}
 use Rattle.palm_store.specs.Databases.{HasNumber}

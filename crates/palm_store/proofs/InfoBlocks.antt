@@ -16,7 +16,7 @@ use Rattle.heap_model.specs.EntrySteps.{raised, LeavesStore}
 use Rattle.heap_model.specs.declared.names.Db.{Db}
 use Rattle.heap_model.specs.declared.names.Which.{Which}
 use Rattle.heap_model.specs.declared.names.Which.TheVariants.{App, Sort}
-use Rattle.laws_store.proofs.Listing.{times-cons, same-no}
+use Rattle.laws_store.proofs.Times.{times-cons, same-no}
 use Rattle.laws_store.proofs.Numbered.{accepted_sound, number_database, number_here}
 use Rattle.mem_manager.specs.Lookup.{IsMovable}
 use Rattle.palm_store.specs.Databases.{HasNumber}

@@ -13,11 +13,11 @@ use Rattle.heap_model.specs.Store.{StoredDatabase, Store, unique_id, unique_ids,
 use Rattle.heap_model.specs.StoreWords.{with_changed, with_number}
 use Rattle.heap_model.specs.EntrySteps.{entries_of, with_entry_at, raised_header, HasId, replaced, replaced_if, entry_changed, without_data}
 use Rattle.heap_model.specs.declared.names.Db.{Db}
-use Rattle.laws_heap.proofs.Deciding.{cond-true, cond-false}
-use Rattle.laws_store.proofs.Listing.{same-yes, same-no}
+use Rattle.laws_heap.proofs.Tests.{cond-true, cond-false}
+use Rattle.laws_store.proofs.Times.{same-yes, same-no}
 use Rattle.laws_store.proofs.Entries.{replaced_is}
-use Rattle.laws_store.proofs.Moving.{sum_by-moved}
-use Rattle.laws_store.proofs.Naming.{has_id, times-ids}
+use Rattle.laws_store.proofs.MovedElements.{sum_by-moved}
+use Rattle.laws_store.proofs.NameCounts.{has_id, times-ids}
 use Rattle.laws_store.proofs.Numbered.{entries_here}
 use Rattle.fresh_ids.specs.FreeIds.{IsAmong, AreFree, IsWithout}
 use Rattle.fresh_ids.specs.declared.stretch.FreeIds.{FreeIds}

@@ -1,4 +1,4 @@
-mod Forwarding
+mod MemoryCalls
 pub mod Numbers
 pub mod Lookups
 pub mod Maps
@@ -6,8 +6,8 @@ pub mod ListedSlots
 pub mod Creation
 pub mod WholeRooms
 pub mod GainedChunks
-pub mod WholeListing
-pub mod WholeWriting
+pub mod WholeChunks
+pub mod WholeBytes
 pub mod WholeSteps
 pub mod HeaderInfos
 pub mod NamedChunks
@@ -22,7 +22,7 @@ pub mod EntryInfos
 pub mod DataGrowth
 pub mod NewEntries
 pub mod GivenData
-pub mod Giving
+pub mod GivenChunks
 pub mod InfoBlocks
 pub mod BlockCalls
 pub mod KnownIds

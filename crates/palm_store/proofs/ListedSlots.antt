@@ -15,13 +15,13 @@ use Rattle.heap_model.specs.Space.{Still, place_under, free_slots, free_behind, 
 use Rattle.heap_model.specs.Maps.{changed, gone, put, sized}
 use Rattle.heap_model.specs.Store.{bytes_under, directory_bytes, owner_under, Accepted, listed}
 use Rattle.heap_model.specs.Leaving.{Leaves, NamesDirectory}
-use Rattle.laws_heap.proofs.Becoming.{frame_then}
+use Rattle.laws_heap.proofs.SameLayouts.{frame_then}
 use Rattle.laws_heap.proofs.Directory.{named_start}
 use Rattle.laws_heap.proofs.Frames.{length-u32_bytes}
 use Rattle.mem_manager.specs.Lookup.{MakesNew}
 use Rattle.laws_store.proofs.Owners.{directory_owner}
-use Rattle.laws_store.proofs.Creating.{managers_loose, made_then_none, slots_made}
-use Rattle.laws_store.proofs.Keeping.{directory_like}
+use Rattle.laws_store.proofs.NewDatabases.{managers_loose, made_then_none, slots_made}
+use Rattle.laws_store.proofs.KeptDatabases.{directory_like}
 use Rattle.heap_model.specs.Rooms.{Lowers, Part, makes, growth, Stuck}
 use Rattle.heap_model.specs.DatabaseFields.{header_size}
 use Rattle.heap_model.specs.DatabaseSteps.{create_parts, create_slots}

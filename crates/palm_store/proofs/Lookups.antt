@@ -20,9 +20,9 @@ use Rattle.heap_model.specs.declared.call.Call.TheVariants as calls
 use Rattle.heap_model.specs.declared.call.Reply.TheVariants as replies
 use Rattle.heap_model.specs.declared.refusal.Refusal.{Refusal}
 use Rattle.heap_model.specs.declared.refusal.Refusal.TheVariants.{NoSuchDatabase}
-use Rattle.laws_store.proofs.Listing.{all-times, map-All}
-use Rattle.laws_store.proofs.Counting.{listed_numbers}
-use Rattle.laws_store.proofs.Doing.{asks, same_store, refused}
+use Rattle.laws_store.proofs.Times.{all-times, map-All}
+use Rattle.laws_store.proofs.Counts.{listed_numbers}
+use Rattle.laws_store.proofs.CallSteps.{asks, same_store, refused}
 use Rattle.db_format.specs.declared.header.DbHeader.{DbHeader}
 use Rattle.db_format.specs.Headers.{header_of, HasHeader}
 use Rattle.palm_store.specs.Databases.{HasNumber, HasOtherName, name_under}

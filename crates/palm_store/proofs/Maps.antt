@@ -11,7 +11,7 @@ use Rattle.heap_model.specs.Lists.{times}
 use Rattle.heap_model.specs.Leaving.{Leaves}
 use Rattle.heap_model.specs.Store.{bytes_of, owner_of, bytes_under, owner_under}
 use Rattle.heap_model.specs.StoreWords.{all_gone}
-use Rattle.laws_heap.proofs.Deciding.{cond-true, cond-false}
+use Rattle.laws_heap.proofs.Tests.{cond-true, cond-false}
 use Rattle.laws_store.proofs.Owners.{owned_some}
 
 -- ---- a map without some names

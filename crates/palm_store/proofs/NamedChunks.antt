@@ -17,13 +17,13 @@ use Rattle.heap_model.specs.Leaving.{Leaves}
 use Rattle.heap_model.specs.Database.{entry_data, data_in, database_in, entry_in, entry_count_in, resources_in, entry_offset, IsSpelled}
 use Rattle.heap_model.specs.Store.{bytes_under, owner_under, database_under, Accepted}
 use Rattle.heap_model.specs.StoreWords.{all_gone}
-use Rattle.laws_heap.proofs.Becoming.{same_frame, frame_then}
-use Rattle.laws_heap.proofs.Finding.{callers_some}
+use Rattle.laws_heap.proofs.SameLayouts.{same_frame, frame_then}
+use Rattle.laws_heap.proofs.FoundChunks.{callers_some}
 use Rattle.laws_heap.proofs.Meanings.{held-zero}
-use Rattle.laws_store.proofs.Listing.{same-yes, same-no, times-cons, times-append, times-some}
+use Rattle.laws_store.proofs.Times.{same-yes, same-no, times-cons, times-append, times-some}
 use Rattle.laws_store.proofs.Owners.{directory_owner}
-use Rattle.laws_store.proofs.Keeping.{bytes_like}
-use Rattle.laws_store.proofs.Counting.{same-is, same-least}
+use Rattle.laws_store.proofs.KeptDatabases.{bytes_like}
+use Rattle.laws_store.proofs.Counts.{same-is, same-least}
 use Rattle.laws_store.proofs.Numbered.{number_some}
 use Rattle.laws_store.proofs.Shapes.{offset_below, spelled_shape}
 use Rattle.mem_manager.specs.Lookup.{IsMovable}

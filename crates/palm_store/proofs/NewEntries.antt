@@ -19,14 +19,14 @@ use Rattle.heap_model.specs.Leaving.{Leaves, Respells, rewritten, SpellsHere, da
 use Rattle.heap_model.specs.EntrySteps.{most_entries, entries_in, resources_under, with_entry_at, entry_made, raised, LeavesStore}
 use Rattle.heap_model.specs.StoreSteps.{StoreAsBefore}
 use Rattle.heap_model.specs.declared.names.Db.{Db}
-use Rattle.laws_heap.proofs.Becoming.{frame_then}
-use Rattle.laws_heap.proofs.Holding.{as_before}
+use Rattle.laws_heap.proofs.SameLayouts.{frame_then}
+use Rattle.laws_heap.proofs.FreeCounts.{as_before}
 use Rattle.mem_manager.specs.Lookup.{MakesNew}
 use Rattle.laws_store.specs.Entries.{HasNewId}
-use Rattle.laws_store.proofs.Creating.{managers_loose}
+use Rattle.laws_store.proofs.NewDatabases.{managers_loose}
 use Rattle.laws_store.proofs.Entries.{fresh_new, inserted_sound, inserted_names, raised_sound, seeded_name}
 use Rattle.laws_store.proofs.Edited.{one_change, here as updated_here, apart as updated_apart}
-use Rattle.laws_store.proofs.Editing.{edit_steps, made_edit, same_steps}
+use Rattle.laws_store.proofs.EditedStores.{edit_steps, made_edit, same_steps}
 use Rattle.laws_store.proofs.Numbered.{accepted_sound, in_here, in_store, entries_here, kind_here}
 use Rattle.laws_store.proofs.Owners.{owned_some, directory_owner}
 use Rattle.laws_store.proofs.Parts.{made_then_short}
@@ -36,7 +36,7 @@ use Rattle.palm_store.specs.declared.entries.infos.NewEntry.{NewEntry}
 use Rattle.palm_store.specs.declared.entries.infos.NewEntry.TheVariants as new
 use Rattle.palm_store.specs.EntryInfos.{IsMadeOf}
 use Rattle.palm_store.specs.NewEntries.{PutsIn}
-use Rattle.laws_store.proofs.Keeping.{bytes_like}
+use Rattle.laws_store.proofs.KeptDatabases.{bytes_like}
 use Rattle.palm_store.proofs.EntryChanges.{then_raised}
 use Rattle.palm_store.proofs.TwoSteps.{then_respelled, database_kept, still_between}
 

@@ -13,7 +13,7 @@ use Rattle.heap_model.specs.Database.{database_in, HasShape}
 use Rattle.heap_model.specs.Store.{StoredDatabase, managers_owner, bytes_of, owner_of, bytes_under, owner_under, directory_bytes, listed, database_under, databases, IsHeaderSlot, Accepted, store_of}
 use Rattle.heap_model.specs.StoreWords.{with_number}
 use Rattle.laws_heap.proofs.Meanings.{held-zero}
-use Rattle.laws_store.proofs.Listing.{times-some, times-contained, contained-times}
+use Rattle.laws_store.proofs.Times.{times-some, times-contained, contained-times}
 use Rattle.laws_store.proofs.Shapes.{spelled_shape}
 use Rattle.laws_store.proofs.Owners.{directory_owner}
 use Rattle.mem_manager.specs.Lookup.{IsMovable}

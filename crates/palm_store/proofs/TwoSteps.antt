@@ -14,10 +14,10 @@ use Rattle.heap_model.specs.Maps.{updated, changed, changed_at, gone}
 use Rattle.heap_model.specs.Database.{Database, spelled, database_in}
 use Rattle.heap_model.specs.Leaving.{Leaves, Respells, rewritten, database_here}
 use Rattle.heap_model.specs.EntrySteps.{MakesNone}
-use Rattle.laws_heap.proofs.Deciding.{none_some}
-use Rattle.laws_heap.proofs.Becoming.{same_frame, frame_then}
+use Rattle.laws_heap.proofs.Tests.{none_some}
+use Rattle.laws_heap.proofs.SameLayouts.{same_frame, frame_then}
 use Rattle.laws_heap.proofs.Meanings.{held-zero}
-use Rattle.laws_store.proofs.Keeping.{bytes_like}
+use Rattle.laws_store.proofs.KeptDatabases.{bytes_like}
 use Rattle.laws_store.specs.Changes.{Change}
 use Rattle.laws_store.proofs.Edited.{one_change, edited, changed_or_kept, here as updated_here, apart as updated_apart}
 

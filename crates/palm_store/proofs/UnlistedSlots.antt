@@ -13,8 +13,8 @@ use Rattle.heap_model.specs.Refusals.{FirstBrings}
 use Rattle.heap_model.specs.MemorySteps.{growth_checks}
 use Rattle.heap_model.specs.declared.refusal.Refusal.{Refusal}
 use Rattle.mem_manager.specs.Lookup.{IsMovable}
-use Rattle.laws_store.proofs.Creating.{managers_loose}
-use Rattle.laws_store.proofs.Deleting.{closed_up}
+use Rattle.laws_store.proofs.NewDatabases.{managers_loose}
+use Rattle.laws_store.proofs.DroppedDatabases.{closed_up}
 use Rattle.palm_store.specs.Directory.{Unlists}
 use Rattle.palm_store.proofs.Maps.{bytes_held, still_through, kept_apart}
 use Rattle.palm_store.proofs.ListedSlots.{put_here, put_apart, sized_here, sized_apart, lock_of, the_directory, growth_short}

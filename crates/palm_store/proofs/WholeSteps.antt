@@ -17,13 +17,13 @@ use Rattle.heap_model.specs.DatabaseSteps.{IsTaken}
 use Rattle.heap_model.specs.declared.database.DbInfo.{DbInfo}
 use Rattle.laws_heap.proofs.Frames.{length-u32_bytes}
 use Rattle.laws_store.specs.Changes.{Appends}
-use Rattle.laws_store.proofs.Listing.{same-yes, same-no}
+use Rattle.laws_store.proofs.Times.{same-yes, same-no}
 use Rattle.laws_store.proofs.Owners.{directory_owner}
-use Rattle.laws_store.proofs.Counting.{has_databases, listed_numbers, length-numbers}
-use Rattle.laws_store.proofs.Creating.{u32s_push}
+use Rattle.laws_store.proofs.Counts.{has_databases, listed_numbers, length-numbers}
+use Rattle.laws_store.proofs.NewDatabases.{u32s_push}
 use Rattle.laws_store.proofs.Edited.{hidden}
 use Rattle.laws_store.proofs.Listed as listed
-use Rattle.laws_store.proofs.Stepping.{has_store}
+use Rattle.laws_store.proofs.ChangeSteps.{has_store}
 use Rattle.palm_store.specs.declared.databases.whole.WholeEntry.{WholeEntry}
 use Rattle.palm_store.specs.declared.databases.whole.WholeEntry.TheVariants as whole
 use Rattle.palm_store.specs.declared.databases.whole.BlockSizes.{BlockSizes}

@@ -14,7 +14,7 @@ use Rattle.heap_model.specs.declared.call.Call.TheVariants as calls
 use Rattle.heap_model.specs.declared.call.Reply.TheVariants as replies
 use Rattle.heap_model.specs.declared.refusal.Refusal.TheVariants.{NoSuchDatabase, OutOfMemory}
 use Rattle.laws_store.proofs.Found.{found_stands}
-use Rattle.laws_store.proofs.Doing.{same_store, asks, refused}
+use Rattle.laws_store.proofs.CallSteps.{same_store, asks, refused}
 use Rattle.pdb_format.specs.Writable.{file_size}
 use Rattle.pdb_format.proofs.WrittenStores.{content_short}
 use Rattle.palm_store.specs.Databases.{HasDatabase}

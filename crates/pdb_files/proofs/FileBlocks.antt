@@ -7,7 +7,7 @@ use Rattle.heap_model.specs.Database.{Entry, a_record, a_resource, entry_data, r
 use Rattle.heap_model.specs.Files.{HasBadOffset, HasFault, HasNoFault, offsets_in, block_at, blocks_in}
 use Rattle.heap_model.specs.FileSteps.{size_of_block}
 use Rattle.heap_model.specs.declared.file_fault.FileFault.TheVariants.{Truncated, BadOffset}
-use Rattle.laws_heap.proofs.Deciding.{true_or_false}
+use Rattle.laws_heap.proofs.Tests.{true_or_false}
 use Rattle.pdb_format.specs.Blocks.{bytes_at, IsWithin}
 use Rattle.pdb_format.specs.declared.blocks.Block.{Block}
 use Rattle.pdb_format.proofs.GoodFiles.{offset_count, entry_offset_is}

@@ -8,7 +8,7 @@ pub mod Headers
 pub mod FileBlocks
 pub mod Planned
 pub mod Plans
-pub mod Filling
-pub mod Refusing
-pub mod Reading
+pub mod FilledChunks
+pub mod Refusals
+pub mod ReadDatabases
 pub mod LongBlocks

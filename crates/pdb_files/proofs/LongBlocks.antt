@@ -19,12 +19,12 @@ use Rattle.heap_model.specs.declared.call.Call.TheVariants as calls
 use Rattle.heap_model.specs.declared.call.Reply.TheVariants as replies
 use Rattle.heap_model.specs.declared.refusal.Refusal.TheVariants.{NotEnoughSpace}
 use Rattle.laws_heap.proofs.Fits.{short_beyond}
-use Rattle.laws_store.proofs.Doing.{refused}
+use Rattle.laws_store.proofs.CallSteps.{refused}
 use Rattle.pdb_format.specs.Blocks.{bytes_at, IsWithin}
 use Rattle.pdb_format.specs.declared.blocks.Block.{Block}
 use Rattle.pdb_files.specs.Plans.{size_within, IsShort}
 use Rattle.pdb_files.proofs.FileBlocks.{size_at}
-use Rattle.pdb_files.proofs.Refusing.{good_brings}
+use Rattle.pdb_files.proofs.Refusals.{good_brings}
 
 -- ---- rooms
 

@@ -14,7 +14,7 @@ use Rattle.heap_model.specs.EntrySteps.{most_entries}
 use Rattle.heap_model.specs.Files.{AreGiven, HaveIds, kept_ids, blocks_in}
 use Rattle.heap_model.specs.FileSteps.{size_of_block, block_sizes}
 use Rattle.heap_model.specs.declared.database.DbInfo.{DbInfo}
-use Rattle.laws_heap.proofs.Deciding.{true_or_false}
+use Rattle.laws_heap.proofs.Tests.{true_or_false}
 use Rattle.palm_store.specs.declared.databases.whole.WholeEntry.{WholeEntry}
 use Rattle.palm_store.specs.declared.databases.whole.WholeEntry.TheVariants as whole
 use Rattle.palm_store.specs.declared.databases.whole.BlockSizes.{BlockSizes}

@@ -14,12 +14,12 @@ use Rattle.heap_model.specs.Lists.{times}
 use Rattle.heap_model.specs.Database.{data_in}
 use Rattle.heap_model.specs.Store.{StoredDatabase, bytes_of, bytes_named, data_owner, owner_under, databases, Accepted}
 use Rattle.heap_model.specs.Files.{block_bytes, block_size}
-use Rattle.laws_heap.proofs.Deciding.{cond-false}
+use Rattle.laws_heap.proofs.Tests.{cond-false}
 use Rattle.laws_heap.proofs.Chunks.{SpelledAll-end}
-use Rattle.laws_heap.proofs.Finding.{read_heap}
-use Rattle.laws_store.proofs.Listing.{same-yes, times-cons}
-use Rattle.laws_store.proofs.Naming.{times-named}
-use Rattle.laws_store.proofs.Counting.{same-least, has_databases}
+use Rattle.laws_heap.proofs.FoundChunks.{read_heap}
+use Rattle.laws_store.proofs.Times.{same-yes, times-cons}
+use Rattle.laws_store.proofs.NameCounts.{times-named}
+use Rattle.laws_store.proofs.Counts.{same-least, has_databases}
 
 -- ---- sums over lists in which a number stands once at most
 

@@ -11,8 +11,8 @@ use Rattle.std.proofs.lemmas.List.FromFn.{filter_of_map_range_with_len_more, len
 use Rattle.std.proofs.lemmas.List.Sorted.{All-permutation, sum_by-IsPermutation}
 use Rattle.heap_model.specs.Lists.{same, numbered}
 use Rattle.heap_model.specs.Files.{starts_behind}
-use Rattle.laws_heap.proofs.Deciding.{true_or_false, leb-is-true}
-use Rattle.laws_store.proofs.Listing.{same-yes, same-no}
+use Rattle.laws_heap.proofs.Tests.{true_or_false, leb-is-true}
+use Rattle.laws_store.proofs.Times.{same-yes, same-no}
 use Rattle.pdb_format.specs.declared.starts.Start.{Start}
 use Rattle.pdb_format.specs.Starts.{start_of, is_there, starts_in, order, begins}
 

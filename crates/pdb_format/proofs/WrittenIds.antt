@@ -7,7 +7,7 @@ use Rattle.heap_model.specs.Lists.{times, Distinct}
 use Rattle.heap_model.specs.Database.{DatabaseHeader}
 use Rattle.heap_model.specs.UniqueIds.{seed_in, with_seed}
 use Rattle.heap_model.specs.Files.{keeps_id, kept_ids, AreGiven, HaveIds}
-use Rattle.laws_store.proofs.Listing.{same-no, times-cons, Distinct-head, Distinct-tail}
+use Rattle.laws_store.proofs.Times.{same-no, times-cons, Distinct-head, Distinct-tail}
 
 -- behind records of the earlier IDs, each of these is kept
 abbrev AllKept : List ℕ → List ℕ → Type 0

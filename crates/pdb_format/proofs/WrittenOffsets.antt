@@ -6,7 +6,7 @@ use Rattle.std.proofs.lemmas.Bool.{le-ltb}
 use Rattle.std.proofs.lemmas.Grind.{flat_map-append}
 use Rattle.std.proofs.lemmas.List.{take_at, drop_at, drop-drop}
 use Rattle.heap_model.specs.Files.{starts_behind, block_bytes, block_size, block_offset}
-use Rattle.laws_heap.proofs.Deciding.{leb-is-true, lt-leb-false}
+use Rattle.laws_heap.proofs.Tests.{leb-is-true, lt-leb-false}
 
 -- the bytes of some blocks, one behind the other
 abbrev pub all_bytes : List (Option (List ℕ)) → List ℕ

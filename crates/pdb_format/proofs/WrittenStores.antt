@@ -13,8 +13,8 @@ use Rattle.heap_model.specs.Maps.{not_owned, callers_map}
 use Rattle.heap_model.specs.Database.{Database, Entry, a_record, a_resource, entry_data, data_in, entry_with, has_resources, entry_offset, EntryFits}
 use Rattle.heap_model.specs.Store.{StoredDatabase, bytes_of, bytes_under, bytes_named, content, databases, HasData, unique_id, IsDatabase, Accepted}
 use Rattle.heap_model.specs.Files.{block_bytes}
-use Rattle.laws_heap.proofs.Deciding.{none_some}
-use Rattle.laws_heap.proofs.Finding.{read_heap}
+use Rattle.laws_heap.proofs.Tests.{none_some}
+use Rattle.laws_heap.proofs.FoundChunks.{read_heap}
 use Rattle.laws_store.proofs.Bodies.{held_bytes}
 use Rattle.laws_store.proofs.Owners.{owned_some}
 use Rattle.pdb_format.specs.Writable.{IsWritableEntry, file_size, most_front, IsWritable}

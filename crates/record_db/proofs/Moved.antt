@@ -8,12 +8,12 @@ use Rattle.heap_model.specs.Store.{Accepted, store_of}
 use Rattle.heap_model.specs.EntrySteps.{with_attributes, with_entries, LeavesStore}
 use Rattle.heap_model.specs.Categories.{has_category, with_category, recategorized, moved_category}
 use Rattle.heap_model.specs.declared.names.Db.{Db}
-use Rattle.laws_heap.proofs.Deciding.{cond-false}
+use Rattle.laws_heap.proofs.Tests.{cond-false}
 use Rattle.palm_store.specs.AttributeChanges.{MayChange}
 use Rattle.record_db.specs.Categories.{moved_attributes}
 use Rattle.database_access.proofs.Entries.{Here}
 use Rattle.database_access.proofs.EntriesChanged.{with_list, changed_alike}
-use Rattle.database_access.proofs.Raising.{left_as}
+use Rattle.database_access.proofs.TwoChanges.{left_as}
 
 -- ---- the attributes
 

@@ -11,10 +11,10 @@ use Rattle.heap_model.specs.StoreWords.{all_gone, with_number}
 use Rattle.heap_model.specs.EntrySteps.{entry_under, entry_changed, data_of_entry, data_under, without_data, with_chunks, data_freed, LeavesStore}
 use Rattle.heap_model.specs.Categories.{is_of, data_of_category, deleted_category}
 use Rattle.heap_model.specs.declared.names.Db.{Db}
-use Rattle.laws_heap.proofs.Deciding.{cond-true, cond-false}
-use Rattle.laws_store.proofs.Listing.{same-yes, same-no, times-cons}
+use Rattle.laws_heap.proofs.Tests.{cond-true, cond-false}
+use Rattle.laws_store.proofs.Times.{same-yes, same-no, times-cons}
 use Rattle.database_access.proofs.EntriesChanged.{entry_alike, entry_kept}
-use Rattle.database_access.proofs.Raising.{left_as, itself}
+use Rattle.database_access.proofs.TwoChanges.{left_as, itself}
 
 -- what isn't of a category
 pub isnt_of : (category : ℕ) (entry : Entry ℕ) → (is_of category entry ≡ true → ⊥) → is_of category entry ≡ false

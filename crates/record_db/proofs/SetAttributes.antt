@@ -11,8 +11,8 @@ use Rattle.heap_model.specs.StoreWords.{with_number}
 use Rattle.heap_model.specs.EntrySteps.{entries_of, entries_in, entry_under, OfEntry, HasId, HasOther, data_of_entry, data_under, resources_under, with_attributes, entry_changed, data_exchanged, entry_swapped, raised, LeavesStore}
 use Rattle.heap_model.specs.RecordSteps.{id_in, id_set}
 use Rattle.heap_model.specs.declared.names.Db.{Db}
-use Rattle.laws_heap.proofs.Deciding.{cond-true, cond-false, same_some, none_some}
-use Rattle.laws_store.proofs.Listing.{same-yes, times-cons, all-times, distinct-times}
+use Rattle.laws_heap.proofs.Tests.{cond-true, cond-false, same_some, none_some}
+use Rattle.laws_store.proofs.Times.{same-yes, times-cons, all-times, distinct-times}
 use Rattle.palm_store.specs.EntryInfos.{with_info, CanHave}
 use Rattle.palm_store.specs.EntryCalls.{raised_if}
 use Rattle.database_access.specs.Search.{SomeHas}

@@ -15,7 +15,7 @@ use Rattle.heap_model.specs.declared.call.Call.TheVariants as calls
 use Rattle.heap_model.specs.declared.call.ResourceCall.TheVariants.{FindType}
 use Rattle.heap_model.specs.declared.call.Reply.TheVariants.{Number}
 use Rattle.heap_model.specs.declared.refusal.Refusal.TheVariants.{ResourceNotFound}
-use Rattle.laws_store.proofs.Doing.{same_store, asks, refused}
+use Rattle.laws_store.proofs.CallSteps.{same_store, asks, refused}
 use Rattle.palm_store.specs.Databases.{HasDatabase}
 use Rattle.palm_store.specs.Replies.{number_or_refused}
 use Rattle.database_access.specs.Checks.{opening_checks}

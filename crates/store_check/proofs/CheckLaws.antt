@@ -3,7 +3,7 @@ use Rattle.std.proofs.Common.{◌≡◌, ℕ, List, [], ◌∷◌, ◌++◌, len
 use Rattle.heap_model.specs.Bytes.{AreBytes}
 use Rattle.heap_model.specs.Heap.{HeapAccepted}
 use Rattle.heap_model.specs.Store.{listed, Accepted}
-use Rattle.laws_store.proofs.Listing.{no_least, no_least_pair}
+use Rattle.laws_store.proofs.Times.{no_least, no_least_pair}
 use Rattle.heap_check.specs.Faults.{FirstBrought}
 use Rattle.heap_check.proofs.CheckLaws as laws_heap
 use Rattle.store_check.specs.declared.fault.StoreFault.{StoreFault}

@@ -8,7 +8,7 @@ use Rattle.store_check.specs.declared.fault.StoreFault.TheVariants.{SharedChunk,
 use Rattle.store_check.specs.Faults.{shared_faults, stray_faults, NoneBrought}
 use Rattle.store_check.specs.Naming.{AreNamed, accounted, AreMarks, IsMarkedTwice, IsUnmarked}
 use Rattle.store_check.specs.Owners.{IsOurs}
-use Rattle.store_check.proofs.Counting.{least_shared, none_shared, least_stray, none_stray}
+use Rattle.store_check.proofs.CountLaws.{least_shared, none_shared, least_stray, none_stray}
 use Rattle.store_check.proofs.PassLaws.{none_more}
 
 -- ---- marked twice

@@ -14,10 +14,10 @@ use Rattle.heap_model.specs.Lists.{times, Distinct, numbered}
 use Rattle.heap_model.specs.Database.{Entry, a_record, a_resource, is_deleted, name_field, name_in, entry_data, data_in, header_in, resources_in, entry_offset, entry_in, entry_count_in, database_in, HasName, HasShape}
 use Rattle.heap_model.specs.Store.{StoredDatabase, bytes_under, owner_under, directory_bytes, listed, database_under, databases, named, most_databases, IsHeaderSlot, IsInfoBlock, HasData, unique_ids, HasUniqueIds, IsDatabase, names_of, Accepted}
 use Rattle.laws_store.proofs.Bodies.{held_bytes}
-use Rattle.laws_store.proofs.Counting.{named_owner}
-use Rattle.laws_store.proofs.Deciding.{Decides-name}
-use Rattle.laws_store.proofs.Listing.{all-times, All-flat_map, no_least, no_least_pair}
-use Rattle.laws_store.proofs.Naming.{unique_counts, counts_unique}
+use Rattle.laws_store.proofs.Counts.{named_owner}
+use Rattle.laws_store.proofs.Tests.{Decides-name}
+use Rattle.laws_store.proofs.Times.{all-times, All-flat_map, no_least, no_least_pair}
+use Rattle.laws_store.proofs.NameCounts.{unique_counts, counts_unique}
 use Rattle.laws_store.proofs.Shapes.{spelled_shape, shape_spelled}
 use Rattle.laws_store.specs.StoreTests.{is_name}
 use Rattle.db_format.specs.Headers.{IsWhole}
@@ -25,8 +25,8 @@ use Rattle.store_check.specs.Listing.{listed_at, listed_count, header_at}
 use Rattle.store_check.specs.Faults.{IsBadSlot, HasHeader, IsBadHeader, IsBadEntry, IsShared, IsStray, HasBadId, IsBadId, IsBadName, IsSameName, store_faults, NoneBrought}
 use Rattle.store_check.specs.Naming.{AreNamed}
 use Rattle.laws_store.proofs.RecordIds.{ids_index, ids_once, once_ids, index_ids}
-use Rattle.store_check.proofs.Indexing.{length-numbered, numbered_at, all_numbered, numbered_all, distinct_numbered, numbered_distinct}
-use Rattle.store_check.proofs.Counting.{data_once, all_listed, not_shared, not_stray}
+use Rattle.store_check.proofs.IndexLaws.{length-numbered, numbered_at, all_numbered, numbered_all, distinct_numbered, numbered_distinct}
+use Rattle.store_check.proofs.CountLaws.{data_once, all_listed, not_shared, not_stray}
 
 -- ---- no row, and no number of which its condition holds
 

@@ -1,7 +1,7 @@
 pub mod LookupLaws
 pub mod OwnerLaws
-pub mod Indexing
-pub mod Counting
+pub mod IndexLaws
+pub mod CountLaws
 pub mod FaultLaws
 pub mod MarkLaws
 pub mod SlotLaws

@@ -12,7 +12,7 @@ use Rattle.heap_model.specs.Store.{managers_owner, bytes_of, owner_of, bytes_und
 use Rattle.heap_model.specs.declared.names.Place.{Place}
 use Rattle.laws_heap.proofs.Meanings.{held-is, held-zero, empty_unheld}
 use Rattle.laws_heap.proofs.Shapes.{chunk_at-spelled}
-use Rattle.laws_heap.proofs.Finding.{read_heap, InSlot, in_slot, finds_held, finds_spelled, finds_read}
+use Rattle.laws_heap.proofs.FoundChunks.{read_heap, InSlot, in_slot, finds_held, finds_spelled, finds_read}
 use Rattle.laws_store.proofs.Owners.{directory_owner, owned_slot}
 use Rattle.chunk_format.specs.declared.header.Header.{Header}
 use Rattle.chunk_format.specs.declared.header.Header.TheVariants as headers

@@ -6,7 +6,7 @@ use Rattle.std.specs.Prelude.{IfSome}
 use Rattle.heap_model.specs.Slots.{IsSlot, StandsBehind}
 use Rattle.heap_model.specs.Lists.{same, times}
 use Rattle.laws_heap.proofs.Slots.{same_number, same_slot, stands_slot}
-use Rattle.laws_store.proofs.Listing.{same-yes, same-no, times-cons, times-append}
+use Rattle.laws_store.proofs.Times.{same-yes, same-no, times-cons, times-append}
 use Rattle.store_check.specs.Naming.{AreMarks}
 
 -- the number that was found

@@ -5,12 +5,12 @@ use Rattle.std.specs.Prelude.{◌⊎◌, ◌↔◌}
 use Rattle.heap_model.specs.Heap.{directory_of}
 use Rattle.heap_model.specs.Lists.{same, times, numbered}
 use Rattle.heap_model.specs.Store.{managers_owner, owner_under, directory_bytes, listed, most_databases, IsHeaderSlot}
-use Rattle.laws_store.proofs.Listing.{same-yes, same-no, times-cons}
+use Rattle.laws_store.proofs.Times.{same-yes, same-no, times-cons}
 use Rattle.laws_store.proofs.Numbers.{numbered_more}
 use Rattle.store_check.specs.Listing.{listed_at, listed_count}
 use Rattle.store_check.specs.Faults.{IsBadSlot}
 use Rattle.store_check.specs.Naming.{met, AreMarks}
-use Rattle.store_check.proofs.Indexing.{times_index, index_times}
+use Rattle.store_check.proofs.IndexLaws.{times_index, index_times}
 
 -- a complete word of the directory, by its owner and its mark
 pub word_bad : (image : List ℕ) (index slot : ℕ) → 4 * index + 4 ≤ length (directory_bytes image) → index < most_databases → slot ≡ listed_at image index

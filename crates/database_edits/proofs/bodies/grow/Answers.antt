@@ -1,6 +1,6 @@
 -- The chunk of a database has no lock, so that only want of room refuses it to grow.
 use Rattle.database_edits.proofs.Chunks.{is_movable}
-use Rattle.database_edits.proofs.Growing.{grew, no_room, by_space}
+use Rattle.database_edits.proofs.Lengths.{grew, no_room, by_space}
 use Rattle.database_edits.proofs.bodies.grow.Goals as goal
 
 pub sys_resize-requires : goal.sys_resize-requires

@@ -1,6 +1,6 @@
 -- A chunk without a lock is never refused to shrink.
 use Rattle.database_edits.proofs.Chunks.{is_movable}
-use Rattle.database_edits.proofs.Growing.{shrinks_ok, shrank}
+use Rattle.database_edits.proofs.Lengths.{shrinks_ok, shrank}
 use Rattle.database_edits.proofs.bodies.shrink.Goals as goal
 
 pub sys_resize-requires : goal.sys_resize-requires

@@ -7,7 +7,7 @@ use Rattle.db_format.specs.EitherEntry.{entry_of, is_resource}
 use Rattle.laws_heap.proofs.Results.{on_err}
 use Rattle.database_edits.specs.Edits.{HasNoRoomFor, entry_inserted}
 use Rattle.database_edits.proofs.HeadersHere.{heading_spelled}
-use Rattle.database_edits.proofs.Opening.{short_of, same_name, inserted, inserted_header, inserted_kept}
+use Rattle.database_edits.proofs.InsertedEntries.{short_of, same_name, inserted, inserted_header, inserted_kept}
 use Rattle.database_edits.proofs.insertion.insert_entry.Goals as goal
 
 pub returns-in_err-grow-clause-no_room : goal.returns-in_err-grow-clause-no_room

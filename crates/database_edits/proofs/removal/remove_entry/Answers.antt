@@ -6,7 +6,7 @@ use Rattle.heap_model.specs.StoreWords.{next_modification}
 use Rattle.database_edits.specs.Edits.{entry_removed}
 use Rattle.database_edits.proofs.Entries.{inside_body}
 use Rattle.database_edits.proofs.HeadersHere.{heading_spelled}
-use Rattle.database_edits.proofs.Closing.{removed, removed_header, removed_kept}
+use Rattle.database_edits.proofs.RemovedEntries.{removed, removed_header, removed_kept}
 use Rattle.database_edits.proofs.removal.remove_entry.Goals as goal
 
 pub slide_entries-requires-clause-from_inside : goal.slide_entries-requires-clause-from_inside

@@ -4,7 +4,7 @@ use Rattle.heap_model.specs.Lists.{moved}
 use Rattle.heap_model.specs.Database.{Database}
 use Rattle.heap_model.specs.Leaving.{Respells, database_here}
 use Rattle.database_edits.specs.Edits.{counted, entry_moved}
-use Rattle.database_edits.proofs.Counting.{respells_twice}
+use Rattle.database_edits.proofs.RaisedNumbers.{respells_twice}
 use Rattle.database_edits.proofs.replacement.move_entry.Goals as goal
 
 pub move_entry-requires-clause-from_inside : goal.move_entry-requires-clause-from_inside

@@ -5,7 +5,7 @@ use Rattle.heap_model.specs.Leaving.{Respells, database_here}
 use Rattle.db_format.specs.EitherEntry.{entry_of}
 use Rattle.db_format.specs.Entries.{with_entry}
 use Rattle.database_edits.specs.Edits.{counted_if, entry_written}
-use Rattle.database_edits.proofs.Counting.{respells_twice, counted_entries, counted_attributes, counted_entry}
+use Rattle.database_edits.proofs.RaisedNumbers.{respells_twice, counted_entries, counted_attributes, counted_entry}
 use Rattle.database_edits.proofs.replacement.write_entry.Goals as goal
 
 pub write_entry-requires-clause-inside : goal.write_entry-requires-clause-inside

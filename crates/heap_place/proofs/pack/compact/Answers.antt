@@ -1,6 +1,6 @@
 use Rattle.std.proofs.Common.{[], sym, ◌∙◌}
 use Rattle.heap_model.specs.Reading.{chunks_of}
-use Rattle.laws_heap.proofs.Compacting.{packed_moved}
+use Rattle.laws_heap.proofs.SlidImages.{packed_moved}
 use Rattle.heap_place.proofs.PackLaws.{run_whole, whole_run, compacted_whole, whole_exact}
 use Rattle.heap_place.proofs.pack.compact.Goals as goal
 

@@ -1,4 +1,4 @@
-use Rattle.laws_heap.proofs.Holding.{free_alike}
+use Rattle.laws_heap.proofs.FreeCounts.{free_alike}
 use Rattle.laws_heap.proofs.laws.held_tells_free.Goals as goal
 
 pub returns : goal.returns

@@ -6,7 +6,7 @@ use Rattle.heap_model.specs.Reading.{chunks_of, live_under}
 use Rattle.heap_model.specs.Space.{rooms_of, stretches, place_under}
 use Rattle.heap_model.specs.Layout.{layout_of}
 use Rattle.laws_heap.proofs.Layouts.{no_run-layout}
-use Rattle.laws_heap.proofs.Becoming.{held-layout, place-layout, free-layout, rooms-layout}
+use Rattle.laws_heap.proofs.SameLayouts.{held-layout, place-layout, free-layout, rooms-layout}
 use Rattle.laws_heap.proofs.laws.layout_tells.Goals as goal
 
 pub returns : goal.returns

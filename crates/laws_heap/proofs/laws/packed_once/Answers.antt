@@ -1,4 +1,4 @@
-use Rattle.laws_heap.proofs.Compacting.{packed_chunks, packed_layout}
+use Rattle.laws_heap.proofs.SlidImages.{packed_chunks, packed_layout}
 use Rattle.laws_heap.proofs.laws.packed_once.Goals as goal
 
 pub returns : goal.returns

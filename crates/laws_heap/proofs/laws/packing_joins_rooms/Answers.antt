@@ -1,4 +1,4 @@
-use Rattle.laws_heap.proofs.Compacting.{packed_runs}
+use Rattle.laws_heap.proofs.SlidImages.{packed_runs}
 use Rattle.laws_heap.proofs.laws.packing_joins_rooms.Goals as goal
 
 pub returns : goal.returns

@@ -1,4 +1,4 @@
-use Rattle.laws_heap.proofs.Compacting.{slid_alike}
+use Rattle.laws_heap.proofs.SlidImages.{slid_alike}
 use Rattle.laws_heap.proofs.laws.sliding_keeps.Goals as goal
 
 pub returns : goal.returns

@@ -1,7 +1,7 @@
 use Rattle.std.proofs.Common.{List, subst}
 use Rattle.heap_model.specs.Store.{StoredDatabase}
 use Rattle.heap_model.specs.Counts.{HasDatabases}
-use Rattle.laws_store.proofs.Counting.{has_databases, databases_are, accepted_with}
+use Rattle.laws_store.proofs.Counts.{has_databases, databases_are, accepted_with}
 use Rattle.laws_store.proofs.laws.acceptance_is_counted.Goals as goal
 
 pub returns : goal.returns

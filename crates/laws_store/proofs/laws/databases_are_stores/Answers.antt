@@ -1,4 +1,4 @@
-use Rattle.laws_store.proofs.Stepping.{has_store}
+use Rattle.laws_store.proofs.ChangeSteps.{has_store}
 use Rattle.laws_store.proofs.laws.databases_are_stores.Goals as goal
 
 pub returns : goal.returns

@@ -1,7 +1,7 @@
 use Rattle.std.proofs.Common.{ap, ◌∙◌}
 use Rattle.std.proofs.lemmas.Option.{slice_get_within, get_or_from_slice_get}
 use Rattle.heap_model.specs.Store.{StoredDatabase, numbers_of}
-use Rattle.laws_store.proofs.Listing.{distinct-times}
+use Rattle.laws_store.proofs.Times.{distinct-times}
 use Rattle.laws_store.proofs.Found.{without_by_number}
 use Rattle.laws_store.proofs.laws.databases_are_taken_out.Goals as goal
 

@@ -1,4 +1,4 @@
-use Rattle.laws_store.proofs.Editing.{edit_steps}
+use Rattle.laws_store.proofs.EditedStores.{edit_steps}
 use Rattle.laws_store.proofs.laws.edits_are_steps.Goals as goal
 
 pub returns : goal.returns

@@ -1,4 +1,4 @@
-use Rattle.laws_store.proofs.Editing.{make_steps}
+use Rattle.laws_store.proofs.EditedStores.{make_steps}
 use Rattle.laws_store.proofs.laws.makes_are_steps.Goals as goal
 
 pub returns : goal.returns

@@ -1,4 +1,4 @@
-use Rattle.laws_store.proofs.Counting.{numbers_distinct}
+use Rattle.laws_store.proofs.Counts.{numbers_distinct}
 use Rattle.laws_store.proofs.Found.{is_number}
 use Rattle.laws_store.proofs.laws.numbers_are_known.Goals as goal
 

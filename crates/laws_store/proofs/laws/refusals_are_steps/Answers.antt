@@ -1,4 +1,4 @@
-use Rattle.laws_store.proofs.Stepping.{same_steps}
+use Rattle.laws_store.proofs.ChangeSteps.{same_steps}
 use Rattle.laws_store.proofs.laws.refusals_are_steps.Goals as goal
 
 pub returns : goal.returns

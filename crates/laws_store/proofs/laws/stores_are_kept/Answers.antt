@@ -1,4 +1,4 @@
-use Rattle.laws_store.proofs.Keeping.{databases_kept}
+use Rattle.laws_store.proofs.KeptDatabases.{databases_kept}
 use Rattle.laws_store.proofs.laws.stores_are_kept.Goals as goal
 
 pub returns : goal.returns

@@ -2,7 +2,7 @@ use Rattle.std.proofs.Common.{◌≤◌, ℕ, List, length, refl, sym, subst, �
 use Rattle.heap_model.specs.Store.{most_databases, store_of}
 use Rattle.heap_model.specs.DatabaseSteps.{IsTaken}
 use Rattle.pdb_files.proofs.FileNames.{name_kept}
-use Rattle.pdb_files.proofs.Refusing.{fault_brings, good_brings, taken_found, free_found, count_is}
+use Rattle.pdb_files.proofs.Refusals.{fault_brings, good_brings, taken_found, free_found, count_is}
 use Rattle.pdb_files.proofs.importing.check_import.Goals as goal
 
 pub returns-in-Err-clause-why : goal.returns-in-Err-clause-why

@@ -3,11 +3,11 @@ use Rattle.std.specs.Prelude.{All}
 use Rattle.heap_model.specs.declared.call.FileCall.TheVariants.{Import}
 use Rattle.heap_model.specs.declared.call.Call.TheVariants as calls
 use Rattle.heap_model.specs.declared.call.Reply.TheVariants as replies
-use Rattle.laws_store.proofs.Doing.{refused, handed_on}
+use Rattle.laws_store.proofs.CallSteps.{refused, handed_on}
 use Rattle.pdb_format.specs.declared.blocks.Block.{Block}
 use Rattle.pdb_files.specs.Plans.{IsShort}
-use Rattle.pdb_files.proofs.Refusing.{front_brings}
-use Rattle.pdb_files.proofs.Reading.{no_memory_left, names_enough}
+use Rattle.pdb_files.proofs.Refusals.{front_brings}
+use Rattle.pdb_files.proofs.ReadDatabases.{no_memory_left, names_enough}
 use Rattle.pdb_files.proofs.LongBlocks.{no_room_for_long}
 use Rattle.pdb_files.proofs.importing.import_from.Goals as goal
 

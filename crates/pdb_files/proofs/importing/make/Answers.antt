@@ -9,14 +9,14 @@ use Rattle.heap_model.specs.declared.call.Call.TheVariants as calls
 use Rattle.heap_model.specs.declared.call.Reply.TheVariants as replies
 use Rattle.heap_model.specs.declared.refusal.Refusal.TheVariants.{OutOfMemory}
 use Rattle.laws_heap.proofs.Results.{if_err}
-use Rattle.laws_store.proofs.Doing.{handed_on}
+use Rattle.laws_store.proofs.CallSteps.{handed_on}
 use Rattle.pdb_format.specs.Blocks.{bytes_at}
 use Rattle.pdb_format.specs.declared.blocks.Block.{Block}
 use Rattle.palm_store.specs.declared.databases.whole.WholeEntry.{WholeEntry}
 use Rattle.palm_store.specs.WholeDatabases.{data_sizes, numbers_in, MakesWhole, checks_of_whole}
 use Rattle.pdb_files.specs.Filling.{AreFilled}
-use Rattle.pdb_files.proofs.Refusing.{whole_not_memory}
-use Rattle.pdb_files.proofs.Reading.{zeros_first, imported, no_room_left}
+use Rattle.pdb_files.proofs.Refusals.{whole_not_memory}
+use Rattle.pdb_files.proofs.ReadDatabases.{zeros_first, imported, no_room_left}
 use Rattle.pdb_files.proofs.importing.make.Goals as goal
 
 pub returns-in_err-db-clause-does : goal.returns-in_err-db-clause-does

@@ -5,8 +5,8 @@ use Rattle.heap_model.specs.RecordSteps.{category_deleted}
 use Rattle.heap_model.specs.declared.call.Call.TheVariants as calls
 use Rattle.heap_model.specs.declared.call.RecordCall.TheVariants.{DeleteCategory}
 use Rattle.heap_model.specs.declared.call.Reply.TheVariants.{Done}
-use Rattle.laws_store.proofs.Doing.{changes, kept_then}
-use Rattle.database_access.proofs.Raising.{raised_after}
+use Rattle.laws_store.proofs.CallSteps.{changes, kept_then}
+use Rattle.database_access.proofs.TwoChanges.{raised_after}
 use Rattle.database_access.proofs.SearchLaws.{number_read}
 use Rattle.record_db.proofs.CategoryTurns.{number_mid}
 use Rattle.database_access.proofs.Entries.{here}

@@ -5,12 +5,12 @@ use Rattle.heap_model.specs.Categories.{moved_category}
 use Rattle.heap_model.specs.declared.call.Call.TheVariants as calls
 use Rattle.heap_model.specs.declared.call.RecordCall.TheVariants.{MoveCategory}
 use Rattle.heap_model.specs.declared.call.Reply.TheVariants.{Done}
-use Rattle.laws_store.proofs.Doing.{changes, kept_then}
+use Rattle.laws_store.proofs.CallSteps.{changes, kept_then}
 use Rattle.record_db.specs.Categories.{moved_attributes}
 use Rattle.record_db.proofs.CategoryTurns.{number_mid}
 use Rattle.database_access.proofs.Entries.{here}
 use Rattle.record_db.proofs.Moved.{below_categories, may_move, category_moved}
-use Rattle.database_access.proofs.Raising.{raised_after}
+use Rattle.database_access.proofs.TwoChanges.{raised_after}
 use Rattle.database_access.proofs.SearchLaws.{number_read}
 use Rattle.record_db.proofs.categories.move_category.Goals as goal
 

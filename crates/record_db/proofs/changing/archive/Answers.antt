@@ -3,7 +3,7 @@ use Rattle.heap_model.specs.EntrySteps.{deleted_bit}
 use Rattle.heap_model.specs.declared.call.Call.TheVariants as calls
 use Rattle.heap_model.specs.declared.call.RecordCall.TheVariants.{Archive}
 use Rattle.heap_model.specs.declared.call.Reply.TheVariants.{Done}
-use Rattle.laws_store.proofs.Doing.{changes}
+use Rattle.laws_store.proofs.CallSteps.{changes}
 use Rattle.record_db.proofs.SetAttributes.{attributes_set}
 use Rattle.record_db.proofs.changing.archive.Goals as goal
 

@@ -7,7 +7,7 @@ use Rattle.heap_model.specs.declared.call.Call.TheVariants as calls
 use Rattle.heap_model.specs.declared.call.RecordCall.TheVariants.{Get}
 use Rattle.heap_model.specs.declared.call.Reply.TheVariants.{Named}
 use Rattle.heap_model.specs.declared.refusal.Refusal.TheVariants.{RecordBusy}
-use Rattle.laws_store.proofs.Doing.{refused, changes}
+use Rattle.laws_store.proofs.CallSteps.{refused, changes}
 use Rattle.record_db.proofs.SetAttributes.{attributes_set}
 use Rattle.record_db.proofs.changing.get.Goals as goal
 

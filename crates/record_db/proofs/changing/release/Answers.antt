@@ -6,7 +6,7 @@ use Rattle.heap_model.specs.RecordSteps.{released}
 use Rattle.heap_model.specs.declared.call.Call.TheVariants as calls
 use Rattle.heap_model.specs.declared.call.RecordCall.TheVariants.{Release}
 use Rattle.heap_model.specs.declared.call.Reply.TheVariants.{Done}
-use Rattle.laws_store.proofs.Doing.{changes}
+use Rattle.laws_store.proofs.CallSteps.{changes}
 use Rattle.record_db.proofs.Bits.{released_deleted}
 use Rattle.record_db.proofs.Entries.{info_is, no_data}
 use Rattle.record_db.proofs.SetAttributes.{may_have, attributes_set}

@@ -3,7 +3,7 @@ use Rattle.heap_model.specs.declared.call.Call.TheVariants as calls
 use Rattle.heap_model.specs.declared.call.RecordCall.TheVariants.{Remove}
 use Rattle.heap_model.specs.declared.call.Reply.TheVariants.{Done}
 use Rattle.heap_model.specs.declared.refusal.Refusal.TheVariants.{ChunkLocked}
-use Rattle.laws_store.proofs.Doing.{refused, changes}
+use Rattle.laws_store.proofs.CallSteps.{refused, changes}
 use Rattle.record_db.proofs.Entries.{locked_data}
 use Rattle.record_db.proofs.changing.remove.Goals as goal
 

@@ -7,7 +7,7 @@ use Rattle.heap_model.specs.RecordSteps.{attributes_set, id_set, with_record_inf
 use Rattle.heap_model.specs.declared.call.Call.TheVariants as calls
 use Rattle.heap_model.specs.declared.call.RecordCall.TheVariants.{SetInfo}
 use Rattle.heap_model.specs.declared.call.Reply.TheVariants.{Done}
-use Rattle.laws_store.proofs.Doing.{changes}
+use Rattle.laws_store.proofs.CallSteps.{changes}
 use Rattle.palm_store.specs.EntryInfos.{with_info, CanHave}
 use Rattle.palm_store.specs.declared.entries.infos.EntryInfo.TheVariants as infos
 use Rattle.database_access.specs.Search.{SomeHas}

@@ -4,7 +4,7 @@ use Rattle.heap_model.specs.EntrySteps.{data_of_entry}
 use Rattle.heap_model.specs.declared.call.Call.TheVariants as calls
 use Rattle.heap_model.specs.declared.call.RecordCall.TheVariants.{AttachReplacing}
 use Rattle.heap_model.specs.declared.call.Reply.TheVariants.{Named}
-use Rattle.laws_store.proofs.Doing.{changes}
+use Rattle.laws_store.proofs.CallSteps.{changes}
 use Rattle.record_db.proofs.SetAttributes.{data_swapped}
 use Rattle.record_db.proofs.giving.attach_replacing.Goals as goal
 

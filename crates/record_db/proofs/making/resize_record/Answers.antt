@@ -1,5 +1,5 @@
 use Rattle.std.proofs.Common.{◌≡◌, ℕ, refl, sym, ap, subst, inr}
-use Rattle.laws_store.proofs.Doing.{refused, handed_on, changes}
+use Rattle.laws_store.proofs.CallSteps.{refused, handed_on, changes}
 use Rattle.heap_model.specs.Chunk.{need}
 use Rattle.heap_model.specs.Memory.{Memory}
 use Rattle.heap_model.specs.Space.{FitsInPlace, MovesOneStretchAnd}
@@ -13,7 +13,7 @@ use Rattle.heap_model.specs.declared.call.RecordCall.TheVariants.{Resize}
 use Rattle.heap_model.specs.declared.call.Reply.TheVariants.{Done, Refused}
 use Rattle.laws_heap.proofs.Unmoved.{itself_alone}
 use Rattle.palm_store.specs.EntryCalls.{checks_of_growth, data_sized}
-use Rattle.database_access.proofs.Raising.{raised_after, nothing_moved, one_stretch_moved}
+use Rattle.database_access.proofs.TwoChanges.{raised_after, nothing_moved, one_stretch_moved}
 use Rattle.record_db.proofs.making.resize_record.Goals as goal
 
 pub returns-in_err-live-clause-one_stretch : goal.returns-in_err-live-clause-one_stretch

@@ -4,7 +4,7 @@ use Rattle.heap_model.specs.declared.call.Call.TheVariants as calls
 use Rattle.heap_model.specs.declared.call.ResourceCall.TheVariants.{Remove}
 use Rattle.heap_model.specs.declared.call.Reply.TheVariants.{Done}
 use Rattle.heap_model.specs.declared.refusal.Refusal.TheVariants.{ChunkLocked}
-use Rattle.laws_store.proofs.Doing.{refused, changes}
+use Rattle.laws_store.proofs.CallSteps.{refused, changes}
 use Rattle.database_access.specs.Checks.{IsLockedChunk}
 use Rattle.palm_store.specs.EntryCalls.{HasLockedData}
 use Rattle.resource_db.proofs.changing.remove_resource.Goals as goal

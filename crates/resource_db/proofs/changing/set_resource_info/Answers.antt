@@ -4,7 +4,7 @@ use Rattle.heap_model.specs.ResourceSteps.{with_type_and_id}
 use Rattle.heap_model.specs.declared.call.Call.TheVariants as calls
 use Rattle.heap_model.specs.declared.call.ResourceCall.TheVariants.{SetInfo}
 use Rattle.heap_model.specs.declared.call.Reply.TheVariants.{Done}
-use Rattle.laws_store.proofs.Doing.{changes}
+use Rattle.laws_store.proofs.CallSteps.{changes}
 use Rattle.palm_store.specs.EntryInfos.{with_info}
 use Rattle.palm_store.specs.declared.entries.infos.EntryInfo.TheVariants as infos
 use Rattle.database_access.proofs.EntriesChanged.{set_as}

@@ -6,7 +6,7 @@ use Rattle.heap_model.specs.Slots.{slots_of}
 use Rattle.test_heap_format.specs.Stretches.{zeros_of}
 use Rattle.test_heap_format.specs.Moves.{first_stretch, locked_one, second_stretch, scattered, front_packed, both_packed, turned, locked_moved}
 use Rattle.laws_heap.proofs.Accepted.{Decides-accepted}
-use Rattle.laws_heap.proofs.Compacting.{slides_move_one}
+use Rattle.laws_heap.proofs.SlidImages.{slides_move_one}
 use Rattle.test_heap_format.proofs.MoveLaws.{names, slides_slid, other_first, moves_two}
 use Rattle.test_heap_format.proofs.moves.one_stretch_slides.Goals as goal
 

@@ -6,7 +6,7 @@ use Rattle.heap_model.specs.Chunk.{movable, need}
 use Rattle.heap_model.specs.Slots.{IsSlot}
 use Rattle.heap_model.specs.Heap.{HeapAccepted}
 use Rattle.heap_model.specs.Reading.{chunks_of}
-use Rattle.laws_heap.proofs.Becoming.{same_slots, slot_kept}
+use Rattle.laws_heap.proofs.SameLayouts.{same_slots, slot_kept}
 use Rattle.heap_model.specs.Layout.{Claims}
 use Rattle.heap_place.specs.Lists.{ButAt, CutsRoom}
 use Rattle.heap_place.proofs.CutLaws.{room_facts}

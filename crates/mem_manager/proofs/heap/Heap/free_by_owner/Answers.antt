@@ -4,7 +4,7 @@ use Rattle.heap_model.specs.MemorySteps.{Does, reply_of}
 use Rattle.heap_model.specs.declared.call.MemoryCall.TheVariants.{FreeByOwner}
 use Rattle.heap_model.specs.declared.call.Reply.{Reply}
 use Rattle.heap_model.specs.declared.refusal.Refusal.{Refusal}
-use Rattle.mem_manager.proofs.Stepping.{answered, refused}
+use Rattle.mem_manager.proofs.StepWords.{answered, refused}
 use Rattle.mem_manager.proofs.NewChunks.{owner_freed}
 use Rattle.mem_manager.proofs.heap.Heap.free_by_owner.Goals as goal
 

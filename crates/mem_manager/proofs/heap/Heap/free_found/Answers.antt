@@ -6,10 +6,10 @@ use Rattle.heap_model.specs.declared.call.Reply.{Reply}
 use Rattle.heap_model.specs.declared.refusal.Refusal.{Refusal}
 use Rattle.heap_place.specs.declared.found.Found.{Found}
 use Rattle.heap_place.specs.Found.{IsFound}
-use Rattle.mem_manager.proofs.Stepping.{handed_on, one_of}
+use Rattle.mem_manager.proofs.StepWords.{handed_on, one_of}
 use Rattle.mem_manager.proofs.NewChunks.{free_database, free_locked, freed, used_freed}
 use Rattle.mem_manager.proofs.ChunkCalls.{not_the_directory}
-use Rattle.laws_heap.proofs.Changing.{freed_changes}
+use Rattle.laws_heap.proofs.ExchangedNames.{freed_changes}
 use Rattle.mem_manager.proofs.heap.Heap.free_found.Goals as goal
 use Rattle.mem_manager.proofs.heap.Heap.free_found.Goals.{else-found-gt0-via-then-found-gt0+else-found-lt-FIXED_LOCK, else-found-gt0-via-else-found-gt0}
 

@@ -6,7 +6,7 @@ use Rattle.heap_model.specs.MemorySteps.{Does, reply_of}
 use Rattle.heap_model.specs.declared.call.MemoryCall.TheVariants.{HandleNew}
 use Rattle.heap_model.specs.declared.call.Reply.{Reply}
 use Rattle.heap_model.specs.declared.refusal.Refusal.{Refusal}
-use Rattle.mem_manager.proofs.Stepping.{answered, refused}
+use Rattle.mem_manager.proofs.StepWords.{answered, refused}
 use Rattle.mem_manager.proofs.NewChunks.{new_step, managed_made}
 use Rattle.mem_manager.proofs.SlidChunks.{nothing_slides, itself_one}
 use Rattle.mem_manager.specs.Lookup.{MovesOnlyForRoom}

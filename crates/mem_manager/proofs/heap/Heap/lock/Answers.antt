@@ -4,7 +4,7 @@ use Rattle.heap_model.specs.MemorySteps.{Does}
 use Rattle.heap_model.specs.declared.call.MemoryCall.TheVariants.{Lock}
 use Rattle.heap_model.specs.declared.call.Reply.{Reply}
 use Rattle.heap_model.specs.declared.refusal.Refusal.{Refusal}
-use Rattle.mem_manager.proofs.Stepping.{handed_on, used_altered, one_of}
+use Rattle.mem_manager.proofs.StepWords.{handed_on, used_altered, one_of}
 use Rattle.mem_manager.proofs.ChunkCalls.{lock_fixed, lock_full, lock_small, relock_changes, locked}
 use Rattle.mem_manager.proofs.heap.Heap.lock.Goals as goal
 

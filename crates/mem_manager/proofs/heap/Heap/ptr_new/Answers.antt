@@ -7,7 +7,7 @@ use Rattle.heap_model.specs.MemorySteps.{Does, reply_of}
 use Rattle.heap_model.specs.declared.call.MemoryCall.TheVariants.{PtrNew}
 use Rattle.heap_model.specs.declared.call.Reply.{Reply}
 use Rattle.heap_model.specs.declared.refusal.Refusal.{Refusal}
-use Rattle.mem_manager.proofs.Stepping.{answered, handed_on, refused}
+use Rattle.mem_manager.proofs.StepWords.{answered, handed_on, refused}
 use Rattle.mem_manager.proofs.NewChunks.{ptr_short, ptr_made, ptr_claimed, ptr_unheld, used_ptr}
 use Rattle.mem_manager.proofs.SlidChunks.{nothing_slides, once_then, made_moves_nothing, nothing_then, one_stretch_then, itself_one}
 use Rattle.mem_manager.proofs.heap.Heap.ptr_new.Goals as goal

@@ -4,7 +4,7 @@ use Rattle.heap_model.specs.Memory.{Memory}
 use Rattle.heap_model.specs.MemorySteps.{Does}
 use Rattle.heap_model.specs.declared.call.MemoryCall.TheVariants.{Read}
 use Rattle.heap_model.specs.declared.call.Reply.{Reply}
-use Rattle.mem_manager.proofs.Stepping.{handed_on}
+use Rattle.mem_manager.proofs.StepWords.{handed_on}
 use Rattle.mem_manager.proofs.ChunkCalls.{read_beyond, read_known, body_there}
 use Rattle.mem_manager.proofs.heap.Heap.read.Goals as goal
 

@@ -4,7 +4,7 @@ use Rattle.heap_model.specs.MemorySteps.{Does, reply_of}
 use Rattle.heap_model.specs.declared.call.MemoryCall.TheVariants.{Resize}
 use Rattle.heap_model.specs.declared.call.Reply.{Reply}
 use Rattle.laws_heap.proofs.Unmoved.{itself_alone}
-use Rattle.mem_manager.proofs.Stepping.{handed_on}
+use Rattle.mem_manager.proofs.StepWords.{handed_on}
 use Rattle.mem_manager.proofs.Growth.{resize_database, resize_fixed, resize_replied, used_replied}
 use Rattle.mem_manager.proofs.heap.Heap.resize.Goals as goal
 

@@ -4,8 +4,8 @@ use Rattle.heap_model.specs.MemorySteps.{Does}
 use Rattle.heap_model.specs.declared.call.MemoryCall.TheVariants.{SetOwner}
 use Rattle.heap_model.specs.declared.call.Reply.{Reply}
 use Rattle.heap_model.specs.declared.refusal.Refusal.{Refusal}
-use Rattle.mem_manager.proofs.Stepping.{refused, used_altered, with_names, one_of}
-use Rattle.mem_manager.proofs.Knowing.{handed_back}
+use Rattle.mem_manager.proofs.StepWords.{refused, used_altered, with_names, one_of}
+use Rattle.mem_manager.proofs.RememberedNames.{handed_back}
 use Rattle.mem_manager.proofs.ChunkCalls.{set_owner_database, set_owner_no_caller, reown_changes, can_go_to, reowned_done}
 use Rattle.mem_manager.proofs.heap.Heap.set_owner.Goals as goal
 

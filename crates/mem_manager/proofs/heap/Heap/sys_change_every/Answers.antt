@@ -1,7 +1,7 @@
 use Rattle.std.proofs.Common.{◌+◌, subst}
 use Rattle.heap_model.specs.Memory.{Memory}
 use Rattle.heap_model.specs.Space.{MovesNothing}
-use Rattle.mem_manager.proofs.Stepping.{used_altered, stays_in_place}
+use Rattle.mem_manager.proofs.StepWords.{used_altered, stays_in_place}
 use Rattle.mem_manager.proofs.StoreCalls.{within_viewed, movable_there, movable_loose, movable_viewed}
 use Rattle.mem_manager.proofs.ByteCalls.{every_viewed, leaves_every}
 use Rattle.mem_manager.proofs.heap.Heap.sys_change_every.Goals as goal

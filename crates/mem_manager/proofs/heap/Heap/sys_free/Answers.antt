@@ -3,7 +3,7 @@ use Rattle.heap_model.specs.Memory.{Memory}
 use Rattle.heap_model.specs.Maps.{gone}
 use Rattle.heap_model.specs.Reading.{held}
 use Rattle.heap_model.specs.Leaving.{Leaves}
-use Rattle.laws_heap.proofs.Changing.{freed_changes}
+use Rattle.laws_heap.proofs.ExchangedNames.{freed_changes}
 use Rattle.mem_manager.proofs.NewChunks.{used_freed}
 use Rattle.mem_manager.proofs.StoreCalls.{leaves_gone, movable_there, movable_loose, movable_viewed}
 use Rattle.mem_manager.proofs.heap.Heap.sys_free.Goals as goal

@@ -5,7 +5,7 @@ use Rattle.heap_model.specs.Maps.{reowned}
 use Rattle.heap_model.specs.Reading.{held}
 use Rattle.heap_model.specs.Leaving.{Leaves}
 use Rattle.mem_manager.proofs.ChunkCalls.{reown_changes}
-use Rattle.mem_manager.proofs.Stepping.{used_altered, altered}
+use Rattle.mem_manager.proofs.StepWords.{used_altered, altered}
 use Rattle.mem_manager.proofs.StoreCalls.{may_go_to, movable_there, movable_loose, movable_viewed}
 use Rattle.mem_manager.proofs.heap.Heap.sys_set_owner.Goals as goal
 

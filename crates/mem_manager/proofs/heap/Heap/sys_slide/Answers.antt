@@ -1,5 +1,5 @@
 use Rattle.std.proofs.Common.{◌+◌}
-use Rattle.mem_manager.proofs.Stepping.{used_altered}
+use Rattle.mem_manager.proofs.StepWords.{used_altered}
 use Rattle.mem_manager.proofs.StoreCalls.{within_viewed, slide_changes, slid_viewed, movable_there, movable_loose, movable_viewed}
 use Rattle.mem_manager.proofs.heap.Heap.sys_slide.Goals as goal
 

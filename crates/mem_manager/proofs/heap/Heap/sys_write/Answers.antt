@@ -5,7 +5,7 @@ use Rattle.heap_model.specs.Space.{MovesNothing}
 use Rattle.heap_model.specs.Maps.{put}
 use Rattle.heap_model.specs.Reading.{held}
 use Rattle.heap_model.specs.Leaving.{Leaves}
-use Rattle.mem_manager.proofs.Stepping.{used_altered, stays_in_place, altered}
+use Rattle.mem_manager.proofs.StepWords.{used_altered, stays_in_place, altered}
 use Rattle.mem_manager.proofs.StoreCalls.{within_viewed, write_viewed, movable_there, movable_loose, movable_viewed}
 use Rattle.mem_manager.proofs.heap.Heap.sys_write.Goals as goal
 

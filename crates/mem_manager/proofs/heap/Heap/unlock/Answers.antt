@@ -3,7 +3,7 @@ use Rattle.heap_model.specs.Memory.{Memory}
 use Rattle.heap_model.specs.MemorySteps.{Does}
 use Rattle.heap_model.specs.declared.call.MemoryCall.TheVariants.{Unlock}
 use Rattle.heap_model.specs.declared.call.Reply.{Reply}
-use Rattle.mem_manager.proofs.Stepping.{handed_on, used_altered, one_of}
+use Rattle.mem_manager.proofs.StepWords.{handed_on, used_altered, one_of}
 use Rattle.mem_manager.proofs.ChunkCalls.{unlock_fixed, unlock_none, lock_small, relock_changes, unlocked}
 use Rattle.mem_manager.proofs.heap.Heap.unlock.Goals as goal
 

@@ -4,8 +4,8 @@ use Rattle.heap_model.specs.MemorySteps.{Does}
 use Rattle.heap_model.specs.declared.call.MemoryCall.TheVariants.{Write}
 use Rattle.heap_model.specs.declared.call.Reply.{Reply}
 use Rattle.heap_model.specs.declared.refusal.Refusal.{Refusal}
-use Rattle.mem_manager.proofs.Stepping.{refused, used_altered, with_names, one_of}
-use Rattle.mem_manager.proofs.Knowing.{handed_back}
+use Rattle.mem_manager.proofs.StepWords.{refused, used_altered, with_names, one_of}
+use Rattle.mem_manager.proofs.RememberedNames.{handed_back}
 use Rattle.mem_manager.proofs.ChunkCalls.{unlocked_write, write_beyond, write_changes, wrote}
 use Rattle.mem_manager.proofs.heap.Heap.write.Goals as goal
 

@@ -1,4 +1,4 @@
-use Rattle.mem_manager.proofs.Knowing.{none_known}
+use Rattle.mem_manager.proofs.RememberedNames.{none_known}
 use Rattle.mem_manager.proofs.known.KnownNames.none.Goals as goal
 
 pub returns : goal.returns

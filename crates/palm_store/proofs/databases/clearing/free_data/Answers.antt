@@ -1,7 +1,7 @@
 -- The header is as it was, so the next slot is that of the database that was given; its chunk is still there.
 use Rattle.std.proofs.Common.{refl, sym, subst, ◌∙◌, ◌≡◌, ◌<◌, ℕ, List, length}
 use Rattle.heap_model.specs.Database.{IsSpelled, database_in, data_in}
-use Rattle.laws_store.proofs.Doing.{kept_then}
+use Rattle.laws_store.proofs.CallSteps.{kept_then}
 use Rattle.palm_store.proofs.Numbers.{number_spelled}
 use Rattle.palm_store.proofs.NamedChunks.{freed_none, freed_one, freed_next, named_at, header_movable, header_like, slot_left, slot_other}
 use Rattle.palm_store.proofs.databases.clearing.free_data.Goals as goal

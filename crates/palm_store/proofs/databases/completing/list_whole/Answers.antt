@@ -2,7 +2,7 @@
 use Rattle.std.proofs.Common.{sym, subst, ◌≤◌, ◌∙◌, List, length, ℕ}
 use Rattle.palm_store.specs.WholeDatabases.{data_sizes, numbers_in}
 use Rattle.palm_store.proofs.ListedSlots.{few_bytes, made_directory, made_movable, fresh_apart}
-use Rattle.palm_store.proofs.WholeListing.{no_rest_room, listed_whole}
+use Rattle.palm_store.proofs.WholeChunks.{no_rest_room, listed_whole}
 use Rattle.palm_store.proofs.databases.completing.list_whole.Goals as goal
 
 pub make_data_and_list-requires-clause-few : goal.make_data_and_list-requires-clause-few

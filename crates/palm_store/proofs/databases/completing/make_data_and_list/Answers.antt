@@ -9,7 +9,7 @@ use Rattle.heap_model.specs.FileSteps.{makings, listing_part, listing_slots}
 use Rattle.palm_store.specs.WholeDatabases.{data_sizes, numbers_in, AreOwnChunks}
 use Rattle.palm_store.proofs.GainedChunks.{own_chunks, taken_back}
 use Rattle.palm_store.proofs.WholeRooms.{runs_more}
-use Rattle.palm_store.proofs.WholeListing.{keeps_makes, same_bytes, no_listing_then}
+use Rattle.palm_store.proofs.WholeChunks.{keeps_makes, same_bytes, no_listing_then}
 use Rattle.palm_store.proofs.databases.completing.make_data_and_list.Goals as goal
 
 pub returns-in_err-make_data-clause-no_room : goal.returns-in_err-make_data-clause-no_room

@@ -1,5 +1,5 @@
 -- The entries that were passed are written behind the header, and nothing else has changed.
-use Rattle.palm_store.proofs.WholeWriting.{Writes}
+use Rattle.palm_store.proofs.WholeBytes.{Writes}
 use Rattle.std.proofs.Common.{◌≡◌}
 use Rattle.palm_store.specs.WholeDatabases.{numbers_in}
 use Rattle.palm_store.proofs.databases.completing.write_entries.Given as goal

@@ -8,7 +8,7 @@ use Rattle.db_format.specs.Headers.{HasHeader}
 use Rattle.laws_store.proofs.Spellings.{length-header_bytes}
 use Rattle.database_edits.proofs.Chunks.{is_movable}
 use Rattle.palm_store.specs.WholeDatabases.{numbers_in, entries_named, whole_database}
-use Rattle.palm_store.proofs.WholeWriting.{length-named, puts_front, start_room, then_rebodied, whole_header, whole_spelled, whole_fits}
+use Rattle.palm_store.proofs.WholeBytes.{length-named, puts_front, start_room, then_rebodied, whole_header, whole_spelled, whole_fits}
 use Rattle.palm_store.proofs.databases.completing.write_whole.Goals as goal
 
 pub sys_write-requires-clause-movable : goal.sys_write-requires-clause-movable

@@ -6,7 +6,7 @@ use Rattle.heap_model.specs.Heap.{directory_of}
 use Rattle.heap_model.specs.Space.{ShortFor}
 use Rattle.heap_model.specs.Store.{directory_bytes}
 use Rattle.heap_model.specs.declared.refusal.Refusal.TheVariants.{NotEnoughSpace}
-use Rattle.laws_store.proofs.Creating.{managers_loose}
+use Rattle.laws_store.proofs.NewDatabases.{managers_loose}
 use Rattle.laws_heap.proofs.Results.{if_err, on_err}
 use Rattle.palm_store.proofs.ListedSlots.{the_directory, directory_loose, loose_movable, directory_few, directory_short, grown_room, growth_short, sized_here, extended}
 use Rattle.palm_store.proofs.databases.creating.extend_directory.Goals as goal

@@ -1,6 +1,6 @@
 -- The next name is that of a chunk that is still there, since no name stands in the list twice.
 use Rattle.std.proofs.Common.{refl}
-use Rattle.laws_store.proofs.Doing.{kept_then}
+use Rattle.laws_store.proofs.CallSteps.{kept_then}
 use Rattle.palm_store.specs.WholeDatabases.{numbers_in}
 use Rattle.palm_store.proofs.GainedChunks.{number_at, own_movable, own_beside, freed_upto}
 use Rattle.palm_store.proofs.databases.gaining.free_named.Goals as goal

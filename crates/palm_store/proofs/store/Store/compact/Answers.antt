@@ -1,4 +1,4 @@
-use Rattle.palm_store.proofs.Forwarding.{forwarded, kept}
+use Rattle.palm_store.proofs.MemoryCalls.{forwarded, kept}
 use Rattle.palm_store.proofs.store.Store.compact.Goals as goal
 
 pub invariant_of-self : goal.invariant_of-self

@@ -9,13 +9,13 @@ use Rattle.heap_model.specs.DatabaseSteps.{IsTaken, empty_database}
 use Rattle.heap_model.specs.declared.call.DatabaseCall.TheVariants.{Create}
 use Rattle.heap_model.specs.declared.call.Call.TheVariants as calls
 use Rattle.heap_model.specs.declared.call.Reply.TheVariants as replies
-use Rattle.laws_store.proofs.Doing.{handed_on}
+use Rattle.laws_store.proofs.CallSteps.{handed_on}
 use Rattle.laws_store.proofs.Spellings.{length-header_bytes}
 use Rattle.palm_store.specs.Directory.{ListsNew}
 use Rattle.palm_store.proofs.Maps.{bytes_held}
 use Rattle.palm_store.proofs.ListedSlots.{chunk_of, loose_movable}
 use Rattle.palm_store.proofs.Creation.{not_named, name_taken, too_many, header_put, created, not_created, empty_fits, header_spells, then_written}
-use Rattle.palm_store.proofs.Forwarding.{viewed, ask_viewed}
+use Rattle.palm_store.proofs.MemoryCalls.{viewed, ask_viewed}
 use Rattle.palm_store.proofs.KnownIds.{nothing_known}
 use Rattle.palm_store.proofs.store.Store.create.Goals as goal
 

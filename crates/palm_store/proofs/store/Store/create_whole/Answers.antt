@@ -7,14 +7,14 @@ use Rattle.heap_model.specs.Store.{listed, most_databases, store_of}
 use Rattle.heap_model.specs.DatabaseSteps.{IsTaken}
 use Rattle.heap_model.specs.declared.names.Name.{Name}
 use Rattle.laws_heap.proofs.Results.{on_err, if_err}
-use Rattle.laws_store.proofs.Editing.{same_steps}
+use Rattle.laws_store.proofs.EditedStores.{same_steps}
 use Rattle.heap_model.specs.FileSteps.{whole_parts, whole_slots}
 use Rattle.palm_store.specs.WholeDatabases.{data_sizes, numbers_in, whole_database, RunsOut, MakesWhole, checks_of_whole}
 use Rattle.palm_store.proofs.Maps.{bytes_held, owner_held}
 use Rattle.palm_store.proofs.ListedSlots.{chunk_of}
 use Rattle.palm_store.proofs.Creation.{below_most, most_there}
 use Rattle.palm_store.proofs.NewEntries.{left_as_before}
-use Rattle.palm_store.proofs.WholeListing.{whole_written}
+use Rattle.palm_store.proofs.WholeChunks.{whole_written}
 use Rattle.palm_store.proofs.WholeSteps.{whole_made, few_listed, size_asked}
 use Rattle.palm_store.proofs.KnownIds.{nothing_known}
 use Rattle.palm_store.proofs.store.Store.create_whole.Goals as goal

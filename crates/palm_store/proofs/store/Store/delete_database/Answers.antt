@@ -1,5 +1,5 @@
 -- Where nothing is locked, all that goes is freed before the slot is taken out of the directory.
-use Rattle.palm_store.proofs.Forwarding.{viewed, ask_viewed}
+use Rattle.palm_store.proofs.MemoryCalls.{viewed, ask_viewed}
 use Rattle.palm_store.proofs.Deleted.{header_left, header_other, all_freed, lists_still, deleted, not_deleted}
 use Rattle.palm_store.proofs.KnownIds.{nothing_known}
 use Rattle.palm_store.proofs.store.Store.delete_database.Goals as goal

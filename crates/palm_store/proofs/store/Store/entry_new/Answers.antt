@@ -3,7 +3,7 @@ use Rattle.std.proofs.Common.{◌<◌, ◌∙◌, arith, inl, inr, ℕ, List, le
 use Rattle.heap_model.specs.EntrySteps.{most_entries, entries_in, resources_under}
 use Rattle.heap_model.specs.Store.{store_of}
 use Rattle.db_format.specs.EitherEntry.{entry_of}
-use Rattle.laws_store.proofs.Editing.{same_steps}
+use Rattle.laws_store.proofs.EditedStores.{same_steps}
 use Rattle.palm_store.proofs.NewEntries.{new_leaves, new_steps, left_as_before}
 use Rattle.laws_heap.proofs.Results.{on_err, if_err}
 use Rattle.heap_model.specs.Refusals.{FirstBrings}

@@ -1,4 +1,4 @@
-use Rattle.laws_store.proofs.Editing.{resize_steps}
+use Rattle.laws_store.proofs.EditedStores.{resize_steps}
 use Rattle.laws_heap.proofs.Results.{if_err}
 use Rattle.heap_model.specs.Refusals.{FirstBrings}
 use Rattle.palm_store.specs.EntryCalls.{IsEntryData, checks_of_growth}

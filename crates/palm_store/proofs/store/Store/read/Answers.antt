@@ -1,4 +1,4 @@
-use Rattle.palm_store.proofs.Forwarding.{asked}
+use Rattle.palm_store.proofs.MemoryCalls.{asked}
 use Rattle.palm_store.proofs.store.Store.read.Goals as goal
 
 pub returns-clause-does : goal.returns-clause-does

@@ -4,7 +4,7 @@ use Rattle.heap_model.specs.Database.{IsDatabaseName, IsSpelled, database_in}
 use Rattle.heap_model.specs.Bytes.{overwritten}
 use Rattle.heap_model.specs.Store.{store_of}
 use Rattle.heap_model.specs.DatabaseSteps.{IsTaken}
-use Rattle.palm_store.proofs.Forwarding.{viewed}
+use Rattle.palm_store.proofs.MemoryCalls.{viewed}
 use Rattle.palm_store.proofs.Numbers.{number_movable}
 use Rattle.palm_store.proofs.HeaderInfos.{with_info, set_spelled, set_step}
 use Rattle.palm_store.proofs.KnownIds.{nothing_known}

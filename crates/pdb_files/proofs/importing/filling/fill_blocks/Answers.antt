@@ -9,7 +9,7 @@ use Rattle.pdb_format.specs.Blocks.{bytes_at}
 use Rattle.pdb_format.specs.declared.blocks.Block.{Block}
 use Rattle.palm_store.specs.Files.{HasDataOf, data_filled}
 use Rattle.palm_store.specs.WholeDatabases.{numbers_in}
-use Rattle.pdb_files.proofs.Filling.{IsFilling, next_data, none_yet, one_more, none_more}
+use Rattle.pdb_files.proofs.FilledChunks.{IsFilling, next_data, none_yet, one_more, none_more}
 use Rattle.pdb_files.proofs.importing.filling.fill_blocks.Goals as goal
 use Rattle.pdb_files.proofs.importing.filling.fill_blocks.Goals.{in-Some, in_default}
 

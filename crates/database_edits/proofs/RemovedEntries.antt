@@ -1,0 +1,92 @@
+-- An entry taken out: those behind it slide over it, the chunk shrinks, and the header counts one less.
+use Rattle.std.proofs.Common.{◌≡◌, ℕ, suc, ◌+◌, ◌-◌, ◌<◌, ◌≤◌, Bool, List, ◌++◌, length, drop, refl, sym, ap, subst, ◌∙◌, arith}
+use Rattle.std.proofs.lemmas.List.Edits.{length-remove}
+use Rattle.std.specs.Prelude.{slice_range}
+use Rattle.std.specs.List.{remove}
+use Rattle.heap_model.specs.Bytes.{overwritten, sized_to}
+use Rattle.heap_model.specs.DatabaseFields.{entry_size}
+use Rattle.heap_model.specs.Database.{Database, IsDatabaseName, has_resources, header_bytes, spelled, IsSpelled, entry_offset}
+use Rattle.heap_model.specs.Leaving.{SpellsHere, Respells, database_here}
+use Rattle.heap_model.specs.Store.{bytes_under}
+use Rattle.heap_model.specs.StoreWords.{next_modification}
+use Rattle.laws_store.proofs.Edits.{spelled_remove}
+use Rattle.laws_store.proofs.Spellings.{length-header_bytes}
+use Rattle.db_format.specs.Headers.{HasEntryCount, HasModificationNumber}
+use Rattle.database_edits.specs.Managers.{IsManagers, Rebodies, HasHeaderOf, PutsHeader}
+use Rattle.database_edits.specs.Edits.{counted, entry_removed}
+use Rattle.database_edits.proofs.Chunks.{leaves_as, through}
+use Rattle.database_edits.proofs.Databases.{managers, long}
+use Rattle.database_edits.proofs.Entries.{offset_next, offset_order, header_low}
+use Rattle.database_edits.proofs.HeadersHere.{kept_below, kept_sized, header_put, header_put_twice}
+use Rattle.database_edits.proofs.RaisedNumbers.{number_put}
+use Rattle.database_edits.proofs.Pieces.{taken_out}
+
+unfoldable pub without : Database ℕ → ℕ → Database ℕ
+without d index = record d { entries = remove d.entries index }
+
+-- the bytes afterwards spell the database without it
+closed : (d other : Database ℕ) (body : List ℕ) (index size : ℕ) (resources : Bool) → IsSpelled d body → index < length d.entries → other.entries ≡ remove d.entries index → IsDatabaseName other.header.name → resources ≡ has_resources d.header.attributes → length body ≡ entry_offset resources (length d.entries) → size ≡ entry_offset resources (length d.entries - 1)
+    → overwritten (sized_to (overwritten body (entry_offset resources index) (slice_range body (entry_offset resources (index + 1)) (entry_offset resources (length d.entries)))) size) 0 (header_bytes other) ≡ spelled other
+closed d other body index size resources s inside same name kind all size_is =
+    let at : ℕ = entry_offset resources index in
+    let one : ℕ = entry_size resources in
+    let header : List ℕ = header_bytes other in
+    let next = offset_next resources index in
+    let last : length d.entries - 1 + 1 ≡ length d.entries = omega arith in
+    let end = offset_next resources (length d.entries - 1) in
+    let end_is : entry_offset resources (length d.entries - 1) + one ≡ length body = sym end ∙ ap (entry_offset resources) last ∙ sym all in
+    let order = offset_order resources (index + 1) (length d.entries) (omega arith) in
+    let short : size ≡ length body - one = omega (arith, end_is, size_is) in
+    let next_row : entry_offset resources (suc index) ≡ at + one = (let e : suc index ≡ index + 1 = omega arith in ap (entry_offset resources) e ∙ next) in
+    ap (λ (k : ℕ). overwritten (sized_to (overwritten body at (slice_range body k (entry_offset resources (length d.entries)))) size) 0 header) next
+    ∙ ap (λ (k : ℕ). overwritten (sized_to (overwritten body at (slice_range body (at + one) k)) size) 0 header) (sym all)
+    ∙ ap (λ (k : ℕ). overwritten (sized_to (overwritten body at (slice_range body (at + one) (length body))) k) 0 header) short
+    ∙ taken_out body header 78 at one (length-header_bytes other name) (header_low resources index) (omega (arith, order, next, all))
+    ∙ ap (λ (k : ℕ). header ++ (slice_range body 78 at ++ drop k body)) (sym next_row)
+    ∙ ap (λ (r : Bool). header ++ (slice_range body 78 (entry_offset r index) ++ drop (entry_offset r (suc index)) body)) kind
+    ∙ ap (λ (xs : List ℕ). header ++ (slice_range xs 78 (entry_offset (has_resources d.header.attributes) index) ++ drop (entry_offset (has_resources d.header.attributes) (suc index)) xs)) s.bytes_are
+    ∙ sym (spelled_remove d other index s.fits inside same)
+
+pub removed : (old mid short new : List ℕ) (db index size left count : ℕ) (other : Database ℕ) (resources : Bool) → SpellsHere old db → index < length (database_here old db).entries → resources ≡ has_resources (database_here old db).header.attributes → count ≡ length (database_here old db).entries
+    → Rebodies old mid db (overwritten (bytes_under old db) (entry_offset resources index) (slice_range (bytes_under old db) (entry_offset resources (index + 1)) (entry_offset resources count)))
+    → left ≡ count - 1 → size ≡ entry_offset resources left → Rebodies mid short db (sized_to (bytes_under mid db) size)
+    → other.entries ≡ remove (database_here old db).entries index → IsDatabaseName other.header.name → Rebodies short new db (overwritten (bytes_under short db) 0 (header_bytes other))
+    → Respells old new db other
+removed old mid short new db index size left count other resources s inside kind count_is slides left_is size_is shrinks same name wrote =
+    let d : Database ℕ = database_here old db in
+    let body : List ℕ = bytes_under old db in
+    let header : List ℕ = header_bytes other in
+    let m = managers old db s in
+    let all : length body ≡ entry_offset resources (length d.entries) = long old db s ∙ ap (λ (r : Bool). entry_offset r (length d.entries)) (sym kind) in
+    let size_of : size ≡ entry_offset resources (length d.entries - 1) = size_is ∙ ap (entry_offset resources) left_is ∙ ap (λ (k : ℕ). entry_offset resources (k - 1)) count_is in
+    let both = through old mid new db (overwritten body (entry_offset resources index) (slice_range body (entry_offset resources (index + 1)) (entry_offset resources count))) (overwritten (bytes_under short db) 0 header) m slides
+    (through mid short new db (sized_to (bytes_under mid db) size) (overwritten (bytes_under short db) 0 header) slides.managers shrinks wrote) in
+    leaves_as old new db (overwritten (bytes_under short db) 0 header) (spelled other)
+    (ap (λ (xs : List ℕ). overwritten xs 0 header) shrinks.body
+    ∙ ap (λ (xs : List ℕ). overwritten (sized_to xs size) 0 header) slides.body
+    ∙ ap (λ (k : ℕ). overwritten (sized_to (overwritten body (entry_offset resources index) (slice_range body (entry_offset resources (index + 1)) (entry_offset resources k))) size) 0 header) count_is
+    ∙ closed d other body index size resources s.spelled inside same name kind all size_of)
+    both
+
+-- the header is written field by field
+pub removed_header : (short wrote new : List ℕ) (db index left was number : ℕ) (d : Database ℕ) → IsManagers short db → HasHeaderOf short db d → index < length d.entries → left ≡ length d.entries - 1 → was ≡ d.header.modification_number → number ≡ next_modification was
+    → PutsHeader short wrote db (HasEntryCount left) → PutsHeader wrote new db (HasModificationNumber number)
+    → Rebodies short new db (overwritten (bytes_under short db) 0 (header_bytes (entry_removed index d)))
+unfolding without
+removed_header short wrote new db index left was number d m has inside left_is was_is number_is counts raises =
+    let out = length-remove d.entries index inside in
+    let first = counts d (without d index) has (record { values = refl; app_info = refl; sort_info = refl; entries = omega (arith, out, left_is, inside) }) in
+    let there = header_put short wrote db d (without d index) has has.name first in
+    header_put_twice short wrote new db (without d index) (counted (without d index)) m has.inside has.name has.name first
+    (number_put wrote new db was number (without d index) there was_is number_is raises)
+
+-- the header stays while entries slide and the chunk shrinks
+pub removed_kept : (old mid short : List ℕ) (db index size left count : ℕ) (resources : Bool) (d : Database ℕ) → HasHeaderOf old db d → size ≡ entry_offset resources left
+    → Rebodies old mid db (overwritten (bytes_under old db) (entry_offset resources index) (slice_range (bytes_under old db) (entry_offset resources (index + 1)) (entry_offset resources count)))
+    → Rebodies mid short db (sized_to (bytes_under mid db) size)
+    → HasHeaderOf short db d
+removed_kept old mid short db index size left count resources d has size_is slides shrinks =
+    let low : 78 ≤ size = subst (λ (n : ℕ). 78 ≤ n) (sym size_is) (header_low resources left) in
+    kept_sized mid short db size d
+    (kept_below old mid db (entry_offset resources index) (slice_range (bytes_under old db) (entry_offset resources (index + 1)) (entry_offset resources count)) d has (header_low resources index) slides)
+    low shrinks
