@@ -6,6 +6,7 @@ use Rattle.heap_model.specs.Database.{DatabaseHeader, Database, IsDatabaseName, 
 use Rattle.heap_model.specs.DatabaseSteps.{with_info_block}
 use Rattle.heap_model.specs.declared.names.Which.{Which}
 use Rattle.heap_model.specs.declared.names.Which.TheVariants.{App, Sort}
+use Rattle.heap_model.specs.declared.database.DbInfo.{DbInfo}
 use Rattle.db_format.specs.declared.header.DbHeader.{DbHeader}
 
 -- what a header says of the database alone
@@ -21,6 +22,22 @@ header_of header = record {
   kind = header.kind;
   creator = header.creator;
   seed = header.seed;
+}
+
+-- what a header tells callers: all but the slots of the info blocks
+abbrev pub info_told : DbHeader → DbInfo
+info_told header = record {
+  name = header.name;
+  attributes = header.attributes;
+  version = header.version;
+  creation_date = header.creation_date;
+  modification_date = header.modification_date;
+  backup_date = header.backup_date;
+  modification_number = header.modification_number;
+  kind = header.kind;
+  creator = header.creator;
+  seed = header.seed;
+  entry_count = header.entry_count;
 }
 
 -- this is the header of the database

@@ -3,7 +3,7 @@
 ghost use Rattle.std.specs.Prelude.{◌≡◌, ◌≤◌, ℕ, length, take};
 ghost use Rattle.heap_model.specs.DatabaseFields.{name_size, header_size};
 ghost use Rattle.heap_model.specs.Database.{Database, IsDatabaseName, name_field, name_in, header_bytes, database_in};
-ghost use Rattle.db_format.specs.Headers.{HasHeader, WritesHeader};
+ghost use Rattle.db_format.specs.Headers.{HasHeader, WritesHeader, info_told};
 
 use crate::fields::{
     APP_INFO_AT, ATTRIBUTES_AT, BACKUP_DATE_AT, CREATION_DATE_AT, CREATOR_AT, ENTRY_COUNT_AT,
@@ -12,6 +12,7 @@ use crate::fields::{
 };
 use crate::name::NameField;
 use crate::words::{put_u16, put_u32, u16_in, u32_in};
+use heap_model::{DbInfo, DbName};
 
 /// The header of a database (Palm OS File Format Specification, "PDB Format"), with slots where a file
 /// has offsets. Where a file's list of entries could go on it has zeros, which are no field here.
@@ -59,6 +60,25 @@ impl DbHeader {
             creator: u32_in(bytes, CREATOR_AT),
             seed: u32_in(bytes, SEED_AT),
             entry_count: u16_in(bytes, ENTRY_COUNT_AT),
+        }
+    }
+
+    /// What the header tells callers: all but the slots of the info blocks.
+    pub fn info(&self) -> DbInfo
+        ensures { result ≡ info_told self.now }
+    {
+        DbInfo {
+            name: DbName::of(self.name.name()),
+            attributes: self.attributes,
+            version: self.version,
+            creation_date: self.creation_date,
+            modification_date: self.modification_date,
+            backup_date: self.backup_date,
+            modification_number: self.modification_number,
+            kind: self.kind,
+            creator: self.creator,
+            seed: self.seed,
+            entry_count: self.entry_count,
         }
     }
 

@@ -1,7 +1,7 @@
 -- That a database is deleted is a step of the store, and so is that a locked chunk of it forbids that.
 use Rattle.std.proofs.Common.{◌≡◌, ◌≢◌, ℕ, ◌+◌, ◌*◌, ◌<◌, ◌≤◌, List, [], ◌∷◌, ◌++◌, length, Option, Some, None, refl, sym, ap, subst, ◌∙◌, arith, inl, inr}
 use Rattle.std.proofs.lemmas.Bool.{cases_eq, cases_lt}
-use Rattle.std.specs.Prelude.{◌==◌, if◌then◌else◌, IsSome, Any}
+use Rattle.std.specs.Prelude.{◌==◌, if◌then◌else◌, Any}
 use Rattle.std.specs.Option.{is_some}
 use Rattle.heap_model.specs.Memory.{Memory}
 use Rattle.heap_model.specs.Heap.{HeapAccepted, directory_of}

@@ -1,7 +1,6 @@
 -- Calls that ask of the databases of a store. They leave the region as it is, so of each its refusals and
 -- its answer are left to show.
-use Rattle.std.proofs.Common.{◌≡◌, ◌≢◌, ℕ, ◌<◌, ◌≤◌, List, length, map, get_or, take, Bool, Option, Some, None, Result, refl, sym, ap, subst, ◌∙◌, arith, inl}
-use Rattle.std.proofs.lemmas.List.{take_all}
+use Rattle.std.proofs.Common.{◌≡◌, ◌≢◌, ℕ, ◌<◌, ◌≤◌, List, length, map, get_or, Bool, Option, Some, None, Result, refl, sym, ap, subst, ◌∙◌, arith, inl}
 use Rattle.std.proofs.lemmas.List.Elements.{All-map}
 use Rattle.std.proofs.lemmas.Grind.{get_or_default_zero}
 use Rattle.std.proofs.lemmas.Option.{slice_get-get_or}
@@ -24,7 +23,7 @@ use Rattle.laws_store.proofs.Times.{all-times, map-All}
 use Rattle.laws_store.proofs.Counts.{listed_numbers}
 use Rattle.laws_store.proofs.CallSteps.{asks, same_store, refused}
 use Rattle.db_format.specs.declared.header.DbHeader.{DbHeader}
-use Rattle.db_format.specs.Headers.{header_of, HasHeader}
+use Rattle.db_format.specs.Headers.{HasHeader, info_told}
 use Rattle.palm_store.specs.Databases.{HasNumber, HasOtherName, name_under}
 use Rattle.laws_store.proofs.Numbered.{number_some}
 use Rattle.palm_store.proofs.Numbers.{number_listed, has_number_is, in_store, length-databases, database_at, listed_at, number_of_slot}
@@ -142,11 +141,9 @@ info_with header entries = record {
   entry_count = entries;
 }
 
-pub info_read : (database : Database ℕ) (header : DbHeader) (name : List ℕ) → HasHeader database header → name ≡ take 32 header.name → length header.name < 32 → info_with (record (header_of header) { name = name }) header.entry_count ≡ info_of database
-info_read database header name has front room =
-    let all : name ≡ header.name = front ∙ take_all 32 header.name (omega arith) in
-    ap (λ (n : List ℕ). info_with (record (header_of header) { name = n }) header.entry_count) all
-    ∙ ap (λ (h : DatabaseHeader). info_with h header.entry_count) has.values ∙ ap (info_with database.header) has.entry_count
+pub info_read : (database : Database ℕ) (header : DbHeader) → HasHeader database header → info_told header ≡ info_of database
+info_read database header has =
+    ap (λ (h : DatabaseHeader). info_with h header.entry_count) has.values ∙ ap (info_with database.header) has.entry_count
 
 pub told : (region : Memory) (db : Db) (info : DbInfo) → Accepted region.bytes → HasNumber region.bytes db.0 → info ≡ info_of (database_in (bytes_under region.bytes db.0)) → DoesInStore region (calls.Database (Info db)) (replies.Info info) region
 told region db info a has is =

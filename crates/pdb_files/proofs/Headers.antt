@@ -1,5 +1,5 @@
 -- The header that is read off a file, with another seed.
-use Rattle.std.proofs.Common.{◌≡◌, ℕ, ◌+◌, ◌*◌, ◌/◌, List, refl, sym, ap, ◌∙◌, arith}
+use Rattle.std.proofs.Common.{◌≡◌, ℕ, ◌+◌, ◌*◌, ◌/◌, List, refl, ap, ◌∙◌, arith}
 use Rattle.std.proofs.lemmas.List.FromFn.{length-map-range_with_len}
 use Rattle.heap_model.specs.UniqueIds.{with_seed}
 use Rattle.heap_model.specs.Database.{DatabaseHeader, name_in, header_in, entry_count_in, entry_in, database_in}
@@ -25,14 +25,13 @@ count_is file header has = has.entry_count ∙ length-map-range_with_len (entry_
 seed_set : (field seed : ℕ) → field / 16777216 * 16777216 + seed ≡ with_seed field seed
 seed_set field seed = omega arith
 
--- a header with this name and this seed
-with_both : DatabaseHeader → List ℕ → ℕ → DatabaseHeader
-with_both header name seed = record header { name = name; seed = seed }
+-- a header with this seed
+seeded : DatabaseHeader → ℕ → DatabaseHeader
+seeded header seed = record header { seed = seed }
 
-pub header_is : (file : List ℕ) (header : DbHeader) (name : List ℕ) (seed : ℕ) → HasHeader (database_in file) header → name ≡ name_in file
-    → record (header_of header) { name = name; seed = header.seed / 16777216 * 16777216 + seed } ≡ header_read file seed
-unfolding with_both
-header_is file header name seed has is =
-    ap (λ (n : List ℕ). with_both (header_of header) n (header.seed / 16777216 * 16777216 + seed)) (is ∙ sym (named file))
-    ∙ ap (λ (s : ℕ). with_both (header_of header) (header_in file).name s) (seed_set header.seed seed)
-    ∙ ap (λ (h : DatabaseHeader). with_both h (header_in file).name (with_seed h.seed seed)) (values_are file header has)
+pub header_is : (file : List ℕ) (header : DbHeader) (seed : ℕ) → HasHeader (database_in file) header
+    → record (header_of header) { seed = header.seed / 16777216 * 16777216 + seed } ≡ header_read file seed
+unfolding seeded
+header_is file header seed has =
+    ap (λ (s : ℕ). seeded (header_of header) s) (seed_set header.seed seed)
+    ∙ ap (λ (h : DatabaseHeader). seeded h (with_seed h.seed seed)) (values_are file header has)

@@ -8,7 +8,7 @@ ghost use Rattle.heap_model.specs.DatabaseSteps.{info_of};
 ghost use Rattle.palm_store.specs.Databases.{HasNumber};
 
 use db_format::DbHeader;
-use heap_model::{Db, DbInfo, DbName, Name, Refusal};
+use heap_model::{Db, DbInfo, Name, Refusal};
 use mem_manager::{Heap, MANAGERS_OWNER};
 
 /// The bytes of the database that has a number, as `header_of` lends them. It costs the same however many
@@ -51,18 +51,5 @@ pub(crate) fn info_in(bytes: &[u8]) -> DbInfo
     requires { HasShape bytes.now }
     ensures { result ≡ info_of (database_in bytes.now) }
 {
-    let header = DbHeader::read(bytes);
-    DbInfo {
-        name: DbName::of(header.name.name()),
-        attributes: header.attributes,
-        version: header.version,
-        creation_date: header.creation_date,
-        modification_date: header.modification_date,
-        backup_date: header.backup_date,
-        modification_number: header.modification_number,
-        kind: header.kind,
-        creator: header.creator,
-        seed: header.seed,
-        entry_count: header.entry_count,
-    }
+    DbHeader::read(bytes).info()
 }

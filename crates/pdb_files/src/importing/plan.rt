@@ -14,7 +14,7 @@ use allowance::{Allowance, push};
 use bitflags::Flags;
 use db_format::{DbEntry, DbHeader, GREATEST_ID, RecordAttrs, entry_count};
 use file_ids::give_ids_from;
-use heap_model::{DbInfo, DbName};
+use heap_model::DbInfo;
 use palm_store::{BlockSizes, WholeEntry};
 use pdb_format::Block;
 use std::alloc::AllocError;
@@ -88,20 +88,9 @@ fn header_of(file: &[u8], seed: u32) -> DbInfo
     ensures few { result.entry_count ≤ most_entries }
     ensures name { IsDatabaseName result.name }
 {
-    let header = DbHeader::read(file);
-    DbInfo {
-        name: DbName::of(header.name.name()),
-        attributes: header.attributes,
-        version: header.version,
-        creation_date: header.creation_date,
-        modification_date: header.modification_date,
-        backup_date: header.backup_date,
-        modification_number: header.modification_number,
-        kind: header.kind,
-        creator: header.creator,
-        seed: header.seed / SEEDS * SEEDS + seed,
-        entry_count: header.entry_count,
-    }
+    let mut info = DbHeader::read(file).info();
+    info.seed = info.seed / SEEDS * SEEDS + seed;
+    info
 }
 
 /// How many bytes a block has, if it is there.
