@@ -1,5 +1,5 @@
 -- Faults in their order, and what an image without them is.
-use Rattle.std.proofs.Common.{◌≡◌, ℕ, Bool, List, Option, Some, None, Result, Ok, Err, refl, subst, arith, inl, inr}
+use Rattle.std.proofs.Common.{◌≡◌, ℕ, List, Option, Some, None, Result, Ok, Err, refl, subst, arith, inl, inr}
 use Rattle.std.specs.Prelude.{IfErr, OnErr}
 use Rattle.heap_model.specs.Chunk.{Chunk}
 use Rattle.heap_model.specs.Slots.{slots_of, area_start}
@@ -150,14 +150,14 @@ refused_by image (Err fault) f = refuses image fault f
 -- ---- what a survey says once the later tests passed
 
 -- the tiling and the marks that a survey ends with
-pub surveyed_tiles : (image : List ℕ) (survey : Survey) (marks : List Bool) → IsHead image → IsSurvey image survey marks → Tiles image (chunks_of image)
+pub surveyed_tiles : (image : List ℕ) (survey : Survey) (marks : List ℕ) → IsHead image → IsSurvey image survey marks → Tiles image (chunks_of image)
 surveyed_tiles image survey marks h s = record { head = h; area = s.spelled }
 
-pub surveyed_mismatch : (image : List ℕ) (survey : Survey) (marks : List Bool) (slot : ℕ) → IsHead image → IsSurvey image survey marks → FirstOne (IsMarked image marks) (slots_of image) slot → IsFirstFault image (SlotMismatch slot)
+pub surveyed_mismatch : (image : List ℕ) (survey : Survey) (marks : List ℕ) (slot : ℕ) → IsHead image → IsSurvey image survey marks → FirstOne (IsMarked image marks) (slots_of image) slot → IsFirstFault image (SlotMismatch slot)
 surveyed_mismatch image survey marks slot h s f =
     first_slot image slot (surveyed_tiles image survey marks h s, first_mismatch image (chunks_of image) marks slot s.surveys.marked f)
 
-pub surveyed_slots : (image : List ℕ) (survey : Survey) (marks : List Bool) → IsSurvey image survey marks → EveryOne (IsMarked image marks) (slots_of image) → Slotted image
+pub surveyed_slots : (image : List ℕ) (survey : Survey) (marks : List ℕ) → IsSurvey image survey marks → EveryOne (IsMarked image marks) (slots_of image) → Slotted image
 surveyed_slots image survey marks s every = all_hold image (chunks_of image) marks s.surveys.marked every
 
 -- what an offset that was found, or not found, says
@@ -167,45 +167,45 @@ found_first P at cs found there f is = subst (λ (o : Option ℕ). IsFirstWithou
 found_none : (P : ℕ → Chunk → Type 0) (at : ℕ) (cs : List Chunk) (found : Option ℕ) → IsFirstWithout P at cs found → found ≡ None → EveryPlaced P at cs
 found_none P at cs found f is = subst (λ (o : Option ℕ). IsFirstWithout P at cs o) is f
 
-pub surveyed_without : (image : List ℕ) (survey : Survey) (marks : List Bool) (at : ℕ) → IsHead image → IsSurvey image survey marks → EveryOne (IsMarked image marks) (slots_of image) → survey.without_slot ≡ Some at
+pub surveyed_without : (image : List ℕ) (survey : Survey) (marks : List ℕ) (at : ℕ) → IsHead image → IsSurvey image survey marks → EveryOne (IsMarked image marks) (slots_of image) → survey.without_slot ≡ Some at
     → IsFirstFault image (ChunkWithoutSlot at)
 surveyed_without image survey marks at h s every is =
     first_without image at (surveyed_slots image survey marks s every)
     (surveyed_tiles image survey marks h s, found_first (NamesItsSlot image) (area_start image) (chunks_of image) survey.without_slot at s.surveys.without_slot is)
 
-pub surveyed_names : (image : List ℕ) (survey : Survey) (marks : List Bool) → IsSurvey image survey marks → survey.without_slot ≡ None → Named image
+pub surveyed_names : (image : List ℕ) (survey : Survey) (marks : List ℕ) → IsSurvey image survey marks → survey.without_slot ≡ None → Named image
 surveyed_names image survey marks s none = found_none (NamesItsSlot image) (area_start image) (chunks_of image) survey.without_slot s.surveys.without_slot none
 
-pub surveyed_owner : (image : List ℕ) (survey : Survey) (marks : List Bool) (at : ℕ) → IsHead image → IsSurvey image survey marks → EveryOne (IsMarked image marks) (slots_of image) → survey.without_slot ≡ None
+pub surveyed_owner : (image : List ℕ) (survey : Survey) (marks : List ℕ) (at : ℕ) → IsHead image → IsSurvey image survey marks → EveryOne (IsMarked image marks) (slots_of image) → survey.without_slot ≡ None
     → survey.bad_owner ≡ Some at → IsFirstFault image (BadFixedOwner at)
 surveyed_owner image survey marks at h s every none is =
     first_owner image at (surveyed_slots image survey marks s every) (surveyed_names image survey marks s none)
     (surveyed_tiles image survey marks h s, found_first IsCallersIfFixed (area_start image) (chunks_of image) survey.bad_owner at s.surveys.bad_owner is)
 
-pub surveyed_owners : (image : List ℕ) (survey : Survey) (marks : List Bool) → IsSurvey image survey marks → survey.bad_owner ≡ None → Owned image
+pub surveyed_owners : (image : List ℕ) (survey : Survey) (marks : List ℕ) → IsSurvey image survey marks → survey.bad_owner ≡ None → Owned image
 surveyed_owners image survey marks s none = found_none IsCallersIfFixed (area_start image) (chunks_of image) survey.bad_owner s.surveys.bad_owner none
 
 -- everything but the directory was tested
-pub record Passed (image : List ℕ) (survey : Survey) (marks : List Bool) : Type 0 where
+pub record Passed (image : List ℕ) (survey : Survey) (marks : List ℕ) : Type 0 where
   pub head : IsHead image
   pub surveyed : IsSurvey image survey marks
   pub marked : EveryOne (IsMarked image marks) (slots_of image)
   pub without_slot : survey.without_slot ≡ None
   pub bad_owner : survey.bad_owner ≡ None
 
-pub passed_paired : (image : List ℕ) (survey : Survey) (marks : List Bool) → Passed image survey marks → IsPaired image
+pub passed_paired : (image : List ℕ) (survey : Survey) (marks : List ℕ) → Passed image survey marks → IsPaired image
 passed_paired image survey marks p = record {
   tiles = surveyed_tiles image survey marks p.head p.surveyed;
   slots = surveyed_slots image survey marks p.surveyed p.marked;
   names = surveyed_names image survey marks p.surveyed p.without_slot;
 }
 
-pub passed_directory : (image : List ℕ) (survey : Survey) (marks : List Bool) → Passed image survey marks → (HasDirectory image (chunks_of image) → ⊥) → IsFirstFault image BadDirectory
+pub passed_directory : (image : List ℕ) (survey : Survey) (marks : List ℕ) → Passed image survey marks → (HasDirectory image (chunks_of image) → ⊥) → IsFirstFault image BadDirectory
 passed_directory image survey marks p none =
     let paired = passed_paired image survey marks p in
     first_directory image paired.slots paired.names (surveyed_owners image survey marks p.surveyed p.bad_owner) (paired.tiles, none)
 
-pub passed_heap : (image : List ℕ) (survey : Survey) (marks : List Bool) → Passed image survey marks → HasDirectory image (chunks_of image) → HeapAccepted image
+pub passed_heap : (image : List ℕ) (survey : Survey) (marks : List ℕ) → Passed image survey marks → HasDirectory image (chunks_of image) → HeapAccepted image
 passed_heap image survey marks p directory =
     let paired = passed_paired image survey marks p in
     faultless_heap image paired.tiles paired.slots paired.names (surveyed_owners image survey marks p.surveyed p.bad_owner) directory

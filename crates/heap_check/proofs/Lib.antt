@@ -1,4 +1,5 @@
 pub mod SurveyLaws
 pub mod SlotLaws
+pub mod OwnerLaws
 pub mod DirectoryLaws
 pub mod CheckLaws

@@ -1,19 +1,20 @@
 -- Marked slots are those that hold the place of a chunk.
-use Rattle.std.proofs.Common.{◌≡◌, ◌≢◌, ℕ, zero, suc, ◌+◌, ◌<◌, Bool, true, false, List, length, replicate, set, refl, sym, ap, subst, ◌∙◌, inl, inr}
-use Rattle.std.specs.Prelude.{◌↔◌, slice_index_or}
+use Rattle.std.proofs.Common.{◌≡◌, ◌≢◌, ℕ, zero, suc, ◌+◌, ◌<◌, ◌≤◌, true, false, List, length, map, get_or, replicate, set, refl, sym, ap, subst, ◌∙◌, arith, inl, inr}
+use Rattle.std.specs.Prelude.{◌↔◌, ◌⊎◌, slice_index}
 use Rattle.std.specs.Bool.{Decides}
 use Rattle.std.proofs.lemmas.Bool.{cases_eq}
 use Rattle.std.proofs.lemmas.Bool.Decides.{Decides-and, Decides-eqb}
-use Rattle.std.proofs.lemmas.List.{get_or-set_same, get_or-set_other}
+use Rattle.std.proofs.lemmas.List.{get_or-map, get_or-set_same, get_or-set_other, map-set, length-map}
 use Rattle.heap_model.specs.Bytes.{u32_at}
 use Rattle.heap_model.specs.Chunk.{Chunk}
-use Rattle.heap_model.specs.Slots.{IsSlot, StandsBehind, slots_of, first_slots}
+use Rattle.heap_model.specs.Slots.{IsSlot, StandsBehind, slots_of, slots_total, first_slots}
 use Rattle.heap_model.specs.Placed.{EveryOne, FirstOne}
 use Rattle.heap_model.specs.Pairing.{HoldsBody}
 use Rattle.laws_heap.proofs.Deciding.{true_or_false}
-use Rattle.laws_heap.proofs.Slots.{Decides-slot, slot_stands, stands_slot, same_number, same_slot, every_slot, first_slots-front}
+use Rattle.laws_heap.proofs.Slots.{Decides-slot, slot_stands, stands_slot, stands_below, same_number, same_slot, every_slot, first_slots-front}
 use Rattle.laws_heap.proofs.Placed.{EveryOne-like, FirstOne-like}
-use Rattle.heap_check.specs.Survey.{holds_place, AreMarks, AddsMarks, MarkedAt, IsHolder, IsMarked}
+use Rattle.heap_check.specs.Owners.{NoneMarked}
+use Rattle.heap_check.specs.Survey.{holds_place, AreMarks, AddsMark, MarkedAt, IsHolder, IsMarked}
 
 -- ---- one mark more
 
@@ -29,38 +30,56 @@ holds_false image slot at none = elim (true_or_false (holds_place image slot at)
   | inr apart ↦ sym apart
 ]
 
-pub mark_set : (image : List ℕ) (old : List Bool) (named at number : ℕ) → StandsBehind image named number → u32_at image named ≡ at + 8 → number < length old → AddsMarks image (IsHolder image named at) old (set old number true)
-mark_set image old named at number there here room slot k s = elim (cases_eq k number) [
+mark_set_in : (image : List ℕ) (old : List ℕ) (named at mark number : ℕ) → StandsBehind image named number → u32_at image named ≡ at + 8 → number < length old → AddsMark image (IsHolder image named at) mark old (set old number mark)
+mark_set_in image old named at mark number there here room slot k s = elim (cases_eq k number) [
   | inl same ↦
       let one : named ≡ slot = same_slot image named slot number there (subst (λ (n : ℕ). StandsBehind image slot n) same s) in
-      let marked : MarkedAt (set old number true) k = ap (λ (n : ℕ). slice_index_or (set old number true) n false) same ∙ get_or-set_same old number true false room in
-      (λ m. inr (one, sym here ∙ ap (u32_at image) one), λ m. marked)
+      let marked : slice_index (set old number mark) k ≡ mark = ap (λ (n : ℕ). slice_index (set old number mark) n) same ∙ get_or-set_same old number mark 0 room in
+      inl ((one, sym here ∙ ap (u32_at image) one), marked)
   | inr apart ↦
-      let kept : slice_index_or (set old number true) k false ≡ slice_index_or old k false = get_or-set_other old number k true false apart in (
-        λ m. inl (sym kept ∙ m),
-        λ m. kept ∙ elim m [ inl was ↦ was | inr holder ↦ absurd (apart (same_number image slot k number s (subst (λ (t : ℕ). StandsBehind image t number) holder.0 there))) ],
-      )
+      inr (λ holder. apart (same_number image slot k number s (subst (λ (t : ℕ). StandsBehind image t number) holder.0 there)), get_or-set_other old number k mark 0 apart)
 ]
 
-pub mark_none : (image : List ℕ) (marks : List Bool) (P : ℕ → Type 0) → ((slot : ℕ) → IsSlot image slot → P slot → ⊥) → AddsMarks image P marks marks
-mark_none image marks P none slot k s = (λ m. inl m, λ m. elim m [ inl was ↦ was | inr holds ↦ absurd (none slot (stands_slot image slot k s) holds) ])
+-- the same of what marks say
+pub mark_set : {Mark : Type 0} (says : Mark → ℕ) (image : List ℕ) (old : List Mark) (named at : ℕ) (mark : Mark) (number : ℕ) → StandsBehind image named number → u32_at image named ≡ at + 8 → number < length old
+    → AddsMark image (IsHolder image named at) (says mark) (map says old) (map says (set old number mark))
+mark_set says image old named at mark number there here room =
+    subst (AddsMark image (IsHolder image named at) (says mark) (map says old)) (sym (map-set says old number mark))
+    (mark_set_in image (map says old) named at (says mark) number there here (subst (λ (n : ℕ). number < n) (sym (length-map old says)) room))
+
+pub mark_none : (image marks : List ℕ) (P : ℕ → Type 0) (mark : ℕ) → ((slot : ℕ) → IsSlot image slot → P slot → ⊥) → AddsMark image P mark marks marks
+mark_none image marks P mark none slot k s = inr (λ holds. none slot (stands_slot image slot k s) holds, refl)
+
+-- which slots are marked then
+pub marks_more : (image : List ℕ) (P : ℕ → Type 0) (mark : ℕ) (old new : List ℕ) → mark < 16 → AddsMark image P mark old new → (slot number : ℕ) → StandsBehind image slot number → (MarkedAt new number ↔ (MarkedAt old number ⊎ P slot))
+marks_more image P mark old new low adds slot number s = elim (adds slot number s) [
+  | inl here ↦ (λ m. inr here.0, λ m e. (let is = here.1 in omega arith))
+  | inr apart ↦ (
+    λ m. inl (λ e. m (apart.1 ∙ e)),
+    λ m. elim m [ inl was ↦ (λ e. was (sym apart.1 ∙ e)) | inr holds ↦ absurd (apart.0 holds) ],
+  )
+]
+
+-- what a mark says is said behind as many others
+pub said : {Mark : Type 0} (says : Mark → ℕ) (marks : List Mark) (number : ℕ) (mark : Mark) → mark ≡ get_or marks number mark → number < length marks → slice_index (map says marks) number ≡ says mark
+said says marks number mark is below = get_or-map says marks number mark 0 below ∙ ap says (sym is)
 
 -- ---- all marks
 
-marked_like : (image : List ℕ) (cs : List Chunk) (marks : List Bool) → AreMarks image cs marks → (slot : ℕ) → IsSlot image slot → (IsMarked image marks slot ↔ HoldsBody image cs slot)
+marked_like : (image : List ℕ) (cs : List Chunk) (marks : List ℕ) → AreMarks image cs marks → (slot : ℕ) → IsSlot image slot → (IsMarked image marks slot ↔ HoldsBody image cs slot)
 marked_like image cs marks are slot s =
     let n = slot_stands image slot s in (
       λ marked used. (are slot n.0 n.1).0 (marked used n.0 n.1),
       λ holds used k stands. (are slot k stands).1 (holds used),
     )
 
-all_like : (image : List ℕ) (cs : List Chunk) (marks : List Bool) → AreMarks image cs marks → EveryOne (λ slot. IsMarked image marks slot ↔ HoldsBody image cs slot) (slots_of image)
+all_like : (image : List ℕ) (cs : List Chunk) (marks : List ℕ) → AreMarks image cs marks → EveryOne (λ slot. IsMarked image marks slot ↔ HoldsBody image cs slot) (slots_of image)
 all_like image cs marks are = every_slot (λ slot. IsMarked image marks slot ↔ HoldsBody image cs slot) image (marked_like image cs marks are)
 
-pub all_hold : (image : List ℕ) (cs : List Chunk) (marks : List Bool) → AreMarks image cs marks → EveryOne (IsMarked image marks) (slots_of image) → EveryOne (HoldsBody image cs) (slots_of image)
+pub all_hold : (image : List ℕ) (cs : List Chunk) (marks : List ℕ) → AreMarks image cs marks → EveryOne (IsMarked image marks) (slots_of image) → EveryOne (HoldsBody image cs) (slots_of image)
 all_hold image cs marks are every = EveryOne-like (IsMarked image marks) (HoldsBody image cs) (slots_of image) (all_like image cs marks are) every
 
-pub first_mismatch : (image : List ℕ) (cs : List Chunk) (marks : List Bool) (slot : ℕ) → AreMarks image cs marks → FirstOne (IsMarked image marks) (slots_of image) slot → FirstOne (HoldsBody image cs) (slots_of image) slot
+pub first_mismatch : (image : List ℕ) (cs : List Chunk) (marks : List ℕ) (slot : ℕ) → AreMarks image cs marks → FirstOne (IsMarked image marks) (slots_of image) slot → FirstOne (HoldsBody image cs) (slots_of image) slot
 first_mismatch image cs marks slot are first = FirstOne-like (IsMarked image marks) (HoldsBody image cs) (slots_of image) slot (all_like image cs marks are) first
 
 -- a slot is the first without something, if those before it have it
@@ -69,7 +88,16 @@ first_of_number P image slot k s every without =
     record { before = s.front; after = s.rest; parts = s.parts; earlier = subst (λ (xs : List ℕ). EveryOne P xs) (first_slots-front image slot k s) every; without = without }
 
 -- marks that are made are clear
-pub none_marked : (n k : ℕ) → slice_index_or (replicate n false) k false ≡ false
-none_marked zero k = refl
-none_marked (suc n) zero = refl
-none_marked (suc n) (suc k) = none_marked n k
+pub none_marked : (n : ℕ) → NoneMarked (replicate n 16)
+none_marked zero k below = absurd (omega arith)
+none_marked (suc n) zero below = refl
+none_marked (suc n) (suc k) below = none_marked n k (omega arith)
+
+-- so are those of which none says an owner
+pub none_said : {Mark : Type 0} (says : Mark → ℕ) (mark : Mark) → says mark ≡ 16 → (n : ℕ) → NoneMarked (map says (replicate n mark))
+none_said says mark none zero k below = absurd (omega arith)
+none_said says mark none (suc n) zero below = none
+none_said says mark none (suc n) (suc k) below = none_said says mark none n k (omega arith)
+
+pub none_at : (image marks : List ℕ) → slots_total image ≤ length marks → NoneMarked marks → (slot number : ℕ) → StandsBehind image slot number → MarkedAt marks number → ⊥
+none_at image marks room none slot number s m = let below = stands_below image slot number s in m (none number (omega arith))

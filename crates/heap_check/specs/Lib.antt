@@ -1,3 +1,4 @@
 pub mod Faults
+pub mod Owners
 pub mod Summary
 pub mod Survey

@@ -1,7 +1,7 @@
 -- What a walk over chunks has found, and what one header adds to it.
-use Rattle.std.specs.Prelude.{◌≡◌, ◌≢◌, ◌+◌, ◌-◌, ◌==◌, ◌&&◌, ◌↔◌, ◌⊎◌, ◌≤◌, nat_lt, ℕ, Bool, true, false, List, length, slice_index_or, count_by, sum_by, Option, Some, None, MatchOption}
+use Rattle.std.specs.Prelude.{◌≡◌, ◌≢◌, ◌+◌, ◌-◌, ◌==◌, ◌&&◌, ◌↔◌, ◌⊎◌, ◌≤◌, nat_lt, ℕ, Bool, true, false, List, length, slice_index, count_by, sum_by, Option, Some, None, MatchOption}
 use Rattle.heap_model.specs.Bytes.{u32_at}
-use Rattle.heap_model.specs.Chunk.{Chunk, free, movable, fixed, SpelledAll, is_movable, is_fixed, free_size}
+use Rattle.heap_model.specs.Chunk.{Chunk, free, movable, fixed, Spelled, SpelledAll, is_movable, is_fixed, free_size}
 use Rattle.heap_model.specs.Placed.{EveryPlaced, FirstWithout, EveryOne, FirstOne}
 use Rattle.heap_model.specs.Slots.{area_start, is_slot, slots_of, StandsBehind}
 use Rattle.heap_model.specs.Heap.{Tiles, IsBody, IsCallersIfFixed}
@@ -10,6 +10,7 @@ use Rattle.heap_model.specs.Reading.{chunk_at, chunks_of}
 use Rattle.chunk_format.specs.declared.header.Header.{Header}
 use Rattle.chunk_format.specs.declared.header.Header.TheVariants as headers
 use Rattle.heap_check.specs.declared.survey.Survey.{Survey}
+use Rattle.heap_check.specs.Owners.{no_owner, noted_owner}
 
 -- ---- one chunk, by its header
 
@@ -50,6 +51,12 @@ BodyBy slot place at (headers.Free size) = ⊥
 BodyBy slot place at (headers.Movable length lock owner named) = (named ≡ slot) × (at + 8 ≡ place)
 BodyBy slot place at (headers.Fixed length owner) = ⊥
 
+-- the owner that the header of a live chunk has
+abbrev pub owner_by : Header → ℕ
+owner_by (headers.Free size) = 0
+owner_by (headers.Movable length lock owner slot) = owner
+owner_by (headers.Fixed length owner) = owner
+
 -- the first offset that failed a test, once the test of one more is known
 abbrev pub noted : Option ℕ → ℕ → Bool → Option ℕ
 noted (Some first) at right = Some first
@@ -59,32 +66,46 @@ noted None at false = Some at
 -- ---- all chunks so far
 
 -- the slot behind so many others is marked
-abbrev pub MarkedAt : List Bool → ℕ → Type 0
-MarkedAt marks number = slice_index_or marks number false ≡ true
+abbrev pub MarkedAt : List ℕ → ℕ → Type 0
+MarkedAt marks number = slice_index marks number ≢ no_owner
 
 -- each slot is marked where a chunk that names it has its body at the place it holds
-abbrev pub AreMarks : List ℕ → List Chunk → List Bool → Type 0
+abbrev pub AreMarks : List ℕ → List Chunk → List ℕ → Type 0
 AreMarks image chunks marks = (slot number : ℕ) → StandsBehind image slot number → (MarkedAt marks number ↔ IsBody (area_start image) chunks slot (u32_at image slot))
 
--- of the slots those are marked that were, and those of which this holds
-abbrev pub AddsMarks : List ℕ → (ℕ → Type 0) → List Bool → List Bool → Type 0
-AddsMarks image P old new = (slot number : ℕ) → StandsBehind image slot number → (MarkedAt new number ↔ (MarkedAt old number ⊎ P slot))
+-- a movable chunk with this owner names the slot, which holds its place
+pub record IsOwnerOf (image : List ℕ) (slot owner : ℕ) : Type 0 where
+  pub at : ℕ
+  pub bytes : List ℕ
+  pub lock : ℕ
+  pub spelled : Spelled image at (movable bytes lock owner slot)
+  pub place : at + 8 ≡ u32_at image slot
+
+-- each slot that is marked is so for the owner of such a chunk
+abbrev pub AreNoted : Bool → List ℕ → List ℕ → Type 0
+AreNoted notes image marks = (slot number : ℕ) → StandsBehind image slot number → MarkedAt marks number
+    → ((owner : ℕ) × (slice_index marks number ≡ noted_owner notes owner) × IsOwnerOf image slot owner)
+
+-- the slots of which this holds have this mark, and the others have the one that they had
+abbrev pub AddsMark : List ℕ → (ℕ → Type 0) → ℕ → List ℕ → List ℕ → Type 0
+AddsMark image P mark old new = (slot number : ℕ) → StandsBehind image slot number
+    → ((P slot × (slice_index new number ≡ mark)) ⊎ ((P slot → ⊥) × (slice_index new number ≡ slice_index old number)))
 
 -- the slot is this one and holds the place of the chunk at this offset
 abbrev pub IsHolder : List ℕ → ℕ → ℕ → ℕ → Type 0
 IsHolder image named at slot = (named ≡ slot) × (at + 8 ≡ u32_at image slot)
 
--- of the slots those are marked that were, and the one that the chunk with this header names, if it
--- holds the place of that chunk
-abbrev pub MarksBody : List ℕ → ℕ → Header → List Bool → List Bool → Type 0
-MarksBody image at header old new = AddsMarks image (λ slot. BodyBy slot (u32_at image slot) at header) old new
+-- the slot that the chunk with this header names, if it holds the place of that chunk, is marked for its
+-- owner, and the others are marked as they were
+abbrev pub MarksBody : Bool → List ℕ → ℕ → Header → List ℕ → List ℕ → Type 0
+MarksBody notes image at header old new = AddsMark image (λ slot. BodyBy slot (u32_at image slot) at header) (noted_owner notes (owner_by header)) old new
 
 -- the first chunk without something, if there is one
 abbrev pub IsFirstWithout : (ℕ → Chunk → Type 0) → ℕ → List Chunk → Option ℕ → Type 0
 IsFirstWithout P at chunks found = MatchOption found (EveryPlaced P at chunks) (λ there. FirstWithout P at chunks there)
 
 -- the survey and the marks are those of these chunks, the first of the image
-pub record Surveys (image : List ℕ) (chunks : List Chunk) (survey : Survey) (marks : List Bool) : Type 0 where
+pub record Surveys (image : List ℕ) (chunks : List Chunk) (survey : Survey) (marks : List ℕ) : Type 0 where
   pub movable : survey.movable ≡ count_by is_movable chunks
   pub fixed : survey.fixed ≡ count_by is_fixed chunks
   pub free : survey.free ≡ sum_by free_size chunks
@@ -93,24 +114,24 @@ pub record Surveys (image : List ℕ) (chunks : List Chunk) (survey : Survey) (m
   pub bad_owner : IsFirstWithout IsCallersIfFixed (area_start image) chunks survey.bad_owner
 
 -- a slot in use is marked
-abbrev pub IsMarked : List ℕ → List Bool → ℕ → Type 0
+abbrev pub IsMarked : List ℕ → List ℕ → ℕ → Type 0
 IsMarked image marks slot = u32_at image slot ≢ 0 → (number : ℕ) → StandsBehind image slot number → MarkedAt marks number
 
 -- each slot in use is marked
-abbrev pub AllMarked : List ℕ → List Bool → Type 0
+abbrev pub AllMarked : List ℕ → List ℕ → Type 0
 AllMarked image marks = EveryOne (IsMarked image marks) (slots_of image)
 
 -- this is the first slot that is in use and not marked
-abbrev pub IsFirstUnmarked : List ℕ → List Bool → ℕ → Type 0
+abbrev pub IsFirstUnmarked : List ℕ → List ℕ → ℕ → Type 0
 IsFirstUnmarked image marks slot = FirstOne (IsMarked image marks) (slots_of image) slot
 
 -- the chunks reach the end, and the survey and the marks are those of them all
-pub record IsSurvey (image : List ℕ) (survey : Survey) (marks : List Bool) : Type 0 where
+pub record IsSurvey (image : List ℕ) (survey : Survey) (marks : List ℕ) : Type 0 where
   pub spelled : SpelledAll image (area_start image) (chunks_of image) (length image)
   pub surveys : Surveys image (chunks_of image) survey marks
 
 -- a walk has come to this offset: the chunks in front of it, and the survey and the marks of those
-pub record HasSurveyed (image : List ℕ) (at : ℕ) (survey : Survey) (marks : List Bool) : Type 0 where
+pub record HasSurveyed (image : List ℕ) (at : ℕ) (survey : Survey) (marks : List ℕ) : Type 0 where
   pub chunks : List Chunk
   pub spelled : SpelledAll image (area_start image) chunks at
   pub surveys : Surveys image chunks survey marks

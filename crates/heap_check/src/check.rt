@@ -1,21 +1,20 @@
 //! The check of a whole image.
 
-ghost use Rattle.std.specs.Prelude.{◌≡◌, ◌≤◌, ℕ, false, length, slice_index_or, IfOk, IfErr, OnOk, OnErr};
+ghost use Rattle.std.specs.Prelude.{◌≡◌, ◌≤◌, true, length, map, IfOk, IfErr, OnOk, OnErr};
 ghost use Rattle.heap_model.specs.Heap.{IsHead, HeapAccepted};
 ghost use Rattle.heap_check.specs.Faults.{IsFirstFault};
+ghost use Rattle.heap_check.specs.Owners.{NoneMarked, HasOwners};
 ghost use Rattle.heap_check.specs.Summary.{Summarizes};
 
 use crate::directory::has_directory;
 use crate::fault::HeapFault;
 use crate::head::check_head;
+use crate::marks::{MOST_MARKS, Mark};
 use crate::slots::find_unmarked;
 use crate::summary::Summary;
 use crate::survey::survey_chunks;
 use master_table::Table;
 use raw_region::Region;
-
-/// The most slots that a table can have, and one mark more.
-const MAX_SLOTS: usize = 65_536;
 
 /// Whether the bytes of a region are an accepted heap: its counts, or else its first fault. It takes
 /// no memory, reads each chunk's header once and each slot once, and changes nothing.
@@ -31,6 +30,23 @@ pub fn check_heap(region: &Region) -> Result<Summary, HeapFault>
     }
 }
 
+/// `check_heap`, which marks each slot with the owner of its chunk on the way. Where the heap is accepted,
+/// all slots are so marked, and where it isn't, some of them may be.
+pub fn check_heap_noting(region: &Region, owners: &mut [u8]) -> Result<Summary, HeapFault>
+    requires room { 65535 ≤ length owners.old }
+    requires clear { NoneMarked owners.old }
+    ensures accepted { OnOk result (HeapAccepted region.now.bytes) }
+    ensures summary { IfOk result (Summarizes region.now.bytes) }
+    ensures fault { IfErr result (IsFirstFault region.now.bytes) }
+    ensures refused { OnErr result (HeapAccepted region.now.bytes → ⊥) }
+    ensures owners { OnOk result (HasOwners region.now.bytes owners.new) }
+{
+    match check_head(region) {
+        Ok(()) => check_area(region, owners),
+        Err(fault) => Err(fault),
+    }
+}
+
 /// Checks the chunks and the slots behind a right head, with marks of its own.
 fn check_with_marks(region: &Region) -> Result<Summary, HeapFault>
     requires head { IsHead region.now.bytes }
@@ -38,18 +54,20 @@ fn check_with_marks(region: &Region) -> Result<Summary, HeapFault>
     ensures summary { IfOk result (Summarizes region.now.bytes) }
     ensures fault { IfErr result (IsFirstFault region.now.bytes) }
 {
-    let mut marks = [false; MAX_SLOTS];
+    let mut marks = [false; MOST_MARKS];
     check_area(region, &mut marks)
 }
 
 /// Checks the chunks and the slots behind a right head, with a mark for the slot of each number.
-fn check_area(region: &Region, marks: &mut [bool]) -> Result<Summary, HeapFault>
+fn check_area<M: Mark>(region: &Region, marks: &mut [M]) -> Result<Summary, HeapFault>
     requires head { IsHead region.now.bytes }
     requires room { 65535 ≤ length marks.old }
-    requires clear { (k : ℕ) → slice_index_or marks.old k false ≡ false }
+    requires clear { NoneMarked (map M.says marks.old) }
     ensures accepted { OnOk result (HeapAccepted region.now.bytes) }
     ensures summary { IfOk result (Summarizes region.now.bytes) }
     ensures fault { IfErr result (IsFirstFault region.now.bytes) }
+    ensures owners { M.notes ≡ true
+        → OnOk result (HasOwners region.now.bytes (map M.says marks.new)) }
 {
     let table = Table::of(region);
     let survey = match survey_chunks(region, table, marks) {

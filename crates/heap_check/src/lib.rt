@@ -1,7 +1,8 @@
 //! The checker of heap images: whether an image is an accepted heap, and if not, its first fault.
 //!
 //! `check_heap` reads the head, walks over the chunks once and then over the table once, and takes
-//! no memory. `specs/Faults.antt` says what each fault means and in which order they are looked for;
+//! no memory. `check_heap_noting` also notes the owner of each slot's chunk, for a caller that asks for
+//! them later. `specs/Faults.antt` says what each fault means and in which order they are looked for;
 //! `heap_model` says what an accepted heap is.
 #![tactic(auto)]
 
@@ -9,10 +10,12 @@ mod check;
 mod directory;
 mod fault;
 mod head;
+mod marks;
 mod slots;
 mod summary;
 mod survey;
 
-pub use check::check_heap;
+pub use check::{check_heap, check_heap_noting};
 pub use fault::HeapFault;
+pub use marks::{MOST_MARKS, NO_OWNER};
 pub use summary::Summary;

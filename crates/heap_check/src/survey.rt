@@ -1,12 +1,14 @@
 //! The one walk over the chunks.
 
-ghost use Rattle.std.specs.Prelude.{◌≡◌, ◌≢◌, ◌≤◌, ◌<◌, ◌+◌, ◌^◌, ℕ, false, length, slice_index_or, IfSome, IfNone, OnSome, IfOk, IfErr};
+ghost use Rattle.std.specs.Prelude.{◌≡◌, ◌≢◌, ◌≤◌, ◌<◌, ◌+◌, ◌^◌, false, length, map, IfSome, IfNone, OnSome, IfOk, IfErr, OnOk};
 ghost use Rattle.heap_model.specs.Bytes.{u32_at};
 ghost use Rattle.heap_model.specs.Slots.{HasTable, IsSlot, StandsBehind, slots_total, area_start as model_start};
 ghost use Rattle.heap_check.specs.Faults.{IsBadChunk};
 ghost use Rattle.master_table.specs.Table.{IsTable};
-ghost use Rattle.heap_check.specs.Survey.{noted, holds_place, AddsMarks, IsHolder, IsSurvey};
+ghost use Rattle.heap_check.specs.Owners.{NoneMarked};
+ghost use Rattle.heap_check.specs.Survey.{noted, holds_place, AddsMark, IsHolder, AreNoted, IsSurvey};
 
+use crate::marks::Mark;
 use chunk_format::{DATA_OWNER, Header, MANAGERS_OWNER, area_start};
 use master_table::Table;
 use raw_region::Region;
@@ -63,21 +65,29 @@ fn holder_of(region: &Region, table: Table, slot: u32, at: u32) -> Option<u32>
     Some(number)
 }
 
-/// Marks the slot at an offset if one stands there and holds the place of the chunk at `at`, and says
-/// whether that is so.
+/// Gives the slot at an offset this mark if one stands there and holds the place of the chunk at `at`,
+/// and says whether that is so.
 #[inline]
-fn mark_holder(region: &Region, table: Table, slot: u32, at: u32, marks: &mut [bool]) -> bool
+fn mark_holder<M: Mark>(
+    region: &Region,
+    table: Table,
+    slot: u32,
+    at: u32,
+    mark: M,
+    marks: &mut [M],
+) -> bool
     requires has_table { HasTable region.now }
     requires table { IsTable region.now.bytes table }
     requires small { at < 2 ^ 24 }
     requires room { slots_total region.now.bytes ≤ length marks.old }
     ensures holds { result ≡ holds_place region.now.bytes slot at }
-    ensures marked { AddsMarks region.now.bytes
-        (IsHolder region.now.bytes slot at) marks.old marks.new }
+    ensures marked { AddsMark region.now.bytes
+        (IsHolder region.now.bytes slot at) (M.says mark)
+        (map M.says marks.old) (map M.says marks.new) }
 {
     match holder_of(region, table, slot, at) {
         Some(number) => {
-            marks[number as usize] = true;
+            marks[number as usize] = mark;
             true
         }
         None => false,
@@ -107,7 +117,14 @@ impl Survey {
 
     /// Adds the chunk at `at`, and marks the slot that holds its place.
     #[inline]
-    fn add(&mut self, region: &Region, at: u32, header: Header, table: Table, marks: &mut [bool])
+    fn add<M: Mark>(
+        &mut self,
+        region: &Region,
+        at: u32,
+        header: Header,
+        table: Table,
+        marks: &mut [M],
+    )
         requires has_table { HasTable region.now }
         requires table { IsTable region.now.bytes table }
         requires small { at < 2 ^ 24 }
@@ -120,13 +137,14 @@ impl Survey {
         ensures without_slot { self.new.without_slot
             ≡ noted self.old.without_slot at (names_by region.now.bytes at header) }
         ensures bad_owner { self.new.bad_owner ≡ noted self.old.bad_owner at (callers_by header) }
-        ensures marked { MarksBody region.now.bytes at header marks.old marks.new }
+        ensures marked { MarksBody M.notes region.now.bytes at header
+            (map M.says marks.old) (map M.says marks.new) }
     {
         match header {
             Header::Free { size } => self.free += size,
-            Header::Movable { slot, .. } => {
+            Header::Movable { owner, slot, .. } => {
                 self.movable += 1;
-                let holds = mark_holder(region, table, slot, at, marks);
+                let holds = mark_holder(region, table, slot, at, M::of(owner), marks);
                 self.without_slot = note(self.without_slot, at, holds);
             }
             Header::Fixed { owner, .. } => {
@@ -144,17 +162,18 @@ impl Survey {
 /// Walks over the chunks of an image with this table, and marks each slot that holds the place of a
 /// chunk which names it. The error is the offset of the first chunk out of shape, or of what is left
 /// at the end where that is less than a header.
-pub(crate) fn survey_chunks(
+pub(crate) fn survey_chunks<M: Mark>(
     region: &Region,
     table: Table,
-    marks: &mut [bool],
+    marks: &mut [M],
 ) -> Result<Survey, u32>
     requires small { length region.now.bytes < 2 ^ 24 }
     requires table { IsTable region.now.bytes table }
     requires inside { model_start region.now.bytes ≤ length region.now.bytes }
     requires room { slots_total region.now.bytes ≤ length marks.old }
-    requires clear { (k : ℕ) → slice_index_or marks.old k false ≡ false }
-    ensures surveyed { IfOk result (λ survey. IsSurvey region.now.bytes survey marks.new) }
+    requires clear { NoneMarked (map M.says marks.old) }
+    ensures surveyed { IfOk result (λ survey. IsSurvey region.now.bytes survey (map M.says marks.new)) }
+    ensures noted { OnOk result (AreNoted M.notes region.now.bytes (map M.says marks.new)) }
     ensures stuck { IfErr result (IsBadChunk region.now.bytes) }
 {
     let mut survey = Survey::new();

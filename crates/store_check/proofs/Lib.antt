@@ -1,4 +1,5 @@
 pub mod LookupLaws
+pub mod OwnerLaws
 pub mod Indexing
 pub mod Counting
 pub mod FaultLaws

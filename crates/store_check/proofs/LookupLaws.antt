@@ -26,8 +26,8 @@ use Rattle.store_check.specs.declared.lookup.Movable.{Movable}
 slot_header : (image : List ℕ) (name place : ℕ) → HeapAccepted image → (s : InSlot image name place) → option_map header_of (chunk_at image (place - 8)) ≡ Some (headers.Movable (length s.live.bytes) s.live.lock s.live.owner s.named)
 slot_header image name place h s = ap (option_map header_of) (finds_read image name s.live (movable s.live.bytes s.live.lock s.live.owner s.named) (place - 8) h s.finds)
 
-movable_in : (image : List ℕ) (slot : ℕ) (place : Place) → HeapAccepted image → (s : InSlot image slot place.0) → IsMovable image slot (record { place = place; length = length s.live.bytes; owner = s.live.owner })
-unfolding owner_under bytes_under
+movable_in : (image : List ℕ) (slot : ℕ) (place : Place) → HeapAccepted image → (s : InSlot image slot place.0) → IsMovable image slot (record { place = place; length = length s.live.bytes })
+unfolding bytes_under
 movable_in image slot place h s =
     let is = finds_held image slot s.live _ (place.0 - 8) h s.finds in
     let spelled = (finds_spelled image slot s.live (movable s.live.bytes s.live.lock s.live.owner s.named) (place.0 - 8) h s.finds).1 in
@@ -35,7 +35,6 @@ movable_in image slot place h s =
     let e : place.0 - 8 + 8 ≡ place.0 = omega arith in
     let inside = spelled.inside in
     record {
-      owner = ap owner_of is;
       body = ap bytes_of is ∙ sym spelled.body ∙ ap (λ (p : ℕ). slice_range image p (p + length s.live.bytes)) e;
       inside = omega arith;
     }

@@ -1,5 +1,5 @@
 -- The chunks that belong to databases, by their owners.
-use Rattle.std.specs.Prelude.{◌≡◌, ◌⊎◌, ℕ, List}
+use Rattle.std.specs.Prelude.{◌≡◌, ◌⊎◌, ◌↔◌, ℕ, List}
 use Rattle.heap_model.specs.Store.{managers_owner, data_owner, owner_under}
 
 -- the slot has a chunk of the manager's, or one for data
@@ -9,3 +9,8 @@ IsOurs image slot = (owner_under image slot ≡ managers_owner) ⊎ (owner_under
 -- the slot has neither
 abbrev pub NotOurs : List ℕ → ℕ → Type 0
 NotOurs image slot = IsOurs image slot → ⊥
+
+-- the number is the manager's, or that of data, exactly where this is the owner of the slot's chunk
+pub record TellsOwner (image : List ℕ) (slot owner : ℕ) : Type 0 where
+  pub managers : (owner ≡ managers_owner) ↔ (owner_under image slot ≡ managers_owner)
+  pub «data» : (owner ≡ data_owner) ↔ (owner_under image slot ≡ data_owner)

@@ -6,6 +6,7 @@ ghost use Rattle.heap_model.specs.Bytes.{AreBytes};
 ghost use Rattle.heap_model.specs.Heap.{HeapAccepted, directory_of};
 ghost use Rattle.heap_model.specs.Store.{directory_bytes, listed, Accepted};
 ghost use Rattle.heap_check.specs.Faults.{FirstBrought};
+ghost use Rattle.heap_check.specs.Owners.{NoneMarked, HasOwners};
 ghost use Rattle.store_check.specs.Listing.{IsListing, HaveHeaders};
 ghost use Rattle.store_check.specs.Faults.{store_faults, NoneBrought};
 ghost use Rattle.store_check.specs.Naming.{AreNamed, managers_slots, accounted, AreMarks};
@@ -28,7 +29,7 @@ use crate::uses::mark_databases;
 use crate::words::listed_count;
 use allowance::Allowance;
 use chunk_format::slot_count;
-use heap_check::check_heap;
+use heap_check::{MOST_MARKS, NO_OWNER, check_heap_noting};
 use raw_region::Region;
 use std::alloc::Global;
 
@@ -56,17 +57,40 @@ pub fn check_store_from<A: Allowance>(
     ensures refused { IfErr result (IsRefusal region.now.bytes) }
     ensures no_memory { result ≡ Err StoreFault.OutOfMemory → A.is_short memory.now }
 {
-    let heap = match check_heap(region) {
+    let mut owners = [NO_OWNER; MOST_MARKS];
+    check_noting(memory, region, &mut owners)
+}
+
+/// The same, with a mark for the slot of each number, in which the heap's check notes owners.
+fn check_noting<A: Allowance>(
+    memory: &A,
+    region: &Region,
+    owners: &mut [u8],
+) -> Result<StoreSummary, StoreFault>
+    requires room { 65535 ≤ length owners.old }
+    requires clear { NoneMarked owners.old }
+    ensures accepted { OnOk result (Accepted region.now.bytes) }
+    ensures summary { IfOk result (Summarizes region.now.bytes) }
+    ensures fault { IfErr result (IsAnswered region.now.bytes) }
+    ensures refused { IfErr result (IsRefusal region.now.bytes) }
+    ensures no_memory { result ≡ Err StoreFault.OutOfMemory → A.is_short memory.now }
+{
+    let heap = match check_heap_noting(region, owners) {
         Ok(heap) => heap,
         Err(fault) => return Err(StoreFault::Heap(fault)),
     };
-    let databases = check_databases(memory, region)?;
+    let databases = check_databases(memory, region, owners)?;
     Ok(StoreSummary { heap, databases })
 }
 
 /// Looks for the faults of the databases in an accepted heap, and answers how many they are.
-fn check_databases<A: Allowance>(memory: &A, region: &Region) -> Result<u32, StoreFault>
-    requires { HeapAccepted region.now.bytes }
+fn check_databases<A: Allowance>(
+    memory: &A,
+    region: &Region,
+    owners: &[u8],
+) -> Result<u32, StoreFault>
+    requires accepted { HeapAccepted region.now.bytes }
+    requires owners { HasOwners region.now.bytes owners.now }
     ensures accepted { OnOk result (Accepted region.now.bytes) }
     ensures count { IfOk result (λ count. count ≡ length (listed region.now.bytes)) }
     ensures fault { IfErr result (IsFirstOr (store_faults region.now.bytes)) }
@@ -75,7 +99,7 @@ fn check_databases<A: Allowance>(memory: &A, region: &Region) -> Result<u32, Sto
 {
     know_bytes(region);
     let directory = directory_in(region);
-    check_marks(memory, region, directory)?;
+    check_marks(memory, region, directory, owners)?;
     check_ids_and_names(memory, region, directory)?;
     Ok(listed_count(directory) as u32)
 }
@@ -92,8 +116,10 @@ fn check_marks<A: Allowance>(
     memory: &A,
     region: &Region,
     directory: &[u8],
+    owners: &[u8],
 ) -> Result<(), StoreFault>
     requires accepted { HeapAccepted region.now.bytes }
+    requires owners { HasOwners region.now.bytes owners.now }
     requires directory { directory.now ≡ directory_bytes region.now.bytes }
     ensures fault { IfErr result (IsFirstOr (marked_faults region.now.bytes)) }
     ensures no_memory { result ≡ Err StoreFault.OutOfMemory → A.is_short memory.now }
@@ -104,12 +130,18 @@ fn check_marks<A: Allowance>(
     let Ok(mut marks) = no_marks(memory, slot_count(region)) else {
         return Err(StoreFault::OutOfMemory);
     };
-    check_with_marks(region, directory, &mut marks)
+    check_with_marks(region, directory, owners, &mut marks)
 }
 
 /// Looks for the faults that are found by these marks for slots, none of which is set yet.
-fn check_with_marks(region: &Region, directory: &[u8], marks: &mut [u8]) -> Result<(), StoreFault>
+fn check_with_marks(
+    region: &Region,
+    directory: &[u8],
+    owners: &[u8],
+    marks: &mut [u8],
+) -> Result<(), StoreFault>
     requires accepted { HeapAccepted region.now.bytes }
+    requires owners { HasOwners region.now.bytes owners.now }
     requires room { slots_total region.now.bytes ≤ length marks.old }
     requires directory { directory.now ≡ directory_bytes region.now.bytes }
     requires clear { AreMarks region.now.bytes [] marks.old }
@@ -119,15 +151,21 @@ fn check_with_marks(region: &Region, directory: &[u8], marks: &mut [u8]) -> Resu
     ensures headers { OnOk result (HaveHeaders region.now.bytes) }
 {
     mark(region, chunk_format::directory(region), marks);
-    check_listed(region, directory, marks)?;
+    check_listed(region, directory, owners, marks)?;
     mark_databases(region, directory, marks);
-    check_chunks(region, marks)
+    check_chunks(region, owners, marks)
 }
 
 /// Looks for the faults of what the directory lists, whose own slot is marked. All that it lists is then
 /// marked too.
-fn check_listed(region: &Region, directory: &[u8], marks: &mut [u8]) -> Result<(), StoreFault>
+fn check_listed(
+    region: &Region,
+    directory: &[u8],
+    owners: &[u8],
+    marks: &mut [u8],
+) -> Result<(), StoreFault>
     requires accepted { HeapAccepted region.now.bytes }
+    requires owners { HasOwners region.now.bytes owners.now }
     requires room { slots_total region.now.bytes ≤ length marks.old }
     requires directory { directory.now ≡ directory_bytes region.now.bytes }
     requires marks { AreMarks region.now.bytes (directory_of region.now.bytes ∷ []) marks.old }
@@ -139,13 +177,13 @@ fn check_listed(region: &Region, directory: &[u8], marks: &mut [u8]) -> Result<(
     ensures marked { OnOk result (AreMarks region.now.bytes
         (managers_slots region.now.bytes) marks.new) }
 {
-    if let Some(fault) = find_bad_slot(region, directory, marks) {
+    if let Some(fault) = find_bad_slot(region, directory, owners, marks) {
         return Err(fault);
     }
-    if let Some(fault) = find_bad_header(region, directory) {
+    if let Some(fault) = find_bad_header(region, directory, owners) {
         return Err(fault);
     }
-    match find_bad_entry(region, directory) {
+    match find_bad_entry(region, directory, owners) {
         Some(fault) => Err(fault),
         None => Ok(()),
     }
@@ -153,7 +191,8 @@ fn check_listed(region: &Region, directory: &[u8], marks: &mut [u8]) -> Result<(
 
 /// Looks for chunks that are named twice and for those that nothing names, where all that must be named
 /// is marked.
-fn check_chunks(region: &Region, marks: &[u8]) -> Result<(), StoreFault>
+fn check_chunks(region: &Region, owners: &[u8], marks: &[u8]) -> Result<(), StoreFault>
+    requires owners { HasOwners region.now.bytes owners.now }
     requires room { slots_total region.now.bytes ≤ length marks.now }
     requires named { AreNamed region.now.bytes }
     requires marks { AreMarks region.now.bytes (accounted region.now.bytes) marks.now }
@@ -163,7 +202,7 @@ fn check_chunks(region: &Region, marks: &[u8]) -> Result<(), StoreFault>
     if let Some(fault) = find_shared(region, marks) {
         return Err(fault);
     }
-    match find_stray(region, marks) {
+    match find_stray(region, marks, owners) {
         Some(fault) => Err(fault),
         None => Ok(()),
     }

@@ -3,11 +3,12 @@
 ghost use Rattle.std.specs.Prelude.{◌≤◌, length, IfSome, IfNone};
 ghost use Rattle.heap_model.specs.Slots.{slots_total};
 ghost use Rattle.heap_check.specs.Faults.{FirstBrought};
+ghost use Rattle.heap_check.specs.Owners.{HasOwners};
 ghost use Rattle.store_check.specs.Faults.{shared_faults, stray_faults, NoneBrought};
 ghost use Rattle.store_check.specs.Naming.{AreNamed, accounted, AreMarks};
 
 use crate::fault::StoreFault;
-use crate::lookup::is_ours;
+use crate::owners::is_ours;
 use master_table::Table;
 use raw_region::Region;
 
@@ -29,7 +30,8 @@ pub(crate) fn find_shared(region: &Region, marks: &[u8]) -> Option<StoreFault>
 }
 
 /// The least slot with a chunk that nothing names, where all that must be named is marked.
-pub(crate) fn find_stray(region: &Region, marks: &[u8]) -> Option<StoreFault>
+pub(crate) fn find_stray(region: &Region, marks: &[u8], owners: &[u8]) -> Option<StoreFault>
+    requires owners { HasOwners region.now.bytes owners.now }
     requires room { slots_total region.now.bytes ≤ length marks.now }
     requires named { AreNamed region.now.bytes }
     requires marks { AreMarks region.now.bytes (accounted region.now.bytes) marks.now }
@@ -39,7 +41,7 @@ pub(crate) fn find_stray(region: &Region, marks: &[u8]) -> Option<StoreFault>
     let table = Table::of(region);
     for number in 0..table.count() {
         let slot = table.slot(number);
-        if marks[number as usize] == 0 && is_ours(region, slot) {
+        if marks[number as usize] == 0 && is_ours(region, slot, owners) {
             return Some(StoreFault::StrayChunk(slot));
         }
     }

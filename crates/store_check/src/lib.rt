@@ -1,11 +1,12 @@
 //! The checker of stores: whether an image is an accepted heap with databases in it, and if not, its
 //! first fault.
 //!
-//! `check_store` has the heap checked, and then looks for each fault in all databases before it looks for
-//! the next. A mark for each slot, counted up to two, says how often slots are listed and named. A set of
-//! numbers, a bit for each, tells whether an ID was met before; it serves the databases in turn, and then
-//! the names, which are compared only where their numbers meet. `specs/Faults.antt` says what each fault
-//! means and in which order they are looked for; `heap_model` says what an accepted image is.
+//! `check_store` has the heap checked, which notes the owner of each slot's chunk, and then looks for each
+//! fault in all databases before it looks for the next. A mark for each slot, counted up to two, says how
+//! often slots are listed and named. A set of numbers, a bit for each, tells whether an ID was met before;
+//! it serves the databases in turn, and then the names, which are compared only where their numbers meet.
+//! `specs/Faults.antt` says what each fault means and in which order they are looked for; `heap_model` says
+//! what an accepted image is.
 #![tactic(auto)]
 
 mod check;
@@ -18,6 +19,7 @@ mod laws;
 mod lookup;
 mod marks;
 mod names;
+mod owners;
 mod slots;
 mod summary;
 mod uses;

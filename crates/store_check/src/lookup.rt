@@ -1,25 +1,24 @@
-//! The chunks of databases and of the manager, by their slots.
+//! The chunks of the manager, by their slots.
 
-ghost use Rattle.std.specs.Prelude.{◌≡◌, ◌≤◌, ◌<◌, ◌-◌, ◌↔◌, IsTrue, IfSome, IfNone};
+ghost use Rattle.std.specs.Prelude.{◌≡◌, ◌≤◌, ◌<◌, ◌-◌, IfSome, IfNone};
 ghost use Rattle.heap_model.specs.Chunk.{HasChunk};
 ghost use Rattle.heap_model.specs.Heap.{HeapAccepted};
-ghost use Rattle.heap_model.specs.Store.{managers_owner, data_owner, bytes_under, owner_under, directory_bytes};
+ghost use Rattle.heap_model.specs.Store.{managers_owner, bytes_under, owner_under, directory_bytes};
 ghost use Rattle.store_check.specs.Listing.{listed_count as model_count, header_at, IsListing};
 ghost use Rattle.store_check.specs.Lookup.{IsMovable, IsHeld, SlotsFind, movable_by};
-ghost use Rattle.store_check.specs.Owners.{IsOurs, NotOurs};
+ghost use Rattle.store_check.specs.Owners.{NotOurs};
 
 use crate::words::word_at;
-use chunk_format::{DATA_OWNER, Header, MANAGERS_OWNER, directory};
+use chunk_format::{Header, directory};
 use heap_model::{Name, Place};
 use master_table::resolve;
 use raw_region::Region;
 
-/// A movable chunk: where its body is, how many bytes that has, and its owner.
+/// A movable chunk: where its body is, and how many bytes that has.
 #[derive(Clone, Copy)]
 pub(crate) struct Movable {
     pub(crate) place: Place,
     pub(crate) length: u32,
-    pub(crate) owner: u8,
 }
 
 /// The movable chunk of a slot.
@@ -53,43 +52,8 @@ fn as_movable(header: Header, place: Place) -> Option<Movable>
     ensures { result ≡ movable_by header place }
 {
     match header {
-        Header::Movable { length, owner, .. } => Some(Movable {
-            place,
-            length,
-            owner,
-        }),
+        Header::Movable { length, .. } => Some(Movable { place, length }),
         _ => None,
-    }
-}
-
-/// Whether a slot has a chunk of the manager's or one for data.
-pub(crate) fn is_ours(region: &Region, slot: u32) -> bool
-    requires { HeapAccepted region.now.bytes }
-    ensures { IsTrue result ↔ IsOurs region.now.bytes slot }
-{
-    is_managers(region, slot) || is_for_data(region, slot)
-}
-
-/// Whether a slot has a chunk of the manager's.
-pub(crate) fn is_managers(region: &Region, slot: u32) -> bool
-    requires { HeapAccepted region.now.bytes }
-    ensures { IsTrue result ↔ (owner_under region.now.bytes slot ≡ managers_owner) }
-{
-    match movable_under(region, slot) {
-        Some(chunk) => chunk.owner == MANAGERS_OWNER,
-        None => false,
-    }
-}
-
-/// Whether a slot has a chunk for data.
-#[inline]
-pub(crate) fn is_for_data(region: &Region, slot: u32) -> bool
-    requires { HeapAccepted region.now.bytes }
-    ensures { IsTrue result ↔ (owner_under region.now.bytes slot ≡ data_owner) }
-{
-    match movable_under(region, slot) {
-        Some(chunk) => chunk.owner == DATA_OWNER,
-        None => false,
     }
 }
 

@@ -1,4 +1,4 @@
-use Rattle.std.proofs.Common.{refl, arith, List, ℕ, subst}
+use Rattle.std.proofs.Common.{refl, arith, List, ℕ, map, subst}
 use Rattle.std.proofs.lemmas.Bool.{false≢true}
 use Rattle.heap_model.specs.Placed.{EveryOne}
 use Rattle.laws_heap.proofs.Slots.{every_first-more, first_slots-all}
@@ -7,18 +7,18 @@ use Rattle.heap_check.proofs.SlotLaws.{first_of_number}
 use Rattle.heap_check.proofs.slots.find_unmarked.Goals as goal
 
 pub is_marked-requires-clause-stands : goal.is_marked-requires-clause-stands
-is_marked-requires-clause-stands c = c.slot-slot.ensures c.args.region.now.bytes c.requires.table
+is_marked-requires-clause-stands g c = c.slot-slot.ensures c.args.region.now.bytes c.requires.table
 
 pub returns-then-not-is_marked-clause-some : goal.returns-then-not-is_marked-clause-some
-returns-then-not-is_marked-clause-some c =
-    first_of_number (IsMarked c.args.region.now.bytes c.args.marks.now) c.args.region.now.bytes c.slot-slot.result c.loop-number.number (c.slot-slot.ensures c.args.region.now.bytes c.requires.table)
+returns-then-not-is_marked-clause-some g c =
+    first_of_number (IsMarked c.args.region.now.bytes (map g.M.Mark.says c.args.marks.now)) c.args.region.now.bytes c.slot-slot.result c.loop-number.number (c.slot-slot.ensures c.args.region.now.bytes c.requires.table)
     c.loop-number.invariant (λ marked. false≢true (c.if-not-is_marked.ensures.1 marked))
 
 pub loop-number-preserved : goal.loop-number-preserved
-loop-number-preserved c =
-    every_first-more (IsMarked c.args.region.now.bytes c.args.marks.now) c.args.region.now.bytes c.slot-slot.result c.loop-number.number (c.slot-slot.ensures c.args.region.now.bytes c.requires.table) c.loop-number.invariant
+loop-number-preserved g c =
+    every_first-more (IsMarked c.args.region.now.bytes (map g.M.Mark.says c.args.marks.now)) c.args.region.now.bytes c.slot-slot.result c.loop-number.number (c.slot-slot.ensures c.args.region.now.bytes c.requires.table) c.loop-number.invariant
     (c.if-not-is_marked.ensures.0 refl)
 
 pub returns-clause-none : goal.returns-clause-none
-returns-clause-none c =
-    subst (λ (xs : List ℕ). EveryOne (IsMarked c.args.region.now.bytes c.args.marks.now) xs) (first_slots-all c.args.region.now.bytes c.loop-number.number (omega arith)) c.loop-number.invariant
+returns-clause-none g c =
+    subst (λ (xs : List ℕ). EveryOne (IsMarked c.args.region.now.bytes (map g.M.Mark.says c.args.marks.now)) xs) (first_slots-all c.args.region.now.bytes c.loop-number.number (omega arith)) c.loop-number.invariant

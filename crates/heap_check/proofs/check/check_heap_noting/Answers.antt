@@ -1,0 +1,8 @@
+use Rattle.heap_check.proofs.CheckLaws.{refuses, refused_by}
+use Rattle.heap_check.proofs.check.check_heap_noting.Goals as goal
+
+pub returns-in-Ok-clause-refused : goal.returns-in-Ok-clause-refused
+returns-in-Ok-clause-refused c = refused_by c.args.region.now.bytes c.check_area.result c.check_area.ensures.fault
+
+pub returns-in-Err-clause-refused : goal.returns-in-Err-clause-refused
+returns-in-Err-clause-refused c = refuses c.args.region.now.bytes c.in-Err.fault c.in-Err.ensures.fault
