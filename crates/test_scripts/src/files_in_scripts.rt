@@ -1,7 +1,7 @@
 //! Files that scripts import and export.
 
-use heap_model::{Bytes, Counted};
-use palm_script::{parse, run};
+use heap_model::{Bytes, Call, Counted, FileCall, Reply};
+use palm_script::{do_call, parse, run};
 use palm_store::Store;
 use std::alloc::Global;
 use std::process::Abort;
@@ -233,6 +233,34 @@ fn check_case(rt: &(impl Abort + AllocGlobal), case: &Case) -> Result<(), Fail> 
 fn files_come_and_go(rt: HostRuntime) -> Result<(), Fail> {
     for case in &CASES {
         check_case(&rt, case)?;
+    }
+    Ok(())
+}
+
+/// The bytes of a listing, as a call has them.
+fn file_of(alloc: Global, listing: &str) -> Result<Bytes, Fail> {
+    Ok(Bytes::of(bytes_of(alloc, listing)?))
+}
+
+/// A file is read by one call, and written by another: each byte of it.
+#[test]
+fn a_file_comes_and_goes_by_calls(rt: HostRuntime) -> Result<(), Fail> {
+    let alloc = rt.alloc();
+    for (read, written) in [
+        (EMPTY_FILE, EMPTY_WRITTEN),
+        (ORDER_FILE, ORDER_WRITTEN),
+        (TINY_FILE, TINY_FILE),
+        (TURNED, TURNED_WRITTEN),
+    ] {
+        let Ok(mut store) = Store::check(alloc, image(alloc, WIDE, "")?) else {
+            return Err("no store")?;
+        };
+        let import = Call::File(FileCall::Import(file_of(alloc, read)?));
+        let Reply::Database(db) = do_call(alloc, &mut store, &import) else {
+            return Err("not read")?;
+        };
+        let said = do_call(alloc, &mut store, &Call::File(FileCall::Export(db)));
+        assert_eq!(rt; said, Reply::Data(file_of(alloc, written)?));
     }
     Ok(())
 }

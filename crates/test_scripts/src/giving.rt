@@ -11,7 +11,7 @@ fn lines_that_give_chunks_print_their_replies(rt: HostRuntime) -> Result<(), Fai
 }
 
 /// Images, and the lines that are run on them, each with its reply.
-const RUNS: [(&str, &str); 8] = [
+const RUNS: [(&str, &str); 10] = [
     // a caller's chunk becomes a record, and a database's doesn't
     (
         WIDE,
@@ -217,5 +217,79 @@ const RUNS: [(&str, &str); 8] = [
         infoset e app x = refused 10 NoSuchDatabase
         infotake e app 0 h = refused 10 NoSuchDatabase
         info e app h = refused 10 NoSuchDatabase",
+    ),
+    // an owner is one of 1 to 14: of a greater number no bit is dropped
+    (
+        WIDE,
+        "new x 4 16 = refused 7 InvalidOwner
+        new x 4 17 = refused 7 InvalidOwner
+        new x 4 255 = refused 7 InvalidOwner
+        ptrnew x 4 16 = refused 7 InvalidOwner
+        ptrnew x 4 17 = refused 7 InvalidOwner
+        ptrnew x 4 255 = refused 7 InvalidOwner
+        new a 4 1 = ok
+        setowner x 17 = refused 1 InvalidHandle
+        setowner a 16 = refused 7 InvalidOwner
+        setowner a 17 = refused 7 InvalidOwner
+        setowner a 255 = refused 7 InvalidOwner
+        freeowner 16 = refused 7 InvalidOwner
+        freeowner 17 = refused 7 InvalidOwner
+        freeowner 255 = refused 7 InvalidOwner
+        owner a = ok 1
+        create d \"Notes\" \"DATA\" \"Test\" 0 5 = ok
+        recnew d 0 6 r = ok 0
+        setowner r 17 = refused 2 OwnedByDatabase
+        recdetach d 1 17 x = refused 14 IndexOutOfRange
+        recdetach d 0 16 x = refused 7 InvalidOwner
+        recdetach d 0 17 x = refused 7 InvalidOwner
+        recdetach d 0 255 x = refused 7 InvalidOwner
+        recreplace d 0 r 17 x = refused 2 OwnedByDatabase
+        recreplace d 0 a 16 x = refused 7 InvalidOwner
+        recreplace d 0 a 17 x = refused 7 InvalidOwner
+        recreplace d 0 a 255 x = refused 7 InvalidOwner
+        infotake d app 17 x = refused 24 NoInfoBlock
+        infoset d app a = ok
+        infotake d app 16 x = refused 7 InvalidOwner
+        infotake d app 17 x = refused 7 InvalidOwner
+        infotake d app 255 x = refused 7 InvalidOwner
+        create p \"Prog\" \"appl\" \"Test\" 1 0 = ok
+        resnew p \"code\" 0 4 c = ok 0
+        resdetach p 1 17 x = refused 14 IndexOutOfRange
+        resdetach p 0 16 x = refused 7 InvalidOwner
+        resdetach p 0 17 x = refused 7 InvalidOwner
+        resdetach p 0 255 x = refused 7 InvalidOwner
+        size x = refused 1 InvalidHandle
+        owner c = ok 15
+        dbinfo d = ok \"Notes\" 0000 0 5 5 0 2 \"DATA\" \"Test\" 00000001 1",
+    ),
+    // what one database has isn't given to another, nor to itself
+    (
+        WIDE,
+        "create d \"Notes\" \"DATA\" \"Test\" 0 5 = ok
+        recnew d 0 6 r = ok 0
+        new a 4 1 = ok
+        infoset d app a = ok
+        create e \"Other\" \"DATA\" \"Test\" 0 5 = ok
+        recnew e 0 2 s = ok 0
+        recattach e 0 r = refused 2 OwnedByDatabase
+        recattach e 0 a = refused 2 OwnedByDatabase
+        recreplace e 0 r 1 x = refused 2 OwnedByDatabase
+        recreplace e 0 a 1 x = refused 2 OwnedByDatabase
+        recreplace e 0 s 1 x = refused 2 OwnedByDatabase
+        infoset e app r = refused 2 OwnedByDatabase
+        infoset e sort a = refused 2 OwnedByDatabase
+        create p \"Prog\" \"appl\" \"Test\" 1 0 = ok
+        resnew p \"code\" 0 4 c = ok 0
+        resattach p \"code\" 1 r = refused 2 OwnedByDatabase
+        resattach p \"code\" 1 c = refused 2 OwnedByDatabase
+        recattach e 0 c = refused 2 OwnedByDatabase
+        reccount e = ok 1
+        rescount p = ok 1
+        dbdelete e = ok
+        dbdelete p = ok
+        size r = ok 6
+        size a = ok 4
+        size s = refused 1 InvalidHandle
+        size c = refused 1 InvalidHandle",
     ),
 ];

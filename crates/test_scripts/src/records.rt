@@ -2,8 +2,10 @@
 
 use crate::calls::put_reply;
 use crate::commands::check_said;
-use crate::runs::{check_runs, run_on};
-use heap_model::{Call, DatabaseCall, Db, DbName, RecordCall};
+use crate::runs::{Ran, check_runs, parted, run_on};
+use heap_model::{
+    Call, DatabaseCall, Db, DbName, FileCall, Name, RecordCall, Refusal, Reply, ResourceCall, Which,
+};
 use palm_script::do_call;
 use palm_store::Store;
 use std::alloc::Global;
@@ -311,22 +313,104 @@ fn calls_on_records_are_answered(rt: HostRuntime) -> Result<(), Fail> {
     Ok(())
 }
 
-/// The front of an image of 524,424 bytes with 4 slots, whose one database has 65,535 records: up to its
+/// Calls of each kind on the database of a number.
+fn calls_on(db: Db) -> [Call; 9] {
+    let (which, name) = (Which::App, Name(24));
+    [
+        Call::Database(DatabaseCall::Info(db)),
+        Call::Database(DatabaseCall::Delete(db)),
+        Call::Database(DatabaseCall::SetInfoBlock { db, which, name }),
+        Call::Record(RecordCall::Count(db)),
+        Call::Record(RecordCall::New { db, at: 0, size: 0 }),
+        Call::Record(RecordCall::Attach { db, at: 0, name }),
+        Call::Record(RecordCall::Remove(db, 0)),
+        Call::Resource(ResourceCall::Count(db)),
+        Call::File(FileCall::Export(db)),
+    ]
+}
+
+/// The directory, the data of a record and a caller's chunk are no databases.
+#[test]
+fn a_chunk_is_no_database(rt: HostRuntime) -> Result<(), Fail> {
+    let alloc = rt.alloc();
+    let Ok(mut store) = Store::check(alloc, image(alloc, DATABASE, "")?) else {
+        return Err("no store")?;
+    };
+    let Name(chunk) = store.handle_new(0, 1)?;
+    for number in [16, 24, chunk] {
+        for call in calls_on(Db(number)) {
+            let said = do_call(alloc, &mut store, &call);
+            assert_eq!(rt; said, Reply::Refused(Refusal::NoSuchDatabase));
+        }
+    }
+    Ok(())
+}
+
+/// The front of an image of 524,544 bytes with 4 slots, whose one database has 65,535 records: up to its
 /// entries.
-const CROWDED: &str = "50484931 00080088 0004 0000 00000010 00000028 00000038 00*8 \
+const CROWDED: &str = "50484931 00080100 0004 0000 00000010 00000028 00000038 00*8 \
     04000010 00FFFFF8 00000014 00*4 02080050 00FFFFF2 \
     52 00*31 0000 0000 00*24 44415441 54657374 0000FFFF 00000000 FFFF";
 
-/// The image: its records are deleted, have no data and the IDs from 1 on.
+/// The image: its records are deleted, have no data and the IDs from 1 on. 128 bytes are free.
 fn crowded(alloc: Global) -> Result<Vec<u8>, Fail> {
     let mut bytes = bytes_of(alloc, CROWDED)?;
     for id in 1..=u16::MAX {
         bytes.extend_from_slice(&[0, 0, 0, 0, 0x80, 0])?;
         bytes.extend_from_slice(&id.to_be_bytes())?;
     }
-    bytes.extend_from_slice(bytes_of(alloc, "00*2 80000008 00*4")?.as_slice())?;
+    bytes.extend_from_slice(bytes_of(alloc, "00*2 80000080 00*124")?.as_slice())?;
     Ok(bytes)
 }
+
+/// Lines on it, each with its reply. Deleted records are of no category, have no data to hand over, and stay deleted
+/// whatever attributes are given; and the last two slots are for info blocks.
+const ON_CROWDED: &str = "find d \"R\" = ok
+    recnew d 0 0 r = refused 17 TooManyEntries
+    new a 8 1 = ok
+    recattach d 0 a = refused 17 TooManyEntries
+    reccount d = ok 65535
+    recinfo d 65534 = ok 80 65535 none
+    recinfo d 65535 = refused 14 IndexOutOfRange
+    recdetach d 65534 0 x = refused 15 RecordDeleted
+    recdetach d 65535 0 x = refused 14 IndexOutOfRange
+    recreplace d 65534 a 0 x = refused 15 RecordDeleted
+    recreplace d 65535 a 0 x = refused 14 IndexOutOfRange
+    catcount d 0 = ok 0
+    catcount d 255 = ok 0
+    catnext d 0 255 = refused 14 IndexOutOfRange
+    catpos d 65534 255 = ok 0
+    catpos d 65535 0 = refused 14 IndexOutOfRange
+    catmove d 7 0 1 = ok
+    catdelete d 0 = ok
+    recinfo d 65534 = ok 80 65535 none
+    recset d 65534 0x6f 0 = ok
+    recinfo d 65534 = ok cf 65535 none
+    recset d 65534 0 65534 = refused 19 DuplicateId
+    recset d 65534 0x05 65536 = ok
+    recset d 65535 0 1 = refused 14 IndexOutOfRange
+    recinfo d 65534 = ok 85 65536 none
+    catcount d 5 = ok 0
+    recfind d 65535 = refused 20 UniqueIdNotFound
+    recfind d 65536 = ok 65534
+    dbinfo d = ok \"R\" 0000 0 0 0 0 4 \"DATA\" \"Test\" 0000ffff 65535
+    info d app x = refused 24 NoInfoBlock
+    infotake d sort 0 x = refused 24 NoInfoBlock
+    new b 9 2 = ok
+    new c 0 1 = refused 8 NotEnoughSpace
+    infoset d app a = ok
+    infoset d app b = refused 21 AlreadyExists
+    infoset d sort a = refused 2 OwnedByDatabase
+    infoset d sort b = ok
+    info d sort x = ok
+    size x = ok 9
+    infotake d app 15 x = refused 7 InvalidOwner
+    infotake d app 14 x = ok
+    size x = ok 8
+    owner a = ok 14
+    info d app x = refused 24 NoInfoBlock
+    dbinfo d = ok \"R\" 0000 0 0 0 0 7 \"DATA\" \"Test\" 0000ffff 65535
+    reccount d = ok 65535";
 
 /// A database has 65,535 records, and no other is made.
 #[test]
@@ -335,15 +419,12 @@ fn a_database_has_65535_records_at_most(rt: HostRuntime) -> Result<(), Fail> {
     let said = check_said(rt.alloc(), image.as_slice())?;
     assert_eq!(rt;
         said.as_str(),
-        "Done ok size 524424 slots 4 movable 2 fixed 0 free 8\ndatabases 1\n"
+        "Done ok size 524544 slots 4 movable 2 fixed 0 free 128\ndatabases 1\n"
     );
-    let script =
-        "find d \"R\"\nrecnew d 0 0 r\nnew a 0 1\nrecattach d 0 a\nreccount d\nrecinfo d 65534\n";
-    let ran = run_on(rt.alloc(), image.as_slice(), script);
-    let printed = String::from_utf8(ran.out).ok().ok_or("no text")?;
-    assert_eq!(rt;
-        printed.as_str(),
-        "ok\nrefused 17 TooManyEntries\nok\nrefused 17 TooManyEntries\nok 65535\nok 80 65535 none\n"
-    );
+    let (script, wanted) = parted(rt.alloc(), ON_CROWDED)?;
+    let Ran { status, out, .. } = run_on(rt.alloc(), image.as_slice(), script.as_str());
+    let printed = String::from_utf8(out).ok().ok_or("no text")?;
+    let said = format!(in rt.alloc(); "{status:?} {printed}")?;
+    assert_eq!(rt; said.as_str(), wanted.as_str());
     Ok(())
 }

@@ -76,7 +76,7 @@ fn ran_on(alloc: Global, listing: &str, script: &str) -> Result<(String, Vec<u8>
 
 /// The lines of a text in which each line has a reply, with ` = ` between: a script, and what it
 /// answers and prints.
-fn parted(alloc: Global, text: &str) -> Result<(String, String), Fail> {
+pub(crate) fn parted(alloc: Global, text: &str) -> Result<(String, String), Fail> {
     let (mut script, mut said) = (String::new(alloc), String::from_str(alloc, "Done ")?);
     for row in text.lines() {
         let (line, reply) = row.trim().split_once(" = ").ok_or("no reply")?;
