@@ -1,11 +1,11 @@
 #!/bin/sh
-# Runs the program palmheap as a whole, and looks at what no test of a crate can see: the exit status,
-# which file is read as what, and what becomes of the file that OUT names.
+# Runs the program palmheap as a whole, and looks at what no run of test_program can see: the exit status of the process,
+# and what becomes of files, links, pipes, folders and devices, where they can be written and where not, and with little memory.
 #
 #   tests/program.sh [PROGRAM]
 #
 # PROGRAM is ../palmheap, if none is given. Each case that fails has a line on standard error; the status is
-# 1 then. The gate runs none of this.
+# 1 then. The gate runs none of this; what needs no more than files and a runtime stands in crates/test_program.
 top=$(cd -- "$(dirname -- "$0")/.." && pwd)
 program=${1:-$top/palmheap}
 case $program in /*) ;; *) program=$PWD/$program ;; esac
@@ -43,10 +43,6 @@ says 'check of a refused image' 1 'bad BadMagic' '' check bad.img
 says 'run of a refused image' 1 'bad BadMagic' '' run bad.img calls.txt b.img
 says 'run of a refused script' 1 'line 1 UnknownCommand' '' run a.img faulty.txt b.img
 says 'a size that no image has' 2 'bad BadSize' '' new 127 4 b.img
-says 'an image that is not there' 3 '' 'fault read
-none.img: No such file or directory (os error 2)' run none.img calls.txt b.img
-says 'a script that is not there' 3 '' 'fault read
-none.txt: No such file or directory (os error 2)' run a.img none.txt b.img
 is 'nothing is written' 'a.img bad.img calls.txt faulty.txt' "$(echo *)"
 
 # OUT is no input, and a file is replaced as a whole: what else names the old one has the old bytes
@@ -125,9 +121,6 @@ is 'the second exported file' '' "$(cmp wanted.pdb b.img.2 2>&1)"
 is 'the old exported file is as it was' old "$(cat old.pdb)"
 is 'the exported files' 'b.img.1 b.img.2' "$(echo b.img.*)"
 rm old.pdb b.img.1 b.img.2
-says 'a FILE that is not there' 3 '' 'fault read
-none.pdb: No such file or directory (os error 2)' run bad.img faulty.txt c.img empty.pdb none.pdb
-[ -e c.img ] && is 'an image where a FILE is not there' none c.img
 mkdir c.img.2
 says 'an exported file to a folder' 3 'ok
 ok 80

@@ -1,0 +1,103 @@
+//! The files that a command reads and writes. What keeps one from that is on standard error then.
+
+ghost use Rattle.std.specs.Prelude.{◌≡◌, ◌≤◌, ◌⊎◌, IfOk, IfErr, length, vec_len};
+
+use crate::faults::{fail, fail_to_read};
+use heap_model::{Bytes, Counted};
+use program_io::{
+    INPUT_LIMIT, InputFault, Noted, OutputFile, Status, put, read_input_from, report_outcome,
+};
+use raw_region::Region;
+use std::fs::File;
+use std::rt::Files;
+
+/// All of a file.
+pub(crate) fn read_file<R: Files + Eprint + AllocGlobal>(
+    rt: &R,
+    path: &str,
+) -> Result<Vec<u8>, Status>
+    ensures limit { IfOk result (λ bytes. vec_len bytes ≤ INPUT_LIMIT) }
+    ensures faults { IfErr result (λ status. (status ≡ Status.ReadFault) ⊎ (status ≡ Status.NoMemory)) }
+{
+    let read = match File::open(rt, path) {
+        Ok(mut file) => read_input_from(&rt.alloc(), &mut file),
+        Err(error) => Err(InputFault::from(error)),
+    };
+    match read {
+        Ok(bytes) => Ok(bytes),
+        Err(fault) => Err(fail_to_read(rt, path, fault)),
+    }
+}
+
+/// All of a file, in a region.
+pub(crate) fn read_image<R: Files + Eprint + AllocGlobal>(
+    rt: &R,
+    path: &str,
+) -> Result<Region, Status>
+    ensures limit { IfOk result (λ region. length region.bytes ≤ INPUT_LIMIT) }
+    ensures faults { IfErr result (λ status. (status ≡ Status.ReadFault) ⊎ (status ≡ Status.NoMemory)) }
+{
+    let bytes = read_file(rt, path)?;
+    match Region::copied_from(&rt.alloc(), bytes.as_slice()) {
+        Ok(region) => Ok(region),
+        Err(_) => Err(fail(rt, Status::NoMemory)),
+    }
+}
+
+/// All of some files, in order.
+pub(crate) fn read_files<R: Files + Eprint + AllocGlobal>(
+    rt: &R,
+    paths: &[&str],
+) -> Result<Vec<Bytes>, Status>
+    ensures count { IfOk result (λ files. vec_len files ≡ length paths.now) }
+    ensures faults { IfErr result (λ status. (status ≡ Status.ReadFault) ⊎ (status ≡ Status.NoMemory)) }
+{
+    let mut files = Vec::new(rt.alloc());
+    for path in paths {
+        let file = Bytes::of(read_file(rt, path)?);
+        if files.push(file).is_err() {
+            return Err(fail(rt, Status::NoMemory));
+        }
+    }
+    Ok(files)
+}
+
+/// Writes each exported file beside the image, the first one to the image's path with `.1` behind it. Those
+/// behind one that can't be written aren't written.
+pub(crate) fn write_files<R: Files + Eprint + AllocGlobal>(
+    rt: &R,
+    path: &str,
+    files: &[Bytes],
+) -> Status
+    ensures { (result ≡ Status.Done) ⊎ (result ≡ Status.WriteFault) ⊎ (result ≡ Status.NoMemory) }
+{
+    for (index, file) in files.iter().enumerate() {
+        let number = index + 1;
+        let Ok(path) = format!(in rt.alloc(); "{path}.{number}") else {
+            return fail(rt, Status::NoMemory);
+        };
+        let status = write_file(rt, path.as_str(), file.as_slice());
+        if status != Status::Done {
+            return status;
+        }
+    }
+    Status::Done
+}
+
+/// Writes a file as a whole or not at all.
+fn write_file<R: Files + Eprint + AllocGlobal>(rt: &R, path: &str, bytes: &[u8]) -> Status
+    ensures { (result ≡ Status.Done) ⊎ (result ≡ Status.WriteFault) ⊎ (result ≡ Status.NoMemory) }
+{
+    let Ok(out) = OutputFile::new(rt, path) else {
+        return fail(rt, Status::NoMemory);
+    };
+    let mut out = Counted::new(Noted::new(out));
+    let status = match put(&mut out, bytes) {
+        Ok(()) => Status::Done,
+        Err(_) => Status::WriteFault,
+    };
+    let (out, fault) = out.into_inner().into_parts();
+    out.close();
+    report_outcome(rt, status, &[(path, fault)]);
+    status
+}

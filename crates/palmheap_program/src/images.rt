@@ -1,0 +1,49 @@
+//! The commands `new` and `check`.
+
+ghost use Rattle.std.specs.Prelude.{◌≢◌};
+
+use crate::faults::{STANDARD_OUTPUT, fail};
+use crate::files::read_image;
+use heap_model::Counted;
+use palmheap_commands::{check_region_from, cmd_new_from};
+use program_io::{Noted, OutputFile, Status, report_outcome};
+use std::io;
+use std::rt::Files;
+
+/// Runs `new`.
+pub(crate) fn new<R: Files + Print + Eprint + AllocGlobal>(
+    rt: &R,
+    size: u32,
+    slots: u16,
+    path: &str,
+) -> Status
+    ensures not_refused { result ≢ Status.Refused }
+    ensures reads_nothing { result ≢ Status.ReadFault }
+{
+    let Ok(image_out) = OutputFile::new(rt, path) else {
+        return fail(rt, Status::NoMemory);
+    };
+    let mut image_out = Counted::new(Noted::new(image_out));
+    let mut out = Counted::new(Noted::new(io::writer(rt)));
+    let status = cmd_new_from(&rt.alloc(), size, slots, &mut image_out, &mut out);
+    let (image_out, image_fault) = image_out.into_inner().into_parts();
+    image_out.close();
+    let (_, fault) = out.into_inner().into_parts();
+    report_outcome(rt, status, &[(path, image_fault), (STANDARD_OUTPUT, fault)]);
+    status
+}
+
+/// Runs `check`.
+pub(crate) fn check<R: Files + Print + Eprint + AllocGlobal>(rt: &R, path: &str) -> Status
+    ensures { result ≢ Status.BadWords }
+{
+    let image = match read_image(rt, path) {
+        Ok(image) => image,
+        Err(status) => return status,
+    };
+    let mut out = Counted::new(Noted::new(io::writer(rt)));
+    let status = check_region_from(&rt.alloc(), &image, &mut out);
+    let (_, fault) = out.into_inner().into_parts();
+    report_outcome(rt, status, &[(STANDARD_OUTPUT, fault)]);
+    status
+}

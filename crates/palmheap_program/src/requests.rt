@@ -1,0 +1,50 @@
+//! What the words of the command line ask for.
+
+ghost use Rattle.std.specs.Prelude.{◌≡◌, ◌⊎◌};
+
+use crate::faults::{STANDARD_OUTPUT, fail};
+use crate::images::{check, new};
+use crate::scripts::run_script;
+use clap::error::ErrorKind;
+use command_line::Request;
+use program_io::{Status, report_write_fault};
+use std::rt::Files;
+
+/// Does what the words of the command line ask for, of which the first is the program's own name. What
+/// broke it off is on standard error then.
+///
+/// Which status comes of which files no contract can say: the stored runs of `test_program` show it.
+pub fn run<R: Files + Print + Eprint + AllocGlobal>(rt: &R, words: &[String]) -> Status {
+    match command_line::parse(rt.alloc(), words) {
+        Ok(Request::New { size, slots, out }) => new(rt, size, slots, out),
+        Ok(Request::Check { image }) => check(rt, image),
+        Ok(
+            Request::Run {
+                image,
+                script,
+                out,
+                files,
+            },
+        ) => run_script(rt, image, script, out, files.as_slice()),
+        Err(error) => answer(rt, &error),
+    }
+}
+
+/// Prints the text for words that ask for no command: what is wrong with them, or the help or the
+/// version that they ask for.
+fn answer<R: Print + Eprint>(rt: &R, error: &clap::Error) -> Status
+    ensures { (result ≡ Status.Done) ⊎ (result ≡ Status.BadWords)
+        ⊎ (result ≡ Status.WriteFault) ⊎ (result ≡ Status.NoMemory) }
+{
+    if error.kind() == ErrorKind::OutOfMemory {
+        return fail(rt, Status::NoMemory);
+    }
+    match error.print(rt) {
+        _ if error.use_stderr() => Status::BadWords,
+        Ok(()) => Status::Done,
+        Err(reason) => {
+            report_write_fault(rt, STANDARD_OUTPUT, reason);
+            Status::WriteFault
+        }
+    }
+}

@@ -1,0 +1,48 @@
+//! The runs.
+
+use Output::{Refused, Taken};
+
+/// Whether standard output takes what is printed.
+#[derive(Clone, Copy)]
+pub(crate) enum Output {
+    Taken,
+    Refused,
+}
+
+/// The words of each run behind the program's own name, and what becomes of what it prints.
+pub(crate) const CASES: [(&str, Output); 24] = [
+    // images that are made, or that there are not
+    ("new 64 1 out.img", Taken),
+    ("new 127 4 out.img", Taken),
+    ("new 64 1 none/out.img", Taken),
+    ("new 64 1 none/out.img", Refused),
+    ("new 64 1 out.img", Refused),
+    // images that are checked: accepted, with a fault of the heap, and with two of the databases
+    ("check records.img", Taken),
+    ("check long.img", Taken),
+    ("check twins.img", Taken),
+    ("check shared.img", Taken),
+    ("check none.img", Taken),
+    ("check records.img", Refused),
+    // a script with files in and out, whose second database comes from the first FILE
+    ("run room.img files.txt out.img order.pdb tiny.prc", Taken),
+    // OUT is replaced, and nothing is read of it
+    ("run blank.img calls.txt faulty.txt", Taken),
+    // an image, a script or a FILE that is refused, or can't be read
+    ("run shared.img files.txt out.img order.pdb tiny.prc", Taken),
+    ("run room.img faulty.txt out.img", Taken),
+    ("run none.img faulty.txt out.img", Taken),
+    ("run shared.img none.txt out.img", Taken),
+    (
+        "run shared.img faulty.txt out.img order.pdb none.pdb",
+        Taken,
+    ),
+    // outputs that are not taken: the image, the second exported file, and standard output
+    ("run blank.img calls.txt none/out.img", Taken),
+    ("run room.img files.txt full.img order.pdb tiny.prc", Taken),
+    ("run blank.img calls.txt out.img", Refused),
+    // words that ask for no command
+    ("check", Taken),
+    ("--version", Taken),
+    ("--version", Refused),
+];

@@ -1,0 +1,105 @@
+//! The folder that the runs are done in.
+
+use crate::inputs::{INPUTS, TAKEN};
+use std::rt::{Env, Files};
+use std::test::Fail;
+use std::{env, fs};
+
+/// The folder's name.
+const FOLDER: &str = "runs";
+
+/// The most bytes in a row of what is shown.
+const ROW: usize = 16;
+
+/// Makes the folder, and goes there. What an earlier run left is removed.
+pub(crate) fn enter<R: Files + Env + AllocGlobal>(rt: &R) -> Result<(), Fail> {
+    if fs::exists(rt, FOLDER)? {
+        fs::remove_dir_all(rt, FOLDER)?;
+    }
+    fs::create_dir(rt, FOLDER)?;
+    Ok(env::set_current_dir(rt, FOLDER)?)
+}
+
+/// Goes back, and removes the folder.
+pub(crate) fn leave<R: Files + Env + AllocGlobal>(rt: &R) -> Result<(), Fail> {
+    env::set_current_dir(rt, "..")?;
+    Ok(fs::remove_dir_all(rt, FOLDER)?)
+}
+
+/// Writes the files that each run finds.
+pub(crate) fn fill<R: Files + AllocGlobal>(rt: &R) -> Result<(), Fail> {
+    for (name, content) in &INPUTS {
+        fs::write(rt, *name, content.bytes(rt.alloc())?.as_slice())?;
+    }
+    if !fs::exists(rt, TAKEN)? {
+        fs::create_dir(rt, TAKEN)?;
+    }
+    Ok(())
+}
+
+/// Shows what isn't as `fill` leaves it: the files that are gone, and those that are there.
+pub(crate) fn show_changes<R: Files + Print + AllocGlobal + Clone + Drop>(
+    rt: &R,
+) -> Result<(), Fail> {
+    show_gone(rt)?;
+    for name in &names(rt)? {
+        show_file(rt, name.as_str())?;
+    }
+    Ok(())
+}
+
+/// Shows which of the files that `fill` writes are gone.
+fn show_gone<R: Files + Print>(rt: &R) -> Result<(), Fail> {
+    for (name, _) in &INPUTS {
+        if !fs::exists(rt, *name)? {
+            println!(rt; "{name} is gone")?;
+        }
+    }
+    Ok(())
+}
+
+/// The names of all that is in the folder, in order.
+fn names<R: Files + AllocGlobal + Clone + Drop>(rt: &R) -> Result<Vec<String>, Fail> {
+    let mut names = Vec::new(rt.alloc());
+    for entry in fs::read_dir(rt, ".")? {
+        names.push(String::from_str(rt.alloc(), entry?.file_name())?)?;
+    }
+    names.sort()?;
+    Ok(names)
+}
+
+/// Shows a file that isn't as `fill` writes it, and removes it.
+fn show_file<R: Files + Print + AllocGlobal>(rt: &R, name: &str) -> Result<(), Fail> {
+    if name == TAKEN && fs::metadata(rt, name)?.is_dir() {
+        return Ok(());
+    }
+    let bytes = fs::read(rt, name)?;
+    if !is_as_it_was(rt, name, bytes.as_slice())? {
+        println!(rt; "{name}, {} bytes:", bytes.len())?;
+        show_rows(rt, bytes.as_slice())?;
+        fs::remove_file(rt, name)?;
+    }
+    Ok(())
+}
+
+/// Whether `fill` writes a file of this name with these bytes.
+fn is_as_it_was<R: AllocGlobal>(rt: &R, name: &str, bytes: &[u8]) -> Result<bool, Fail> {
+    for (input, content) in &INPUTS {
+        if *input == name {
+            return Ok(content.bytes(rt.alloc())?.as_slice() == bytes);
+        }
+    }
+    Ok(false)
+}
+
+/// Shows bytes in rows, each behind its offset. Rows of zeros are left out.
+fn show_rows<R: Print + AllocGlobal>(rt: &R, bytes: &[u8]) -> Result<(), Fail> {
+    for at in (0..bytes.len()).step_by(ROW) {
+        let rest = &bytes[at..];
+        let row = &rest[..rest.len().min(ROW)];
+        if row.iter().any(|&byte| byte != 0) {
+            println!(rt; "{at:04x}  {}", hex::encode(rt.alloc(), row)?)?;
+        }
+    }
+    Ok(())
+}

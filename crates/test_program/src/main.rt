@@ -1,0 +1,59 @@
+//! Runs of the program `palmheap`: what each prints, its status and its standard error, and the files that
+//! are no more what they were. The file `stdout` has what must come of each.
+//!
+//! The runs stand in `CASES`, and the files that each of them finds in `INPUTS`: start there.
+#![tactic(auto)]
+
+mod cases;
+mod folder;
+mod inputs;
+mod recorder;
+
+use cases::{CASES, Output};
+use folder::{enter, fill, leave, show_changes};
+use palmheap_program::run;
+use recorder::Recorder;
+use std::alloc::{AllocError, Global};
+use std::rt::Files;
+use std::test::Fail;
+
+fn main(rt: HostRuntime) -> Result<(), Fail> {
+    enter(&rt)?;
+    for (line, output) in &CASES {
+        show(&rt, line, *output)?;
+    }
+    leave(&rt)
+}
+
+/// Does a run in a folder that is as each finds it, and shows what comes of it.
+fn show<R: Files + Print + AllocGlobal + Clone + Drop>(
+    rt: &R,
+    line: &str,
+    output: Output,
+) -> Result<(), Fail> {
+    fill(rt)?;
+    println!(rt; "$ palmheap {line}")?;
+    let recorder = Recorder::new(rt, output);
+    let words = words_of(rt.alloc(), line)?;
+    let status = run(&recorder, words.as_slice());
+    let (printed, complained) = recorder.into_parts();
+    rt.write_all(printed.as_slice())?;
+    println!(rt; "status {}", status.code())?;
+    if !complained.is_empty() {
+        println!(rt; "standard error:")?;
+        rt.write_all(complained.as_slice())?;
+    }
+    show_changes(rt)?;
+    println!(rt; "")?;
+    Ok(())
+}
+
+/// The words of a command line, behind the program's own name.
+fn words_of(alloc: Global, line: &str) -> Result<Vec<String>, AllocError> {
+    let mut words = Vec::new(alloc);
+    words.push(String::from_str(alloc, "palmheap")?)?;
+    for word in line.split_ascii_whitespace() {
+        words.push(String::from_str(alloc, word)?)?;
+    }
+    Ok(words)
+}

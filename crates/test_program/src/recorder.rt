@@ -1,0 +1,165 @@
+//! A runtime that keeps what a program prints.
+
+use crate::cases::Output;
+use std::alloc::{Allocator, Global};
+use std::cell::Cell;
+use std::fmt::Display;
+use std::fs::{Metadata, OpenOptions};
+use std::io;
+use std::io::ErrorKind;
+use std::path::PathBuf;
+use std::rt::Files;
+
+/// A runtime with the files of another. What is printed on it, and what on standard error, is kept.
+#[derive(Drop)]
+pub(crate) struct Recorder<'a, R> {
+    rt: &'a R,
+    output: Output,
+    printed: Kept,
+    complained: Kept,
+}
+
+impl<'a, R: AllocGlobal> Recorder<'a, R> {
+    pub(crate) fn new(rt: &'a R, output: Output) -> Recorder<'a, R> {
+        Recorder {
+            rt,
+            output,
+            printed: Kept::new(rt.alloc()),
+            complained: Kept::new(rt.alloc()),
+        }
+    }
+
+    /// What was printed, and what stands on standard error.
+    pub(crate) fn into_parts(self) -> (Vec<u8>, Vec<u8>) {
+        let Recorder {
+            rt: _,
+            output: _,
+            printed,
+            complained,
+        } = self;
+        (printed.bytes.into_inner(), complained.bytes.into_inner())
+    }
+}
+
+/// Bytes that come one behind the other.
+#[derive(Drop)]
+struct Kept {
+    alloc: Global,
+    bytes: Cell<Vec<u8>>,
+}
+
+impl Kept {
+    fn new(alloc: Global) -> Kept {
+        Kept {
+            alloc,
+            bytes: Cell::new(Vec::new(alloc)),
+        }
+    }
+
+    fn push(&self, more: &[u8]) -> io::Result<()> {
+        let mut bytes = self.bytes.replace(Vec::new(self.alloc));
+        let pushed = bytes.extend_from_slice(more);
+        drop(self.bytes.replace(bytes));
+        Ok(pushed?)
+    }
+
+    fn push_text<D: Display + Drop>(&self, value: D, end: &str) -> io::Result<()> {
+        let text = format!(in self.alloc; "{value}{end}")?;
+        self.push(text.as_bytes())
+    }
+}
+
+impl<R: AllocGlobal> Alloc for Recorder<'_, R> {
+    type A = Global;
+
+    fn alloc(&self) -> Global {
+        self.rt.alloc()
+    }
+}
+
+impl<R> Print for Recorder<'_, R> {
+    fn print<D: Display + Drop>(&self, value: D) -> io::Result<()> {
+        self.output.check()?;
+        self.printed.push_text(value, "")
+    }
+
+    fn println<D: Display + Drop>(&self, value: D) -> io::Result<()> {
+        self.output.check()?;
+        self.printed.push_text(value, "\n")
+    }
+
+    fn write_all(&self, bytes: &[u8]) -> io::Result<()> {
+        self.output.check()?;
+        self.printed.push(bytes)
+    }
+}
+
+impl Output {
+    /// Fails where nothing is taken.
+    fn check(self) -> io::Result<()> {
+        match self {
+            Output::Taken => Ok(()),
+            Output::Refused => Err(io::Error::from(ErrorKind::StorageFull)),
+        }
+    }
+}
+
+impl<R> Eprint for Recorder<'_, R> {
+    fn eprint<D: Display + Drop>(&self, value: D) -> io::Result<()> {
+        self.complained.push_text(value, "")
+    }
+
+    fn eprintln<D: Display + Drop>(&self, value: D) -> io::Result<()> {
+        self.complained.push_text(value, "\n")
+    }
+}
+
+impl<R: Files> Files for Recorder<'_, R> {
+    type File = R::File;
+
+    type Dir = R::Dir;
+
+    fn open_file(&self, how: &OpenOptions, path: &str) -> io::Result<R::File> {
+        self.rt.open_file(how, path)
+    }
+
+    fn open_dir(&self, path: &str) -> io::Result<R::Dir> {
+        self.rt.open_dir(path)
+    }
+
+    fn metadata(&self, path: &str) -> io::Result<Metadata> {
+        self.rt.metadata(path)
+    }
+
+    fn symlink_metadata(&self, path: &str) -> io::Result<Metadata> {
+        self.rt.symlink_metadata(path)
+    }
+
+    fn copy(&self, from: &str, to: &str) -> io::Result<u64> {
+        self.rt.copy(from, to)
+    }
+
+    fn rename(&self, from: &str, to: &str) -> io::Result<()> {
+        self.rt.rename(from, to)
+    }
+
+    fn remove_file(&self, path: &str) -> io::Result<()> {
+        self.rt.remove_file(path)
+    }
+
+    fn create_dir(&self, path: &str) -> io::Result<()> {
+        self.rt.create_dir(path)
+    }
+
+    fn remove_dir(&self, path: &str) -> io::Result<()> {
+        self.rt.remove_dir(path)
+    }
+
+    fn remove_dir_all<B: Allocator>(&self, alloc: B, path: &str) -> io::Result<()> {
+        self.rt.remove_dir_all(alloc, path)
+    }
+
+    fn canonicalize<B: Allocator>(&self, alloc: B, path: &str) -> io::Result<PathBuf<B>> {
+        self.rt.canonicalize(alloc, path)
+    }
+}
