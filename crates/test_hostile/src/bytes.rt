@@ -4,12 +4,12 @@
 use crate::stores::store_behind;
 use heap_model::Counted;
 use palm_script::{LineFault, Script, ScriptFault, parse, run};
-use palm_store::{Store, StoreFault};
+use palm_store::{Store, StoreFault, StoreSummary};
 use raw_region::Region;
 use std::alloc::Global;
-use std::process::Abort;
 use std::test::*;
 use test_beside::{image_of, store_of};
+use test_fakes::{equal, holds};
 use test_images::{DATABASE, bytes_of};
 use test_model::{Image, PlainStore};
 
@@ -24,13 +24,11 @@ fn is_accepted(alloc: Global, bytes: &[u8]) -> bool {
     }
 }
 
-/// Runs lines on an image, if it is accepted: what they leave is accepted. Answers whether it was.
+/// Runs lines on an image, if it is accepted. Answers whether it was.
 fn is_taken(alloc: Global, bytes: &[u8], script: &Script) -> Result<bool, Fail> {
     match Store::check(alloc, Region::from_bytes(alloc, bytes)?) {
-        Ok(mut store) => {
-            let mut out = Counted::new(Vec::new(alloc));
-            run(alloc, &mut store, script, &[], &mut out)?;
-            store_of(alloc, &image_of(alloc, &store)?)?;
+        Ok(store) => {
+            check_run(alloc, store, script)?;
             Ok(true)
         }
         Err(refused) if refused.fault == StoreFault::OutOfMemory => Err("no memory")?,
@@ -38,30 +36,44 @@ fn is_taken(alloc: Global, bytes: &[u8], script: &Script) -> Result<bool, Fail> 
     }
 }
 
+/// What lines leave is accepted.
+fn check_run(alloc: Global, mut store: Store, script: &Script) -> Result<(), Fail> {
+    let mut out = Counted::new(Vec::new(alloc));
+    run(alloc, &mut store, script, &[], &mut out)?;
+    store_of(alloc, &image_of(alloc, &store)?)?;
+    Ok(())
+}
+
 /// Sets a byte of an image to each value.
-fn check_byte(
-    rt: &(impl Abort + AllocGlobal),
-    image: &[u8],
-    at: usize,
-    script: &Script,
-) -> Result<(), Fail> {
-    let alloc = rt.alloc();
+fn check_byte(alloc: Global, image: &[u8], at: usize, script: &Script) -> Result<(), Fail> {
     let mut bytes = Vec::from_slice(alloc, image)?;
     for value in 0..=255u8 {
         *bytes.get_mut(at).ok_or("no byte")? = value;
-        let is_taken = is_taken(alloc, &bytes, script)?;
-        assert_eq!(rt; is_taken, is_accepted(alloc, &bytes), "byte {at}: {value}");
+        check_value(alloc, &bytes, script, (at, value))?;
     }
     Ok(())
 }
 
+fn check_value(
+    alloc: Global,
+    bytes: &[u8],
+    script: &Script,
+    (at, value): (usize, u8),
+) -> Result<(), Fail> {
+    let is_taken = is_taken(alloc, bytes, script)?;
+    equal(
+        format_args!("byte {at}: {value}"),
+        is_taken,
+        is_accepted(alloc, bytes),
+    )
+}
+
 #[test]
 fn lines_run_on_each_image_that_is_accepted(rt: HostRuntime) -> Result<(), Fail> {
-    let alloc = rt.alloc();
-    let image = bytes_of(alloc, DATABASE)?;
-    let script = parse(alloc, LINES.as_bytes())?;
+    let image = bytes_of(rt.alloc(), DATABASE)?;
+    let script = parse(rt.alloc(), LINES.as_bytes())?;
     for at in 0..image.len() {
-        check_byte(&rt, &image, at, &script)?;
+        check_byte(rt.alloc(), &image, at, &script)?;
     }
     Ok(())
 }
@@ -70,10 +82,8 @@ fn lines_run_on_each_image_that_is_accepted(rt: HostRuntime) -> Result<(), Fail>
 #[test]
 fn lines_run_on_the_image_as_it_is(rt: HostRuntime) -> Result<(), Fail> {
     let (_, said) = store_behind(rt.alloc(), DATABASE, LINES)?;
-    assert!(rt;
-        said.as_slice() == b"ok\nrefused 8 NotEnoughSpace\nok\nok\nok\nok 152\n".as_slice()
-    );
-    Ok(())
+    let replies = b"ok\nrefused 8 NotEnoughSpace\nok\nok\nok\nok 152\n".as_slice();
+    holds("the replies", said.as_slice() == replies)
 }
 
 /// Lines of many commands, with labels, numbers in both spellings, words and texts.
@@ -104,19 +114,31 @@ fn front_of(alloc: Global, text: &[u8]) -> Front {
     }
 }
 
+/// Whether this is read of a front of the script.
+fn is_read(front: &[u8], read: Front) -> bool {
+    let whole = front.iter().filter(|byte| **byte == b'\n').count();
+    let is_whole = front.is_empty() || front.ends_with(b"\n");
+    let broken = whole.saturating_add(1);
+    if is_whole {
+        return read == Front::Lines(whole);
+    }
+    read == Front::Lines(broken) || read == Front::BadLine(broken)
+}
+
+fn check_front(alloc: Global, length: usize) -> Result<(), Fail> {
+    let front = SCRIPT.as_bytes().get(..length).ok_or("no front")?;
+    let read = front_of(alloc, front);
+    holds(
+        format_args!("{length} bytes: {read:?}"),
+        is_read(front, read),
+    )
+}
+
 /// What is in front of the line that breaks off is read, and that line alone may be bad.
 #[test]
 fn every_front_of_a_script_is_read(rt: HostRuntime) -> Result<(), Fail> {
-    let text = SCRIPT.as_bytes();
-    for length in 0..=text.len() {
-        let front = text.get(..length).ok_or("no front")?;
-        let whole = front.iter().filter(|byte| **byte == b'\n').count();
-        let read = front_of(rt.alloc(), front);
-        let is_whole = front.is_empty() || front.ends_with(b"\n");
-        let broken = whole.saturating_add(1);
-        let is_read = read == Front::Lines(if is_whole { whole } else { broken })
-            || (!is_whole && read == Front::BadLine(broken));
-        assert!(rt; is_read, "{length} bytes: {read:?}");
+    for length in 0..=SCRIPT.len() {
+        check_front(rt.alloc(), length)?;
     }
     Ok(())
 }
@@ -126,25 +148,22 @@ const FIXED_SIZE: u32 = 16_777_208;
 
 /// An image of one slot, and of fixed chunks without a byte.
 fn fixed_chunks(alloc: Global, size: u32) -> Result<Vec<u8>, Fail> {
-    let mut bytes = bytes_of(alloc, "50484931 00000000 0001 0000 00000000 00*8")?;
-    for (at, byte) in size.to_be_bytes().iter().enumerate() {
-        *bytes.get_mut(at.saturating_add(4)).ok_or("no size")? = *byte;
-    }
+    let mut bytes = bytes_of(alloc, "50484931")?;
+    bytes.extend_from_slice(&size.to_be_bytes())?;
+    bytes.extend_from_slice(&bytes_of(alloc, "0001 0000 00000000 00*8")?)?;
     let chunk = bytes_of(alloc, "00000008 F1000000")?;
-    for _ in 0..size.saturating_sub(24) / 8 {
-        bytes.extend_from_slice(&chunk)?;
-    }
+    let chunks = chunk.repeat(alloc, size.saturating_sub(24) as usize / 8)?;
+    bytes.extend_from_slice(&chunks)?;
     Ok(bytes)
 }
 
 #[test]
 fn an_image_has_nothing_but_fixed_chunks(rt: HostRuntime) -> Result<(), Fail> {
     let store = store_of(rt.alloc(), &fixed_chunks(rt.alloc(), FIXED_SIZE)?)?;
-    let summary = store.summary();
-    assert_eq!(rt; summary.heap.fixed, (FIXED_SIZE - 24) / 8);
-    assert_eq!(rt;
-        (summary.heap.free, summary.heap.movable, summary.databases),
-        (0, 0, 0)
-    );
-    Ok(())
+    let StoreSummary { heap, databases } = store.summary();
+    equal(
+        "fixed, free, movable, databases",
+        (heap.fixed, heap.free, heap.movable, databases),
+        ((FIXED_SIZE - 24) / 8, 0, 0, 0),
+    )
 }

@@ -3,13 +3,13 @@
 
 use crate::stores::{WRITTEN, input_files};
 use chunk_format::BlankFault;
-use heap_model::Counted;
+use heap_model::{Bytes, Counted};
 use palm_script::{LineFault, ScriptFault};
 use palmheap_commands::{cmd_check_from, cmd_new_from, cmd_run_from};
 use program_io::{Status, say_bad, say_line_fault};
 use std::alloc::Global;
 use std::test::*;
-use test_fakes::RefusesOne;
+use test_fakes::{RefusesOne, equal};
 use test_images::{BLANK, DATABASE, bytes_of};
 
 /// What takes memory and prints.
@@ -31,27 +31,89 @@ const FAULT: LineFault = LineFault {
     fault: ScriptFault::UnknownCommand,
 };
 
+/// What a command writes to.
+#[derive(Drop)]
+struct Outputs {
+    image: Counted<Vec<u8>>,
+    files: Vec<Bytes>,
+    text: Counted<Vec<u8>>,
+}
+
+impl Outputs {
+    fn new(alloc: Global) -> Outputs {
+        Outputs {
+            image: Counted::new(Vec::new(alloc)),
+            files: Vec::new(alloc),
+            text: Counted::new(Vec::new(alloc)),
+        }
+    }
+
+    /// Whether nothing was written.
+    fn are_empty(self) -> bool {
+        let Outputs { image, files, text } = self;
+        image.into_inner().is_empty() && text.into_inner().is_empty() && files.is_empty()
+    }
+}
+
 /// The status, and whether nothing was written.
 fn tried(memory: &RefusesOne, alloc: Global, trial: &Trial) -> Result<(Status, bool), Fail> {
-    let (mut image_out, mut out) = (Counted::new(Vec::new(alloc)), Counted::new(Vec::new(alloc)));
-    let mut files = Vec::new(alloc);
-    let status = match trial {
-        Trial::New(size) => cmd_new_from(memory, *size, 4, &mut image_out, &mut out),
-        Trial::Check(listing) => cmd_check_from(memory, &bytes_of(alloc, listing)?, &mut out),
-        Trial::Run(listing, text) => cmd_run_from(
+    let mut outputs = Outputs::new(alloc);
+    let status = status_of(memory, alloc, trial, &mut outputs)?;
+    Ok((status, outputs.are_empty()))
+}
+
+fn status_of(
+    memory: &RefusesOne,
+    alloc: Global,
+    trial: &Trial,
+    outputs: &mut Outputs,
+) -> Result<Status, Fail> {
+    match trial {
+        Trial::New(size) => Ok(new_with(memory, *size, outputs)),
+        Trial::Check(listing) => check_with(memory, alloc, listing, outputs),
+        Trial::Run(listing, text) => run_with(memory, alloc, listing, text, outputs),
+        Trial::Bad => Ok(say_bad(
             memory,
-            &bytes_of(alloc, listing)?,
-            text.as_bytes(),
-            &input_files(alloc)?,
-            &mut image_out,
-            &mut files,
-            &mut out,
-        ),
-        Trial::Bad => say_bad(memory, BlankFault::BadSize, Status::BadWords, &mut out),
-        Trial::BadLine => say_line_fault(memory, FAULT, &mut out),
-    };
-    let is_written = !image_out.into_inner().is_empty() || !out.into_inner().is_empty();
-    Ok((status, !is_written && files.is_empty()))
+            BlankFault::BadSize,
+            Status::BadWords,
+            &mut outputs.text,
+        )),
+        Trial::BadLine => Ok(say_line_fault(memory, FAULT, &mut outputs.text)),
+    }
+}
+
+fn new_with(memory: &RefusesOne, size: u32, outputs: &mut Outputs) -> Status {
+    cmd_new_from(memory, size, 4, &mut outputs.image, &mut outputs.text)
+}
+
+fn check_with(
+    memory: &RefusesOne,
+    alloc: Global,
+    listing: &str,
+    outputs: &mut Outputs,
+) -> Result<Status, Fail> {
+    let image = bytes_of(alloc, listing)?;
+    Ok(cmd_check_from(memory, &image, &mut outputs.text))
+}
+
+fn run_with(
+    memory: &RefusesOne,
+    alloc: Global,
+    listing: &str,
+    text: &str,
+    outputs: &mut Outputs,
+) -> Result<Status, Fail> {
+    let image = bytes_of(alloc, listing)?;
+    let inputs = input_files(alloc)?;
+    Ok(cmd_run_from(
+        memory,
+        &image,
+        text.as_bytes(),
+        &inputs,
+        &mut outputs.image,
+        &mut outputs.files,
+        &mut outputs.text,
+    ))
 }
 
 /// How many growths each has, and its status where none is refused.
@@ -71,26 +133,41 @@ const TRIALS: [(Trial, u32, Status); 9] = [
     (Trial::BadLine, 2, Status::Refused),
 ];
 
+/// What a command comes to where a growth behind so many is refused, or none is.
+fn check_behind(
+    alloc: Global,
+    number: usize,
+    trial: &Trial,
+    before: u32,
+    wanted: Status,
+    is_refused: bool,
+) -> Result<(), Fail> {
+    let memory = RefusesOne::behind(alloc, before);
+    let came = tried(&memory, alloc, trial)?;
+    equal(
+        format_args!("trial {number}, after {before}"),
+        (came, memory.has_refused()),
+        ((wanted, is_refused), is_refused),
+    )
+}
+
+fn check_growths(
+    alloc: Global,
+    number: usize,
+    trial: &Trial,
+    growths: u32,
+    status: Status,
+) -> Result<(), Fail> {
+    for before in 0..growths {
+        check_behind(alloc, number, trial, before, Status::NoMemory, true)?;
+    }
+    check_behind(alloc, number, trial, growths, status, false)
+}
+
 #[test]
 fn each_growth_of_a_command_is_refused_in_turn(rt: HostRuntime) -> Result<(), Fail> {
     for (number, (trial, growths, status)) in TRIALS.iter().enumerate() {
-        for before in 0..=*growths {
-            let memory = RefusesOne::behind(rt.alloc(), before);
-            let (came, is_silent) = tried(&memory, rt.alloc(), trial)?;
-            let is_refused = before < *growths;
-            let wanted = if is_refused {
-                Status::NoMemory
-            } else {
-                *status
-            };
-            let is_right = came == wanted && is_silent == is_refused;
-            assert!(rt; is_right, "trial {number}, after {before}: {came:?}");
-            assert_eq!(rt;
-                memory.has_refused(),
-                is_refused,
-                "trial {number}, after {before}"
-            );
-        }
+        check_growths(rt.alloc(), number, trial, *growths, *status)?;
     }
     Ok(())
 }

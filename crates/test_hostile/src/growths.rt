@@ -1,24 +1,25 @@
 //! Each growth is refused in turn: want of memory is answered where one was, and nothing was done then; and nowhere
 //! else.
 
-use crate::stores::{CARRIED, WRITTEN, input_files, store_behind, with_database};
+use crate::stores::{
+    CARRIED, WRITTEN, has_image, input_files, listed_store, store_behind, with_database,
+};
 use chunk_format::{BlankFault, blank_from};
 use heap_model::{
     Bytes, Call, Counted, DatabaseCall, Db, FileCall, MemoryCall, Name, Place, Refusal, Reply,
 };
 use palm_script::{
-    LineFault, OutOfMemory, RunFault, Script, ScriptFault, do_call_from, parse, run_calls_from,
-    run_from,
+    LineFault, NotRun, OutOfMemory, RunFault, Script, ScriptFault, check_and_run_from,
+    do_call_from, parse, run_calls_from, run_from,
 };
 use palm_store::{Store, StoreFault};
 use pdb_files::{exported, import_from};
 use raw_region::Region;
 use script_lines::parse_from;
-use std::alloc::Global;
-use std::process::Abort;
+use std::alloc::{AllocError, Global};
 use std::test::*;
 use test_beside::{image_of, store_of};
-use test_fakes::RefusesOne;
+use test_fakes::{RefusesOne, equal, holds};
 use test_images::{
     BLANK, DATABASE, EMPTY_FILE, ONE_CHUNK, ORDER_FILE, TINY_FILE, TWO_DATABASES, WIDE, bytes_of,
 };
@@ -28,6 +29,10 @@ const BOUND: &str = "bind a 16\nsize a\nowner a\n";
 
 /// A call for which a growth is refused.
 enum Trial {
+    /// A region of zeros.
+    Zeros,
+    /// A region of some bytes.
+    Copy,
     /// A blank image.
     Blank,
     /// The check of an image that a script leaves on a listed one.
@@ -42,6 +47,8 @@ enum Trial {
     Run(&'static str, &'static str),
     /// A list of calls on the blank image.
     List,
+    /// The check of the blank image, and that list.
+    CheckedList,
     /// A read, as a call of its own.
     DoRead,
     /// An import, as a call of its own.
@@ -69,13 +76,27 @@ fn outcome(memory: &RefusesOne, is_want: bool, is_kept: bool) -> Came {
     }
 }
 
+fn zeros_with(memory: &RefusesOne) -> Came {
+    outcome(memory, Region::zeroed_from(memory, 64).is_err(), true)
+}
+
+fn copy_with(memory: &RefusesOne) -> Came {
+    outcome(memory, Region::copied_from(memory, b"PHI1").is_err(), true)
+}
+
 fn blank_with(memory: &RefusesOne) -> Came {
     let made = blank_from(memory, 128, 4);
     outcome(memory, matches!(made, Err(BlankFault::OutOfMemory)), true)
 }
 
+/// The check of what a script leaves on a listed image.
+fn check_with(memory: &RefusesOne, alloc: Global, listing: &str, text: &str) -> Result<Came, Fail> {
+    let (store, _) = store_behind(alloc, listing, text)?;
+    check_image_with(memory, alloc, &image_of(alloc, &store)?)
+}
+
 /// The region is handed back as it was.
-fn check_with(memory: &RefusesOne, alloc: Global, image: &[u8]) -> Result<Came, Fail> {
+fn check_image_with(memory: &RefusesOne, alloc: Global, image: &[u8]) -> Result<Came, Fail> {
     match Store::check_from(memory, Region::from_bytes(alloc, image)?) {
         Ok(_) => Ok(outcome(memory, false, true)),
         Err(refused) => {
@@ -85,12 +106,33 @@ fn check_with(memory: &RefusesOne, alloc: Global, image: &[u8]) -> Result<Came, 
     }
 }
 
+/// What came of a call on a store that had this image.
+fn came_of(
+    memory: &RefusesOne,
+    alloc: Global,
+    store: &Store,
+    image: &[u8],
+    is_want: bool,
+) -> Result<Came, Fail> {
+    Ok(outcome(memory, is_want, has_image(alloc, store, image)?))
+}
+
 fn import_with(memory: &RefusesOne, alloc: Global, listing: &str) -> Result<Came, Fail> {
-    let file = bytes_of(alloc, listing)?;
     let image = bytes_of(alloc, WIDE)?;
     let mut store = store_of(alloc, &image)?;
-    let is_want = import_from(memory, &mut store, &file) == Err(Refusal::OutOfMemory);
-    Ok(outcome(memory, is_want, image_of(alloc, &store)? == image))
+    let is_want = wants_import(memory, alloc, &mut store, listing)?;
+    came_of(memory, alloc, &store, &image, is_want)
+}
+
+/// Whether the import of a file wants memory.
+fn wants_import(
+    memory: &RefusesOne,
+    alloc: Global,
+    store: &mut Store,
+    listing: &str,
+) -> Result<bool, Fail> {
+    let file = bytes_of(alloc, listing)?;
+    Ok(import_from(memory, store, &file) == Err(Refusal::OutOfMemory))
 }
 
 fn export_with(memory: &RefusesOne, alloc: Global, listing: &str) -> Result<Came, Fail> {
@@ -113,30 +155,64 @@ fn parse_with(memory: &RefusesOne, text: &str) -> Came {
 fn run_with(memory: &RefusesOne, alloc: Global, listing: &str, text: &str) -> Result<Came, Fail> {
     let image = bytes_of(alloc, listing)?;
     let mut store = store_of(alloc, &image)?;
+    let (fault, out) = ran_with(memory, alloc, &mut store, text)?;
+    let is_kept = out.is_empty() && has_image(alloc, &store, &image)?;
+    Ok(outcome(memory, fault == Some(RunFault::OutOfMemory), is_kept))
+}
+
+/// Why the run of a script ends early, if it does, and what it prints.
+fn ran_with(
+    memory: &RefusesOne,
+    alloc: Global,
+    store: &mut Store,
+    text: &str,
+) -> Result<(Option<RunFault>, Vec<u8>), Fail> {
     let script: Script = parse(alloc, text.as_bytes())?;
-    let mut out = Counted::new(Vec::new(alloc));
     let inputs = input_files(alloc)?;
-    let ran = run_from(memory, &mut store, &script, &inputs, &mut out);
-    let is_kept = out.into_inner().is_empty() && image_of(alloc, &store)? == image;
-    let is_want = matches!(ran, Err(RunFault::OutOfMemory));
-    Ok(outcome(memory, is_want, is_kept))
+    let mut out = Counted::new(Vec::new(alloc));
+    let fault = run_from(memory, store, &script, &inputs, &mut out).err();
+    Ok((fault, out.into_inner()))
 }
 
 /// The first chunk that is made.
 const CHUNK: Name = Name(16);
 
+/// A list of calls on the blank image.
+const LIST: [Call; 5] = [
+    Call::Memory(MemoryCall::HandleNew { size: 10, owner: 1 }),
+    Call::Memory(MemoryCall::FreeBytes),
+    Call::Memory(MemoryCall::Lock(CHUNK)),
+    Call::Memory(MemoryCall::Recover(Place(40))),
+    Call::Memory(MemoryCall::Recover(Place(48))),
+];
+
 fn list_with(memory: &RefusesOne, alloc: Global) -> Result<Came, Fail> {
-    let calls = [
-        Call::Memory(MemoryCall::HandleNew { size: 10, owner: 1 }),
-        Call::Memory(MemoryCall::FreeBytes),
-        Call::Memory(MemoryCall::Lock(CHUNK)),
-        Call::Memory(MemoryCall::Recover(Place(40))),
-        Call::Memory(MemoryCall::Recover(Place(48))),
-    ];
     let image = bytes_of(alloc, BLANK)?;
     let mut store = store_of(alloc, &image)?;
-    let is_want = matches!(run_calls_from(memory, &mut store, &calls), Err(OutOfMemory));
-    Ok(outcome(memory, is_want, image_of(alloc, &store)? == image))
+    let is_want = wants_list(memory, &mut store);
+    came_of(memory, alloc, &store, &image, is_want)
+}
+
+/// Whether the list wants memory.
+fn wants_list(memory: &RefusesOne, store: &mut Store) -> bool {
+    matches!(run_calls_from(memory, store, &LIST), Err(OutOfMemory))
+}
+
+/// The region is handed back as it was, and so is the store.
+fn checked_list_with(memory: &RefusesOne, alloc: Global) -> Result<Came, Fail> {
+    let image = bytes_of(alloc, BLANK)?;
+    match check_and_run_from(memory, Region::from_bytes(alloc, &image)?, &LIST) {
+        Ok(_) => Ok(outcome(memory, false, true)),
+        Err(NotRun::NotAStore(refused)) => {
+            let is_want = refused.fault == StoreFault::OutOfMemory;
+            Ok(outcome(
+                memory,
+                is_want,
+                refused.region.as_slice() == image.as_slice(),
+            ))
+        }
+        Err(NotRun::OutOfMemory(store)) => came_of(memory, alloc, &store, &image, true),
+    }
 }
 
 /// Does a call on a store; where memory is refused it must be as it was.
@@ -147,9 +223,13 @@ fn call_with(
     call: &Call,
 ) -> Result<Came, Fail> {
     let image = image_of(alloc, &store)?;
-    let reply = do_call_from(memory, &mut store, call);
-    let is_want = reply == Reply::Refused(Refusal::OutOfMemory);
-    Ok(outcome(memory, is_want, image_of(alloc, &store)? == image))
+    let is_want = wants_call(memory, &mut store, call);
+    came_of(memory, alloc, &store, &image, is_want)
+}
+
+/// Whether a call wants memory.
+fn wants_call(memory: &RefusesOne, store: &mut Store, call: &Call) -> bool {
+    do_call_from(memory, store, call) == Reply::Refused(Refusal::OutOfMemory)
 }
 
 fn read_with(memory: &RefusesOne, alloc: Global) -> Result<Came, Fail> {
@@ -164,8 +244,7 @@ fn read_with(memory: &RefusesOne, alloc: Global) -> Result<Came, Fail> {
 
 fn import_call_with(memory: &RefusesOne, alloc: Global, listing: &str) -> Result<Came, Fail> {
     let call = import_of(alloc, listing)?;
-    let store = store_of(alloc, &bytes_of(alloc, WIDE)?)?;
-    call_with(memory, alloc, store, &call)
+    call_with(memory, alloc, listed_store(alloc, WIDE)?, &call)
 }
 
 fn import_of(alloc: Global, listing: &str) -> Result<Call, Fail> {
@@ -178,27 +257,33 @@ fn export_call_with(memory: &RefusesOne, alloc: Global, listing: &str) -> Result
 }
 
 /// What comes of a call where a growth behind so many is refused.
-fn tried(alloc: Global, trial: &Trial, before: u32) -> Result<Came, Fail> {
+fn tried_behind(alloc: Global, trial: &Trial, before: u32) -> Result<Came, Fail> {
     let memory = RefusesOne::behind(alloc, before);
+    tried(&memory, alloc, trial)
+}
+
+fn tried(memory: &RefusesOne, alloc: Global, trial: &Trial) -> Result<Came, Fail> {
     match trial {
-        Trial::Blank => Ok(blank_with(&memory)),
-        Trial::Check(listing, script) => {
-            let (store, _) = store_behind(alloc, listing, script)?;
-            check_with(&memory, alloc, &image_of(alloc, &store)?)
-        }
-        Trial::Import(listing) => import_with(&memory, alloc, listing),
-        Trial::Export(listing) => export_with(&memory, alloc, listing),
-        Trial::Parse(text) => Ok(parse_with(&memory, text)),
-        Trial::Run(listing, text) => run_with(&memory, alloc, listing, text),
-        Trial::List => list_with(&memory, alloc),
-        Trial::DoRead => read_with(&memory, alloc),
-        Trial::DoImport(listing) => import_call_with(&memory, alloc, listing),
-        Trial::DoExport(listing) => export_call_with(&memory, alloc, listing),
+        Trial::Zeros => Ok(zeros_with(memory)),
+        Trial::Copy => Ok(copy_with(memory)),
+        Trial::Blank => Ok(blank_with(memory)),
+        Trial::Check(listing, script) => check_with(memory, alloc, listing, script),
+        Trial::Import(listing) => import_with(memory, alloc, listing),
+        Trial::Export(listing) => export_with(memory, alloc, listing),
+        Trial::Parse(text) => Ok(parse_with(memory, text)),
+        Trial::Run(listing, text) => run_with(memory, alloc, listing, text),
+        Trial::List => list_with(memory, alloc),
+        Trial::CheckedList => checked_list_with(memory, alloc),
+        Trial::DoRead => read_with(memory, alloc),
+        Trial::DoImport(listing) => import_call_with(memory, alloc, listing),
+        Trial::DoExport(listing) => export_call_with(memory, alloc, listing),
     }
 }
 
 /// Calls, and how many growths each has.
-const TRIALS: [(Trial, u32); 25] = [
+const TRIALS: [(Trial, u32); 29] = [
+    (Trial::Zeros, 1),
+    (Trial::Copy, 1),
     (Trial::Blank, 1),
     (Trial::Check(BLANK, ""), 2),
     (Trial::Check(ONE_CHUNK, ""), 2),
@@ -219,75 +304,101 @@ const TRIALS: [(Trial, u32); 25] = [
     (Trial::Run(ONE_CHUNK, BOUND), 3),
     (Trial::Run(BLANK, WRITTEN), 3),
     (Trial::List, 1),
+    (Trial::CheckedList, 3),
     (Trial::DoRead, 1),
     (Trial::DoImport(EMPTY_FILE), 4),
     (Trial::DoImport(ORDER_FILE), 10),
     (Trial::DoImport(TINY_FILE), 6),
+    (Trial::DoExport(EMPTY_FILE), 1),
     (Trial::DoExport(ORDER_FILE), 1),
 ];
 
 /// The number of growths of a call: behind so many none is refused.
-fn growths_of(rt: &(impl Abort + AllocGlobal), trial: &Trial, number: usize) -> Result<u32, Fail> {
+fn growths_of(alloc: Global, trial: &Trial, number: usize) -> Result<u32, Fail> {
     for before in 0..64 {
-        let came = tried(rt.alloc(), trial, before)?;
+        let came = tried_behind(alloc, trial, before)?;
         if came == Came::Done {
             return Ok(before);
         }
-        assert_eq!(rt; came, Came::NoMemory, "trial {number}, after {before}");
+        equal(
+            format_args!("trial {number}, after {before}"),
+            came,
+            Came::NoMemory,
+        )?;
     }
     Ok(64)
+}
+
+fn check_growths(alloc: Global, number: usize, trial: &Trial, growths: u32) -> Result<(), Fail> {
+    let found = growths_of(alloc, trial, number)?;
+    equal(format_args!("trial {number}"), found, growths)
 }
 
 #[test]
 fn each_growth_is_refused_in_turn(rt: HostRuntime) -> Result<(), Fail> {
     for (number, (trial, growths)) in TRIALS.iter().enumerate() {
-        let found = growths_of(&rt, trial, number)?;
-        assert_eq!(rt; found, *growths, "trial {number}");
+        check_growths(rt.alloc(), number, trial, *growths)?;
     }
     Ok(())
 }
 
-/// The growths of the run of the lines that import and export a file are refused in turn: how many, and what
-/// is printed then. Want of memory in front of the first line is none of these.
-const CARRIED_SAID: [(u32, &str); 3] = [
-    // the import, and so the label names no database; the second import is then the first
-    (
-        4,
-        "refused 26 OutOfMemory\nrefused 10 NoSuchDatabase\nok\nrefused 25 BadFile Truncated\n",
-    ),
+/// The growths of the run of the lines that import and export a file are refused in turn: behind how many, and
+/// what is printed then. Want of memory in front of the first line is none of these.
+const CARRIED_SAID: [(u32, &str); 6] = [
+    (3, WITHOUT_IMPORT),
+    (4, WITHOUT_IMPORT),
+    (5, WITHOUT_IMPORT),
+    (6, WITHOUT_IMPORT),
     // the export
     (
-        1,
+        7,
         "ok\nrefused 26 OutOfMemory\nrefused 21 AlreadyExists\nrefused 25 BadFile Truncated\n",
     ),
     // none
     (
-        1,
+        8,
         "ok\nok 80\nrefused 21 AlreadyExists\nrefused 25 BadFile Truncated\n",
     ),
 ];
 
+/// The import is refused, and so the label names no database; the second import is then the first.
+const WITHOUT_IMPORT: &str =
+    "refused 26 OutOfMemory\nrefused 10 NoSuchDatabase\nok\nrefused 25 BadFile Truncated\n";
+
 /// What those lines print where a growth behind so many is refused.
 fn carried(alloc: Global, before: u32) -> Result<Vec<u8>, Fail> {
-    let mut store = store_of(alloc, &bytes_of(alloc, WIDE)?)?;
-    let script = parse(alloc, CARRIED.as_bytes())?;
-    let mut out = Counted::new(Vec::new(alloc));
-    let inputs = input_files(alloc)?;
+    let mut store = listed_store(alloc, WIDE)?;
     let memory = RefusesOne::behind(alloc, before);
-    run_from(&memory, &mut store, &script, &inputs, &mut out)?;
-    Ok(out.into_inner())
+    let (fault, out) = ran_with(&memory, alloc, &mut store, CARRIED)?;
+    match fault {
+        None => Ok(out),
+        Some(fault) => Err(fault)?,
+    }
+}
+
+fn check_carried(alloc: Global, before: u32, text: &str) -> Result<(), Fail> {
+    let said = carried(alloc, before)?;
+    holds(
+        format_args!("after {before}"),
+        said.as_slice() == text.as_bytes(),
+    )
+}
+
+/// In front of the first of those lines want of memory ends the run, and nothing was done.
+fn check_not_begun(alloc: Global, before: u32) -> Result<(), Fail> {
+    let memory = RefusesOne::behind(alloc, before);
+    let came = run_with(&memory, alloc, WIDE, CARRIED)?;
+    equal(format_args!("after {before}"), came, Came::NoMemory)
 }
 
 /// In a run, an import or an export for which memory is refused is refused, and the lines behind it follow.
 #[test]
 fn a_run_goes_on_behind_a_file_that_has_no_memory(rt: HostRuntime) -> Result<(), Fail> {
-    let mut before = 3u32;
-    for (growths, text) in &CARRIED_SAID {
-        for _ in 0..*growths {
-            let said = carried(rt.alloc(), before)?;
-            assert!(rt; said.as_slice() == text.as_bytes(), "after {before}");
-            before = before.saturating_add(1);
-        }
+    for before in 0..3 {
+        check_not_begun(rt.alloc(), before)?;
+    }
+    for (before, text) in &CARRIED_SAID {
+        check_carried(rt.alloc(), *before, text)?;
     }
     Ok(())
 }
@@ -300,10 +411,9 @@ fn number_of(reply: &Reply) -> u8 {
     }
 }
 
-/// The numbers of the refusals in a list that imports a file of records, exports it, reads a record and counts
-/// the databases, where a growth behind so many is refused.
-fn listed(alloc: Global, before: u32) -> Result<Vec<u8>, Fail> {
-    let calls = [
+/// A list that imports a file of records, exports it, reads a record and counts the databases.
+fn files_in_list(alloc: Global) -> Result<[Call; 4], Fail> {
+    Ok([
         import_of(alloc, ORDER_FILE)?,
         Call::File(FileCall::Export(Db(16))),
         Call::Memory(MemoryCall::Read {
@@ -312,37 +422,56 @@ fn listed(alloc: Global, before: u32) -> Result<Vec<u8>, Fail> {
             count: 4,
         }),
         Call::Database(DatabaseCall::Count),
-    ];
-    let mut store = store_of(alloc, &bytes_of(alloc, WIDE)?)?;
+    ])
+}
+
+/// The replies to that list where a growth behind so many is refused.
+fn listed(alloc: Global, before: u32) -> Result<Vec<Reply>, Fail> {
+    let calls = files_in_list(alloc)?;
+    let mut store = listed_store(alloc, WIDE)?;
     let memory = RefusesOne::behind(alloc, before);
-    let Ok(replies) = run_calls_from(&memory, &mut store, &calls) else {
-        return Err("not run")?;
-    };
+    match run_calls_from(&memory, &mut store, &calls) {
+        Ok(replies) => Ok(replies),
+        Err(OutOfMemory) => Err("not run")?,
+    }
+}
+
+/// How many growths of that list are granted before one is refused, and the numbers of the refusals then.
+const LISTED: [(u32, [u8; 4]); 13] = [
+    (1, [26, 10, 1, 0]),
+    (2, [26, 10, 1, 0]),
+    (3, [26, 10, 1, 0]),
+    (4, [26, 10, 1, 0]),
+    (5, [26, 10, 1, 0]),
+    (6, [26, 10, 1, 0]),
+    (7, [26, 10, 1, 0]),
+    (8, [26, 10, 1, 0]),
+    (9, [26, 10, 1, 0]),
+    (10, [26, 10, 1, 0]),
+    (11, [0, 26, 0, 0]),
+    (12, [0, 0, 26, 0]),
+    (13, [0, 0, 0, 0]),
+];
+
+/// The numbers of the refusals among replies.
+fn numbers_of(alloc: Global, replies: &[Reply]) -> Result<Vec<u8>, AllocError> {
     let mut numbers = Vec::new(alloc);
-    for reply in &replies {
+    for reply in replies {
         numbers.push(number_of(reply))?;
     }
     Ok(numbers)
 }
 
-/// How many growths of that list are refused in turn, and the numbers then.
-const LISTED: [(u32, [u8; 4]); 4] = [
-    (10, [26, 10, 1, 0]),
-    (1, [0, 26, 0, 0]),
-    (1, [0, 0, 26, 0]),
-    (1, [0, 0, 0, 0]),
-];
+fn check_listed(alloc: Global, before: u32, numbers: &[u8]) -> Result<(), Fail> {
+    let said = numbers_of(alloc, &listed(alloc, before)?)?;
+    equal(format_args!("after {before}"), said.as_slice(), numbers)
+}
 
 /// In a list of calls the same, and of a read.
 #[test]
 fn a_list_goes_on_behind_a_call_that_has_no_memory(rt: HostRuntime) -> Result<(), Fail> {
-    let mut before = 1u32;
-    for (growths, numbers) in &LISTED {
-        for _ in 0..*growths {
-            let said = listed(rt.alloc(), before)?;
-            assert_eq!(rt; said.as_slice(), numbers.as_slice(), "after {before}");
-            before = before.saturating_add(1);
-        }
+    for (before, numbers) in &LISTED {
+        check_listed(rt.alloc(), *before, numbers)?;
     }
     Ok(())
 }

@@ -1,5 +1,5 @@
 //! Tests of hostile use: memory that is refused at each growth in turn, writers that fail behind each byte,
-//! bytes and images that are damaged, and images and scripts at their limits.
+//! bytes that are damaged, and images and scripts at their limits.
 //!
 //! This crate has no code but its tests.
 #![tactic(auto)]
@@ -7,13 +7,9 @@
 #[cfg(test)]
 mod bytes;
 #[cfg(test)]
-mod changes;
-#[cfg(test)]
 mod commands;
 #[cfg(test)]
 mod growths;
-#[cfg(test)]
-mod images;
 #[cfg(test)]
 mod limits;
 #[cfg(test)]

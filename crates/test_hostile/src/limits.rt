@@ -2,18 +2,27 @@
 
 use heap_model::{Call, Counted, MemoryCall, Name, Reply};
 use palm_script::{do_call, run_calls};
+use palm_store::Store;
 use palmheap_commands::{cmd_check, cmd_run};
 use program_io::{INPUT_LIMIT, Status};
-use raw_region::Region;
 use std::alloc::{AllocError, Global};
 use std::test::*;
 use test_beside::{blank_image, store_of};
+use test_fakes::{equal, holds};
+use test_images::changed_words;
 
 /// The most bytes of an image.
 const MOST: u32 = 16_777_208;
 
-/// What a run without files prints, and the image that it writes.
-fn ran(alloc: Global, image: &[u8], script: &str) -> (Status, Vec<u8>, Vec<u8>) {
+/// The status of a run without files, the image that it writes, and what it prints.
+#[derive(Drop)]
+struct Ran {
+    status: Status,
+    image: Vec<u8>,
+    said: Vec<u8>,
+}
+
+fn run_on(alloc: Global, image: &[u8], script: &str) -> Ran {
     let mut image_out = Counted::new(Vec::new(alloc));
     let mut out = Counted::new(Vec::new(alloc));
     let mut files = Vec::new(alloc);
@@ -27,35 +36,44 @@ fn ran(alloc: Global, image: &[u8], script: &str) -> (Status, Vec<u8>, Vec<u8>) 
         &mut files,
         &mut out,
     );
-    (status, image_out.into_inner(), out.into_inner())
+    Ran {
+        status,
+        image: image_out.into_inner(),
+        said: out.into_inner(),
+    }
+}
+
+/// Whether a run prints this, and leaves the image as it was.
+fn only_says(alloc: Global, image: &[u8], script: &str, said: &[u8]) -> bool {
+    let ran = run_on(alloc, image, script);
+    ran.status == Status::Done && ran.said.as_slice() == said && ran.image.as_slice() == image
+}
+
+fn check_empty_script(alloc: Global, slots: u16) -> Result<(), Fail> {
+    let image = blank_image(alloc, MOST, slots)?;
+    let is_kept = only_says(alloc, &image, "", b"");
+    holds(format_args!("{slots} slots"), is_kept)
 }
 
 #[test]
 fn an_empty_script_runs_on_the_largest_image(rt: HostRuntime) -> Result<(), Fail> {
-    for slots in [1, 65_535] {
-        let image = blank_image(rt.alloc(), MOST, slots)?;
-        let (status, written, said) = ran(rt.alloc(), &image, "");
-        assert!(rt; status == Status::Done && said.is_empty(), "{slots} slots");
-        assert!(rt; written.as_slice() == image.as_slice(), "{slots} slots");
-    }
-    Ok(())
+    check_empty_script(rt.alloc(), 1)?;
+    check_empty_script(rt.alloc(), 65_535)
 }
 
-/// An image of the most bytes and slots whose last slot is that of a chunk with an owner and no byte.
-fn owned_in_last_slot(alloc: Global, owner: u32) -> Result<Region, Fail> {
-    let mut image = Region::from_bytes(alloc, &blank_image(alloc, MOST, 65_535)?)?;
-    for (at, word) in [
+/// What `check` says of an image of the most bytes and slots whose last slot is that of a chunk with an owner and no
+/// byte.
+fn said_of_owned(alloc: Global, owner: u32) -> Result<(Status, String), Fail> {
+    let words = [
         (262_152, 262_168),
         (262_160, 8),
         (262_164, owner % 16 * 0x100_0000 + 0xFF_FFFC),
         (262_168, 0x8000_0000 | MOST - 262_168),
-    ] {
-        if at > image.len() || image.len() - at < 4 {
-            return Err("a word beyond the end")?;
-        }
-        image.put_u32(at, word);
-    }
-    Ok(image)
+    ];
+    let image = changed_words(alloc, MOST, 65_535, &words)?;
+    let mut out = Counted::new(Vec::new(alloc));
+    let status = cmd_check(alloc, image.as_slice(), &mut out);
+    Ok((status, String::from_utf8(out.into_inner())?))
 }
 
 /// Owners of a chunk in the last slot, and what `check` says of it.
@@ -74,40 +92,55 @@ const OWNERS: [(u32, Status, &str); 4] = [
     ),
 ];
 
+fn check_owner(alloc: Global, owner: u32, status: Status, text: &str) -> Result<(), Fail> {
+    let (found, said) = said_of_owned(alloc, owner)?;
+    equal(
+        format_args!("owner {owner}"),
+        (found, said.as_str()),
+        (status, text),
+    )
+}
+
 #[test]
 fn a_stray_chunk_in_the_last_slot_is_found(rt: HostRuntime) -> Result<(), Fail> {
-    for (owner, wanted, text) in OWNERS {
-        let image = owned_in_last_slot(rt.alloc(), owner)?;
-        let mut out = Counted::new(Vec::new(rt.alloc()));
-        let status = cmd_check(rt.alloc(), image.as_slice(), &mut out);
-        assert_eq!(rt; status, wanted, "owner {owner}");
-        assert!(rt;
-            out.into_inner().as_slice() == text.as_bytes(),
-            "owner {owner}"
-        );
+    for (owner, status, text) in &OWNERS {
+        check_owner(rt.alloc(), *owner, *status, text)?;
     }
     Ok(())
 }
 
-/// A read of all bytes of the largest chunk, as a call of its own and in a list.
+/// How many bytes the largest chunk has.
+const LARGEST: u32 = 16_777_176;
+
+/// A read of all of its bytes.
+const READ: Call = Call::Memory(MemoryCall::Read {
+    name: Name(16),
+    at: 0,
+    count: LARGEST,
+});
+
+/// A store with the largest chunk alone.
+fn with_largest(alloc: Global) -> Result<Store, Fail> {
+    let mut store = store_of(alloc, &blank_image(alloc, MOST, 1)?)?;
+    let made = store.handle_new(LARGEST, 1);
+    equal("the chunk", made, Ok(Name(16)))?;
+    Ok(store)
+}
+
 #[test]
 fn the_largest_chunk_is_read(rt: HostRuntime) -> Result<(), Fail> {
-    let alloc = rt.alloc();
-    let mut store = store_of(alloc, &blank_image(alloc, MOST, 1)?)?;
-    let count = 16_777_176;
-    assert_eq!(rt; store.handle_new(count, 1), Ok(Name(16)));
-    let read = Call::Memory(MemoryCall::Read {
-        name: Name(16),
-        at: 0,
-        count,
-    });
-    let length = length_of(&do_call(alloc, &mut store, &read));
-    assert_eq!(rt; length, Some(16_777_176));
-    let replies = run_calls(alloc, &mut store, &[read])?;
-    for reply in &replies {
-        assert_eq!(rt; length_of(reply), Some(16_777_176));
-    }
-    Ok(())
+    let mut store = with_largest(rt.alloc())?;
+    let length = length_of(&do_call(rt.alloc(), &mut store, &READ));
+    equal("bytes", length, Some(16_777_176))
+}
+
+/// The same in a list.
+#[test]
+fn the_largest_chunk_is_read_in_a_list(rt: HostRuntime) -> Result<(), Fail> {
+    let mut store = with_largest(rt.alloc())?;
+    let replies = run_calls(rt.alloc(), &mut store, &[READ])?;
+    let length = replies.first().and_then(length_of);
+    equal("bytes", (replies.len(), length), (1, Some(16_777_176)))
 }
 
 /// How many bytes were read.
@@ -120,31 +153,25 @@ fn length_of(reply: &Reply) -> Option<usize> {
 
 /// A script as long as an input file may be: lines of 4,096 bytes that are passed over, and one behind them.
 fn longest(alloc: Global) -> Result<String, AllocError> {
-    let mut line = String::from_str(alloc, "#")?;
-    for _ in 0..4_094u32 {
-        line.push_str("x")?;
-    }
-    line.push_str("\n")?;
-    let mut script = String::new(alloc);
-    for _ in 0..4_095u32 {
-        script.push_str(line.as_str())?;
-    }
-    for _ in 0..4_086u32 {
-        script.push_str("\n")?;
-    }
-    script.push_str("freebytes\n")?;
-    Ok(script)
+    let filling = repeated(alloc, "x", 4_094)?;
+    let line = format!(in alloc; "#{filling}\n")?;
+    let lines = repeated(alloc, line.as_str(), 4_095)?;
+    let empty_lines = repeated(alloc, "\n", 4_086)?;
+    format!(in alloc; "{lines}{empty_lines}freebytes\n")
+}
+
+/// A text so many times.
+fn repeated(alloc: Global, text: &str, count: usize) -> Result<String, AllocError> {
+    text.repeat(alloc, count)
 }
 
 #[test]
 fn the_longest_script_runs(rt: HostRuntime) -> Result<(), Fail> {
     let script = longest(rt.alloc())?;
-    assert_eq!(rt; script.len(), INPUT_LIMIT);
+    equal("bytes", script.len(), INPUT_LIMIT)?;
     let image = blank_image(rt.alloc(), 128, 4)?;
-    let (status, written, said) = ran(rt.alloc(), &image, script.as_str());
-    assert!(rt; status == Status::Done && said.as_slice() == b"ok 96\n".as_slice());
-    assert!(rt; written.as_slice() == image.as_slice());
-    Ok(())
+    let is_run = only_says(rt.alloc(), &image, script.as_str(), b"ok 96\n");
+    holds("the line behind them", is_run)
 }
 
 /// So many lines that bind as many labels of databases, and then two that use the first and the last.
@@ -157,13 +184,16 @@ fn labels(alloc: Global, count: u32) -> Result<String, AllocError> {
     Ok(script)
 }
 
+/// Each line is answered, the last two by how many records there are.
+fn are_answered(ran: &Ran) -> bool {
+    let lines = ran.said.iter().filter(|byte| **byte == b'\n').count();
+    ran.status == Status::Done && ran.said.ends_with(b"\nok\nok 0\nok 0\n") && lines == 1027
+}
+
 #[test]
 fn a_script_has_1025_labels_of_databases(rt: HostRuntime) -> Result<(), Fail> {
     let image = blank_image(rt.alloc(), 1024, 16)?;
     let script = labels(rt.alloc(), 1025)?;
-    let (status, _, said) = ran(rt.alloc(), &image, script.as_str());
-    assert!(rt; status == Status::Done && said.ends_with(b"\nok\nok 0\nok 0\n"));
-    let lines = said.iter().filter(|byte| **byte == b'\n').count();
-    assert_eq!(rt; lines, 1027);
-    Ok(())
+    let ran = run_on(rt.alloc(), &image, script.as_str());
+    holds("1,027 replies", are_answered(&ran))
 }

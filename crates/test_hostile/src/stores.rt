@@ -6,7 +6,7 @@ use palm_store::Store;
 use pdb_files::import;
 use std::alloc::Global;
 use std::test::*;
-use test_beside::store_of;
+use test_beside::{image_of, store_of};
 use test_images::{EMPTY_FILE, ORDER_FILE, TINY_FILE, WIDE, bytes_of};
 
 /// Lines on the blank image.
@@ -26,22 +26,39 @@ pub(crate) fn input_files(alloc: Global) -> Result<Vec<Bytes>, Fail> {
     Ok(files)
 }
 
+/// The store of a listed image.
+pub(crate) fn listed_store(alloc: Global, listing: &str) -> Result<Store, Fail> {
+    store_of(alloc, &bytes_of(alloc, listing)?)
+}
+
 /// The store of a listed image behind a script, and what that printed.
 pub(crate) fn store_behind(
     alloc: Global,
     listing: &str,
     script: &str,
 ) -> Result<(Store, Vec<u8>), Fail> {
-    let mut store = store_of(alloc, &bytes_of(alloc, listing)?)?;
-    let script = parse(alloc, script.as_bytes())?;
+    let mut store = listed_store(alloc, listing)?;
+    let said = printed(alloc, &mut store, script)?;
+    Ok((store, said))
+}
+
+/// What a script prints that is run on a store.
+fn printed(alloc: Global, store: &mut Store, text: &str) -> Result<Vec<u8>, Fail> {
+    let script = parse(alloc, text.as_bytes())?;
+    let inputs = input_files(alloc)?;
     let mut out = Counted::new(Vec::new(alloc));
-    run(alloc, &mut store, &script, &input_files(alloc)?, &mut out)?;
-    Ok((store, out.into_inner()))
+    run(alloc, store, &script, &inputs, &mut out)?;
+    Ok(out.into_inner())
 }
 
 /// A store with the database of a file, and the number of that.
 pub(crate) fn with_database(alloc: Global, listing: &str) -> Result<(Store, Db), Fail> {
-    let mut store = store_of(alloc, &bytes_of(alloc, WIDE)?)?;
+    let mut store = listed_store(alloc, WIDE)?;
     let db = import(alloc, &mut store, &bytes_of(alloc, listing)?)?;
     Ok((store, db))
+}
+
+/// Whether a store has this image.
+pub(crate) fn has_image(alloc: Global, store: &Store, image: &[u8]) -> Result<bool, Fail> {
+    Ok(image_of(alloc, store)?.as_slice() == image)
 }
