@@ -12,7 +12,8 @@ mod recorder;
 use cases::{CASES, Output};
 use folder::{enter, fill, leave, show_changes};
 use palmheap_program::run;
-use recorder::Recorder;
+use program_io::Status;
+use recorder::{Kept, Recorder};
 use std::alloc::{AllocError, Global};
 use std::rt::Files;
 use std::test::Fail;
@@ -33,12 +34,11 @@ fn show<R: Files + Print + AllocGlobal + Clone + Drop>(
 ) -> Result<(), Fail> {
     fill(rt)?;
     println!(rt; "$ palmheap {line}")?;
-    let recorder = Recorder::new(rt, output);
-    let words = words_of(rt.alloc(), line)?;
-    let status = run(&recorder, words.as_slice());
-    let (printed, complained) = recorder.into_parts();
-    rt.write_all(printed.as_slice())?;
+    let (printed, complained) = (Kept::new(rt.alloc()), Kept::new(rt.alloc()));
+    let status = run_recorded(rt, line, output, &printed, &complained)?;
+    rt.write_all(printed.into_bytes().as_slice())?;
     println!(rt; "status {}", status.code())?;
+    let complained = complained.into_bytes();
     if !complained.is_empty() {
         println!(rt; "standard error:")?;
         rt.write_all(complained.as_slice())?;
@@ -46,6 +46,24 @@ fn show<R: Files + Print + AllocGlobal + Clone + Drop>(
     show_changes(rt)?;
     println!(rt; "")?;
     Ok(())
+}
+
+/// Runs the program with these words, and keeps what it prints and what stands on standard error.
+fn run_recorded<R: Files + AllocGlobal>(
+    rt: &R,
+    line: &str,
+    output: Output,
+    printed: &Kept,
+    complained: &Kept,
+) -> Result<Status, Fail> {
+    let recorder = Recorder {
+        rt,
+        output,
+        printed,
+        complained,
+    };
+    let words = words_of(rt.alloc(), line)?;
+    Ok(run(&recorder, words.as_slice()))
 }
 
 /// The words of a command line, behind the program's own name.

@@ -13,47 +13,30 @@ use std::rt::Files;
 /// A runtime with the files of another. What is printed on it, and what on standard error, is kept.
 #[derive(Drop)]
 pub(crate) struct Recorder<'a, R> {
-    rt: &'a R,
-    output: Output,
-    printed: Kept,
-    complained: Kept,
-}
-
-impl<'a, R: AllocGlobal> Recorder<'a, R> {
-    pub(crate) fn new(rt: &'a R, output: Output) -> Recorder<'a, R> {
-        Recorder {
-            rt,
-            output,
-            printed: Kept::new(rt.alloc()),
-            complained: Kept::new(rt.alloc()),
-        }
-    }
-
-    /// What was printed, and what stands on standard error.
-    pub(crate) fn into_parts(self) -> (Vec<u8>, Vec<u8>) {
-        let Recorder {
-            rt: _,
-            output: _,
-            printed,
-            complained,
-        } = self;
-        (printed.bytes.into_inner(), complained.bytes.into_inner())
-    }
+    pub rt: &'a R,
+    pub output: Output,
+    pub printed: &'a Kept,
+    pub complained: &'a Kept,
 }
 
 /// Bytes that come one behind the other.
 #[derive(Drop)]
-struct Kept {
+pub(crate) struct Kept {
     alloc: Global,
     bytes: Cell<Vec<u8>>,
 }
 
 impl Kept {
-    fn new(alloc: Global) -> Kept {
+    pub(crate) fn new(alloc: Global) -> Kept {
         Kept {
             alloc,
             bytes: Cell::new(Vec::new(alloc)),
         }
+    }
+
+    pub(crate) fn into_bytes(self) -> Vec<u8> {
+        let Kept { alloc: _, bytes } = self;
+        bytes.into_inner()
     }
 
     fn push(&self, more: &[u8]) -> io::Result<()> {
