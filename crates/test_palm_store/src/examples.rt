@@ -1,26 +1,20 @@
 //! Calls with the replies that they must have, by hand: what lists seldom meet.
 
 use heap_model::{Call, DatabaseCall, Db, DbName, MemoryCall, Name, RecordCall, Refusal, Reply};
-use std::process::Abort;
 use std::test::*;
 use test_beside::{Beside, MIXED};
+use test_fakes::equal;
 use test_images::{TWO_DATABASES, bytes_of as listed};
 
 /// Does a call, which must be answered by this reply.
-fn check(
-    rt: &(impl Abort + AllocGlobal),
-    beside: &mut Beside,
-    call: Call,
-    reply: Reply,
-) -> Result<(), Fail> {
+fn check(rt: &impl AllocGlobal, beside: &mut Beside, call: Call, reply: Reply) -> Result<(), Fail> {
     let said = beside.call(rt.alloc(), "by hand", &call)?;
-    assert_eq!(rt; said, reply, "{call:?}");
-    Ok(())
+    equal(format_args!("{call:?}"), said, reply)
 }
 
 /// Takes all locks off some chunks, whose lock counts are given too.
 fn unlock_all(
-    rt: &(impl Abort + AllocGlobal),
+    rt: &impl AllocGlobal,
     beside: &mut Beside,
     locked: &[(Name, u32)],
 ) -> Result<(), Fail> {
@@ -35,7 +29,7 @@ fn unlock_all(
 
 /// Deletes a database, which is refused as long as this chunk of its own is locked.
 fn delete_with_locked(
-    rt: &(impl Abort + AllocGlobal),
+    rt: &impl AllocGlobal,
     beside: &mut Beside,
     db: Db,
     name: Name,
@@ -87,7 +81,7 @@ fn a_header_that_is_not_listed_is_given_back(rt: HostRuntime) -> Result<(), Fail
 
 /// Does a call on records, which must be answered by this reply.
 fn check_record(
-    rt: &(impl Abort + AllocGlobal),
+    rt: &impl AllocGlobal,
     beside: &mut Beside,
     call: RecordCall,
     reply: Reply,

@@ -5,9 +5,9 @@ use heap_model::{
     Refusal, Reply, ResourceCall, Which,
 };
 use std::alloc::Global;
-use std::process::Abort;
 use std::test::*;
 use test_beside::{Beside, blank_image};
+use test_fakes::equal;
 use test_images::{BLANK, bytes_of as listed};
 
 /// A file without entries.
@@ -71,20 +71,14 @@ fn read(rt: &impl AllocGlobal, beside: &mut Beside, listing: &str) -> Result<Db,
 }
 
 /// Does a call, which must be answered by this reply.
-fn check(
-    rt: &(impl Abort + AllocGlobal),
-    beside: &mut Beside,
-    call: Call,
-    reply: Reply,
-) -> Result<(), Fail> {
+fn check(rt: &impl AllocGlobal, beside: &mut Beside, call: Call, reply: Reply) -> Result<(), Fail> {
     let said = beside.call(rt.alloc(), "files", &call)?;
-    assert_eq!(rt; said, reply, "{call:?}");
-    Ok(())
+    equal(format_args!("{call:?}"), said, reply)
 }
 
 /// What is written of a database must be the file of a listing.
 fn check_written(
-    rt: &(impl Abort + AllocGlobal),
+    rt: &impl AllocGlobal,
     beside: &mut Beside,
     db: Db,
     listing: &str,
@@ -188,11 +182,7 @@ fn a_deleted_record_may_have_no_data(rt: HostRuntime) -> Result<(), Fail> {
 }
 
 /// A file that has no database, and why.
-fn check_fault(
-    rt: &(impl Abort + AllocGlobal),
-    listing: &str,
-    fault: FileFault,
-) -> Result<(), Fail> {
+fn check_fault(rt: &impl AllocGlobal, listing: &str, fault: FileFault) -> Result<(), Fail> {
     let mut beside = small_store(rt.alloc())?;
     let bad = Reply::Refused(Refusal::BadFile(fault));
     check(rt, &mut beside, import(rt.alloc(), listing)?, bad)
@@ -200,22 +190,21 @@ fn check_fault(
 
 #[test]
 fn files_without_a_database_are_refused(rt: HostRuntime) -> Result<(), Fail> {
-    check_fault(&rt, "", FileFault::Truncated)?;
-    check_fault(&rt, "61 00*76", FileFault::Truncated)?;
-    check_fault(&rt, "61 00*71 00000001 0000", FileFault::ChainedList)?;
-    check_fault(&rt, "00*78", FileFault::EmptyName)?;
-    check_fault(
-        &rt,
-        "61 00*51 00000010 00*22",
-        FileFault::BadInfo(Which::App),
-    )?;
-    check_fault(
-        &rt,
-        "61 00*55 0000004F 00*18",
-        FileFault::BadInfo(Which::Sort),
-    )?;
-    check_fault(&rt, "61 00*75 0001 00*8", FileFault::BadOffset(0))
+    for (listing, fault) in &FAULTS {
+        check_fault(&rt, listing, *fault)?;
+    }
+    Ok(())
 }
+
+const FAULTS: [(&str, FileFault); 7] = [
+    ("", FileFault::Truncated),
+    ("61 00*76", FileFault::Truncated),
+    ("61 00*71 00000001 0000", FileFault::ChainedList),
+    ("00*78", FileFault::EmptyName),
+    ("61 00*51 00000010 00*22", FileFault::BadInfo(Which::App)),
+    ("61 00*55 0000004F 00*18", FileFault::BadInfo(Which::Sort)),
+    ("61 00*75 0001 00*8", FileFault::BadOffset(0)),
+];
 
 /// All parts of it that were made are given back.
 #[test]

@@ -2,9 +2,9 @@
 
 use heap_model::{Call, DatabaseCall, Db, DbName, RecordCall, Reply};
 use palm_store::Store;
-use std::process::Abort;
 use std::test::*;
 use test_beside::{Beside, blank_image, store_of};
+use test_fakes::equal;
 
 /// Does a call, beside the plain model.
 fn call(
@@ -38,7 +38,7 @@ fn create(
 
 /// Makes a record in front, which must get this ID.
 fn check_new(
-    rt: &(impl Abort + AllocGlobal),
+    rt: &impl AllocGlobal,
     beside: &mut Beside,
     store: &mut Store,
     db: Db,
@@ -49,8 +49,7 @@ fn check_new(
     let Reply::Record(info) = call(rt, beside, store, Call::Record(RecordCall::Info(db, 0)))? else {
         return Err("no record")?;
     };
-    assert_eq!(rt; info.id, id);
-    Ok(())
+    equal("its ID", info.id, id)
 }
 
 /// A record gets the next ID but one, and then the last ID is taken.
@@ -92,7 +91,7 @@ fn a_number_is_given_again(rt: HostRuntime) -> Result<(), Fail> {
     let delete = Call::Database(DatabaseCall::Delete(db));
     call(&rt, &mut beside, &mut store, delete)?;
     let again = create(&rt, &mut beside, &mut store, b"C")?;
-    assert_eq!(rt; again, db);
+    equal("its number", again, db)?;
     for id in [1, 2, 3] {
         check_new(&rt, &mut beside, &mut store, again, id)?;
     }

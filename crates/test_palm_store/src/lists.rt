@@ -4,6 +4,7 @@ use rand_pcg::Pcg32;
 use std::alloc::Global;
 use std::test::*;
 use test_beside::{Beside, Counts, MIXED, OUTCOMES, blank_image, store_of};
+use test_fakes::equal;
 use test_images::{DATABASE, TWO_DATABASES, bytes_of as listed};
 
 /// Does a list of calls that a seed gives, each on the image that the one before left, and counts what
@@ -34,26 +35,43 @@ fn run_list(
     Ok(())
 }
 
+/// The lists of these seeds are done on an image that is taken anew for each call.
+fn is_anew(seed: u64) -> bool {
+    seed < 33
+}
+
+fn run_blank(
+    alloc: Global,
+    counts: &mut Counts,
+    (size, slots): (u32, u16),
+    (seed, count): (u64, u32),
+) -> Result<(), Fail> {
+    let image = blank_image(alloc, size, slots)?;
+    run_list(alloc, counts, image, (seed, count), is_anew(seed))
+}
+
+fn run_listed(
+    alloc: Global,
+    counts: &mut Counts,
+    listing: &str,
+    (seed, count): (u64, u32),
+) -> Result<(), Fail> {
+    let image = listed(alloc, listing)?;
+    run_list(alloc, counts, image, (seed, count), is_anew(seed))
+}
+
 /// From blank images, and from images with databases.
 #[test]
 fn lists_of_calls(rt: HostRuntime) -> Result<(), Fail> {
     let alloc = rt.alloc();
     let mut counts = Counts::new(alloc);
     for seed in 1..49u64 {
-        let anew = seed < 33;
-        let blank = blank_image(alloc, 256, 8)?;
-        run_list(alloc, &mut counts, blank, (seed, 150), anew)?;
-        let blank = blank_image(alloc, 512, 6)?;
-        run_list(alloc, &mut counts, blank, (seed, 150), anew)?;
-        let blank = blank_image(alloc, 4096, 40)?;
-        run_list(alloc, &mut counts, blank, (seed, 300), anew)?;
-        let image = listed(alloc, DATABASE)?;
-        run_list(alloc, &mut counts, image, (seed, 100), anew)?;
-        let image = listed(alloc, TWO_DATABASES)?;
-        run_list(alloc, &mut counts, image, (seed, 100), anew)?;
-        let image = listed(alloc, MIXED)?;
-        run_list(alloc, &mut counts, image, (seed, 300), anew)?;
+        run_blank(alloc, &mut counts, (256, 8), (seed, 150))?;
+        run_blank(alloc, &mut counts, (512, 6), (seed, 150))?;
+        run_blank(alloc, &mut counts, (4096, 40), (seed, 300))?;
+        run_listed(alloc, &mut counts, DATABASE, (seed, 100))?;
+        run_listed(alloc, &mut counts, TWO_DATABASES, (seed, 100))?;
+        run_listed(alloc, &mut counts, MIXED, (seed, 300))?;
     }
-    assert_eq!(rt; counts.missing(&OUTCOMES), None);
-    Ok(())
+    equal("not met", counts.missing(&OUTCOMES), None)
 }

@@ -5,9 +5,10 @@ ghost use Rattle.heap_model.specs.DatabaseFields.{name_size};
 
 use heap_model::{Db, DbInfo, DbName, Entry, Name, RecordInfo, Refusal, ResourceInfo, Which};
 use palm_store::{BlockSizes, Store, WholeEntry};
-use std::process::Abort;
+use std::alloc::Global;
 use std::test::*;
 use test_beside::{blank_image, store_of};
+use test_fakes::{equal, holds};
 
 /// What the header of a database of two entries says.
 fn info_of_two(name: &[u8], attributes: u16) -> DbInfo
@@ -78,120 +79,145 @@ fn make_resources(store: &mut Store, names: &mut [Name]) -> Result<Db, Refusal>
     store.create_whole(&info_of_two(b"W", 0x0001), blocks, &entries, names)
 }
 
-/// The body of a chunk is so many zeros.
-fn check_zeros(
-    rt: &(impl Abort + AllocGlobal),
-    store: &mut Store,
-    name: Name,
-    count: u32,
-) -> Result<(), Fail> {
-    assert_eq!(rt; store.size(name)?, count);
-    assert!(rt; store.read(name, 0, count)?.iter().all(|byte| *byte == 0));
-    assert_eq!(rt; store.owner(name)?, 15);
-    assert_eq!(rt; store.locks(name)?, 0);
-    Ok(())
+/// A blank store of 400 bytes with 20 slots.
+fn small_store(alloc: Global) -> Result<Store, Fail> {
+    store_of(alloc, &blank_image(alloc, 400, 20)?)
 }
 
-#[test]
-fn records_are_made_with_their_header(rt: HostRuntime) -> Result<(), Fail> {
-    let mut store = store_of(rt.alloc(), &blank_image(rt.alloc(), 400, 20)?)?;
-    let mut names = [Name(1); 4];
-    let db = make_records(&mut store, &mut names)?;
-    assert_eq!(rt; store.database_info(db)?, info_of_two(b"W", 0x0008));
-    assert_eq!(rt; store.info_block(db, Which::App)?, names[0]);
-    check_zeros(&rt, &mut store, names[0], 3)?;
-    assert_eq!(rt;
-        store.info_block(db, Which::Sort),
-        Err(Refusal::NoInfoBlock)
-    );
+/// The body of a chunk is so many zeros.
+fn check_zeros(store: &Store, name: Name, count: u32) -> Result<(), Fail> {
+    let head = (store.size(name)?, store.owner(name)?, store.locks(name)?);
+    equal("size, owner, locks", head, (count, 15, 0))?;
+    let are_zeros = store.read(name, 0, count)?.iter().all(|byte| *byte == 0);
+    holds("its bytes", are_zeros)
+}
+
+/// What its header says, and one of its info blocks.
+fn check_header(
+    store: &Store,
+    db: Db,
+    attributes: u16,
+    which: Which,
+    block: Name,
+) -> Result<(), Fail> {
+    let info = store.database_info(db)?;
+    equal("its header", info, info_of_two(b"W", attributes))?;
+    equal("its block", store.info_block(db, which), Ok(block))
+}
+
+/// The entry of an index, none behind the last.
+fn check_entry(store: &Store, db: Db, index: u32, entry: Option<Entry>) -> Result<(), Fail> {
+    let found = store.find_entry(db, index)?.entry;
+    equal(format_args!("entry {index}"), found, entry)
+}
+
+/// The records that were made, the data of the first under this name.
+fn check_two_records(store: &Store, db: Db, data: Name) -> Result<(), Fail> {
     let first = RecordInfo {
         attributes: 0x41,
         id: 12,
-        data: Some(names[2]),
+        data: Some(data),
     };
-    assert_eq!(rt; store.find_entry(db, 0)?.entry, Some(Entry::Record(first)));
-    check_zeros(&rt, &mut store, names[2], 10)?;
     let second = RecordInfo {
         attributes: 0x80,
         id: 11,
         data: None,
     };
-    assert_eq!(rt; store.find_entry(db, 1)?.entry, Some(Entry::Record(second)));
-    assert_eq!(rt; [names[1], names[3]], [Name(0); 2]);
-    assert_eq!(rt; store.find_entry(db, 2)?.entry, None);
-    Ok(())
+    check_entry(store, db, 0, Some(Entry::Record(first)))?;
+    check_entry(store, db, 1, Some(Entry::Record(second)))?;
+    check_entry(store, db, 2, None)?;
+    check_zeros(store, data, 10)
+}
+
+/// The database that was made, with the names that it got.
+fn check_records(store: &Store, db: Db, names: [Name; 4]) -> Result<(), Fail> {
+    check_header(store, db, 0x0008, Which::App, names[0])?;
+    check_zeros(store, names[0], 3)?;
+    let none = store.info_block(db, Which::Sort);
+    equal("no block", none, Err(Refusal::NoInfoBlock))?;
+    equal("no names", [names[1], names[3]], [Name(0); 2])?;
+    check_two_records(store, db, names[2])
+}
+
+#[test]
+fn records_are_made_with_their_header(rt: HostRuntime) -> Result<(), Fail> {
+    let mut store = small_store(rt.alloc())?;
+    let mut names = [Name(1); 4];
+    let db = make_records(&mut store, &mut names)?;
+    check_records(&store, db, names)
 }
 
 /// The resource of an index has its data under this name, and that is so many zeros.
-fn check_resource(
-    rt: &(impl Abort + AllocGlobal),
-    store: &mut Store,
-    db: Db,
-    index: u32,
-    name: Name,
-    size: u32,
-) -> Result<(), Fail> {
+fn check_resource(store: &Store, db: Db, index: u32, data: Name, size: u32) -> Result<(), Fail> {
     let resource = ResourceInfo {
         kind: 0x7453_5452,
         id: 1000,
-        data: name,
+        data,
     };
-    assert_eq!(rt;
-        store.find_entry(db, index)?.entry,
-        Some(Entry::Resource(resource))
-    );
-    check_zeros(rt, store, name, size)
+    check_entry(store, db, index, Some(Entry::Resource(resource)))?;
+    check_zeros(store, data, size)
+}
+
+/// The database that was made, with the names that it got.
+fn check_resources(store: &Store, db: Db, names: [Name; 4]) -> Result<(), Fail> {
+    check_header(store, db, 0x0001, Which::Sort, names[1])?;
+    check_zeros(store, names[1], 0)?;
+    check_resource(store, db, 0, names[2], 0)?;
+    check_resource(store, db, 1, names[3], 5)
 }
 
 #[test]
 fn resources_come_behind_another_database(rt: HostRuntime) -> Result<(), Fail> {
-    let mut store = store_of(rt.alloc(), &blank_image(rt.alloc(), 400, 20)?)?;
+    let mut store = small_store(rt.alloc())?;
     let other = store.create(&DbName::of(b"V"), 0, 0, false, 0)?;
     let mut names = [Name(1); 4];
     let db = make_resources(&mut store, &mut names)?;
-    assert_eq!(rt; [store.nth(0)?, store.nth(1)?], [other, db]);
-    assert_eq!(rt; store.database_info(db)?, info_of_two(b"W", 0x0001));
-    assert_eq!(rt; store.info_block(db, Which::Sort)?, names[1]);
-    check_zeros(&rt, &mut store, names[1], 0)?;
-    check_resource(&rt, &mut store, db, 0, names[2], 0)?;
-    check_resource(&rt, &mut store, db, 1, names[3], 5)
+    let listed = [store.nth(0), store.nth(1)];
+    equal("the databases", listed, [Ok(other), Ok(db)])?;
+    check_resources(&store, db, names)
 }
 
 /// A name is taken, whatever room there is.
 #[test]
 fn a_name_is_taken_once(rt: HostRuntime) -> Result<(), Fail> {
-    let mut store = store_of(rt.alloc(), &blank_image(rt.alloc(), 400, 20)?)?;
+    let mut store = small_store(rt.alloc())?;
     let mut names = [Name(0); 4];
     make_records(&mut store, &mut names)?;
     let again = make_resources(&mut store, &mut names);
-    assert_eq!(rt; again, Err(Refusal::AlreadyExists));
-    Ok(())
+    equal("again", again, Err(Refusal::AlreadyExists))
+}
+
+/// A store with 1,024 databases.
+fn full_store(alloc: Global) -> Result<Store, Fail> {
+    let mut store = store_of(alloc, &blank_image(alloc, 200_000, 1_100)?)?;
+    for number in 1..=1_024 {
+        let name = format!(in alloc; "{number}")?;
+        store.create(&DbName::of(name.as_bytes()), 0, 0, false, 0)?;
+    }
+    Ok(store)
 }
 
 #[test]
 fn whole_databases_are_at_most_1024(rt: HostRuntime) -> Result<(), Fail> {
-    let mut store = store_of(rt.alloc(), &blank_image(rt.alloc(), 200_000, 1_100)?)?;
-    for number in 1..=1_024 {
-        let name = format!(in rt.alloc(); "{number}")?;
-        store.create(&DbName::of(name.as_bytes()), 0, 0, false, 0)?;
-    }
+    let mut store = full_store(rt.alloc())?;
     let mut names = [Name(0); 4];
     let made = make_records(&mut store, &mut names);
-    assert_eq!(rt; made, Err(Refusal::TooManyEntries));
-    Ok(())
+    equal("another", made, Err(Refusal::TooManyEntries))
 }
 
 /// In an empty store of this size and with so many slots the records are made, or nothing is left of them.
 /// Whether there was no room for them.
-fn is_taken_back(rt: &(impl Abort + AllocGlobal), size: u32, slots: u16) -> Result<bool, Fail> {
-    let mut store = store_of(rt.alloc(), &blank_image(rt.alloc(), size, slots)?)?;
-    let free = store.free_bytes();
-    let summary = store.summary();
+fn is_taken_back(alloc: Global, size: u32, slots: u16) -> Result<bool, Fail> {
+    let mut store = store_of(alloc, &blank_image(alloc, size, slots)?)?;
+    let before = (store.free_bytes(), store.summary());
     let mut names = [Name(0); 4];
     if let Err(refusal) = make_records(&mut store, &mut names) {
-        assert_eq!(rt; refusal, Refusal::NotEnoughSpace);
-        assert_eq!(rt; store.free_bytes(), free);
-        assert_eq!(rt; store.summary(), summary);
+        let left = (store.free_bytes(), store.summary());
+        equal(
+            "no room",
+            (refusal, left),
+            (Refusal::NotEnoughSpace, before),
+        )?;
         return Ok(true);
     }
     Ok(false)
@@ -202,7 +228,8 @@ fn is_taken_back(rt: &(impl Abort + AllocGlobal), size: u32, slots: u16) -> Resu
 fn what_finds_no_room_is_taken_back(rt: HostRuntime) -> Result<(), Fail> {
     for eighth in 10..40u32 {
         let size = eighth * 8;
-        assert_eq!(rt; is_taken_back(&rt, size, 8)?, size < 208, "{size}");
+        let is_taken_back = is_taken_back(rt.alloc(), size, 8)?;
+        equal(size, is_taken_back, size < 208)?;
     }
     Ok(())
 }
@@ -211,7 +238,8 @@ fn what_finds_no_room_is_taken_back(rt: HostRuntime) -> Result<(), Fail> {
 #[test]
 fn what_finds_no_slot_is_taken_back(rt: HostRuntime) -> Result<(), Fail> {
     for slots in 1..8u16 {
-        assert_eq!(rt; is_taken_back(&rt, 400, slots)?, slots < 4, "{slots}");
+        let is_taken_back = is_taken_back(rt.alloc(), 400, slots)?;
+        equal(slots, is_taken_back, slots < 4)?;
     }
     Ok(())
 }
