@@ -3,11 +3,12 @@ use Rattle.std.proofs.Common.{◌≡◌, ◌≢◌, ℕ, ◌+◌, ◌<◌, ◌�
 use Rattle.std.proofs.lemmas.Bool.{cases_eq, eq-eqb, ne_eqb}
 use Rattle.std.specs.Prelude.{◌==◌}
 use Rattle.std.specs.Option.{is_some}
+use Rattle.heap_model.specs.Chunk.{managers_owner}
 use Rattle.heap_model.specs.Bytes.{overwritten, sized_to}
 use Rattle.heap_model.specs.Meaning.{LiveChunk, ChunkMap}
 use Rattle.heap_model.specs.Reading.{held}
 use Rattle.heap_model.specs.Maps.{changed, changed_at, put, sized}
-use Rattle.heap_model.specs.Store.{managers_owner, bytes_of, owner_of, bytes_under, owner_under}
+use Rattle.heap_model.specs.Store.{bytes_of, owner_of, bytes_under, owner_under}
 use Rattle.heap_model.specs.Database.{Database, spelled}
 use Rattle.heap_model.specs.Leaving.{Leaves, Respells, rewritten}
 use Rattle.laws_heap.proofs.Tests.{cond-true, cond-false, same_some}

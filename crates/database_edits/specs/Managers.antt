@@ -1,11 +1,12 @@
 -- The chunk of a database whose bytes change: what it spells may be none on the way.
 use Rattle.std.specs.Prelude.{◌≡◌, ◌≤◌, ℕ, List, length, take}
+use Rattle.heap_model.specs.Chunk.{managers_owner}
 use Rattle.heap_model.specs.Bytes.{overwritten}
 use Rattle.heap_model.specs.DatabaseFields.{header_size}
 use Rattle.heap_model.specs.Database.{Database, IsDatabaseName, header_bytes}
 use Rattle.heap_model.specs.Heap.{HeapAccepted}
 use Rattle.heap_model.specs.Reading.{held}
-use Rattle.heap_model.specs.Store.{managers_owner, bytes_under, owner_under}
+use Rattle.heap_model.specs.Store.{bytes_under, owner_under}
 use Rattle.heap_model.specs.Leaving.{Leaves, rewritten}
 
 -- in an accepted heap a chunk of the manager's is under this slot, whatever its bytes

@@ -9,17 +9,17 @@
 mod attributes;
 mod blocks;
 mod bodies;
+mod counting;
 mod headers;
 mod insertion;
 mod moving;
-mod raising;
 mod removal;
 mod replacement;
 mod writing;
 
 pub use attributes::change_attributes;
 pub use blocks::write_block;
+pub use counting::count_change;
 pub use insertion::insert_entry;
-pub use raising::raise_modification;
 pub use removal::remove_entry;
 pub use replacement::{move_entry, write_entry};

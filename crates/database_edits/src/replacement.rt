@@ -5,7 +5,7 @@ ghost use Rattle.heap_model.specs.Leaving.{SpellsHere, database_here};
 ghost use Rattle.db_format.specs.EitherEntry.{entry_of, is_resource, HasFittingId};
 ghost use Rattle.database_edits.specs.Edits.{Changes, HasKindHere, entry_written, entry_moved};
 
-use crate::raising::{raise_if, raise_modification};
+use crate::counting::{count_change_if, count_change};
 use crate::{moving, writing};
 use db_format::DbEntry;
 use heap_model::Db;
@@ -22,7 +22,7 @@ pub fn write_entry(heap: &mut Heap, db: Db, index: u16, entry: DbEntry, counts: 
         (entry_written counts index (entry_of entry)) }
     ensures rest { heap.new ≡ record heap.old { bytes = heap.new.bytes } }
 {
-    raise_if(heap, db, counts);
+    count_change_if(heap, db, counts);
     writing::write_entry(heap, db, index, entry);
 }
 
@@ -35,6 +35,6 @@ pub fn move_entry(heap: &mut Heap, db: Db, from: u16, to: u16)
     ensures moved { Changes heap.old.bytes heap.new.bytes db.0 (entry_moved from to) }
     ensures rest { heap.new ≡ record heap.old { bytes = heap.new.bytes; slid = heap.new.slid } }
 {
-    raise_modification(heap, db);
+    count_change(heap, db);
     moving::move_entry(heap, db, from, to);
 }

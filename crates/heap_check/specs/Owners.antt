@@ -1,7 +1,8 @@
 -- The owners of the chunks of slots, as marks.
 use Rattle.std.specs.Prelude.{◌≡◌, ◌<◌, ◌≤◌, ℕ, Bool, true, false, List, length, slice_index}
+use Rattle.heap_model.specs.Chunk.{managers_owner}
 use Rattle.heap_model.specs.Slots.{StandsBehind, slots_total}
-use Rattle.heap_model.specs.Store.{managers_owner, owner_under}
+use Rattle.heap_model.specs.Store.{owner_under}
 
 -- the mark of a slot that has no chunk
 abbrev pub no_owner : ℕ

@@ -1,7 +1,7 @@
 -- What a walk over chunks has found, and what one header adds to it.
 use Rattle.std.specs.Prelude.{◌≡◌, ◌≢◌, ◌+◌, ◌-◌, ◌==◌, ◌&&◌, ◌↔◌, ◌⊎◌, ◌≤◌, nat_lt, ℕ, Bool, true, false, List, length, slice_index, count_by, sum_by, Option, Some, None, MatchOption}
 use Rattle.heap_model.specs.Bytes.{u32_at}
-use Rattle.heap_model.specs.Chunk.{Chunk, free, movable, fixed, Spelled, SpelledAll, is_movable, is_fixed, free_size}
+use Rattle.heap_model.specs.Chunk.{Chunk, free, movable, fixed, Spelled, SpelledAll, is_movable, is_fixed, free_size, managers_owner, data_owner}
 use Rattle.heap_model.specs.Placed.{EveryPlaced, FirstWithout, EveryOne, FirstOne}
 use Rattle.heap_model.specs.Slots.{area_start, is_slot, slots_of, StandsBehind}
 use Rattle.heap_model.specs.Heap.{Tiles, IsBody, IsCallersIfFixed}
@@ -43,7 +43,7 @@ names_by image at (headers.Fixed length owner) = true
 abbrev pub callers_by : Header → Bool
 callers_by (headers.Free size) = true
 callers_by (headers.Movable length lock owner slot) = true
-callers_by (headers.Fixed length owner) = nat_lt 0 owner && nat_lt owner 15
+callers_by (headers.Fixed length owner) = nat_lt managers_owner owner && nat_lt owner data_owner
 
 -- the chunk is movable, names this slot and has its body at this place
 abbrev pub BodyBy : ℕ → ℕ → ℕ → Header → Type 0

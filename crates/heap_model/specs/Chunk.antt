@@ -9,9 +9,22 @@ pub data Chunk : Type 0 where
   movable : List ℕ → ℕ → ℕ → ℕ → Chunk
   fixed : List ℕ → ℕ → Chunk
 
--- the lock of a fixed chunk; a movable chunk's counts its locks, up to 14
+-- the lock of a fixed chunk
 abbrev pub fixed_lock : ℕ
 fixed_lock = 15
+
+-- the most locks that a movable chunk counts
+abbrev pub most_locks : ℕ
+most_locks = 14
+
+-- the owner of the manager's own chunks: the directory and the headers of databases
+abbrev pub managers_owner : ℕ
+managers_owner = 0
+
+-- The owner of the chunks that databases name: info blocks, and the data of records and resources. The
+-- owners between the two are callers'.
+abbrev pub data_owner : ℕ
+data_owner = 15
 
 -- what a chunk of so many bytes takes: 8 for its header, and the bytes rounded up to a multiple of 8
 abbrev pub need : ℕ → ℕ

@@ -1,10 +1,11 @@
 -- An image and its databases, by counts: how often each name is the number of a database, and how often
 -- databases name it. Of calls that change the databases of an image this is what is proved to stay so.
 use Rattle.std.specs.Prelude.{◌≡◌, ◌≤◌, ◌<◌, ◌+◌, ◌%◌, ℕ, true, List, length, All}
+use Rattle.heap_model.specs.Chunk.{managers_owner, data_owner}
 use Rattle.heap_model.specs.Heap.{HeapAccepted, directory_of}
 use Rattle.heap_model.specs.Lists.{same, times, Distinct}
 use Rattle.heap_model.specs.Database.{Database, Entry, a_record, a_resource, is_deleted, DatabaseFits, IsSpelled}
-use Rattle.heap_model.specs.Store.{StoredDatabase, managers_owner, data_owner, bytes_under, owner_under, directory_bytes, listed, named_by, most_databases, HasUniqueIds, numbers_of, names_of}
+use Rattle.heap_model.specs.Store.{StoredDatabase, bytes_under, owner_under, directory_bytes, listed, named_by, most_databases, HasUniqueIds, numbers_of, names_of, listed_size}
 
 -- an entry names data, if it isn't that of a deleted record
 abbrev pub NamesData : Entry ℕ → Type 0
@@ -22,7 +23,7 @@ pub record IsWhole (image : List ℕ) (stored : StoredDatabase) : Type 0 where
 -- directory where its chunk is one of the manager's, and else neither.
 pub record HasDatabases (image : List ℕ) (stored : List StoredDatabase) : Type 0 where
   pub heap : HeapAccepted image
-  pub whole : length (directory_bytes image) % 4 ≡ 0
+  pub whole : length (directory_bytes image) % listed_size ≡ 0
   pub listed_are : listed image ≡ numbers_of stored
   pub few : length stored ≤ most_databases
   pub each : All (IsWhole image) stored

@@ -4,7 +4,7 @@
 -- have the slot of a chunk wherever a file has an offset, which is this project's own. So one spelling
 -- serves both: a database here has numbers for its data, and what these stand for is said where they
 -- are used.
-use Rattle.std.specs.Prelude.{◌≡◌, ◌≤◌, ◌<◌, ◌+◌, ◌-◌, ◌*◌, ◌^◌, ◌==◌, ◌++◌, not, ℕ, Bool, true, false, List, [], ◌∷◌, length, take, replicate, slice_index, map, All}
+use Rattle.std.specs.Prelude.{◌≡◌, ◌≤◌, ◌<◌, ◌+◌, ◌-◌, ◌*◌, ◌/◌, ◌%◌, ◌^◌, ◌==◌, ◌++◌, not, ℕ, Bool, true, false, List, [], ◌∷◌, length, take, replicate, slice_index, map, All}
 use Rattle.std.specs.Int.{bit_at}
 use Rattle.std.specs.List.{concat, flat_map, take_while}
 use Rattle.heap_model.specs.Bytes.{u16_at, u24_at, u32_at, u16_bytes, u24_bytes, u32_bytes}
@@ -66,6 +66,10 @@ with_data change database = record {
 -- a database with these attributes holds resources: 0x0001 is set. Else it holds records.
 abbrev pub has_resources : ℕ → Bool
 has_resources attributes = bit_at attributes 0 == 1
+
+-- attributes that are given, with the bit of others that says whether there are resources: the lowest
+abbrev pub with_resources_of : ℕ → ℕ → ℕ
+with_resources_of others given = 2 * (given / 2) + others % 2
 
 -- a database with these attributes may only be read: 0x0002 is set
 abbrev pub is_read_only : ℕ → Bool

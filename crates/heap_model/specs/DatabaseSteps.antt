@@ -1,13 +1,14 @@
 -- What each call on databases as a whole refuses, answers and does: one row a call.
-use Rattle.std.specs.Prelude.{◌≡◌, ◌≢◌, ◌≤◌, ◌<◌, ◌+◌, ◌*◌, ◌/◌, ◌%◌, ◌++◌, ◌==◌, if◌then◌else◌, ℕ, Bool, true, false, List, [], ◌∷◌, length, slice_get, Option, Some, None, All}
+use Rattle.std.specs.Prelude.{◌≡◌, ◌≢◌, ◌≤◌, ◌<◌, ◌+◌, ◌++◌, ◌==◌, if◌then◌else◌, ℕ, Bool, true, false, List, [], ◌∷◌, length, slice_get, Option, Some, None, All}
 use Rattle.std.specs.List.{Any}
+use Rattle.heap_model.specs.Chunk.{data_owner}
 use Rattle.heap_model.specs.Memory.{Memory}
 use Rattle.heap_model.specs.Heap.{directory_of}
 use Rattle.heap_model.specs.Reading.{held}
 use Rattle.heap_model.specs.DatabaseFields.{header_size}
-use Rattle.heap_model.specs.Database.{DatabaseHeader, Database, data_in, IsDatabaseName}
+use Rattle.heap_model.specs.Database.{DatabaseHeader, Database, data_in, IsDatabaseName, with_resources_of}
 use Rattle.heap_model.specs.Maps.{reowned}
-use Rattle.heap_model.specs.Store.{StoredDatabase, Store, data_owner, directory_bytes, numbers_of, names_of, most_databases}
+use Rattle.heap_model.specs.Store.{StoredDatabase, Store, directory_bytes, numbers_of, names_of, most_databases, listed_size}
 use Rattle.heap_model.specs.Rooms.{Part, making, growth}
 use Rattle.heap_model.specs.Refusals.{Check, ◌brings◌}
 use Rattle.heap_model.specs.Steps.{Row, done, number, named}
@@ -112,8 +113,8 @@ empty_database name kind creator resources date = record {
 abbrev pub create_parts : List ℕ → List Part
 create_parts image =
     if directory_of image == 0
-    then (making header_size ∷ making 4 ∷ [])
-    else (making header_size ∷ growth image (directory_of image) (length (directory_bytes image) + 4) ∷ [])
+    then (making header_size ∷ making listed_size ∷ [])
+    else (making header_size ∷ growth image (directory_of image) (length (directory_bytes image) + listed_size) ∷ [])
 
 -- how many slots it takes
 abbrev pub create_slots : List ℕ → ℕ
@@ -124,7 +125,7 @@ create_slots image = if directory_of image == 0 then 2 else 1
 abbrev pub header_set : DbInfo → DatabaseHeader → DatabaseHeader
 header_set info header = record header {
   name = info.name;
-  attributes = 2 * (info.attributes / 2) + header.attributes % 2;
+  attributes = with_resources_of header.attributes info.attributes;
   version = info.version;
   creation_date = info.creation_date;
   modification_date = info.modification_date;

@@ -3,7 +3,7 @@
 use Rattle.std.specs.Prelude.{◌≡◌, ◌≢◌, ◌≤◌, ◌<◌, ◌+◌, nat_lt, if◌then◌else◌, bit_or, ℕ, Bool, false, List, [], ◌∷◌, length, slice_get, slice_set, Option, Some, None, IsSome}
 use Rattle.std.specs.List.{insert, remove}
 use Rattle.heap_model.specs.Memory.{Memory}
-use Rattle.heap_model.specs.Chunk.{fixed_lock}
+use Rattle.heap_model.specs.Chunk.{fixed_lock, data_owner}
 use Rattle.heap_model.specs.Slots.{slots_total}
 use Rattle.heap_model.specs.Heap.{directory_of}
 use Rattle.heap_model.specs.Meaning.{LiveChunk, ChunkMap}
@@ -14,7 +14,7 @@ use Rattle.heap_model.specs.Lists.{Least}
 use Rattle.heap_model.specs.DatabaseFields.{entry_size}
 use Rattle.heap_model.specs.Database.{DatabaseHeader, Entry, a_record, a_resource, Database, entry_data, entry_with, has_resources}
 use Rattle.heap_model.specs.UniqueIds.{IsFresh, seed_in, with_seed}
-use Rattle.heap_model.specs.Store.{StoredDatabase, Store, data_owner, bytes_under, unique_id, unique_ids, Accepted, store_of}
+use Rattle.heap_model.specs.Store.{StoredDatabase, Store, bytes_under, unique_id, unique_ids, Accepted, store_of}
 use Rattle.heap_model.specs.Rooms.{Part, making, growth}
 use Rattle.heap_model.specs.Refusals.{Check, ◌brings◌}
 use Rattle.heap_model.specs.MemorySteps.{Of, IsLocked, unknown, where_it}
@@ -98,6 +98,15 @@ IsResourceInfoOf info (a_resource kind id slot) = (info.kind ≡ kind) × (info.
 abbrev pub Tells : heard.Entry → Entry ℕ → Type 0
 Tells (entries.Record info) entry = IsInfoOf info entry
 Tells (entries.Resource info) entry = IsResourceInfoOf info entry
+
+-- what is told of a record, and of a resource, if that is what is told
+abbrev pub record_told : heard.Entry → Option RecordInfo
+record_told (entries.Record info) = Some info
+record_told (entries.Resource info) = None
+
+abbrev pub resource_told : heard.Entry → Option ResourceInfo
+resource_told (entries.Record info) = None
+resource_told (entries.Resource info) = Some info
 
 -- ---- which entries are such
 

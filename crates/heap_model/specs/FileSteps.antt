@@ -1,6 +1,7 @@
 -- What each call on files refuses, answers and does: one row a call. And the room that a database takes which
 -- is made whole.
 use Rattle.std.specs.Prelude.{◌≡◌, ◌≤◌, ◌<◌, ◌+◌, ◌++◌, ◌⊎◌, ◌==◌, if◌then◌else◌, ℕ, true, false, List, [], ◌∷◌, length, map, Option, Some, None, All}
+use Rattle.heap_model.specs.Chunk.{data_owner}
 use Rattle.heap_model.specs.Memory.{Memory}
 use Rattle.heap_model.specs.Heap.{directory_of}
 use Rattle.heap_model.specs.Meaning.{ChunkMap}
@@ -8,7 +9,7 @@ use Rattle.heap_model.specs.Reading.{held}
 use Rattle.heap_model.specs.Lists.{times}
 use Rattle.heap_model.specs.Database.{Database, data_in, name_in}
 use Rattle.heap_model.specs.Files.{entries_end, HasFault, file_faults, blocks_in, Reads, file_of}
-use Rattle.heap_model.specs.Store.{Store, data_owner, directory_bytes, most_databases, content}
+use Rattle.heap_model.specs.Store.{Store, directory_bytes, most_databases, content, listed_size}
 use Rattle.heap_model.specs.Rooms.{Part, making, growth}
 use Rattle.heap_model.specs.Refusals.{Check, ◌brings◌, ◌may_bring◌}
 use Rattle.heap_model.specs.Steps.{Row, data_of}
@@ -44,7 +45,7 @@ makings (Some size ∷ sizes) = making size ∷ makings sizes
 
 -- what it takes to list one database more: a directory is made where there is none, and else it grows
 abbrev pub listing_part : List ℕ → Part
-listing_part image = if directory_of image == 0 then making 4 else growth image (directory_of image) (length (directory_bytes image) + 4)
+listing_part image = if directory_of image == 0 then making listed_size else growth image (directory_of image) (length (directory_bytes image) + listed_size)
 
 abbrev pub listing_slots : List ℕ → ℕ
 listing_slots image = if directory_of image == 0 then 1 else 0

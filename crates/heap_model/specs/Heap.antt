@@ -1,7 +1,7 @@
 -- The accepted heap.
 use Rattle.std.specs.Prelude.{◌≡◌, ◌≢◌, ◌≤◌, ◌<◌, ◌+◌, ◌%◌, ◌⊎◌, ◌↔◌, ℕ, List, length}
 use Rattle.heap_model.specs.Bytes.{u16_at, u32_at}
-use Rattle.heap_model.specs.Chunk.{Chunk, free, movable, fixed, SpelledAll}
+use Rattle.heap_model.specs.Chunk.{Chunk, free, movable, fixed, SpelledAll, managers_owner, data_owner}
 use Rattle.heap_model.specs.Placed.{EveryPlaced, AnyPlaced}
 use Rattle.heap_model.specs.Frame.{magic, magic_at, size_at, reserved_at, directory_at, least_size, most_size}
 use Rattle.heap_model.specs.Slots.{IsSlot, slot_count, head_end, area_start}
@@ -39,16 +39,16 @@ IsBody at chunks slot place = AnyPlaced (BodyHere slot place) at chunks
 abbrev pub Tied : List ℕ → List Chunk → Type 0
 Tied image chunks = (slot place : ℕ) → 0 < place → ((IsSlot image slot × (u32_at image slot ≡ place)) ↔ IsBody (area_start image) chunks slot place)
 
--- the chunk, where it is fixed, is a caller's: its owner is 1 to 14
+-- the chunk, where it is fixed, is a caller's
 abbrev pub IsCallersIfFixed : ℕ → Chunk → Type 0
 IsCallersIfFixed at (free size) = Unit {0}
 IsCallersIfFixed at (movable bytes lock owner slot) = Unit {0}
-IsCallersIfFixed at (fixed bytes owner) = (0 < owner) × (owner < 15)
+IsCallersIfFixed at (fixed bytes owner) = (managers_owner < owner) × (owner < data_owner)
 
--- the chunk is a movable one of the manager's, whose owner is 0, and names this slot
+-- the chunk is a movable one of the manager's, and names this slot
 abbrev pub ManagersHere : ℕ → ℕ → Chunk → Type 0
 ManagersHere slot at (free size) = ⊥
-ManagersHere slot at (movable bytes lock owner named) = (named ≡ slot) × (owner ≡ 0)
+ManagersHere slot at (movable bytes lock owner named) = (named ≡ slot) × (owner ≡ managers_owner)
 ManagersHere slot at (fixed bytes owner) = ⊥
 
 -- the directory word

@@ -1,6 +1,7 @@
 -- What is left behind of a region by a call that isn't a step for callers: by those that the store makes
 -- its own chunks and databases of.
 use Rattle.std.specs.Prelude.{◌≡◌, ℕ, List, length}
+use Rattle.heap_model.specs.Chunk.{managers_owner}
 use Rattle.heap_model.specs.Slots.{slots_of}
 use Rattle.heap_model.specs.Heap.{HeapAccepted, directory_of}
 use Rattle.heap_model.specs.Meaning.{ChunkMap}
@@ -9,7 +10,7 @@ use Rattle.heap_model.specs.Space.{Still}
 use Rattle.heap_model.specs.Placing.{SameFrame}
 use Rattle.heap_model.specs.Maps.{changed_at}
 use Rattle.heap_model.specs.Database.{Database, spelled, database_in, IsSpelled}
-use Rattle.heap_model.specs.Store.{managers_owner, bytes_under, owner_under}
+use Rattle.heap_model.specs.Store.{bytes_under, owner_under}
 
 -- The new image is an accepted heap in the same frame, and holds this map. No chunk that stays, and
 -- is still live, has moved.

@@ -1,8 +1,8 @@
 -- What each call of the memory manager refuses, answers and does: one row a call, like a manual page.
-use Rattle.std.specs.Prelude.{◌≡◌, ◌<◌, ◌+◌, ◌-◌, ◌++◌, ◌⊎◌, ◌==◌, if◌then◌else◌, ℕ, Bool, true, false, List, [], ◌∷◌, length, not, slice_range, replicate, count_by, Option, Some, None, Result, Ok, Err}
+use Rattle.std.specs.Prelude.{◌≡◌, ◌≤◌, ◌<◌, ◌+◌, ◌-◌, ◌++◌, ◌⊎◌, ◌==◌, if◌then◌else◌, ℕ, Bool, true, false, List, [], ◌∷◌, length, not, slice_range, replicate, count_by, Option, Some, None, Result, Ok, Err}
 use Rattle.std.specs.Bool.{OnTrue}
 use Rattle.std.specs.List.{take_while}
-use Rattle.heap_model.specs.Chunk.{fixed_lock, need, is_owned_by}
+use Rattle.heap_model.specs.Chunk.{fixed_lock, need, is_owned_by, most_locks, managers_owner, data_owner}
 use Rattle.heap_model.specs.Memory.{Memory}
 use Rattle.heap_model.specs.Heap.{HeapAccepted}
 use Rattle.heap_model.specs.Meaning.{LiveChunk, ChunkMap}
@@ -57,7 +57,7 @@ Of (Some live) P = P live
 
 -- an owner that no caller may give
 abbrev pub IsNoCaller : ℕ → Type 0
-IsNoCaller owner = (owner ≡ 0) ⊎ (14 < owner)
+IsNoCaller owner = (owner ≡ managers_owner) ⊎ (data_owner ≤ owner)
 
 -- a lock count of 1 to 14: a fixed chunk is not locked but fixed
 abbrev pub IsLocked : LiveChunk → Type 0
@@ -119,7 +119,7 @@ row old map (Free name) = record {
   only_asks = false;
   refusals =
       unknown map name.0
-      ∷ where_it map name.0 (λ live. live.owner ≡ 15) OwnedByDatabase
+      ∷ where_it map name.0 (λ live. live.owner ≡ data_owner) OwnedByDatabase
       ∷ where_it map name.0 IsLocked ChunkLocked
       ∷ [];
   answers = done;
@@ -130,7 +130,7 @@ row old map (Lock name) = record {
   refusals =
       unknown map name.0
       ∷ where_it map name.0 (λ live. live.lock ≡ fixed_lock) ChunkFixed
-      ∷ where_it map name.0 (λ live. live.lock ≡ 14) LockOverflow
+      ∷ where_it map name.0 (λ live. live.lock ≡ most_locks) LockOverflow
       ∷ [];
   answers = locked (λ place count new. Of (map name.0) (λ live. count ≡ live.lock + 1) × (place_of new.bytes name.0 ≡ Some place.0));
   effect = becomes (λ all. relocked all name.0 (λ lock. lock + 1));
@@ -207,7 +207,7 @@ row old map (Resize name size) = record {
   only_asks = false;
   refusals =
       unknown map name.0
-      ∷ where_it map name.0 (λ live. live.owner ≡ 15) OwnedByDatabase
+      ∷ where_it map name.0 (λ live. live.owner ≡ data_owner) OwnedByDatabase
       ∷ where_it map name.0 (λ live. live.lock ≡ fixed_lock) ChunkFixed
       ∷ growth_checks old.bytes map name.0 size;
   answers = done;
@@ -217,7 +217,7 @@ row old map (SetOwner name owner) = record {
   only_asks = false;
   refusals =
       unknown map name.0
-      ∷ where_it map name.0 (λ live. live.owner ≡ 15) OwnedByDatabase
+      ∷ where_it map name.0 (λ live. live.owner ≡ data_owner) OwnedByDatabase
       ∷ no_owner owner
       ∷ [];
   answers = done;

@@ -5,7 +5,7 @@
 use Rattle.std.specs.Prelude.{◌+◌, ◌-◌, ◌/◌, ◌%◌, ◌^◌, ◌==◌, ◌&&◌, ◌||◌, ◌++◌, not, nat_le, nat_lt, if◌then◌else◌, ℕ, zero, suc, Bool, true, false, List, [], ◌∷◌, length, slice_range, Option, Some, None}
 use Rattle.std.specs.List.{list_all}
 use Rattle.heap_model.specs.Bytes.{u16_at, u32_at}
-use Rattle.heap_model.specs.Chunk.{Chunk, free, movable, fixed, fixed_lock, need, size_of, total, slot_named}
+use Rattle.heap_model.specs.Chunk.{Chunk, free, movable, fixed, fixed_lock, need, size_of, total, slot_named, managers_owner, data_owner}
 use Rattle.heap_model.specs.Placed.{every_placed, any_placed}
 use Rattle.heap_model.specs.Slots.{slot_count, head_end, area_start, slots_of, is_slot}
 use Rattle.heap_model.specs.Frame.{magic, magic_at, size_at, reserved_at, least_size, most_size}
@@ -132,12 +132,12 @@ names_its_slot image at (fixed bytes owner) = true
 abbrev pub is_callers_if_fixed : ℕ → Chunk → Bool
 is_callers_if_fixed at (free size) = true
 is_callers_if_fixed at (movable bytes lock owner slot) = true
-is_callers_if_fixed at (fixed bytes owner) = nat_lt 0 owner && nat_lt owner 15
+is_callers_if_fixed at (fixed bytes owner) = nat_lt managers_owner owner && nat_lt owner data_owner
 
 -- the chunk is a movable one of the manager's, and names this slot
 abbrev pub is_managers_here : ℕ → ℕ → Chunk → Bool
 is_managers_here slot at (free size) = false
-is_managers_here slot at (movable bytes lock owner named) = (named == slot) && (owner == 0)
+is_managers_here slot at (movable bytes lock owner named) = (named == slot) && (owner == managers_owner)
 is_managers_here slot at (fixed bytes owner) = false
 
 abbrev pub has_directory : List ℕ → Bool

@@ -25,14 +25,6 @@ pub record Store : Type 0 where
 
 -- ---- what an image holds under a name
 
--- the owner of the manager's own chunks: the directory and the headers of databases
-abbrev pub managers_owner : ℕ
-managers_owner = 0
-
--- the owner of the chunks that databases name: info blocks, and the data of records and resources
-abbrev pub data_owner : ℕ
-data_owner = 15
-
 -- the bytes of a chunk, if there is one
 abbrev pub bytes_of : Option LiveChunk → List ℕ
 bytes_of None = []
@@ -59,6 +51,10 @@ unfoldable pub owner_under : List ℕ → ℕ → ℕ
 owner_under image name = owner_of (held image name)
 
 -- ---- the databases of an image
+
+-- what the directory takes for a database: four bytes, the slot of its header
+abbrev pub listed_size : ℕ
+listed_size = 4
 
 -- the bytes of the directory; there are none where the directory word is 0
 unfoldable pub directory_bytes : List ℕ → List ℕ
@@ -138,7 +134,7 @@ names_of stored = map (λ one. one.database.header.name) stored
 -- exactly one entry or info block, and each of the manager's is the directory or listed in it.
 pub record Accepted (image : List ℕ) : Type 0 where
   pub heap : HeapAccepted image
-  pub whole : length (directory_bytes image) % 4 ≡ 0
+  pub whole : length (directory_bytes image) % listed_size ≡ 0
   pub few : length (listed image) ≤ most_databases
   pub distinct : Distinct (listed image)
   pub headers : All (IsHeaderSlot image) (listed image)

@@ -1,5 +1,8 @@
 //! What callers hear of the entries of databases.
 
+ghost use Rattle.std.specs.Prelude.{◌≡◌};
+ghost use Rattle.heap_model.specs.EntrySteps.{record_told, resource_told};
+
 use crate::names::Name;
 
 /// What the entry of a record says (Palm OS Programmer's API Reference, `DmRecordInfo`). The attributes
@@ -29,4 +32,26 @@ pub struct ResourceInfo {
 pub enum Entry {
     Record(RecordInfo),
     Resource(ResourceInfo),
+}
+
+impl Entry {
+    /// What it says of a record, if it is one's.
+    pub fn as_record(self) -> Option<RecordInfo>
+        ensures { result ≡ record_told self }
+    {
+        match self {
+            Entry::Record(info) => Some(info),
+            Entry::Resource(_) => None,
+        }
+    }
+
+    /// What it says of a resource, if it is one's.
+    pub fn as_resource(self) -> Option<ResourceInfo>
+        ensures { result ≡ resource_told self }
+    {
+        match self {
+            Entry::Record(_) => None,
+            Entry::Resource(info) => Some(info),
+        }
+    }
 }

@@ -1,11 +1,11 @@
 -- A chunk that was found, where another directory is named.
 use Rattle.std.proofs.Common.{◌≡◌, ◌≢◌, ℕ, ◌-◌, ◌≤◌, List, sym, ap, ◌∙◌, arith}
-use Rattle.heap_model.specs.Chunk.{need}
+use Rattle.heap_model.specs.Chunk.{need, managers_owner}
 use Rattle.heap_model.specs.Heap.{HeapAccepted, directory_of}
 use Rattle.heap_model.specs.Reading.{held}
 use Rattle.heap_model.specs.Layout.{IsSpot}
 use Rattle.heap_model.specs.Resizing.{with_length, Relocates}
-use Rattle.heap_model.specs.Store.{managers_owner, owner_of, owner_under}
+use Rattle.heap_model.specs.Store.{owner_of, owner_under}
 use Rattle.heap_model.specs.Leaving.{NamesDirectory}
 use Rattle.laws_heap.proofs.Meanings.{held-zero}
 use Rattle.laws_heap.proofs.Directory.{named_finds, directory_owned}

@@ -3,7 +3,7 @@
 ghost use Rattle.std.specs.Prelude.{◌≡◌, ◌≢◌, ◌≤◌, ◌<◌, ◌+◌, ◌-◌, ◌*◌, ◌++◌, ◌∷◌, ◌⊎◌, [], length, replicate, min, count_by, IsSome, IfSome, IfNone, Some, None};
 ghost use Rattle.std.specs.Bool.{OnTrue, OnFalse};
 ghost use Rattle.heap_model.specs.Bytes.{u32_at};
-ghost use Rattle.heap_model.specs.Chunk.{movable, fixed, need, fixed_lock, is_owned_by};
+ghost use Rattle.heap_model.specs.Chunk.{movable, fixed, need, fixed_lock, is_owned_by, managers_owner, data_owner};
 ghost use Rattle.heap_model.specs.Slots.{IsSlot};
 ghost use Rattle.heap_model.specs.Meaning.{LiveChunk};
 ghost use Rattle.heap_model.specs.Heap.{HeapAccepted, directory_of};
@@ -12,7 +12,7 @@ ghost use Rattle.heap_model.specs.Space.{NoRun, Short, free_total, moved_bytes, 
 ghost use Rattle.heap_model.specs.Packing.{packed, OpensBehind};
 ghost use Rattle.heap_model.specs.Resizing.{Shrinks, GrowsInPlace};
 ghost use Rattle.heap_model.specs.Placing.{SameFrame};
-ghost use Rattle.heap_model.specs.Store.{managers_owner, data_owner, owner_under};
+ghost use Rattle.heap_model.specs.Store.{owner_under};
 ghost use Rattle.heap_model.specs.Leaving.{NamesDirectory};
 ghost use Rattle.heap_model.specs.Layout.{Becomes, layout_of, owned_freed, Alters, freed, with_lock, with_owner, with_bytes, FreeUpTo, IsSpot, Claims, WritesPlain};
 ghost use Rattle.heap_place.specs.ByteChanges.{ChangesEvery};

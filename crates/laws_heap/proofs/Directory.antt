@@ -3,7 +3,7 @@ use Rattle.std.proofs.Common.{◌≡◌, ℕ, ◌+◌, ◌<◌, ◌≤◌, ◌^�
 use Rattle.std.proofs.lemmas.Bool.{cases_eq}
 use Rattle.std.specs.Prelude.{◌⊎◌}
 use Rattle.heap_model.specs.Bytes.{u32_at, u32_bytes, overwritten}
-use Rattle.heap_model.specs.Chunk.{Chunk, free, movable, fixed, total, SpelledAll}
+use Rattle.heap_model.specs.Chunk.{Chunk, free, movable, fixed, total, SpelledAll, managers_owner}
 use Rattle.heap_model.specs.Frame.{directory_at}
 use Rattle.heap_model.specs.Slots.{IsSlot, slot_count, slots_of, head_end, area_start}
 use Rattle.heap_model.specs.Heap.{IsHead, IsBody, Tiles, Tied, IsCallersIfFixed, ManagersHere, HasDirectory, directory_of, IsHeap, HeapAccepted}
@@ -13,7 +13,7 @@ use Rattle.heap_model.specs.Reading.{chunks_of, held, live_under}
 use Rattle.heap_model.specs.Placing.{Finds}
 use Rattle.heap_model.specs.Layout.{merged, Becomes, IsSpot, IsFreeAt, WritesPlain}
 use Rattle.heap_model.specs.Resizing.{relocated, Relocates}
-use Rattle.heap_model.specs.Store.{managers_owner, owner_of, owner_under}
+use Rattle.heap_model.specs.Store.{owner_of, owner_under}
 use Rattle.heap_model.specs.Leaving.{NamesDirectory}
 use Rattle.laws_heap.proofs.Frames.{SameBetween, SameBetween-within, u16_at-same, u32_at-same, u32_at-written}
 use Rattle.laws_heap.proofs.Chunks.{SpelledAll-same, SpelledAll-end}

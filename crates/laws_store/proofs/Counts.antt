@@ -3,10 +3,11 @@ use Rattle.std.proofs.Common.{◌≡◌, ◌≢◌, ℕ, ◌+◌, ◌<◌, ◌�
 use Rattle.std.proofs.lemmas.Bool.{cases_eq, cases_lt}
 use Rattle.std.proofs.lemmas.List.Elements.{All-cons, All-head, All-tail, All-map, All-weaker}
 use Rattle.std.specs.Prelude.{◌⊎◌, All}
+use Rattle.heap_model.specs.Chunk.{managers_owner, data_owner}
 use Rattle.heap_model.specs.Heap.{HeapAccepted, directory_of}
 use Rattle.heap_model.specs.Lists.{same, times, Distinct}
 use Rattle.heap_model.specs.Database.{Database, Entry, a_record, a_resource, entry_data, data_in, IsSpelled}
-use Rattle.heap_model.specs.Store.{StoredDatabase, managers_owner, data_owner, bytes_under, owner_under, listed, database_under, databases, named_by, named, most_databases, IsHeaderSlot, HasData, IsDatabase, numbers_of, names_of, Accepted}
+use Rattle.heap_model.specs.Store.{StoredDatabase, bytes_under, owner_under, listed, database_under, databases, named_by, named, most_databases, IsHeaderSlot, HasData, IsDatabase, numbers_of, names_of, Accepted}
 use Rattle.heap_model.specs.Counts.{NamesData, IsWhole, HasDatabases}
 use Rattle.laws_store.proofs.Spellings.{database_read}
 use Rattle.laws_store.proofs.Owners.{owner-zero, owned_some, directory_owner}

@@ -4,6 +4,7 @@ use Rattle.std.proofs.Common.{◌≡◌, ◌≢◌, ℕ, ◌+◌, ◌<◌, List,
 use Rattle.std.proofs.lemmas.Bool.{cases_eq, eq-eqb, ne_eqb}
 use Rattle.std.proofs.lemmas.List.Elements.{All-head, All-tail}
 use Rattle.std.specs.Prelude.{◌==◌, ◌↔◌, ◌⊎◌, IsSome, All}
+use Rattle.heap_model.specs.Chunk.{managers_owner, data_owner}
 use Rattle.heap_model.specs.Bytes.{overwritten}
 use Rattle.heap_model.specs.Meaning.{LiveChunk, ChunkMap}
 use Rattle.heap_model.specs.Reading.{held}
@@ -11,7 +12,7 @@ use Rattle.heap_model.specs.Maps.{updated, changed, put, not_owned, callers_map}
 use Rattle.heap_model.specs.Lists.{same, times}
 use Rattle.heap_model.specs.Leaving.{Leaves, rewritten, Respells}
 use Rattle.heap_model.specs.Database.{Database, data_in, spelled}
-use Rattle.heap_model.specs.Store.{managers_owner, data_owner, bytes_of, owner_of, bytes_under, owner_under}
+use Rattle.heap_model.specs.Store.{bytes_of, owner_of, bytes_under, owner_under}
 use Rattle.heap_model.specs.EntrySteps.{KeepsLocks}
 use Rattle.laws_heap.proofs.Tests.{cond-true, cond-false, same_some}
 use Rattle.laws_store.specs.Changes.{Change, all_updated, IsCallersChange}

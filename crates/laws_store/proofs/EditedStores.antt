@@ -5,6 +5,7 @@ use Rattle.std.proofs.lemmas.List.{get_or-set_same, get_or-set_other, length-set
 use Rattle.std.proofs.lemmas.Option.{slice_get_within, get_or_from_slice_get}
 use Rattle.std.proofs.lemmas.List.Elements.{All-nil, All-cons}
 use Rattle.std.specs.Prelude.{IsSome, All, slice_get}
+use Rattle.heap_model.specs.Chunk.{managers_owner, data_owner}
 use Rattle.heap_model.specs.Bytes.{sized_to}
 use Rattle.heap_model.specs.Meaning.{LiveChunk}
 use Rattle.heap_model.specs.Reading.{held}
@@ -13,7 +14,7 @@ use Rattle.heap_model.specs.Lists.{same, times, Distinct}
 use Rattle.heap_model.specs.Leaving.{Leaves, rewritten, database_here, Respells}
 use Rattle.heap_model.specs.Counts.{NamesData, IsSound}
 use Rattle.heap_model.specs.Database.{Database, Entry, entry_data, data_in, has_resources, EntryFits, spelled}
-use Rattle.heap_model.specs.Store.{StoredDatabase, managers_owner, data_owner, owner_of, owner_under, database_under, databases, names_of, unique_ids, Accepted, store_of}
+use Rattle.heap_model.specs.Store.{StoredDatabase, owner_of, owner_under, database_under, databases, names_of, unique_ids, Accepted, store_of}
 use Rattle.heap_model.specs.StoreWords.{with_changed, with_number}
 use Rattle.heap_model.specs.DatabaseSteps.{IsTaken}
 use Rattle.heap_model.specs.EntrySteps.{most_entries, with_entry_at, entry_made, with_chunks, LeavesStore}

@@ -2,11 +2,12 @@
 use Rattle.std.proofs.Common.{◌≡◌, ℕ, ◌+◌, ◌%◌, ◌<◌, List, [], length, get_or, sym, ap, subst, ◌∙◌, arith, inl, inr}
 use Rattle.std.proofs.lemmas.Bool.{cases_eq}
 use Rattle.std.proofs.lemmas.List.{get_or-map}
+use Rattle.heap_model.specs.Chunk.{managers_owner, data_owner}
 use Rattle.heap_model.specs.Heap.{HeapAccepted, directory_of}
 use Rattle.heap_model.specs.Reading.{held}
 use Rattle.heap_model.specs.Lists.{same, times, u32s_in}
 use Rattle.heap_model.specs.Database.{IsSpelled}
-use Rattle.heap_model.specs.Store.{StoredDatabase, managers_owner, data_owner, bytes_of, bytes_under, owner_under, directory_bytes, listed, numbers_of}
+use Rattle.heap_model.specs.Store.{StoredDatabase, bytes_of, bytes_under, owner_under, directory_bytes, listed, numbers_of}
 use Rattle.heap_model.specs.Counts.{IsWhole, HasDatabases}
 use Rattle.laws_heap.proofs.Meanings.{held-zero}
 use Rattle.laws_store.specs.Changes.{KeepsManagers}

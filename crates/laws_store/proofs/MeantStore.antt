@@ -3,11 +3,12 @@ use Rattle.std.proofs.Common.{◌≡◌, ℕ, List, [], ◌∷◌, map, refl, sy
 use Rattle.std.proofs.lemmas.List.Elements.{All-head, All-tail}
 use Rattle.std.specs.Prelude.{All}
 use Rattle.std.specs.List.{AllZip}
+use Rattle.heap_model.specs.Chunk.{managers_owner}
 use Rattle.heap_model.specs.Meaning.{ChunkMap}
 use Rattle.heap_model.specs.Reading.{held}
 use Rattle.heap_model.specs.Maps.{without_owner}
 use Rattle.heap_model.specs.Database.{Database}
-use Rattle.heap_model.specs.Store.{StoredDatabase, Store, managers_owner, bytes_of, bytes_under, listed, database_under, databases, IsDatabase, Accepted, SpelledUnder, Means, store_of}
+use Rattle.heap_model.specs.Store.{StoredDatabase, Store, bytes_of, bytes_under, listed, database_under, databases, IsDatabase, Accepted, SpelledUnder, Means, store_of}
 use Rattle.laws_heap.proofs.Meanings.{heap_holds, holds_one}
 use Rattle.laws_store.proofs.Times.{map-All}
 use Rattle.laws_store.proofs.Spellings.{database_read}

@@ -4,11 +4,12 @@ use Rattle.std.proofs.lemmas.Bool.{cases_eq, cases_lt, eq-eqb, ne_eqb}
 use Rattle.std.proofs.lemmas.Option.{slice_get_within, get_or_from_slice_get}
 use Rattle.std.specs.Prelude.{◌==◌, IsSome, slice_get}
 use Rattle.std.specs.List.{find}
+use Rattle.heap_model.specs.Chunk.{managers_owner, data_owner}
 use Rattle.heap_model.specs.Meaning.{LiveChunk}
 use Rattle.heap_model.specs.Reading.{held}
 use Rattle.heap_model.specs.Lists.{times}
 use Rattle.heap_model.specs.Database.{Database, Entry, a_record, a_resource, entry_data, has_resources, EntryFits, IsSpelled}
-use Rattle.heap_model.specs.Store.{StoredDatabase, managers_owner, data_owner, HasData, IsDatabase, owner_of, bytes_under, owner_under, listed, database_under, databases, IsHeaderSlot, Accepted, store_of}
+use Rattle.heap_model.specs.Store.{StoredDatabase, HasData, IsDatabase, owner_of, bytes_under, owner_under, listed, database_under, databases, IsHeaderSlot, Accepted, store_of}
 use Rattle.heap_model.specs.StoreWords.{OfDatabase, with_number, In}
 use Rattle.heap_model.specs.EntrySteps.{entries_of, entries_in, entry_under, data_of_entry, data_under, kind_of, resources_under}
 use Rattle.heap_model.specs.declared.names.Db.{Db}

@@ -1,13 +1,13 @@
 -- The owners of names: which names are slots, and which chunks are the manager's.
 use Rattle.std.proofs.Common.{◌≡◌, ℕ, zero, suc, ◌+◌, ◌<◌, List, ◌∷◌, Option, Some, None, refl, sym, ap, subst, ◌∙◌, arith, inl, inr}
 use Rattle.std.specs.Prelude.{◌⊎◌}
-use Rattle.heap_model.specs.Chunk.{Chunk, free, movable, fixed, total}
+use Rattle.heap_model.specs.Chunk.{Chunk, free, movable, fixed, total, managers_owner, data_owner}
 use Rattle.heap_model.specs.Placed.{EveryPlaced, AnyPlaced}
 use Rattle.heap_model.specs.Slots.{IsSlot, area_start}
 use Rattle.heap_model.specs.Heap.{BodyHere, IsCallersIfFixed, ManagersHere, HeapAccepted, directory_of}
 use Rattle.heap_model.specs.Meaning.{LiveChunk, NamedHere}
 use Rattle.heap_model.specs.Reading.{chunks_of, held}
-use Rattle.heap_model.specs.Store.{managers_owner, data_owner, owner_of, owner_under}
+use Rattle.heap_model.specs.Store.{owner_of, owner_under}
 use Rattle.laws_heap.proofs.Placed.{AnyPlaced-parts, AnyPlaced-mid, EveryPlaced-split}
 use Rattle.laws_heap.proofs.FixedNames.{fixed_live_is}
 use Rattle.laws_heap.proofs.FoundChunks.{read_heap, finds_held, held_finds}

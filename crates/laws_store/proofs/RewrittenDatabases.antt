@@ -3,9 +3,10 @@ use Rattle.std.proofs.Common.{◌≡◌, ◌≢◌, ℕ, zero, suc, ◌+◌, ◌
 use Rattle.std.proofs.lemmas.Bool.{cases_eq, cases_order}
 use Rattle.std.proofs.lemmas.List.{get_or-map, get_or-set_same, get_or-set_other, length-set}
 use Rattle.std.specs.Prelude.{All}
+use Rattle.heap_model.specs.Chunk.{managers_owner}
 use Rattle.heap_model.specs.Heap.{directory_of}
 use Rattle.heap_model.specs.Lists.{same, times}
-use Rattle.heap_model.specs.Store.{StoredDatabase, managers_owner, owner_under, numbers_of}
+use Rattle.heap_model.specs.Store.{StoredDatabase, owner_under, numbers_of}
 use Rattle.heap_model.specs.Counts.{IsWhole, HasDatabases}
 use Rattle.laws_store.specs.Changes.{Rewrites}
 use Rattle.laws_store.proofs.Owners.{directory_owner}

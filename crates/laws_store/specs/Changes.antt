@@ -2,13 +2,14 @@
 -- many of the names for data are.
 use Rattle.std.specs.Prelude.{◌≡◌, ◌≢◌, ◌<◌, ◌+◌, ◌%◌, ◌++◌, ◌↔◌, ℕ, List, Option, Some, None, [], ◌∷◌, length, slice_index_or, slice_set, All}
 use Rattle.std.specs.List.{remove}
+use Rattle.heap_model.specs.Chunk.{managers_owner, data_owner}
 use Rattle.heap_model.specs.Heap.{HeapAccepted, directory_of}
 use Rattle.heap_model.specs.Meaning.{LiveChunk, ChunkMap}
 use Rattle.heap_model.specs.Reading.{held}
 use Rattle.heap_model.specs.Maps.{updated}
 use Rattle.heap_model.specs.Lists.{same, times, Distinct}
 use Rattle.heap_model.specs.Database.{Database, data_in, spelled}
-use Rattle.heap_model.specs.Store.{StoredDatabase, Store, managers_owner, data_owner, owner_of, owner_under, directory_bytes, listed, most_databases, names_of, Accepted, store_of}
+use Rattle.heap_model.specs.Store.{StoredDatabase, Store, owner_of, owner_under, directory_bytes, listed, most_databases, names_of, Accepted, store_of}
 use Rattle.heap_model.specs.StoreWords.{SameStore, all_gone}
 use Rattle.heap_model.specs.Counts.{IsWhole, IsSound}
 use Rattle.heap_model.specs.Leaving.{Leaves, rewritten, database_here}

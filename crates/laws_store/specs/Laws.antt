@@ -2,7 +2,7 @@
 use Rattle.std.specs.Prelude.{◌≡◌, ◌<◌, ◌≤◌, ◌+◌, ◌⊎◌, ◌%◌, Option, ◌^◌, ◌++◌, ◌↔◌, ℕ, true, List, [], ◌∷◌, length, slice_get, slice_set, All, Some, None, IsSome, suc, insert, drop, slice_range}
 use Rattle.std.specs.List.{flat_map, remove}
 use Rattle.heap_model.specs.Bytes.{u32_bytes, AreBytes, overwritten}
-use Rattle.heap_model.specs.Chunk.{need}
+use Rattle.heap_model.specs.Chunk.{need, data_owner}
 use Rattle.heap_model.specs.Heap.{HeapAccepted, directory_of}
 use Rattle.heap_model.specs.Meaning.{LiveChunk, ChunkMap}
 use Rattle.heap_model.specs.Reading.{held}
@@ -13,7 +13,7 @@ use Rattle.heap_model.specs.Lists.{same, times, u32s_in, moved, Distinct}
 use Rattle.heap_model.specs.DatabaseFields.{header_size}
 use Rattle.heap_model.specs.Database.{Database, Entry, entry_data, data_in, has_resources, header_bytes, entry_bytes, spelled, EntryFits, DatabaseFits, IsSpelled, entry_offset, database_in, HasShape}
 use Rattle.heap_model.specs.UniqueIds.{greatest_id, IsFresh}
-use Rattle.heap_model.specs.Store.{StoredDatabase, Store, data_owner, owner_of, owner_under, databases, numbers_of, unique_id, unique_ids, IsHeaderSlot, Accepted, Means, store_of, bytes_under}
+use Rattle.heap_model.specs.Store.{StoredDatabase, Store, owner_of, owner_under, databases, numbers_of, unique_id, unique_ids, IsHeaderSlot, Accepted, Means, store_of, bytes_under}
 use Rattle.heap_model.specs.Counts.{NamesData, HasDatabases, IsSound}
 use Rattle.heap_model.specs.Leaving.{Leaves, rewritten, Respells, database_here, SpellsHere}
 use Rattle.heap_model.specs.Rooms.{Lowers, makes, growth, Stuck}

@@ -3,13 +3,14 @@
 use Rattle.std.specs.Prelude.{◌%◌, ◌^◌, ◌==◌, ◌&&◌, ◌||◌, ◌++◌, not, nat_le, nat_lt, ℕ, Bool, true, false, List, [], ◌∷◌, length}
 use Rattle.std.specs.List.{list_all, list_any}
 use Rattle.std.specs.Str.{bytes_eq}
+use Rattle.heap_model.specs.Chunk.{managers_owner, data_owner}
 use Rattle.heap_model.specs.Slots.{slots_of}
 use Rattle.heap_model.specs.Heap.{directory_of}
 use Rattle.heap_model.specs.Reading.{is_accepted}
 use Rattle.heap_model.specs.DatabaseFields.{name_size}
 use Rattle.heap_model.specs.Database.{DatabaseHeader, Entry, a_record, a_resource, Database, has_resources, is_deleted, spelled}
 use Rattle.heap_model.specs.Lists.{times}
-use Rattle.heap_model.specs.Store.{StoredDatabase, managers_owner, data_owner, bytes_under, owner_under, directory_bytes, listed, databases, named_by, most_databases, unique_ids, names_of}
+use Rattle.heap_model.specs.Store.{StoredDatabase, bytes_under, owner_under, directory_bytes, listed, databases, named_by, most_databases, unique_ids, names_of}
 
 -- nothing in the list is the same as what stands behind it
 abbrev pub are_distinct : {X : Type 0} → (X → X → Bool) → List X → Bool

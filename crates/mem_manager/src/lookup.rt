@@ -2,11 +2,10 @@
 
 ghost use Rattle.std.specs.Prelude.{◌≡◌, ◌≢◌, ◌≤◌, ℕ, IsSome, IfSome, IfNone, IfOk, OnOk, IfErr, OnErr, None};
 ghost use Rattle.std.specs.Bool.{OnTrue, OnFalse};
-ghost use Rattle.heap_model.specs.Chunk.{fixed_lock};
+ghost use Rattle.heap_model.specs.Chunk.{fixed_lock, data_owner};
 ghost use Rattle.heap_model.specs.Heap.{HeapAccepted};
 ghost use Rattle.heap_model.specs.Reading.{held};
 ghost use Rattle.heap_model.specs.Maps.{callers_map};
-ghost use Rattle.heap_model.specs.Store.{data_owner};
 ghost use Rattle.heap_model.specs.MemorySteps.{IsNowhere};
 ghost use Rattle.heap_place.specs.Found.{IsFound, IsOne, NothingAt};
 ghost use Rattle.mem_manager.specs.Lookup.{IsThere};

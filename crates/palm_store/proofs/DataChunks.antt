@@ -1,13 +1,13 @@
 -- Chunks for data: callers may name them, and they are movable.
 use Rattle.std.proofs.Common.{◌≡◌, ◌≢◌, ℕ, ◌<◌, List, ◌∷◌, Option, Some, None, refl, sym, ap, subst, ◌∙◌, arith}
-use Rattle.heap_model.specs.Chunk.{Chunk, free, movable, fixed, fixed_lock, Spelled}
+use Rattle.heap_model.specs.Chunk.{Chunk, free, movable, fixed, fixed_lock, Spelled, data_owner}
 use Rattle.heap_model.specs.Heap.{HeapAccepted, IsCallersIfFixed, directory_of}
 use Rattle.heap_model.specs.Placed.{EveryPlaced}
 use Rattle.heap_model.specs.Slots.{area_start}
 use Rattle.heap_model.specs.Meaning.{LiveChunk, NamedHere}
 use Rattle.heap_model.specs.Reading.{held}
 use Rattle.heap_model.specs.Maps.{callers_map}
-use Rattle.heap_model.specs.Store.{owner_of, owner_under, data_owner}
+use Rattle.heap_model.specs.Store.{owner_of, owner_under}
 use Rattle.laws_heap.proofs.Placed.{EveryPlaced-split}
 use Rattle.laws_heap.proofs.FixedNames.{fixed_live_is}
 use Rattle.laws_heap.proofs.FoundChunks.{read_heap, held_finds, finds_spelled, callers_some}

@@ -2,12 +2,12 @@
 use Rattle.std.proofs.Common.{◌≡◌, ℕ, ◌+◌, ◌<◌, List, ◌∷◌, [], length, Option, sym, subst, ◌∙◌}
 use Rattle.heap_model.specs.Meaning.{LiveChunk}
 use Rattle.heap_model.specs.Reading.{held}
-use Rattle.heap_model.specs.Chunk.{need}
+use Rattle.heap_model.specs.Chunk.{need, data_owner}
 use Rattle.heap_model.specs.Space.{free_behind, ShortFor}
 use Rattle.heap_model.specs.Maps.{sized, callers_map}
 use Rattle.heap_model.specs.MemorySteps.{Of, IsLocked, growth_checks}
 use Rattle.heap_model.specs.Refusals.{Check, ◌brings◌, NoneHolds, FirstBrings}
-use Rattle.heap_model.specs.Store.{owner_under, data_owner, store_of}
+use Rattle.heap_model.specs.Store.{owner_under, store_of}
 use Rattle.heap_model.specs.EntrySteps.{with_chunks, LeavesStore}
 use Rattle.heap_model.specs.declared.refusal.Refusal.{Refusal}
 use Rattle.heap_model.specs.declared.refusal.Refusal.TheVariants.{ChunkLocked, NotEnoughSpace}

@@ -3,13 +3,14 @@ use Rattle.std.proofs.Common.{◌≡◌, ◌≢◌, ℕ, ◌+◌, ◌<◌, ◌�
 use Rattle.std.proofs.lemmas.List.Elements.{All-nil}
 use Rattle.std.specs.Prelude.{IsSome, slice_get, slice_set}
 use Rattle.std.specs.List.{remove}
+use Rattle.heap_model.specs.Chunk.{data_owner, managers_owner}
 use Rattle.heap_model.specs.Heap.{directory_of}
 use Rattle.heap_model.specs.Meaning.{LiveChunk}
 use Rattle.heap_model.specs.Reading.{held}
 use Rattle.heap_model.specs.Lists.{same, times, moved}
 use Rattle.heap_model.specs.Maps.{updated, changed, gone, reowned, callers_map}
 use Rattle.heap_model.specs.Database.{Entry, entry_data, Database, data_in, spelled, has_resources, EntryFits}
-use Rattle.heap_model.specs.Store.{StoredDatabase, Store, data_owner, managers_owner, owner_of, owner_under, databases, unique_id, Accepted, store_of}
+use Rattle.heap_model.specs.Store.{StoredDatabase, Store, owner_of, owner_under, databases, unique_id, Accepted, store_of}
 use Rattle.heap_model.specs.StoreWords.{with_changed}
 use Rattle.heap_model.specs.Counts.{IsSound, NamesData}
 use Rattle.heap_model.specs.Leaving.{Leaves, Respells, database_here}
@@ -82,8 +83,8 @@ then_raised_if false old new db change store leaves = leaves
 
 -- ---- the modification number
 
-pub raise_steps : (old new : List ℕ) (db : Db) → Accepted old → HasNumber old db.0 → Respells old new db.0 (counted (database_here old db.0)) → LeavesStore old new (raised (store_of old) db)
-raise_steps old new db a has l = respell_steps old new db counted a has l (raised_sound (database_here old db.0) (accepted_sound old db.0 a has)) refl (λ q some. refl)
+pub counting_steps : (old new : List ℕ) (db : Db) → Accepted old → HasNumber old db.0 → Respells old new db.0 (counted (database_here old db.0)) → LeavesStore old new (raised (store_of old) db)
+counting_steps old new db a has l = respell_steps old new db counted a has l (raised_sound (database_here old db.0) (accepted_sound old db.0 a has)) refl (λ q some. refl)
 
 -- ---- an entry moved
 

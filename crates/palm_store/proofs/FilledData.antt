@@ -1,6 +1,7 @@
 -- Data that is written whole, and what callers see of the bytes of a chunk.
 use Rattle.std.proofs.Common.{◌≡◌, ◌≢◌, ℕ, List, [], length, Option, Some, None, refl, sym, ap, subst, ◌∙◌, inl, inr}
 use Rattle.std.proofs.lemmas.Bool.{cases_eq}
+use Rattle.heap_model.specs.Chunk.{managers_owner, data_owner}
 use Rattle.heap_model.specs.Bytes.{overwritten}
 use Rattle.heap_model.specs.Heap.{HeapAccepted}
 use Rattle.heap_model.specs.Meaning.{LiveChunk}
@@ -8,7 +9,7 @@ use Rattle.heap_model.specs.Reading.{held}
 use Rattle.heap_model.specs.Maps.{updated, changed, put, not_owned}
 use Rattle.heap_model.specs.Leaving.{Leaves, rewritten}
 use Rattle.heap_model.specs.MemorySteps.{Of}
-use Rattle.heap_model.specs.Store.{managers_owner, data_owner, bytes_of, bytes_under, owner_under, Accepted, store_of}
+use Rattle.heap_model.specs.Store.{bytes_of, bytes_under, owner_under, Accepted, store_of}
 use Rattle.heap_model.specs.EntrySteps.{LeavesStore}
 use Rattle.laws_store.proofs.Edited.{hidden, shown}
 use Rattle.laws_store.proofs.EditedStores.{change_steps}

@@ -4,7 +4,7 @@ use Rattle.std.proofs.Common.{◌≡◌, ◌≢◌, ℕ, zero, suc, ◌+◌, ◌
 use Rattle.std.proofs.lemmas.Bool.{cases_eq}
 use Rattle.std.proofs.lemmas.List.Elements.{All-nil, All-cons}
 use Rattle.std.specs.Prelude.{IsSome, slice_get}
-use Rattle.heap_model.specs.Chunk.{need, fixed_lock}
+use Rattle.heap_model.specs.Chunk.{need, fixed_lock, managers_owner, data_owner}
 use Rattle.heap_model.specs.Heap.{HeapAccepted, directory_of}
 use Rattle.heap_model.specs.Meaning.{LiveChunk, ChunkMap}
 use Rattle.heap_model.specs.Reading.{held}
@@ -15,7 +15,7 @@ use Rattle.heap_model.specs.Space.{rooms, ShortFor}
 use Rattle.heap_model.specs.Rooms.{growth, Stuck}
 use Rattle.heap_model.specs.DatabaseFields.{entry_size}
 use Rattle.heap_model.specs.Database.{Entry, a_record, a_resource, entry_data, entry_with, Database, data_in, spelled, has_resources, EntryFits}
-use Rattle.heap_model.specs.Store.{managers_owner, data_owner, owner_of, bytes_under, owner_under, databases, Accepted, store_of}
+use Rattle.heap_model.specs.Store.{owner_of, bytes_under, owner_under, databases, Accepted, store_of}
 use Rattle.heap_model.specs.StoreWords.{with_changed}
 use Rattle.heap_model.specs.Counts.{IsSound}
 use Rattle.heap_model.specs.Leaving.{Leaves, Respells, rewritten, SpellsHere, database_here}

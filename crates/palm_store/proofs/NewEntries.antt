@@ -3,7 +3,7 @@ use Rattle.std.proofs.Common.{◌≡◌, ◌≢◌, ℕ, ◌+◌, ◌<◌, ◌�
 use Rattle.std.proofs.lemmas.Bool.{cases_eq}
 use Rattle.std.specs.Prelude.{◌⊎◌}
 use Rattle.heap_model.specs.Memory.{Memory}
-use Rattle.heap_model.specs.Chunk.{need}
+use Rattle.heap_model.specs.Chunk.{need, data_owner}
 use Rattle.heap_model.specs.Heap.{HeapAccepted, directory_of}
 use Rattle.heap_model.specs.Meaning.{LiveChunk}
 use Rattle.heap_model.specs.Reading.{held}
@@ -12,7 +12,7 @@ use Rattle.heap_model.specs.Space.{free_slots, rooms, ShortFor}
 use Rattle.heap_model.specs.Rooms.{Lowers, making, growth, Stuck}
 use Rattle.heap_model.specs.DatabaseFields.{entry_size}
 use Rattle.heap_model.specs.Database.{Entry, a_record, a_resource, entry_data, entry_with, Database, database_in, spelled, EntryFits, IsSpelled}
-use Rattle.heap_model.specs.Store.{data_owner, owner_of, bytes_under, owner_under, databases, unique_ids, Accepted, store_of}
+use Rattle.heap_model.specs.Store.{owner_of, bytes_under, owner_under, databases, unique_ids, Accepted, store_of}
 use Rattle.heap_model.specs.UniqueIds.{IsFresh, seed_in}
 use Rattle.heap_model.specs.Counts.{NamesData}
 use Rattle.heap_model.specs.Leaving.{Leaves, Respells, rewritten, SpellsHere, database_here}

@@ -2,12 +2,12 @@
 -- its header, and one that is listed no longer.
 use Rattle.std.specs.Prelude.{◌≡◌, ◌≢◌, ◌<◌, ◌+◌, ◌*◌, ◌++◌, ◌⊎◌, ℕ, List, length, take, drop, None, Some}
 use Rattle.heap_model.specs.Bytes.{u32_bytes}
-use Rattle.heap_model.specs.Chunk.{need}
+use Rattle.heap_model.specs.Chunk.{need, managers_owner}
 use Rattle.heap_model.specs.Slots.{slots_total, slot_size}
 use Rattle.heap_model.specs.Heap.{HeapAccepted, directory_of}
 use Rattle.heap_model.specs.Reading.{held}
 use Rattle.heap_model.specs.Space.{Still, ShortFor}
-use Rattle.heap_model.specs.Store.{managers_owner, directory_bytes}
+use Rattle.heap_model.specs.Store.{directory_bytes}
 use Rattle.mem_manager.specs.Lookup.{HasNoRoomFor}
 
 -- The new image is an accepted heap of the same length with as many slots, whose directory lists this slot

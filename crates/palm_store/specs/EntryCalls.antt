@@ -1,13 +1,13 @@
 -- What the calls on entries ask and promise of the store that an image means, by the image.
 use Rattle.std.specs.Prelude.{◌≡◌, ◌≢◌, ◌<◌, ◌≤◌, ℕ, Bool, true, false, List, [], length, Option, Some, None}
 use Rattle.heap_model.specs.Memory.{Memory}
-use Rattle.heap_model.specs.Chunk.{fixed_lock}
+use Rattle.heap_model.specs.Chunk.{fixed_lock, data_owner}
 use Rattle.heap_model.specs.Database.{Entry}
 use Rattle.heap_model.specs.Lists.{moved}
 use Rattle.heap_model.specs.Maps.{sized}
 use Rattle.heap_model.specs.Refusals.{Check}
 use Rattle.heap_model.specs.MemorySteps.{Of, IsLocked, growth_checks}
-use Rattle.heap_model.specs.Store.{Store, data_owner, store_of}
+use Rattle.heap_model.specs.Store.{Store, store_of}
 use Rattle.heap_model.specs.StoreWords.{In}
 use Rattle.heap_model.specs.EntrySteps.{entries_in, entry_under, OfEntry, Tells, data_under, resources_under, with_entries, with_chunks, entry_made, entry_attached, entry_changed, entry_swapped, raised, making_checks, attaching_checks, giving_checks, LeavesStore}
 use Rattle.heap_model.specs.declared.names.Db.{Db}

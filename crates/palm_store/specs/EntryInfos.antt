@@ -1,8 +1,9 @@
 -- What callers say of an entry: of a new one, and of one that is set.
 use Rattle.std.specs.Prelude.{◌≡◌, ◌<◌, ◌≤◌, ℕ, Bool, true, false, Option, Some, None}
+use Rattle.heap_model.specs.Chunk.{managers_owner, data_owner}
 use Rattle.heap_model.specs.Database.{Entry, a_record, a_resource, is_deleted}
 use Rattle.heap_model.specs.UniqueIds.{greatest_id}
-use Rattle.heap_model.specs.Store.{Store, managers_owner, data_owner}
+use Rattle.heap_model.specs.Store.{Store}
 use Rattle.heap_model.specs.EntrySteps.{data_under, IsFreshIn, HasOther, entry_dropped, entry_handed_over}
 use Rattle.heap_model.specs.declared.names.Db.{Db}
 use Rattle.palm_store.specs.declared.entries.infos.EntryInfo.{EntryInfo}

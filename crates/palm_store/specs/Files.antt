@@ -1,8 +1,9 @@
 -- What the calls for files ask and promise of the store that an image means.
 use Rattle.std.specs.Prelude.{◌≡◌, ℕ, List, length}
+use Rattle.heap_model.specs.Chunk.{data_owner}
 use Rattle.heap_model.specs.Leaving.{rewritten}
 use Rattle.heap_model.specs.MemorySteps.{Of}
-use Rattle.heap_model.specs.Store.{Store, data_owner, store_of}
+use Rattle.heap_model.specs.Store.{Store, store_of}
 use Rattle.heap_model.specs.EntrySteps.{with_chunks}
 
 -- a name stands for a chunk for data of so many bytes

@@ -1,9 +1,9 @@
 -- What is left of a heap where a new entry came to a database.
 use Rattle.std.specs.Prelude.{◌≡◌, ℕ, List, None}
+use Rattle.heap_model.specs.Chunk.{data_owner}
 use Rattle.heap_model.specs.Reading.{held}
 use Rattle.heap_model.specs.Maps.{made, reowned}
 use Rattle.heap_model.specs.Database.{Entry, spelled}
-use Rattle.heap_model.specs.Store.{data_owner}
 use Rattle.heap_model.specs.Leaving.{Leaves, rewritten, database_here}
 use Rattle.database_edits.specs.Edits.{entry_inserted}
 

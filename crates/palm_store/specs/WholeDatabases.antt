@@ -2,6 +2,7 @@
 -- store gains for its data.
 use Rattle.std.specs.Prelude.{◌≡◌, ◌≢◌, ◌≤◌, ◌<◌, ◌+◌, ◌++◌, ◌⊎◌, ℕ, Bool, true, false, List, [], ◌∷◌, length, map, drop, replicate, Option, Some, None, All}
 use Rattle.std.specs.List.{AllZip, filter_map}
+use Rattle.heap_model.specs.Chunk.{data_owner, managers_owner}
 use Rattle.heap_model.specs.Bytes.{u32_bytes}
 use Rattle.heap_model.specs.Slots.{slots_total}
 use Rattle.heap_model.specs.Heap.{HeapAccepted, directory_of}
@@ -14,7 +15,7 @@ use Rattle.heap_model.specs.Database.{DatabaseHeader, Entry, a_record, a_resourc
 use Rattle.heap_model.specs.UniqueIds.{greatest_id}
 use Rattle.heap_model.specs.Rooms.{Part, taken_by, rooms_for, LowersOne, KeepsStretches, Stuck}
 use Rattle.heap_model.specs.Refusals.{Check, ◌brings◌}
-use Rattle.heap_model.specs.Store.{Store, data_owner, managers_owner, directory_bytes, most_databases, Accepted, store_of}
+use Rattle.heap_model.specs.Store.{Store, directory_bytes, most_databases, Accepted, store_of}
 use Rattle.heap_model.specs.StoreWords.{may_run_out}
 use Rattle.heap_model.specs.EntrySteps.{most_entries}
 use Rattle.heap_model.specs.DatabaseSteps.{taken}

@@ -4,6 +4,7 @@ use Rattle.std.specs.Prelude.{IsSome}
 use Rattle.std.specs.Option.{is_some}
 use Rattle.std.proofs.lemmas.Bool.{cases_eq, cases_lt}
 use Rattle.std.proofs.lemmas.List.{length-replicate}
+use Rattle.heap_model.specs.Chunk.{data_owner}
 use Rattle.heap_model.specs.Memory.{Memory}
 use Rattle.heap_model.specs.Heap.{HeapAccepted, directory_of}
 use Rattle.heap_model.specs.Lists.{times}
@@ -12,7 +13,7 @@ use Rattle.heap_model.specs.Reading.{held}
 use Rattle.heap_model.specs.Maps.{changed, not_owned, callers_map}
 use Rattle.heap_model.specs.Space.{MovesNothing}
 use Rattle.heap_model.specs.MemorySteps.{Of}
-use Rattle.heap_model.specs.Store.{data_owner, owner_under, listed, databases, numbers_of, Accepted, store_of}
+use Rattle.heap_model.specs.Store.{owner_under, listed, databases, numbers_of, Accepted, store_of}
 use Rattle.heap_model.specs.Leaving.{rewritten}
 use Rattle.heap_model.specs.EntrySteps.{MakesNone, LeavesStore}
 use Rattle.laws_heap.proofs.Meanings.{held-zero}

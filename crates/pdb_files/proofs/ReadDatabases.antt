@@ -4,6 +4,7 @@ use Rattle.std.specs.Prelude.{All}
 use Rattle.std.specs.List.{AllZip, filter_map}
 use Rattle.std.proofs.lemmas.List.{length-map, get_or-map, ext_get_or, get_or_default}
 use Rattle.std.proofs.lemmas.List.FromFn.{length-map-range_with_len}
+use Rattle.heap_model.specs.Chunk.{data_owner}
 use Rattle.heap_model.specs.Memory.{Memory}
 use Rattle.heap_model.specs.Lists.{times}
 use Rattle.heap_model.specs.Meaning.{LiveChunk, ChunkMap}
@@ -12,7 +13,7 @@ use Rattle.heap_model.specs.Space.{Still}
 use Rattle.heap_model.specs.UniqueIds.{seed_in}
 use Rattle.heap_model.specs.Refusals.{FirstBrings}
 use Rattle.heap_model.specs.Database.{DatabaseHeader, Database, Entry, a_record, a_resource, entry_with, entry_data, data_in, name_in, header_in, resources_in, entry_count_in, entry_in, entry_offset, database_in}
-use Rattle.heap_model.specs.Store.{data_owner, bytes_of, bytes_named, content, unique_id, unique_ids, most_databases, Accepted, store_of}
+use Rattle.heap_model.specs.Store.{bytes_of, bytes_named, content, unique_id, unique_ids, most_databases, Accepted, store_of}
 use Rattle.heap_model.specs.DatabaseSteps.{IsTaken}
 use Rattle.heap_model.specs.Files.{entries_end, blocks_in, HasNoFault, HaveIds, IsReadAs}
 use Rattle.heap_model.specs.FileSteps.{size_of_block, block_sizes, whole_parts, whole_slots, IsNewData, GainsRead}

@@ -1,11 +1,12 @@
 -- Chunks of zeros that are filled with the blocks of a file, one after the other.
 use Rattle.std.specs.Prelude.{◌≡◌, ◌≤◌, ◌<◌, ℕ, List, length, replicate, slice_index, slice_index_or, Option, Some, None}
+use Rattle.heap_model.specs.Chunk.{data_owner}
 use Rattle.heap_model.specs.Lists.{times}
 use Rattle.heap_model.specs.Slots.{slots_total}
 use Rattle.heap_model.specs.Heap.{directory_of}
 use Rattle.heap_model.specs.Meaning.{ChunkMap}
 use Rattle.heap_model.specs.Space.{MovesNothing}
-use Rattle.heap_model.specs.Store.{data_owner, Accepted, store_of}
+use Rattle.heap_model.specs.Store.{Accepted, store_of}
 use Rattle.heap_model.specs.EntrySteps.{MakesNone}
 
 -- a name stands for a chunk of data with the bytes of a block and no lock; where there is no block it is 0

@@ -4,7 +4,7 @@ use Rattle.std.proofs.lemmas.Bool.{cases_eq, ne_eqb}
 use Rattle.std.proofs.lemmas.List.Sums.{sum_by-cons, sum_by-le, sum_by-le-sum_by, get_or-le-sum_by}
 use Rattle.std.specs.Prelude.{◌==◌}
 use Rattle.std.specs.List.{Contains, sum_by, flat_map}
-use Rattle.heap_model.specs.Chunk.{Chunk, free, movable, fixed, fixed_lock, need, total}
+use Rattle.heap_model.specs.Chunk.{Chunk, free, movable, fixed, fixed_lock, need, total, data_owner}
 use Rattle.heap_model.specs.Slots.{area_start}
 use Rattle.heap_model.specs.Heap.{HeapAccepted}
 use Rattle.heap_model.specs.Meaning.{LiveChunk, ChunkMap}
@@ -12,7 +12,7 @@ use Rattle.heap_model.specs.Reading.{chunks_of, live_under, held}
 use Rattle.heap_model.specs.Maps.{not_owned, callers_map}
 use Rattle.heap_model.specs.Lists.{times}
 use Rattle.heap_model.specs.Database.{data_in}
-use Rattle.heap_model.specs.Store.{StoredDatabase, bytes_of, bytes_named, data_owner, owner_under, databases, Accepted}
+use Rattle.heap_model.specs.Store.{StoredDatabase, bytes_of, bytes_named, owner_under, databases, Accepted}
 use Rattle.heap_model.specs.Files.{block_bytes, block_size}
 use Rattle.laws_heap.proofs.Tests.{cond-false}
 use Rattle.laws_heap.proofs.Chunks.{SpelledAll-end}

@@ -81,7 +81,7 @@ pub fn move_category(
     check_category(to)?;
     check_category(from)?;
     store.change_attributes(db, Moving { to, from, dirty });
-    store.raise(db);
+    store.count_change(db);
     Ok(())
 }
 
@@ -100,7 +100,7 @@ pub fn delete_category(store: &mut Store, db: Db, category: u8) -> Result<(), Re
         return Err(Refusal::ChunkLocked);
     }
     delete_all_of(store, db, category);
-    store.raise(db);
+    store.count_change(db);
     Ok(())
 }
 

@@ -50,6 +50,6 @@ pub fn resize_record(store: &mut Store, db: Db, index: u32, size: u32) -> Result
 {
     let live = find_live(store, db, index, Access::Write)?;
     store.entry_resize(live.data, size)?;
-    store.raise(db);
+    store.count_change(db);
     Ok(())
 }

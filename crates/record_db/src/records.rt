@@ -15,7 +15,7 @@ ghost use Rattle.record_db.specs.Checks.{IsRecordTold, living_checks};
 use crate::attributes::{has_category, is_deleted};
 use crate::search::find_id;
 use database_access::{Access, EntryKind, find_entry, is_locked};
-use heap_model::{Db, Entry, Name, RecordInfo, Refusal};
+use heap_model::{Db, Name, RecordInfo, Refusal};
 use palm_store::Store;
 
 /// A record that is not deleted, and so has data.
@@ -43,10 +43,8 @@ pub(crate) fn find_record(
     ensures refused { IfErr result
         (FirstBrings (finding_checks store.now.bytes db index EntryKind.Records access)) }
 {
-    match find_entry(store, db, index, EntryKind::Records, access)? {
-        Entry::Record(info) => Ok(info),
-        Entry::Resource(_) => unreachable!(),
-    }
+    let entry = find_entry(store, db, index, EntryKind::Records, access)?;
+    Ok(entry.as_record().unwrap())
 }
 
 /// The record of an index that is not deleted, of a database that may be used so.

@@ -49,6 +49,6 @@ pub fn resize_resource(store: &mut Store, db: Db, index: u32, size: u32) -> Resu
 {
     let resource = resource_at(store, db, index, Access::Write)?;
     store.entry_resize(resource.data, size)?;
-    store.raise(db);
+    store.count_change(db);
     Ok(())
 }

@@ -10,7 +10,7 @@ ghost use Rattle.palm_store.specs.EntryCalls.{entries_of_image, resources_of_ima
 ghost use Rattle.database_access.specs.Checks.{finding_checks};
 
 use database_access::{Access, EntryKind, find_entry};
-use heap_model::{Db, Entry, Refusal, ResourceInfo};
+use heap_model::{Db, Refusal, ResourceInfo};
 use palm_store::Store;
 
 /// The resource of an index, of a database that may be used so. It has data.
@@ -33,8 +33,6 @@ pub(crate) fn resource_at(
     ensures refused { IfErr result
         (FirstBrings (finding_checks store.now.bytes db index EntryKind.Resources access)) }
 {
-    match find_entry(store, db, index, EntryKind::Resources, access)? {
-        Entry::Resource(info) => Ok(info),
-        Entry::Record(_) => unreachable!(),
-    }
+    let entry = find_entry(store, db, index, EntryKind::Resources, access)?;
+    Ok(entry.as_resource().unwrap())
 }

@@ -3,10 +3,11 @@ use Rattle.std.proofs.Common.{◌≡◌, ◌≢◌, ℕ, ◌+◌, ◌<◌, ◌�
 use Rattle.std.proofs.lemmas.Bool.{cases_eq, cases_lt}
 use Rattle.std.specs.Prelude.{◌⊎◌, slice_index}
 use Rattle.std.specs.List.{Contains}
+use Rattle.heap_model.specs.Chunk.{managers_owner, data_owner}
 use Rattle.heap_model.specs.Slots.{IsSlot, StandsBehind}
 use Rattle.heap_model.specs.Heap.{HeapAccepted, directory_of}
 use Rattle.heap_model.specs.Lists.{same, times, Least}
-use Rattle.heap_model.specs.Store.{managers_owner, data_owner, owner_under, listed, named, IsHeaderSlot}
+use Rattle.heap_model.specs.Store.{owner_under, listed, named, IsHeaderSlot}
 use Rattle.laws_heap.proofs.Slots.{slot_stands, stands_there}
 use Rattle.laws_store.proofs.Times.{same-yes, same-no, times-cons, times-append, contained-times, times-contained, all-times, distinct-times}
 use Rattle.laws_store.proofs.Owners.{owned_some, directory_owner, owned_slot}

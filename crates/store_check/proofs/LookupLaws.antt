@@ -3,12 +3,12 @@ use Rattle.std.proofs.Common.{◌≡◌, ◌≢◌, ℕ, ◌+◌, ◌-◌, ◌*�
 use Rattle.std.specs.Prelude.{◌⊎◌, slice_range, IsSome, IfNone}
 use Rattle.std.specs.Option.{option_map}
 use Rattle.heap_model.specs.Bytes.{u32_at}
-use Rattle.heap_model.specs.Chunk.{Chunk, movable, HasChunk}
+use Rattle.heap_model.specs.Chunk.{Chunk, movable, HasChunk, managers_owner}
 use Rattle.heap_model.specs.Slots.{IsSlot}
 use Rattle.heap_model.specs.Heap.{HeapAccepted, directory_of}
 use Rattle.heap_model.specs.Meaning.{LiveChunk}
 use Rattle.heap_model.specs.Reading.{chunk_at, chunks_of, held}
-use Rattle.heap_model.specs.Store.{managers_owner, bytes_of, owner_of, bytes_under, owner_under, directory_bytes}
+use Rattle.heap_model.specs.Store.{bytes_of, owner_of, bytes_under, owner_under, directory_bytes}
 use Rattle.heap_model.specs.declared.names.Place.{Place}
 use Rattle.laws_heap.proofs.Meanings.{held-is, held-zero, empty_unheld}
 use Rattle.laws_heap.proofs.Shapes.{chunk_at-spelled}

@@ -2,9 +2,10 @@
 use Rattle.std.proofs.Common.{◌≡◌, ℕ, zero, suc, ◌+◌, ◌*◌, ◌<◌, ◌≤◌, List, [], ◌∷◌, ◌++◌, length, sym, ap, subst, ◌∙◌, arith, inl, inr}
 use Rattle.std.proofs.lemmas.Bool.{cases_eq, cases_lt}
 use Rattle.std.specs.Prelude.{◌⊎◌, ◌↔◌}
+use Rattle.heap_model.specs.Chunk.{managers_owner}
 use Rattle.heap_model.specs.Heap.{directory_of}
 use Rattle.heap_model.specs.Lists.{same, times, numbered}
-use Rattle.heap_model.specs.Store.{managers_owner, owner_under, directory_bytes, listed, most_databases, IsHeaderSlot}
+use Rattle.heap_model.specs.Store.{owner_under, directory_bytes, listed, most_databases, IsHeaderSlot}
 use Rattle.laws_store.proofs.Times.{same-yes, same-no, times-cons}
 use Rattle.laws_store.proofs.Numbers.{numbered_more}
 use Rattle.store_check.specs.Listing.{listed_at, listed_count}

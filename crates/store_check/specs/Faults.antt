@@ -1,12 +1,13 @@
 -- The faults of a store, in the order in which they are looked for. Each is looked for in all databases,
 -- in their order, before the next is.
 use Rattle.std.specs.Prelude.{◌≡◌, ◌≢◌, ◌<◌, ◌≤◌, ◌+◌, ◌*◌, ◌⊎◌, ℕ, List, [], ◌∷◌, length, Option, Some}
+use Rattle.heap_model.specs.Chunk.{managers_owner, data_owner}
 use Rattle.heap_model.specs.Heap.{directory_of}
 use Rattle.heap_model.specs.Lists.{times, Least, LeastPair}
 use Rattle.heap_model.specs.Database.{entry_count_in, entry_in, name_in, HasName}
 use Rattle.heap_model.specs.Bytes.{u32_at}
 use Rattle.heap_model.specs.DatabaseFields.{app_info_at, sort_info_at}
-use Rattle.heap_model.specs.Store.{managers_owner, data_owner, owner_under, directory_bytes, listed, named, most_databases, IsHeaderSlot, IsInfoBlock, HasData, unique_id}
+use Rattle.heap_model.specs.Store.{owner_under, directory_bytes, listed, named, most_databases, IsHeaderSlot, IsInfoBlock, HasData, unique_id, listed_size}
 use Rattle.db_format.specs.Headers.{IsWhole}
 use Rattle.heap_check.specs.Faults.{◌locates◌, FirstBrought}
 use Rattle.heap_check.specs.Faults as heaps
@@ -21,8 +22,8 @@ use Rattle.store_check.specs.Listing.{listed_at, listed_count, header_at}
 -- is the directory's own slot, or stands earlier
 abbrev pub IsBadSlot : List ℕ → ℕ → Type 0
 IsBadSlot image index =
-    (4 * index < length (directory_bytes image))
-    × ((length (directory_bytes image) < 4 * index + 4)
+    (listed_size * index < length (directory_bytes image))
+    × ((length (directory_bytes image) < listed_size * index + listed_size)
     ⊎ ((most_databases ≤ index)
     ⊎ ((IsHeaderSlot image (listed_at image index) → ⊥)
     ⊎ ((earlier : ℕ) × (earlier < index) × (listed_at image earlier ≡ listed_at image index)))))

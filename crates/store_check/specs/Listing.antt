@@ -4,16 +4,16 @@ use Rattle.heap_model.specs.Bytes.{u32_at}
 use Rattle.heap_model.specs.Heap.{HeapAccepted}
 use Rattle.heap_model.specs.Lists.{numbered}
 use Rattle.heap_model.specs.Database.{Entry, entry_data, entry_in, entry_count_in}
-use Rattle.heap_model.specs.Store.{bytes_under, directory_bytes, most_databases, IsHeaderSlot}
+use Rattle.heap_model.specs.Store.{bytes_under, directory_bytes, most_databases, IsHeaderSlot, listed_size}
 use Rattle.db_format.specs.Headers.{IsWhole}
 
 -- the word of an index in the directory: the slot of a header, where it is a right one
 abbrev pub listed_at : List ℕ → ℕ → ℕ
-listed_at image index = u32_at (directory_bytes image) (4 * index)
+listed_at image index = u32_at (directory_bytes image) (listed_size * index)
 
 -- how many databases are listed
 abbrev pub listed_count : List ℕ → ℕ
-listed_count image = length (directory_bytes image) / 4
+listed_count image = length (directory_bytes image) / listed_size
 
 -- the bytes of the header of the database of an index, and of its entries
 unfoldable pub header_at : List ℕ → ℕ → List ℕ
@@ -32,8 +32,8 @@ entry_slots bytes = map entry_data (entries_in bytes)
 pub record IsListing (image directory : List ℕ) : Type 0 where
   pub heap : HeapAccepted image
   pub bytes : directory ≡ directory_bytes image
-  pub count : length directory / 4 ≡ listed_count image
-  pub few : length directory / 4 ≤ most_databases
+  pub count : length directory / listed_size ≡ listed_count image
+  pub few : length directory / listed_size ≤ most_databases
   pub headers : (db : ℕ) → db < listed_count image → IsHeaderSlot image (listed_at image db)
 
 -- each database that is listed has a whole header with its entries: what is known where no header is bad

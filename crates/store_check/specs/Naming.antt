@@ -1,9 +1,10 @@
 -- How often slots are listed and named.
 use Rattle.std.specs.Prelude.{◌≡◌, ◌≢◌, ◌<◌, ◌≤◌, ◌++◌, ℕ, List, [], ◌∷◌, slice_index, min, All}
+use Rattle.heap_model.specs.Chunk.{data_owner}
 use Rattle.heap_model.specs.Slots.{StandsBehind}
 use Rattle.heap_model.specs.Heap.{HeapAccepted, directory_of}
 use Rattle.heap_model.specs.Lists.{times, Distinct, numbered}
-use Rattle.heap_model.specs.Store.{data_owner, owner_under, listed, named, IsHeaderSlot}
+use Rattle.heap_model.specs.Store.{owner_under, listed, named, IsHeaderSlot}
 use Rattle.store_check.specs.Listing.{listed_at}
 use Rattle.store_check.specs.Owners.{IsOurs}
 

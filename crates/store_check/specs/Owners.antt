@@ -1,6 +1,7 @@
 -- The chunks that belong to databases, by their owners.
 use Rattle.std.specs.Prelude.{◌≡◌, ◌⊎◌, ◌↔◌, ℕ, List}
-use Rattle.heap_model.specs.Store.{managers_owner, data_owner, owner_under}
+use Rattle.heap_model.specs.Chunk.{managers_owner, data_owner}
+use Rattle.heap_model.specs.Store.{owner_under}
 
 -- the slot has a chunk of the manager's, or one for data
 abbrev pub IsOurs : List ℕ → ℕ → Type 0

@@ -1,9 +1,9 @@
 //! The chunks of the manager, by their slots.
 
 ghost use Rattle.std.specs.Prelude.{◌≡◌, ◌≤◌, ◌<◌, ◌-◌, IfSome, IfNone};
-ghost use Rattle.heap_model.specs.Chunk.{HasChunk};
+ghost use Rattle.heap_model.specs.Chunk.{HasChunk, managers_owner};
 ghost use Rattle.heap_model.specs.Heap.{HeapAccepted};
-ghost use Rattle.heap_model.specs.Store.{managers_owner, bytes_under, owner_under, directory_bytes};
+ghost use Rattle.heap_model.specs.Store.{bytes_under, owner_under, directory_bytes};
 ghost use Rattle.store_check.specs.Listing.{listed_count as model_count, header_at, IsListing};
 ghost use Rattle.store_check.specs.Lookup.{IsMovable, IsHeld, SlotsFind, movable_by};
 ghost use Rattle.store_check.specs.Owners.{NotOurs};

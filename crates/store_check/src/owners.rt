@@ -1,8 +1,9 @@
 //! The owners of the chunks of slots, as the heap's check noted them.
 
 ghost use Rattle.std.specs.Prelude.{◌≡◌, ◌↔◌, IsTrue};
+ghost use Rattle.heap_model.specs.Chunk.{managers_owner, data_owner};
 ghost use Rattle.heap_model.specs.Heap.{HeapAccepted};
-ghost use Rattle.heap_model.specs.Store.{managers_owner, data_owner, owner_under};
+ghost use Rattle.heap_model.specs.Store.{owner_under};
 ghost use Rattle.heap_check.specs.Owners.{HasOwners};
 ghost use Rattle.store_check.specs.Owners.{IsOurs, TellsOwner};
 

@@ -3,13 +3,13 @@
 //! have to move.
 
 ghost use Rattle.std.specs.Prelude.{◌≡◌, ◌≢◌, ◌≤◌, ◌<◌, ◌+◌, length, slice_range, IsSome, IfOk, IfErr, OnOk, OnErr};
-ghost use Rattle.heap_model.specs.Chunk.{need};
+ghost use Rattle.heap_model.specs.Chunk.{need, managers_owner};
 ghost use Rattle.heap_model.specs.Rooms.{Lowers};
 ghost use Rattle.heap_model.specs.Heap.{directory_of};
 ghost use Rattle.heap_model.specs.Reading.{held};
 ghost use Rattle.heap_model.specs.Space.{MovesNothing, MovesOneStretch, MovesOneStretchAnd, moved_bytes};
 ghost use Rattle.heap_model.specs.Maps.{gone, put, sized, reowned};
-ghost use Rattle.heap_model.specs.Store.{managers_owner, bytes_under, owner_under};
+ghost use Rattle.heap_model.specs.Store.{bytes_under, owner_under};
 ghost use Rattle.heap_model.specs.Leaving.{Leaves, NamesDirectory};
 ghost use Rattle.heap_model.specs.Refusals.{NoneHolds, FirstBrings};
 ghost use Rattle.raw_region.specs.ByteChanges.{changed_every};

@@ -1,14 +1,15 @@
 //! A database that is made whole: its chunks are made and its slot is listed, and then its header and entries
 //! are written.
 
-ghost use Rattle.std.specs.Prelude.{◌≡◌, ◌+◌, ◌≤◌, ◌++◌, [], ◌∷◌, ℕ, List, length, take, drop, replicate, IfOk, IfErr, OnOk, OnErr, All};
+ghost use Rattle.std.specs.Prelude.{◌≡◌, ◌+◌, ◌≤◌, ◌++◌, [], ◌∷◌, ℕ, List, length, take, drop, replicate, IfOk, IfErr, OnOk, OnErr, All, ◌*◌};
 ghost use Rattle.std.specs.List.{flat_map};
+ghost use Rattle.heap_model.specs.Chunk.{managers_owner};
 ghost use Rattle.heap_model.specs.Heap.{HeapAccepted};
 ghost use Rattle.heap_model.specs.Reading.{held};
 ghost use Rattle.heap_model.specs.DatabaseFields.{header_size};
 ghost use Rattle.heap_model.specs.Database.{DatabaseFits, EntryFits, entry_bytes, has_resources, spelled};
 ghost use Rattle.heap_model.specs.Database as databases;
-ghost use Rattle.heap_model.specs.Store.{Accepted, managers_owner, bytes_under, owner_under, directory_bytes};
+ghost use Rattle.heap_model.specs.Store.{Accepted, bytes_under, owner_under, directory_bytes, listed_size, most_databases};
 ghost use Rattle.heap_model.specs.EntrySteps.{most_entries};
 ghost use Rattle.heap_model.specs.Leaving.{Leaves, rewritten};
 ghost use Rattle.heap_model.specs.FileSteps.{makings, listing_part, listing_slots, whole_parts, whole_slots};
@@ -32,7 +33,7 @@ fn make_data_and_list(
     names: &mut [Name],
 ) -> Result<(), Refusal>
     requires heap { HeapAccepted heap.old.bytes }
-    requires few { length (directory_bytes heap.old.bytes) ≤ 4096 }
+    requires few { length (directory_bytes heap.old.bytes) ≤ listed_size * most_databases }
     requires names { length names.old ≡ 2 + length entries.now }
     ensures lists { OnOk result (MakesAndLists heap.old.bytes heap.new.bytes slot.0
         (data_sizes blocks entries.now) (numbers_in names.new)) }

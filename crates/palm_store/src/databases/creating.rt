@@ -1,15 +1,15 @@
 //! A database that is made: its slot in the directory, and its header.
 
-ghost use Rattle.std.specs.Prelude.{◌≡◌, ◌<◌, ◌≤◌, ◌+◌, ◌⊎◌, length, replicate, IfOk, IfErr, OnOk, OnErr};
+ghost use Rattle.std.specs.Prelude.{◌≡◌, ◌<◌, ◌≤◌, ◌+◌, ◌⊎◌, length, replicate, IfOk, IfErr, OnOk, OnErr, ◌*◌};
 ghost use Rattle.heap_model.specs.Bytes.{u32_bytes};
-ghost use Rattle.heap_model.specs.Chunk.{need};
+ghost use Rattle.heap_model.specs.Chunk.{need, managers_owner};
 ghost use Rattle.heap_model.specs.Heap.{HeapAccepted, directory_of};
 ghost use Rattle.heap_model.specs.Reading.{held};
 ghost use Rattle.heap_model.specs.Space.{ShortFor, free_slots, rooms};
 ghost use Rattle.heap_model.specs.DatabaseFields.{header_size};
 ghost use Rattle.heap_model.specs.Leaving.{Leaves};
 ghost use Rattle.heap_model.specs.Rooms.{Stuck};
-ghost use Rattle.heap_model.specs.Store.{Accepted, managers_owner, directory_bytes, owner_under};
+ghost use Rattle.heap_model.specs.Store.{Accepted, directory_bytes, owner_under, listed_size, most_databases};
 ghost use Rattle.heap_model.specs.DatabaseSteps.{empty_database, create_parts, create_slots};
 ghost use Rattle.mem_manager.specs.Lookup.{HasNoRoomFor};
 ghost use Rattle.db_format.specs.Headers.{HasHeader};
@@ -51,7 +51,7 @@ fn begin_directory(heap: &mut Heap, slot: Name) -> Result<(), Refusal>
 fn extend_directory(heap: &mut Heap, slot: Name) -> Result<(), Refusal>
     requires heap { HeapAccepted heap.old.bytes }
     requires some { 0 < directory_of heap.old.bytes }
-    requires few { length (directory_bytes heap.old.bytes) ≤ 4096 }
+    requires few { length (directory_bytes heap.old.bytes) ≤ listed_size * most_databases }
     ensures lists { OnOk result (ListsLast heap.old.bytes heap.new.bytes slot.0) }
     ensures no_room { OnErr result (ShortFor heap.old.bytes (directory_of heap.old.bytes)
         (need (length (directory_bytes heap.old.bytes) + SLOT_SIZE))) }
@@ -69,7 +69,7 @@ fn extend_directory(heap: &mut Heap, slot: Name) -> Result<(), Refusal>
 /// Lists a slot last. Refused `NotEnoughSpace` alone, and then nothing has changed.
 pub(crate) fn list_last(heap: &mut Heap, slot: Name) -> Result<(), Refusal>
     requires heap { HeapAccepted heap.old.bytes }
-    requires few { length (directory_bytes heap.old.bytes) ≤ 4096 }
+    requires few { length (directory_bytes heap.old.bytes) ≤ listed_size * most_databases }
     ensures lists { OnOk result (ListsLast heap.old.bytes heap.new.bytes slot.0) }
     ensures no_room { OnErr result (HasNoRoomToList heap.old.bytes) }
     ensures refusal { IfErr result (λ refusal. refusal ≡ Refusal.NotEnoughSpace) }

@@ -2,7 +2,7 @@
 
 ghost use Rattle.std.specs.Prelude.{◌≡◌, ◌<◌, ◌≤◌, ◌+◌, ◌*◌, length};
 ghost use Rattle.heap_model.specs.Heap.{HeapAccepted, directory_of};
-ghost use Rattle.heap_model.specs.Store.{directory_bytes};
+ghost use Rattle.heap_model.specs.Store.{directory_bytes, listed_size, most_databases};
 ghost use Rattle.palm_store.specs.Directory.{Unlists};
 
 use crate::lookup::SLOT_SIZE;
@@ -12,7 +12,7 @@ use mem_manager::Heap;
 pub(crate) fn unlist(heap: &mut Heap, index: u32)
     requires heap { HeapAccepted heap.old.bytes }
     requires some { 0 < directory_of heap.old.bytes }
-    requires few { length (directory_bytes heap.old.bytes) ≤ 4096 }
+    requires few { length (directory_bytes heap.old.bytes) ≤ listed_size * most_databases }
     requires inside { SLOT_SIZE * index + SLOT_SIZE ≤ length (directory_bytes heap.old.bytes) }
     ensures unlists { Unlists heap.old.bytes heap.new.bytes index }
     ensures rest { heap.new ≡ record heap.old { bytes = heap.new.bytes; slid = heap.new.slid } }

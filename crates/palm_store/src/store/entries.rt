@@ -21,7 +21,7 @@ use crate::entries::{
 };
 use crate::lookup::{find_header, header_of};
 use crate::store::Store;
-use database_edits::{move_entry, raise_modification, remove_entry, write_entry};
+use database_edits::{move_entry, count_change, remove_entry, write_entry};
 use db_format::{DatabaseView, DbAttrs};
 use heap_model::{Db, Name, Refusal};
 use mem_manager::DATA_OWNER;
@@ -261,13 +261,13 @@ impl Store {
     }
 
     /// Counts a change of a database: raises its modification number by 1, modulo 2^32.
-    pub fn raise(&mut self, db: Db)
+    pub fn count_change(&mut self, db: Db)
         requires number { HasNumber self.old.bytes db.0 }
-        ensures raised { LeavesChanged self.old self.new (λ store. raised store db) }
+        ensures counted { LeavesChanged self.old self.new (λ store. raised store db) }
         ensures none_made { MakesNone self.old.bytes self.new.bytes }
         ensures unmoved { MovesNothing self.old.bytes self.new.bytes }
         ensures rest { self.new ≡ record self.old { bytes = self.new.bytes } }
     {
-        raise_modification(&mut self.heap, db);
+        count_change(&mut self.heap, db);
     }
 }

@@ -15,8 +15,8 @@ use Rattle.record_db.proofs.categories.delete_category.Goals as goal
 pub delete_all_of-requires-clause-unlocked : goal.delete_all_of-requires-clause-unlocked
 delete_all_of-requires-clause-unlocked c = λ is. (let found = c.has_locked_of.ensures.1 is in let none = c.if-has_locked_of.false in absurd cc)
 
-pub raise-requires : goal.raise-requires
-raise-requires c =
+pub count_change-requires : goal.raise-requires
+count_change-requires c =
     let h = here c.args.store.now.bytes c.args.db.0 c.in_ok-count_entries.ensures.accepted c.in_ok-count_entries.ensures.known in
     let m = number_mid c.args.store.now.bytes c.delete_all_of.new.store.bytes c.args.db (map (deleted_category c.args.category)) (category_deleted (store_of c.args.store.now.bytes) c.args.db c.args.category) h c.delete_all_of.ensures.deleted.same refl in
     record { number = number_read c.delete_all_of.new.store.bytes c.args.db _ m }
@@ -24,6 +24,6 @@ raise-requires c =
 pub returns-clause-does : goal.returns-clause-does
 returns-clause-does c =
     let none = c.in_ok-count_entries.ensures.passes in
-    let leaves = raised_after c.args.store.now.bytes c.delete_all_of.new.store.bytes c.raise.new.self.bytes c.args.db (category_deleted (store_of c.args.store.now.bytes) c.args.db c.args.category) c.delete_all_of.ensures.deleted c.raise.ensures.raised c.raise.ensures.none_made in
-    changes c.args.store.now c.raise.new.self (calls.Record (DeleteCategory c.args.db c.args.category)) Done _ c.in_ok-count_entries.ensures.accepted leaves
-    ((none.0, (none.1.0, (none.1.1.0, (c.in_ok-check_category.ensures.passes.0, ((λ is. (let found = c.has_locked_of.ensures.1 is in let no_one = c.if-has_locked_of.false in absurd cc)), tt))))), (tt, leaves.same)) tt (kept_then c.args.store.now c.delete_all_of.new.store c.raise.new.self c.delete_all_of.ensures.rest c.raise.ensures.rest)
+    let leaves = raised_after c.args.store.now.bytes c.delete_all_of.new.store.bytes c.count_change.new.self.bytes c.args.db (category_deleted (store_of c.args.store.now.bytes) c.args.db c.args.category) c.delete_all_of.ensures.deleted c.count_change.ensures.counted c.count_change.ensures.none_made in
+    changes c.args.store.now c.count_change.new.self (calls.Record (DeleteCategory c.args.db c.args.category)) Done _ c.in_ok-count_entries.ensures.accepted leaves
+    ((none.0, (none.1.0, (none.1.1.0, (c.in_ok-check_category.ensures.passes.0, ((λ is. (let found = c.has_locked_of.ensures.1 is in let no_one = c.if-has_locked_of.false in absurd cc)), tt))))), (tt, leaves.same)) tt (kept_then c.args.store.now c.delete_all_of.new.store c.count_change.new.self c.delete_all_of.ensures.rest c.count_change.ensures.rest)

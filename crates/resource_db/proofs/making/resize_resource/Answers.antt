@@ -40,17 +40,17 @@ returns-clause-does c =
     let named : c.in_ok-resource.resource.«data».0 ≡ data_under (store_of c.args.store.now.bytes) c.args.db c.args.index = sym (ap data_of_entry c.in_ok-resource.ensures.is) in
     let grows = subst (λ (name : ℕ). NoneHolds (checks_of_growth c.args.store.now.bytes name c.args.size)) named c.in_ok-entry_resize.ensures.could in
     let sized = subst (λ (name : ℕ). LeavesStore c.args.store.now.bytes c.entry_resize.new.self.bytes (data_sized (store_of c.args.store.now.bytes) name c.args.size)) named c.in_ok-entry_resize.ensures.done in
-    let leaves = raised_after c.args.store.now.bytes c.entry_resize.new.self.bytes c.raise.new.self.bytes c.args.db _ sized c.raise.ensures.raised c.raise.ensures.none_made in
-    changes c.args.store.now c.raise.new.self (calls.Resource (Resize c.args.db c.args.index c.args.size)) Done _ c.in_ok-resource.ensures.accepted leaves
+    let leaves = raised_after c.args.store.now.bytes c.entry_resize.new.self.bytes c.count_change.new.self.bytes c.args.db _ sized c.count_change.ensures.counted c.count_change.ensures.none_made in
+    changes c.args.store.now c.count_change.new.self (calls.Resource (Resize c.args.db c.args.index c.args.size)) Done _ c.in_ok-resource.ensures.accepted leaves
     ((none.0, (none.1.0, (none.1.1.0, (none.1.1.1.0, grows)))), (tt, leaves.same)) tt refl
 
 pub returns-clause-unmoved : goal.returns-clause-unmoved
 returns-clause-unmoved c = λ fits.
     let named : c.in_ok-resource.resource.«data».0 ≡ data_under (store_of c.args.store.now.bytes) c.args.db c.args.index = sym (ap data_of_entry c.in_ok-resource.ensures.is) in
-    nothing_moved c.args.store.now.bytes c.entry_resize.new.self.bytes c.raise.new.self.bytes (c.in_ok-entry_resize.ensures.unmoved (subst (λ (name : ℕ). FitsInPlace c.args.store.now.bytes name (need c.args.size)) (sym named) fits)) c.raise.ensures.unmoved c.raise.ensures.none_made
+    nothing_moved c.args.store.now.bytes c.entry_resize.new.self.bytes c.count_change.new.self.bytes (c.in_ok-entry_resize.ensures.unmoved (subst (λ (name : ℕ). FitsInPlace c.args.store.now.bytes name (need c.args.size)) (sym named) fits)) c.count_change.ensures.unmoved c.count_change.ensures.none_made
 
 pub returns-clause-one_stretch : goal.returns-clause-one_stretch
 returns-clause-one_stretch c =
     let named : c.in_ok-resource.resource.«data».0 ≡ data_under (store_of c.args.store.now.bytes) c.args.db c.args.index = sym (ap data_of_entry c.in_ok-resource.ensures.is) in
-    subst (λ (name : ℕ). MovesOneStretchAnd c.args.store.now.bytes c.raise.new.self.bytes name) named
-    (one_stretch_moved c.args.store.now.bytes c.entry_resize.new.self.bytes c.raise.new.self.bytes c.in_ok-resource.resource.«data».0 c.in_ok-entry_resize.ensures.one_stretch c.raise.ensures.unmoved c.raise.ensures.none_made)
+    subst (λ (name : ℕ). MovesOneStretchAnd c.args.store.now.bytes c.count_change.new.self.bytes name) named
+    (one_stretch_moved c.args.store.now.bytes c.entry_resize.new.self.bytes c.count_change.new.self.bytes c.in_ok-resource.resource.«data».0 c.in_ok-entry_resize.ensures.one_stretch c.count_change.ensures.unmoved c.count_change.ensures.none_made)

@@ -1,6 +1,7 @@
 use Rattle.std.proofs.Common.{◌≡◌, inr, sym, subst}
+use Rattle.heap_model.specs.Chunk.{managers_owner}
 use Rattle.heap_model.specs.Memory.{Memory}
-use Rattle.heap_model.specs.Store.{managers_owner, owner_under}
+use Rattle.heap_model.specs.Store.{owner_under}
 use Rattle.mem_manager.proofs.StoreCalls.{used_named}
 use Rattle.mem_manager.proofs.heap.Heap.set_directory.Goals as goal
 

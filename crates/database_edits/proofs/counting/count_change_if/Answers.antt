@@ -5,11 +5,11 @@ use Rattle.heap_model.specs.Leaving.{Respells, database_here}
 use Rattle.database_edits.specs.Edits.{counted_if}
 use Rattle.database_edits.proofs.Chunks.{unchanged}
 use Rattle.database_edits.proofs.Databases.{managers}
-use Rattle.database_edits.proofs.raising.raise_if.Goals as goal
+use Rattle.database_edits.proofs.counting.count_change_if.Goals as goal
 
 pub returns-then-counts-clause-counted : goal.returns-then-counts-clause-counted
 returns-then-counts-clause-counted c =
-    subst (λ (counts : Bool). Respells c.args.heap.now.bytes c.raise_modification.new.heap.bytes c.args.db.0 (counted_if counts (database_here c.args.heap.now.bytes c.args.db.0))) (sym c.if-counts.true) c.raise_modification.ensures.counted
+    subst (λ (counts : Bool). Respells c.args.heap.now.bytes c.count_change.new.heap.bytes c.args.db.0 (counted_if counts (database_here c.args.heap.now.bytes c.args.db.0))) (sym c.if-counts.true) c.count_change.ensures.counted
 
 pub returns-else-counts-clause-counted : goal.returns-else-counts-clause-counted
 returns-else-counts-clause-counted c =

@@ -5,7 +5,7 @@ use Rattle.heap_model.specs.Leaving.{database_here}
 use Rattle.database_edits.specs.Edits.{counted}
 use Rattle.database_edits.proofs.Databases.{header_inside, counted_fits}
 use Rattle.database_edits.proofs.RaisedNumbers.{raised, spells_now, database_now}
-use Rattle.database_edits.proofs.raising.raise_modification.Goals as goal
+use Rattle.database_edits.proofs.counting.count_change.Goals as goal
 
 pub put_modification_number-requires-clause-inside : goal.put_modification_number-requires-clause-inside
 put_modification_number-requires-clause-inside c = header_inside c.args.heap.now.bytes c.args.db.0 c.requires.spells

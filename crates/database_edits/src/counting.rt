@@ -1,4 +1,4 @@
-//! The modification number of a database, raised.
+//! Changes of a database, counted by its modification number.
 
 ghost use Rattle.std.specs.Prelude.{◌≡◌};
 ghost use Rattle.heap_model.specs.Space.{MovesNothing};
@@ -9,9 +9,9 @@ use crate::headers::{heading_here, put_modification_number};
 use heap_model::Db;
 use mem_manager::Heap;
 
-/// Raises the modification number by 1, modulo 2^32.
+/// Counts a change of a database: raises its modification number by 1, modulo 2^32.
 #[inline(always)]
-pub fn raise_modification(heap: &mut Heap, db: Db)
+pub fn count_change(heap: &mut Heap, db: Db)
     requires spells { SpellsHere heap.old.bytes db.0 }
     ensures counted { Changes heap.old.bytes heap.new.bytes db.0 counted }
     ensures spells { SpellsHere heap.new.bytes db.0 }
@@ -23,9 +23,9 @@ pub fn raise_modification(heap: &mut Heap, db: Db)
     put_modification_number(heap, db, heading.modification_number.wrapping_add(1));
 }
 
-/// Raises it where that is asked, and else leaves the heap as it is.
+/// Counts a change where that is asked, and else leaves the heap as it is.
 #[inline(always)]
-pub(crate) fn raise_if(heap: &mut Heap, db: Db, counts: bool)
+pub(crate) fn count_change_if(heap: &mut Heap, db: Db, counts: bool)
     requires spells { SpellsHere heap.old.bytes db.0 }
     ensures counted { Changes heap.old.bytes heap.new.bytes db.0 (counted_if counts) }
     ensures spells { SpellsHere heap.new.bytes db.0 }
@@ -34,6 +34,6 @@ pub(crate) fn raise_if(heap: &mut Heap, db: Db, counts: bool)
     ensures rest { heap.new ≡ record heap.old { bytes = heap.new.bytes } }
 {
     if counts {
-        raise_modification(heap, db);
+        count_change(heap, db);
     }
 }
