@@ -2,6 +2,7 @@
 -- header names the chunks of its info blocks and of its entries' data.
 use Rattle.std.specs.Prelude.{◌≡◌, ◌≢◌, ◌≤◌, ◌%◌, ◌⊎◌, ℕ, zero, suc, true, List, [], length, map, Option, Some, None, All}
 use Rattle.std.specs.List.{AllZip, Contains, filter_map, flat_map}
+use Rattle.heap_model.specs.Chunk.{managers_owner, data_owner}
 use Rattle.heap_model.specs.Heap.{HeapAccepted, directory_of}
 use Rattle.heap_model.specs.Meaning.{LiveChunk, ChunkMap, Holds}
 use Rattle.heap_model.specs.Reading.{held}
