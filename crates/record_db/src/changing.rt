@@ -2,7 +2,7 @@
 
 ghost use Rattle.std.specs.Prelude.{◌≡◌, ◌<◌, false, Some, length, bit_or, OnErr};
 ghost use Rattle.heap_model.specs.Database.{a_record};
-ghost use Rattle.heap_model.specs.Store.{store_of};
+ghost use Rattle.heap_model.specs.Store.{Accepted, store_of};
 ghost use Rattle.heap_model.specs.EntrySteps.{entry_under, entry_changed, with_attributes, MakesNone};
 ghost use Rattle.heap_model.specs.RecordSteps.{id_set};
 ghost use Rattle.heap_model.specs.declared.call.RecordCall.{RecordCall};
@@ -158,6 +158,7 @@ pub fn set_record_info(
 /// Sets bits of the attributes of a record that has data. The database counts the call if `counts` says so.
 #[tactic(auto, using(crate::proofs::SetAttributes::live_may_have))]
 fn mark(store: &mut Store, db: Db, index: u32, live: LiveRecord, bits: RecordAttrs, counts: bool)
+    requires accepted { Accepted store.old.bytes }
     requires known { HasNumber store.old.bytes db.0 }
     requires records { resources_of_image store.old.bytes db ≡ false }
     requires inside { index < length (entries_of_image store.old.bytes db) }
