@@ -156,7 +156,6 @@ pub fn set_record_info(
 }
 
 /// Sets bits of the attributes of a record that has data. The database counts the call if `counts` says so.
-#[tactic(auto, using(crate::proofs::SetAttributes::live_may_have))]
 fn mark(store: &mut Store, db: Db, index: u32, live: LiveRecord, bits: RecordAttrs, counts: bool)
     requires accepted { Accepted store.old.bytes }
     requires known { HasNumber store.old.bytes db.0 }
