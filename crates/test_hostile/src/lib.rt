@@ -1,5 +1,6 @@
 //! Tests of hostile use: memory that is refused at each growth in turn, writers that fail behind each byte,
-//! bytes that are damaged, and images and scripts at their limits.
+//! bytes of images and of files that are damaged, images that come of others by changes, images and scripts at their
+//! limits, and long lists of calls.
 //!
 //! This crate has no code but its tests.
 #![tactic(auto)]
@@ -7,12 +8,28 @@
 #[cfg(test)]
 mod bytes;
 #[cfg(test)]
+mod changes;
+#[cfg(test)]
 mod commands;
+#[cfg(test)]
+mod drawn;
+#[cfg(test)]
+mod files;
+#[cfg(test)]
+mod fronts;
 #[cfg(test)]
 mod growths;
 #[cfg(test)]
+mod images;
+#[cfg(test)]
 mod limits;
 #[cfg(test)]
+mod lists;
+#[cfg(test)]
+mod resources;
+#[cfg(test)]
 mod stores;
+#[cfg(test)]
+mod verdicts;
 #[cfg(test)]
 mod writes;
