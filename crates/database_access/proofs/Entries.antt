@@ -1,14 +1,17 @@
 -- The entries of an accepted image, by their indexes.
-use Rattle.std.proofs.Common.{◌≡◌, ℕ, ◌<◌, Bool, List, length, get_or, Option, Some, None, refl, sym, ap, subst, ◌∙◌}
+use Rattle.std.proofs.Common.{◌≡◌, ℕ, ◌<◌, Bool, true, List, length, get_or, Option, Some, None, refl, sym, ap, subst, ◌∙◌}
 use Rattle.std.proofs.lemmas.Option.{slice_get_within, get_or_from_slice_get}
-use Rattle.std.specs.Prelude.{IsSome, slice_get}
+use Rattle.std.specs.Prelude.{IsSome, is_some, slice_get}
 use Rattle.heap_model.specs.Database.{Entry, a_record, a_resource, EntryFits, has_resources}
 use Rattle.heap_model.specs.Store.{StoredDatabase, databases, IsDatabase, Accepted, store_of}
 use Rattle.heap_model.specs.StoreWords.{with_number}
-use Rattle.heap_model.specs.EntrySteps.{entries_of, entry_under, OfEntry, kind_of, resources_under, Tells}
+use Rattle.heap_model.specs.EntrySteps.{entries_of, entry_under, OfEntry, kind_of, resources_under, Tells, record_told, resource_told}
 use Rattle.heap_model.specs.declared.names.Db.{Db}
+use Rattle.heap_model.specs.declared.entry.RecordInfo.{RecordInfo}
+use Rattle.heap_model.specs.declared.entry.ResourceInfo.{ResourceInfo}
 use Rattle.heap_model.specs.declared.entry.Entry as heard
 use Rattle.heap_model.specs.declared.entry.Entry.TheVariants as entries
+use Rattle.laws_heap.proofs.Tests.{same_some, none_some}
 use Rattle.laws_store.proofs.Found.{found_stands}
 use Rattle.database_access.specs.Checks.{are_resources, IsTold, IsOfKind}
 use Rattle.database_access.specs.declared.opening.EntryKind.{EntryKind}
@@ -72,3 +75,21 @@ told_kind image db kind index told a has is tells = by kind told (entry_under (s
   by Resources (entries.Record info) (Some (a_record attributes id slot)) fit e p = fit (a_record attributes id slot) e
   by Resources (entries.Record info) (Some (a_resource type id slot)) fit e p = p
   by Resources (entries.Resource info) (Some entry) fit e p = tt
+
+-- ---- what is told of entries of one kind
+
+pub records_told : (entry : heard.Entry) → IsOfKind Records entry → is_some (record_told entry) ≡ true
+records_told (entries.Record info) of = refl
+records_told (entries.Resource info) of = absurd of
+
+pub resources_told : (entry : heard.Entry) → IsOfKind Resources entry → is_some (resource_told entry) ≡ true
+resources_told (entries.Record info) of = absurd of
+resources_told (entries.Resource info) of = refl
+
+pub as_record_told : (entry : heard.Entry) (info : RecordInfo) → record_told entry ≡ Some info → entry ≡ entries.Record info
+as_record_told (entries.Record told) info is = ap entries.Record (same_some told info is)
+as_record_told (entries.Resource told) info is = absurd (none_some None info refl is)
+
+pub as_resource_told : (entry : heard.Entry) (info : ResourceInfo) → resource_told entry ≡ Some info → entry ≡ entries.Resource info
+as_resource_told (entries.Record told) info is = absurd (none_some None info refl is)
+as_resource_told (entries.Resource told) info is = ap entries.Resource (same_some told info is)

@@ -6,8 +6,7 @@ use Rattle.std.proofs.lemmas.Nat.Bits.{and_pow, bit_at-lt, bit_at_lowest, and_hi
 use Rattle.std.specs.Prelude.{◌==◌}
 use Rattle.std.specs.Int.{bit_at}
 use Rattle.std.specs.Int.RustNames.{bit_and, bit_or}
-use Rattle.heap_model.specs.Database.{is_deleted, has_resources, is_read_only}
-use Rattle.db_format.specs.Attributes.{with_kind_from}
+use Rattle.heap_model.specs.Database.{is_deleted, has_resources, is_read_only, with_resources_of}
 
 none_of : (m : ℕ) → 0 * m ≡ 0
 none_of m = omega arith
@@ -36,7 +35,7 @@ pub read_only_by_mask : (read_only : Bool) (attributes : ℕ) → read_only ≡ 
 read_only_by_mask read_only attributes is = is ∙ by_mask 1 1 attributes refl
 
 -- all bits but the lowest are of the one, and that is of the other
-pub kind_by_mask : (result other attributes : ℕ) → attributes < 2 ^ 16 → result ≡ bit_or (bit_and attributes 0xFFFE) (bit_and other 1) → result ≡ with_kind_from other attributes
+pub kind_by_mask : (result other attributes : ℕ) → attributes < 2 ^ 16 → result ≡ bit_or (bit_and attributes 0xFFFE) (bit_and other 1) → result ≡ with_resources_of other attributes
 kind_by_mask result other attributes small is =
     let kept : bit_and attributes 0xFFFE ≡ attributes / 2 * 2 ^ 1 = and_high_mask 16 1 (omega arith) attributes small in
     let kind : bit_and other 1 ≡ other % 2 = and_pow other 0 ∙ (let lowest = bit_at_lowest other in omega (arith, lowest)) in

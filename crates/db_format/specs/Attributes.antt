@@ -1,5 +1,5 @@
 -- The attributes of databases and of records: their bits with names, and numbers in them.
-use Rattle.std.specs.Prelude.{◌+◌, ◌*◌, ◌/◌, ◌%◌, ℕ, List, [], ◌∷◌, codes}
+use Rattle.std.specs.Prelude.{ℕ, List, [], ◌∷◌, codes}
 
 -- the bits of a database's attributes that have a name
 abbrev pub database_bits : List (List ℕ × ℕ)
@@ -14,7 +14,3 @@ record_bits =
     ∷ (codes "SECRET", 0x10)
     ∷ (codes "CATEGORY", 0x0F)
     ∷ []
-
--- the attributes of a database, but the lowest bit, which says whether there are resources, is that of others
-abbrev pub with_kind_from : ℕ → ℕ → ℕ
-with_kind_from other attributes = 2 * (attributes / 2) + other % 2

@@ -2,7 +2,7 @@
 
 ghost use Rattle.std.specs.Prelude.{⊤, ◌≡◌, [], ◌∷◌, codes};
 ghost use Rattle.heap_model.specs.Database as databases;
-ghost use Rattle.db_format.specs.Attributes.{database_bits, with_kind_from};
+ghost use Rattle.db_format.specs.Attributes.{database_bits};
 
 use bitflags::{Flag, Flags, bitflag_items};
 
@@ -64,7 +64,7 @@ impl DbAttrs {
     /// These attributes, but whether there are resources is as in others.
     #[tactic(auto, using(crate::proofs::AttributeLaws::kind_by_mask))]
     pub fn with_kind_of(self, other: DbAttrs) -> DbAttrs
-        ensures { result.0 ≡ with_kind_from other.0 self.0 }
+        ensures { result.0 ≡ databases.with_resources_of other.0 self.0 }
     {
         let kind = other.intersection(DbAttrs::RESOURCE);
         self.difference(DbAttrs::RESOURCE).union(kind)

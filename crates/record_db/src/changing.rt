@@ -1,13 +1,18 @@
 //! Records changed, moved and taken out.
 
-ghost use Rattle.std.specs.Prelude.{◌≡◌, OnErr};
+ghost use Rattle.std.specs.Prelude.{◌≡◌, ◌<◌, false, Some, length, bit_or, OnErr};
+ghost use Rattle.heap_model.specs.Database.{a_record};
+ghost use Rattle.heap_model.specs.Store.{Accepted, store_of};
+ghost use Rattle.heap_model.specs.EntrySteps.{entry_under, entry_changed, with_attributes, MakesNone};
 ghost use Rattle.heap_model.specs.RecordSteps.{id_set};
 ghost use Rattle.heap_model.specs.declared.call.RecordCall.{RecordCall};
+ghost use Rattle.palm_store.specs.Databases.{HasNumber};
+ghost use Rattle.palm_store.specs.EntryCalls.{entries_of_image, resources_of_image, raised_if, LeavesChanged};
 ghost use Rattle.palm_store.specs.Replies.{done_or_refused, name_or_refused};
 ghost use Rattle.record_db.specs.Checks.{DoesRecord};
 
 use crate::attributes::{is_busy, marked, released, with_given};
-use crate::records::{find_live, find_record, has_id, has_locked};
+use crate::records::{LiveRecord, find_live, find_record, has_id, has_locked};
 use database_access::{Access, EntryKind, count_entries, is_locked};
 use db_format::{GREATEST_ID, RecordAttrs};
 use heap_model::{Db, Name, Refusal};
@@ -32,18 +37,13 @@ pub fn delete(store: &mut Store, db: Db, index: u32) -> Result<(), Refusal>
 /// Marks a record as deleted. Its data stays.
 ///
 /// Refused: `NoSuchDatabase`, `NotRecordDatabase`, `ReadOnly`, `IndexOutOfRange`, `RecordDeleted`.
-#[tactic(auto, using(crate::proofs::SetAttributes::live_may_have))]
 pub fn archive(store: &mut Store, db: Db, index: u32) -> Result<(), Refusal>
     ensures does { DoesRecord store.old (RecordCall.Archive db index)
         (done_or_refused result) store.new }
     ensures refused { OnErr result (store.new ≡ store.old) }
 {
     let live = find_live(store, db, index, Access::Write)?;
-    let archived = EntryInfo::Record {
-        attributes: marked(live.attributes, RecordAttrs::DELETE),
-        id: live.id,
-    };
-    store.entry_set(db, index, archived, true);
+    mark(store, db, index, live, RecordAttrs::DELETE, true);
     Ok(())
 }
 
@@ -82,7 +82,6 @@ pub fn move_record(store: &mut Store, db: Db, from: u32, to: u32) -> Result<(), 
 /// The name of a record's data, for use: the record is busy until it is released.
 ///
 /// Refused: `NoSuchDatabase`, `NotRecordDatabase`, `IndexOutOfRange`, `RecordDeleted`, `RecordBusy`.
-#[tactic(auto, using(crate::proofs::SetAttributes::live_may_have))]
 pub fn get(store: &mut Store, db: Db, index: u32) -> Result<Name, Refusal>
     ensures does { DoesRecord store.old (RecordCall.Get db index) (name_or_refused result) store.new }
     ensures refused { OnErr result (store.new ≡ store.old) }
@@ -91,11 +90,7 @@ pub fn get(store: &mut Store, db: Db, index: u32) -> Result<Name, Refusal>
     if is_busy(live.attributes) {
         return Err(Refusal::RecordBusy);
     }
-    let busy = EntryInfo::Record {
-        attributes: marked(live.attributes, RecordAttrs::BUSY),
-        id: live.id,
-    };
-    store.entry_set(db, index, busy, false);
+    mark(store, db, index, live, RecordAttrs::BUSY, false);
     Ok(live.data)
 }
 
@@ -158,6 +153,28 @@ pub fn set_record_info(
     };
     store.entry_set(db, index, given, true);
     Ok(())
+}
+
+/// Sets bits of the attributes of a record that has data. The database counts the call if `counts` says so.
+fn mark(store: &mut Store, db: Db, index: u32, live: LiveRecord, bits: RecordAttrs, counts: bool)
+    requires accepted { Accepted store.old.bytes }
+    requires known { HasNumber store.old.bytes db.0 }
+    requires records { resources_of_image store.old.bytes db ≡ false }
+    requires inside { index < length (entries_of_image store.old.bytes db) }
+    requires is { entry_under (store_of store.old.bytes) db index
+        ≡ Some (a_record live.attributes live.id live.«data».0) }
+    requires some { 0 < live.«data».0 }
+    ensures marked { LeavesChanged store.old store.new
+        (λ store. raised_if counts (entry_changed store db index
+        (with_attributes (λ attributes. bit_or attributes bits.0))) db) }
+    ensures none_made { MakesNone store.old.bytes store.new.bytes }
+    ensures rest { store.new ≡ record store.old { bytes = store.new.bytes } }
+{
+    let marked = EntryInfo::Record {
+        attributes: marked(live.attributes, bits),
+        id: live.id,
+    };
+    store.entry_set(db, index, marked, counts);
 }
 
 /// The unique ID in the low 24 bits of a number, and a record's own where they are 0.

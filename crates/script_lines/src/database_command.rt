@@ -1,15 +1,13 @@
 //! The commands of databases, and of their files.
 
 ghost use Rattle.std.specs.Prelude.{◌≡◌, ◌<◌, length};
-ghost use Rattle.heap_model.specs.declared.call.Call.TheVariants as calls;
 ghost use Rattle.script_lines.specs.Commands as tables;
 ghost use Rattle.script_lines.specs.Commands.{command_of, line_by};
 ghost use Rattle.script_lines.specs.Commands.{created, creation_kinds, info_kinds, info_set};
 ghost use Rattle.script_lines.specs.declared.command.Command.TheVariants.{Database as OfDatabases};
-ghost use Rattle.script_lines.specs.declared.line.Line.TheVariants.{BindChunk, BindDatabase, Print};
 
 use crate::command::{Command, CommandRow, line_if, row};
-use crate::line::{ChunkLabel, DatabaseLabel, Line};
+use crate::line::Line;
 use crate::value::Value::{Byte, Chunk, Database, Flag, FourBytes, Number, Short, Which};
 use crate::value::{Kind, Value};
 use heap_model::{Call, DatabaseCall, DbInfo, DbName};
@@ -104,27 +102,6 @@ pub(crate) fn database_row(command: DatabaseCommand) -> CommandRow
     }
 }
 
-/// A line that prints what a call answers.
-fn printed(call: DatabaseCall<ChunkLabel, DatabaseLabel>) -> Line
-    ensures { result ≡ Print (calls.Database call) }
-{
-    Line::Print(Call::Database(call))
-}
-
-/// A line that binds a label to the database that a call answers.
-fn bound(label: DatabaseLabel, call: DatabaseCall<ChunkLabel, DatabaseLabel>) -> Line
-    ensures { result ≡ BindDatabase label (calls.Database call) }
-{
-    Line::BindDatabase(label, Call::Database(call))
-}
-
-/// A line that binds a label to the chunk that a call answers.
-fn bound_to_chunk(label: ChunkLabel, call: DatabaseCall<ChunkLabel, DatabaseLabel>) -> Line
-    ensures { result ≡ BindChunk label (calls.Database call) }
-{
-    Line::BindChunk(label, Call::Database(call))
-}
-
 /// The line of `create`, if some values are of its kinds.
 fn creation(values: &[Value], text: &[u8]) -> Option<Line>
     ensures { result ≡ line_by creation_kinds created values.now text.now }
@@ -144,7 +121,7 @@ fn creation(values: &[Value], text: &[u8]) -> Option<Line>
                 resources,
                 date,
             };
-            Some(bound(label, call))
+            Some(Line::BindDatabase(label, Call::Database(call)))
         }
         _ => None,
     }
@@ -178,7 +155,7 @@ fn info_line(values: &[Value], text: &[u8]) -> Option<Line>
                 seed: 0,
                 entry_count: 0,
             };
-            Some(printed(DatabaseCall::SetInfo(db, info)))
+            Some(Line::Print(Call::Database(DatabaseCall::SetInfo(db, info))))
         }
         _ => None,
     }
@@ -195,24 +172,26 @@ pub(crate) fn make_database_line(
     match command {
         DatabaseCommand::Create => creation(values, text),
         DatabaseCommand::Find => line_if!(values, &[Database(label)] =>
-            bound(label, DatabaseCall::Find(DbName::of(text)))),
+            Line::BindDatabase(label, Call::Database(DatabaseCall::Find(DbName::of(text))))),
         DatabaseCommand::Nth => line_if!(values, &[Database(label), Number(index)] =>
-            bound(label, DatabaseCall::Nth(index))),
-        DatabaseCommand::Count => line_if!(values, [] => printed(DatabaseCall::Count)),
-        DatabaseCommand::Delete =>
-            line_if!(values, &[Database(db)] => printed(DatabaseCall::Delete(db))),
-        DatabaseCommand::Info =>
-            line_if!(values, &[Database(db)] => printed(DatabaseCall::Info(db))),
+            Line::BindDatabase(label, Call::Database(DatabaseCall::Nth(index)))),
+        DatabaseCommand::Count => line_if!(values, [] =>
+            Line::Print(Call::Database(DatabaseCall::Count))),
+        DatabaseCommand::Delete => line_if!(values, &[Database(db)] =>
+            Line::Print(Call::Database(DatabaseCall::Delete(db)))),
+        DatabaseCommand::Info => line_if!(values, &[Database(db)] =>
+            Line::Print(Call::Database(DatabaseCall::Info(db)))),
         DatabaseCommand::SetInfo => info_line(values, text),
         DatabaseCommand::SetInfoBlock => line_if!(values,
             &[Database(db), Which(which), Chunk(name)] =>
-            printed(DatabaseCall::SetInfoBlock { db, which, name })),
+            Line::Print(Call::Database(DatabaseCall::SetInfoBlock { db, which, name }))),
         DatabaseCommand::TakeInfoBlock => line_if!(values,
             &[Database(db), Which(which), Byte(owner), Chunk(label)] =>
-            bound_to_chunk(label, DatabaseCall::TakeInfoBlock { db, which, owner })),
+            Line::BindChunk(label,
+            Call::Database(DatabaseCall::TakeInfoBlock { db, which, owner }))),
         DatabaseCommand::InfoBlock => line_if!(values,
             &[Database(db), Which(which), Chunk(label)] =>
-            bound_to_chunk(label, DatabaseCall::InfoBlock(db, which))),
+            Line::BindChunk(label, Call::Database(DatabaseCall::InfoBlock(db, which)))),
         DatabaseCommand::Import =>
             line_if!(values, &[Database(label), Number(file)] => Line::Import { label, file }),
         DatabaseCommand::Export => line_if!(values, &[Database(db)] => Line::Export(db)),

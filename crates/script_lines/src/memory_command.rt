@@ -1,14 +1,12 @@
 //! The commands of the memory manager.
 
 ghost use Rattle.std.specs.Prelude.{◌≡◌, ◌<◌, length};
-ghost use Rattle.heap_model.specs.declared.call.Call.TheVariants as calls;
 ghost use Rattle.script_lines.specs.Commands as tables;
 ghost use Rattle.script_lines.specs.Commands.{command_of};
 ghost use Rattle.script_lines.specs.declared.command.Command.TheVariants.{Memory};
-ghost use Rattle.script_lines.specs.declared.line.Line.TheVariants.{BindChunk, Print};
 
 use crate::command::{Command, CommandRow, line_if, row};
-use crate::line::{ChunkLabel, Line};
+use crate::line::Line;
 use crate::value::Value::{Byte, Chunk, Number};
 use crate::value::{Kind, Value};
 use heap_model::{Bytes, Call, MemoryCall};
@@ -111,20 +109,6 @@ pub(crate) fn memory_row(command: MemoryCommand) -> CommandRow
     }
 }
 
-/// A line that prints what a call answers.
-fn printed(call: MemoryCall<ChunkLabel>) -> Line
-    ensures { result ≡ Print (calls.Memory call) }
-{
-    Line::Print(Call::Memory(call))
-}
-
-/// A line that binds a label to the chunk that a call answers.
-fn bound(label: ChunkLabel, call: MemoryCall<ChunkLabel>) -> Line
-    ensures { result ≡ BindChunk label (calls.Memory call) }
-{
-    Line::BindChunk(label, Call::Memory(call))
-}
-
 /// The line of a command and what its words stand for, if these are of the command's kinds.
 pub(crate) fn make_memory_line(
     command: MemoryCommand,
@@ -137,35 +121,40 @@ pub(crate) fn make_memory_line(
         MemoryCommand::Bind =>
             line_if!(values, &[Chunk(label), Number(name)] => Line::Bind { label, name }),
         MemoryCommand::New => line_if!(values, &[Chunk(label), Number(size), Byte(owner)] =>
-            bound(label, MemoryCall::HandleNew { size, owner })),
+            Line::BindChunk(label, Call::Memory(MemoryCall::HandleNew { size, owner }))),
         MemoryCommand::PtrNew => line_if!(values, &[Chunk(label), Number(size), Byte(owner)] =>
-            bound(label, MemoryCall::PtrNew { size, owner })),
-        MemoryCommand::Free => line_if!(values, &[Chunk(name)] => printed(MemoryCall::Free(name))),
+            Line::BindChunk(label, Call::Memory(MemoryCall::PtrNew { size, owner }))),
+        MemoryCommand::Free => line_if!(values, &[Chunk(name)] =>
+            Line::Print(Call::Memory(MemoryCall::Free(name)))),
         MemoryCommand::Resize => line_if!(values, &[Chunk(name), Number(size)] =>
-            printed(MemoryCall::Resize { name, size })),
+            Line::Print(Call::Memory(MemoryCall::Resize { name, size }))),
         MemoryCommand::SetOwner => line_if!(values, &[Chunk(name), Byte(owner)] =>
-            printed(MemoryCall::SetOwner { name, owner })),
-        MemoryCommand::Lock => line_if!(values, &[Chunk(name)] => printed(MemoryCall::Lock(name))),
+            Line::Print(Call::Memory(MemoryCall::SetOwner { name, owner }))),
+        MemoryCommand::Lock => line_if!(values, &[Chunk(name)] =>
+            Line::Print(Call::Memory(MemoryCall::Lock(name)))),
         MemoryCommand::Unlock =>
-            line_if!(values, &[Chunk(name)] => printed(MemoryCall::Unlock(name))),
-        MemoryCommand::Size => line_if!(values, &[Chunk(name)] => printed(MemoryCall::Size(name))),
+            line_if!(values, &[Chunk(name)] => Line::Print(Call::Memory(MemoryCall::Unlock(name)))),
+        MemoryCommand::Size => line_if!(values, &[Chunk(name)] =>
+            Line::Print(Call::Memory(MemoryCall::Size(name)))),
         MemoryCommand::Owner =>
-            line_if!(values, &[Chunk(name)] => printed(MemoryCall::Owner(name))),
+            line_if!(values, &[Chunk(name)] => Line::Print(Call::Memory(MemoryCall::Owner(name)))),
         MemoryCommand::Locks =>
-            line_if!(values, &[Chunk(name)] => printed(MemoryCall::Locks(name))),
+            line_if!(values, &[Chunk(name)] => Line::Print(Call::Memory(MemoryCall::Locks(name)))),
         MemoryCommand::Read => line_if!(values, &[Chunk(name), Number(at), Number(count)] =>
-            printed(MemoryCall::Read { name, at, count })),
+            Line::Print(Call::Memory(MemoryCall::Read { name, at, count }))),
         MemoryCommand::Write => line_if!(values, &[Chunk(name), Number(at)] =>
-            printed(MemoryCall::Write { name, at, bytes })),
+            Line::Print(Call::Memory(MemoryCall::Write { name, at, bytes }))),
         MemoryCommand::Set => line_if!(values,
             &[Chunk(name), Number(at), Number(count), Byte(byte)] =>
-            printed(MemoryCall::Set { name, at, count, byte })),
+            Line::Print(Call::Memory(MemoryCall::Set { name, at, count, byte }))),
         MemoryCommand::StrCopy => line_if!(values, &[Chunk(name), Number(at)] =>
-            printed(MemoryCall::StrCopy { name, at, text: bytes })),
-        MemoryCommand::FreeByOwner =>
-            line_if!(values, &[Byte(owner)] => printed(MemoryCall::FreeByOwner(owner))),
-        MemoryCommand::FreeBytes => line_if!(values, [] => printed(MemoryCall::FreeBytes)),
-        MemoryCommand::Largest => line_if!(values, [] => printed(MemoryCall::LargestStretch)),
+            Line::Print(Call::Memory(MemoryCall::StrCopy { name, at, text: bytes }))),
+        MemoryCommand::FreeByOwner => line_if!(values, &[Byte(owner)] =>
+            Line::Print(Call::Memory(MemoryCall::FreeByOwner(owner)))),
+        MemoryCommand::FreeBytes => line_if!(values, [] =>
+            Line::Print(Call::Memory(MemoryCall::FreeBytes))),
+        MemoryCommand::Largest => line_if!(values, [] =>
+            Line::Print(Call::Memory(MemoryCall::LargestStretch))),
         MemoryCommand::Compact =>
             line_if!(values, [] => Line::Silent(Call::Memory(MemoryCall::Compact))),
     }

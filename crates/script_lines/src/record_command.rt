@@ -1,14 +1,12 @@
 //! The commands of records.
 
 ghost use Rattle.std.specs.Prelude.{◌≡◌, ◌<◌, ℕ, List, length};
-ghost use Rattle.heap_model.specs.declared.call.Call.TheVariants as calls;
 ghost use Rattle.script_lines.specs.Commands as tables;
 ghost use Rattle.script_lines.specs.Commands.{command_of};
 ghost use Rattle.script_lines.specs.declared.command.Command.TheVariants.{Record as OfRecords};
-ghost use Rattle.script_lines.specs.declared.line.Line.TheVariants.{BindChunk, Print};
 
 use crate::command::{Command, CommandRow, line_if, row};
-use crate::line::{ChunkLabel, DatabaseLabel, Line};
+use crate::line::Line;
 use crate::value::Value::{Byte, Chunk, Database, Flag, Number};
 use crate::value::{Kind, Value};
 use heap_model::{Call, RecordCall};
@@ -142,20 +140,6 @@ pub(crate) fn record_row(command: RecordCommand) -> CommandRow
     }
 }
 
-/// A line that prints what a call answers.
-fn printed(call: RecordCall<ChunkLabel, DatabaseLabel>) -> Line
-    ensures { result ≡ Print (calls.Record call) }
-{
-    Line::Print(Call::Record(call))
-}
-
-/// A line that binds a label to the chunk that a call answers.
-fn bound(label: ChunkLabel, call: RecordCall<ChunkLabel, DatabaseLabel>) -> Line
-    ensures { result ≡ BindChunk label (calls.Record call) }
-{
-    Line::BindChunk(label, Call::Record(call))
-}
-
 /// The line of a command and what its words stand for, if these are of the command's kinds.
 pub(crate) fn make_record_line(command: RecordCommand, values: &[Value]) -> Option<Line>
     ensures { (bytes : List ℕ) → result ≡ (tables.record_row command).line values.now bytes }
@@ -163,51 +147,53 @@ pub(crate) fn make_record_line(command: RecordCommand, values: &[Value]) -> Opti
     match command {
         RecordCommand::New => line_if!(values,
             &[Database(db), Number(at), Number(size), Chunk(label)] =>
-            bound(label, RecordCall::New { db, at, size })),
+            Line::BindChunk(label, Call::Record(RecordCall::New { db, at, size }))),
         RecordCommand::Delete => line_if!(values, &[Database(db), Number(index)] =>
-            printed(RecordCall::Delete(db, index))),
+            Line::Print(Call::Record(RecordCall::Delete(db, index)))),
         RecordCommand::Archive => line_if!(values, &[Database(db), Number(index)] =>
-            printed(RecordCall::Archive(db, index))),
+            Line::Print(Call::Record(RecordCall::Archive(db, index)))),
         RecordCommand::Remove => line_if!(values, &[Database(db), Number(index)] =>
-            printed(RecordCall::Remove(db, index))),
+            Line::Print(Call::Record(RecordCall::Remove(db, index)))),
         RecordCommand::Move => line_if!(values, &[Database(db), Number(from), Number(to)] =>
-            printed(RecordCall::Move { db, from, to })),
+            Line::Print(Call::Record(RecordCall::Move { db, from, to }))),
         RecordCommand::Get => line_if!(values, &[Database(db), Number(index), Chunk(label)] =>
-            bound(label, RecordCall::Get(db, index))),
+            Line::BindChunk(label, Call::Record(RecordCall::Get(db, index)))),
         RecordCommand::Query => line_if!(values, &[Database(db), Number(index), Chunk(label)] =>
-            bound(label, RecordCall::Query(db, index))),
+            Line::BindChunk(label, Call::Record(RecordCall::Query(db, index)))),
         RecordCommand::Release => line_if!(values, &[Database(db), Number(index), Flag(dirty)] =>
-            printed(RecordCall::Release { db, index, dirty })),
+            Line::Print(Call::Record(RecordCall::Release { db, index, dirty }))),
         RecordCommand::Info => line_if!(values, &[Database(db), Number(index)] =>
-            printed(RecordCall::Info(db, index))),
+            Line::Print(Call::Record(RecordCall::Info(db, index)))),
         RecordCommand::Resize => line_if!(values, &[Database(db), Number(index), Number(size)] =>
-            printed(RecordCall::Resize { db, index, size })),
-        RecordCommand::Count => line_if!(values, &[Database(db)] => printed(RecordCall::Count(db))),
+            Line::Print(Call::Record(RecordCall::Resize { db, index, size }))),
+        RecordCommand::Count => line_if!(values, &[Database(db)] =>
+            Line::Print(Call::Record(RecordCall::Count(db)))),
         RecordCommand::Attach => line_if!(values, &[Database(db), Number(at), Chunk(name)] =>
-            printed(RecordCall::Attach { db, at, name })),
+            Line::Print(Call::Record(RecordCall::Attach { db, at, name }))),
         RecordCommand::AttachReplacing => line_if!(values,
             &[Database(db), Number(index), Chunk(name), Byte(owner), Chunk(label)] =>
-            bound(label, RecordCall::AttachReplacing { db, index, name, owner })),
+            Line::BindChunk(label,
+            Call::Record(RecordCall::AttachReplacing { db, index, name, owner }))),
         RecordCommand::Detach => line_if!(values,
             &[Database(db), Number(index), Byte(owner), Chunk(label)] =>
-            bound(label, RecordCall::Detach { db, index, owner })),
+            Line::BindChunk(label, Call::Record(RecordCall::Detach { db, index, owner }))),
         RecordCommand::SetInfo => line_if!(values,
             &[Database(db), Number(index), Byte(attributes), Number(id)] =>
-            printed(RecordCall::SetInfo { db, index, attributes, id })),
+            Line::Print(Call::Record(RecordCall::SetInfo { db, index, attributes, id }))),
         RecordCommand::Find => line_if!(values, &[Database(db), Number(id)] =>
-            printed(RecordCall::FindById(db, id))),
+            Line::Print(Call::Record(RecordCall::FindById(db, id)))),
         RecordCommand::CountInCategory => line_if!(values, &[Database(db), Byte(category)] =>
-            printed(RecordCall::CountInCategory(db, category))),
+            Line::Print(Call::Record(RecordCall::CountInCategory(db, category)))),
         RecordCommand::NextInCategory => line_if!(values,
             &[Database(db), Number(from), Byte(category)] =>
-            printed(RecordCall::NextInCategory { db, from, category })),
+            Line::Print(Call::Record(RecordCall::NextInCategory { db, from, category }))),
         RecordCommand::PositionInCategory => line_if!(values,
             &[Database(db), Number(index), Byte(category)] =>
-            printed(RecordCall::PositionInCategory { db, index, category })),
+            Line::Print(Call::Record(RecordCall::PositionInCategory { db, index, category }))),
         RecordCommand::MoveCategory => line_if!(values,
             &[Database(db), Byte(to), Byte(from), Flag(dirty)] =>
-            printed(RecordCall::MoveCategory { db, to, from, dirty })),
+            Line::Print(Call::Record(RecordCall::MoveCategory { db, to, from, dirty }))),
         RecordCommand::DeleteCategory => line_if!(values, &[Database(db), Byte(category)] =>
-            printed(RecordCall::DeleteCategory(db, category))),
+            Line::Print(Call::Record(RecordCall::DeleteCategory(db, category)))),
     }
 }

@@ -1,14 +1,12 @@
 //! The commands of resources.
 
 ghost use Rattle.std.specs.Prelude.{◌≡◌, ◌<◌, ℕ, List, length};
-ghost use Rattle.heap_model.specs.declared.call.Call.TheVariants as calls;
 ghost use Rattle.script_lines.specs.Commands as tables;
 ghost use Rattle.script_lines.specs.Commands.{command_of};
 ghost use Rattle.script_lines.specs.declared.command.Command.TheVariants.{Resource as OfResources};
-ghost use Rattle.script_lines.specs.declared.line.Line.TheVariants.{BindChunk, Print};
 
 use crate::command::{Command, CommandRow, line_if, row};
-use crate::line::{ChunkLabel, DatabaseLabel, Line};
+use crate::line::Line;
 use crate::value::Value::{Byte, Chunk, Database, FourBytes, Number, Short};
 use crate::value::{Kind, Value};
 use heap_model::{Call, ResourceCall};
@@ -105,20 +103,6 @@ pub(crate) fn resource_row(command: ResourceCommand) -> CommandRow
     }
 }
 
-/// A line that prints what a call answers.
-fn printed(call: ResourceCall<ChunkLabel, DatabaseLabel>) -> Line
-    ensures { result ≡ Print (calls.Resource call) }
-{
-    Line::Print(Call::Resource(call))
-}
-
-/// A line that binds a label to the chunk that a call answers.
-fn bound(label: ChunkLabel, call: ResourceCall<ChunkLabel, DatabaseLabel>) -> Line
-    ensures { result ≡ BindChunk label (calls.Resource call) }
-{
-    Line::BindChunk(label, Call::Resource(call))
-}
-
 /// The line of a command and what its words stand for, if these are of the command's kinds.
 pub(crate) fn make_resource_line(command: ResourceCommand, values: &[Value]) -> Option<Line>
     ensures { (bytes : List ℕ) → result ≡ (tables.resource_row command).line values.now bytes }
@@ -126,28 +110,28 @@ pub(crate) fn make_resource_line(command: ResourceCommand, values: &[Value]) -> 
     match command {
         ResourceCommand::New => line_if!(values,
             &[Database(db), FourBytes(kind), Short(id), Number(size), Chunk(label)] =>
-            bound(label, ResourceCall::New { db, kind, id, size })),
+            Line::BindChunk(label, Call::Resource(ResourceCall::New { db, kind, id, size }))),
         ResourceCommand::Attach => line_if!(values,
             &[Database(db), FourBytes(kind), Short(id), Chunk(name)] =>
-            printed(ResourceCall::Attach { db, kind, id, name })),
+            Line::Print(Call::Resource(ResourceCall::Attach { db, kind, id, name }))),
         ResourceCommand::Detach => line_if!(values,
             &[Database(db), Number(index), Byte(owner), Chunk(label)] =>
-            bound(label, ResourceCall::Detach { db, index, owner })),
+            Line::BindChunk(label, Call::Resource(ResourceCall::Detach { db, index, owner }))),
         ResourceCommand::Remove => line_if!(values, &[Database(db), Number(index)] =>
-            printed(ResourceCall::Remove(db, index))),
+            Line::Print(Call::Resource(ResourceCall::Remove(db, index)))),
         ResourceCommand::Resize => line_if!(values, &[Database(db), Number(index), Number(size)] =>
-            printed(ResourceCall::Resize { db, index, size })),
+            Line::Print(Call::Resource(ResourceCall::Resize { db, index, size }))),
         ResourceCommand::Info => line_if!(values, &[Database(db), Number(index), Chunk(label)] =>
-            bound(label, ResourceCall::Info(db, index))),
+            Line::BindChunk(label, Call::Resource(ResourceCall::Info(db, index)))),
         ResourceCommand::SetInfo => line_if!(values,
             &[Database(db), Number(index), FourBytes(kind), Short(id)] =>
-            printed(ResourceCall::SetInfo { db, index, kind, id })),
+            Line::Print(Call::Resource(ResourceCall::SetInfo { db, index, kind, id }))),
         ResourceCommand::Find => line_if!(values, &[Database(db), FourBytes(kind), Short(id)] =>
-            printed(ResourceCall::Find { db, kind, id })),
+            Line::Print(Call::Resource(ResourceCall::Find { db, kind, id }))),
         ResourceCommand::FindType => line_if!(values,
             &[Database(db), FourBytes(kind), Number(nth)] =>
-            printed(ResourceCall::FindType { db, kind, nth })),
+            Line::Print(Call::Resource(ResourceCall::FindType { db, kind, nth }))),
         ResourceCommand::Count => line_if!(values, &[Database(db)] =>
-            printed(ResourceCall::Count(db))),
+            Line::Print(Call::Resource(ResourceCall::Count(db)))),
     }
 }

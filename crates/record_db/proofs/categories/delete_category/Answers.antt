@@ -15,7 +15,7 @@ use Rattle.record_db.proofs.categories.delete_category.Goals as goal
 pub delete_all_of-requires-clause-unlocked : goal.delete_all_of-requires-clause-unlocked
 delete_all_of-requires-clause-unlocked c = λ is. (let found = c.has_locked_of.ensures.1 is in let none = c.if-has_locked_of.false in absurd cc)
 
-pub count_change-requires : goal.raise-requires
+pub count_change-requires : goal.count_change-requires
 count_change-requires c =
     let h = here c.args.store.now.bytes c.args.db.0 c.in_ok-count_entries.ensures.accepted c.in_ok-count_entries.ensures.known in
     let m = number_mid c.args.store.now.bytes c.delete_all_of.new.store.bytes c.args.db (map (deleted_category c.args.category)) (category_deleted (store_of c.args.store.now.bytes) c.args.db c.args.category) h c.delete_all_of.ensures.deleted.same refl in

@@ -18,7 +18,7 @@ pub change_attributes-requires-clause-change : goal.change_attributes-requires-c
 change_attributes-requires-clause-change c =
     may_move c.args.to c.args.from c.args.dirty (below_categories c.args.to c.in_ok-check_category.ensures.passes.0)
 
-pub count_change-requires : goal.raise-requires
+pub count_change-requires : goal.count_change-requires
 count_change-requires c =
     let h = here c.args.store.now.bytes c.args.db.0 c.in_ok-count_entries.ensures.accepted c.in_ok-count_entries.ensures.known in
     let change = map (with_attributes (moved_attributes c.args.to c.args.from c.args.dirty)) in

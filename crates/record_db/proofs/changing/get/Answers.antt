@@ -8,7 +8,6 @@ use Rattle.heap_model.specs.declared.call.RecordCall.TheVariants.{Get}
 use Rattle.heap_model.specs.declared.call.Reply.TheVariants.{Named}
 use Rattle.heap_model.specs.declared.refusal.Refusal.TheVariants.{RecordBusy}
 use Rattle.laws_store.proofs.CallSteps.{refused, changes}
-use Rattle.record_db.proofs.SetAttributes.{attributes_set}
 use Rattle.record_db.proofs.changing.get.Goals as goal
 
 pub returns-then-is_busy-clause-does : goal.returns-then-is_busy-clause-does
@@ -23,11 +22,10 @@ returns-clause-does c =
     let found = c.in_ok-live.ensures in
     let none = found.passes in
     let is = found.is in
-    let leaves = attributes_set false c.args.store.now.bytes c.entry_set.new.self.bytes c.args.db c.args.index c.in_ok-live.live.attributes c.in_ok-live.live.id c.in_ok-live.live.«data».0 c.marked.result (λ (attributes : ℕ). bit_or attributes busy_bit)
-    found.accepted found.known is c.marked.ensures c.entry_set.ensures.set in
+    let leaves = c.mark.ensures.marked in
     let free : OfEntry (entry_under (store_of c.args.store.now.bytes) c.args.db c.args.index) (HasAttributes is_busy) → ⊥ = λ busy.
     (let yes : is_busy c.in_ok-live.live.attributes ≡ true = subst (λ (x : Option (Entry ℕ)). OfEntry x (HasAttributes is_busy)) is busy in
     let no : is_busy c.in_ok-live.live.attributes ≡ false = sym c.is_busy.ensures ∙ c.if-is_busy.false in
     absurd cc) in
-    changes c.args.store.now c.entry_set.new.self (calls.Record (Get c.args.db c.args.index)) (Named c.in_ok-live.live.«data») _ found.accepted leaves
-    ((none.0, (none.1.0, (none.1.1.0, (none.1.1.1.0, (free, tt))))), (sym (ap data_of_entry is), leaves.same)) tt c.entry_set.ensures.rest
+    changes c.args.store.now c.mark.new.store (calls.Record (Get c.args.db c.args.index)) (Named c.in_ok-live.live.«data») _ found.accepted leaves
+    ((none.0, (none.1.0, (none.1.1.0, (none.1.1.1.0, (free, tt))))), (sym (ap data_of_entry is), leaves.same)) tt c.mark.ensures.rest

@@ -1,7 +1,12 @@
-use Rattle.std.proofs.Common.{subst}
-use Rattle.database_access.specs.Checks.{IsOfKind}
-use Rattle.database_access.specs.declared.opening.EntryKind.TheVariants.{Records}
+use Rattle.std.proofs.Common.{sym, ap, subst, ◌∙◌}
+use Rattle.std.specs.Prelude.{is_some}
+use Rattle.database_access.specs.Checks.{IsTold}
+use Rattle.database_access.proofs.Entries.{records_told, as_record_told}
 use Rattle.record_db.proofs.records.find_record.Goals as goal
 
-pub unreachable-requires : goal.unreachable-requires
-unreachable-requires c = subst (IsOfKind Records) c.in-Resource.is c.in_ok-info.ensures.of_kind
+pub unwrap-requires : goal.unwrap-requires
+unwrap-requires c = ap is_some c.as_record.ensures ∙ records_told c.in_ok-entry.entry c.in_ok-entry.ensures.of_kind
+
+pub returns-clause-is : goal.returns-clause-is
+returns-clause-is c =
+    subst (IsTold c.args.store.now.bytes c.args.db c.args.index) (as_record_told c.in_ok-entry.entry c.unwrap.result (sym c.as_record.ensures ∙ c.unwrap.ensures)) c.in_ok-entry.ensures.is
