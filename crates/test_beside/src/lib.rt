@@ -8,15 +8,18 @@
 //! | `counts` | how often each call was accepted, and refused for which reason |
 //! | `outcomes` | what lists of calls must have met |
 //! | `images` | images that lists start from |
+//! | `verdicts` | what the check of stores says of an image, and what the plain model says |
 #![tactic(auto)]
 
 mod beside;
 mod counts;
 mod images;
 mod outcomes;
+mod verdicts;
 
 pub use beside::{Beside, bytes_of, image_of, store_of};
 pub use counts::{Counts, Outcome};
 pub use images::{MIXED, blank_image};
 pub use outcomes::OUTCOMES;
 pub use palm_script::do_call;
+pub use verdicts::{Verdict, agreed_verdict};

@@ -1,13 +1,12 @@
 //! Each byte of an image with a database, set to each other value.
 
 use crate::stores::listed_store;
-use crate::verdicts::{Verdict, agreed_verdict};
 use heap_model::Counted;
 use palm_script::{Script, parse, run};
 use palm_store::Store;
 use std::alloc::Global;
 use std::test::*;
-use test_beside::{image_of, store_of};
+use test_beside::{Verdict, agreed_verdict, image_of, store_of};
 use test_fakes::equal;
 use test_images::{DATABASE, bytes_of};
 

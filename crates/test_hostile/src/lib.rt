@@ -1,14 +1,11 @@
 //! Tests of hostile use: memory that is refused at each growth in turn, writers that fail behind each byte,
-//! bytes of images and of files that are damaged, images that come of others by changes, images and scripts at their
-//! limits, and long lists of calls.
+//! bytes of images and of files that are damaged, images and scripts at their limits, and long lists of calls.
 //!
 //! This crate has no code but its tests.
 #![tactic(auto)]
 
 #[cfg(test)]
 mod bytes;
-#[cfg(test)]
-mod changes;
 #[cfg(test)]
 mod commands;
 #[cfg(test)]
@@ -20,8 +17,6 @@ mod fronts;
 #[cfg(test)]
 mod growths;
 #[cfg(test)]
-mod images;
-#[cfg(test)]
 mod limits;
 #[cfg(test)]
 mod lists;
@@ -29,7 +24,5 @@ mod lists;
 mod resources;
 #[cfg(test)]
 mod stores;
-#[cfg(test)]
-mod verdicts;
 #[cfg(test)]
 mod writes;

@@ -10,7 +10,7 @@ use test_model::{Image, PlainStore, Unaccepted, Unreadable};
 
 /// What is said of bytes.
 #[derive(Clone, Copy, Debug, PartialEq, Eq)]
-pub(crate) enum Verdict {
+pub enum Verdict {
     NoHeap,
     NoStore,
     Accepted,
@@ -47,7 +47,7 @@ fn check_verdict(alloc: Global, bytes: &[u8]) -> Result<Verdict, Fail> {
 }
 
 /// What the check of stores says of bytes, which must be what the plain model says.
-pub(crate) fn agreed_verdict<D: Display + Drop>(
+pub fn agreed_verdict<D: Display + Drop>(
     alloc: Global,
     spot: D,
     bytes: &[u8],

@@ -1,18 +1,12 @@
-//! Images that came of stores by one to three changes, drawn so that they meet what holds an image together. The check
-//! of stores says of each what the plain model says, and lists of calls on those that are accepted are answered as by
-//! the model.
+//! Images that come of stores, checked by the check of stores and by the plain model, and calls done on those that are
+//! accepted.
 
 use crate::changes::{Parts, change, drawn};
-use crate::verdicts::{Verdict, agreed_verdict};
 use rand_pcg::Pcg32;
 use std::alloc::Global;
-use std::test::*;
-use test_beside::{Beside, MIXED, blank_image, image_of, store_of};
-use test_fakes::equal;
+use std::test::Fail;
+use test_beside::{Beside, MIXED, Verdict, agreed_verdict, blank_image, image_of, store_of};
 use test_images::{DATABASE, TWO_DATABASES, bytes_of};
-
-/// How many stores there are. Seeds are fixed, so that more stores are these and further ones.
-const STORES: u64 = 40;
 
 /// How many images come of each store by changes.
 const IMAGES: u64 = 250;
@@ -68,10 +62,10 @@ fn do_calls(alloc: Global, random: &mut Pcg32, image: Vec<u8>, spot: &str) -> Re
 
 /// How many images were no heap, no store, and accepted.
 #[derive(Clone, Copy, Debug, Default, PartialEq, Eq)]
-struct Verdicts {
-    no_heap: u64,
-    no_store: u64,
-    accepted: u64,
+pub(crate) struct Verdicts {
+    pub(crate) no_heap: u64,
+    pub(crate) no_store: u64,
+    pub(crate) accepted: u64,
 }
 
 impl Verdicts {
@@ -111,18 +105,11 @@ fn check_image(
     Ok(verdict)
 }
 
-/// How many of the images are what.
-const FOUND: Verdicts = Verdicts {
-    no_heap: 5_462,
-    no_store: 3_329,
-    accepted: 1_209,
-};
-
-#[test]
-fn changed_images_are_what_the_model_says(rt: HostRuntime) -> Result<(), Fail> {
+/// Checks the images of so many stores, and counts what they are.
+pub(crate) fn check_stores(alloc: Global, stores: u64) -> Result<Verdicts, Fail> {
     let mut verdicts = Verdicts::default();
-    for seed in 0..STORES {
-        check_store(rt.alloc(), seed, &mut verdicts)?;
+    for seed in 0..stores {
+        check_store(alloc, seed, &mut verdicts)?;
     }
-    equal("images", verdicts, FOUND)
+    Ok(verdicts)
 }
