@@ -34,45 +34,35 @@ fn show<R: Files + Print + AllocGlobal + Clone + Drop>(
 ) -> Result<(), Fail> {
     fill(rt)?;
     println!(rt; "$ palmheap {line}")?;
-    show_run(rt, line, output)?;
+    let (printed, complained) = (Kept::new(rt.alloc()), Kept::new(rt.alloc()));
+    let status = run_recorded(rt, line, output, &printed, &complained)?;
+    rt.write_all(printed.into_bytes().as_slice())?;
+    println!(rt; "status {}", status.code())?;
+    let complained = complained.into_bytes();
+    if !complained.is_empty() {
+        println!(rt; "standard error:")?;
+        rt.write_all(complained.as_slice())?;
+    }
     show_changes(rt)?;
     println!(rt; "")?;
     Ok(())
 }
 
-/// Does a run, which prints, and shows its status and what stands on standard error.
-fn show_run<R: Files + Print + AllocGlobal>(
+/// Runs the program with these words, and keeps what it prints and what stands on standard error.
+fn run_recorded<R: Files + AllocGlobal>(
     rt: &R,
     line: &str,
     output: Output,
-) -> Result<(), Fail> {
-    let complained = Kept::new(rt.alloc());
-    let status = run_recorded(rt, line, output, &complained)?;
-    println!(rt; "status {}", status.code())?;
-    show_complained(rt, complained.into_bytes().as_slice())
-}
-
-fn show_complained<R: Print>(rt: &R, complained: &[u8]) -> Result<(), Fail> {
-    if !complained.is_empty() {
-        println!(rt; "standard error:")?;
-        rt.write_all(complained)?;
-    }
-    Ok(())
-}
-
-/// Runs the program with these words, and keeps what stands on standard error.
-fn run_recorded<R: Files + Print + AllocGlobal>(
-    rt: &R,
-    line: &str,
-    output: Output,
+    printed: &Kept,
     complained: &Kept,
 ) -> Result<Status, Fail> {
-    let words = words_of(rt.alloc(), line)?;
     let recorder = Recorder {
         rt,
         output,
+        printed,
         complained,
     };
+    let words = words_of(rt.alloc(), line)?;
     Ok(run(&recorder, words.as_slice()))
 }
 

@@ -1,4 +1,4 @@
-//! A runtime on which a program prints, or can't, and which keeps what it says on standard error.
+//! A runtime that keeps what a program prints.
 
 use crate::cases::Output;
 use std::alloc::{Allocator, Global};
@@ -10,11 +10,12 @@ use std::io::ErrorKind;
 use std::path::PathBuf;
 use std::rt::Files;
 
-/// A runtime with the files of another, which prints what is printed on it. What stands on standard error is kept.
+/// A runtime with the files of another. What is printed on it, and what on standard error, is kept.
 #[derive(Drop)]
 pub(crate) struct Recorder<'a, R> {
     pub rt: &'a R,
     pub output: Output,
+    pub printed: &'a Kept,
     pub complained: &'a Kept,
 }
 
@@ -59,20 +60,20 @@ impl<R: AllocGlobal> Alloc for Recorder<'_, R> {
     }
 }
 
-impl<R: Print> Print for Recorder<'_, R> {
+impl<R> Print for Recorder<'_, R> {
     fn print<D: Display + Drop>(&self, value: D) -> io::Result<()> {
         self.output.check()?;
-        self.rt.print(value)
+        self.printed.push_text(value, "")
     }
 
     fn println<D: Display + Drop>(&self, value: D) -> io::Result<()> {
         self.output.check()?;
-        self.rt.println(value)
+        self.printed.push_text(value, "\n")
     }
 
     fn write_all(&self, bytes: &[u8]) -> io::Result<()> {
         self.output.check()?;
-        self.rt.write_all(bytes)
+        self.printed.push(bytes)
     }
 }
 
