@@ -1,7 +1,7 @@
 //! A call on a store, and the same on the plain model beside it.
 
-use crate::calls::do_call;
 use heap_model::{Call, Counted, Reply};
+use palm_script::do_call;
 use palm_store::Store;
 use rand::RngExt;
 use rand_pcg::Pcg32;
@@ -9,7 +9,8 @@ use raw_region::Region;
 use std::alloc::Global;
 use std::test::Fail;
 use test_calls::{database_call, file_call, memory_call, record_call, resource_call};
-use test_model::{Image, PlainStore, broken_store_rule};
+use test_fakes::equal;
+use test_model::{Difference, Image, PlainStore, broken_store_rule};
 
 /// An image, and beside it the store that it means.
 #[derive(Drop)]
@@ -70,13 +71,9 @@ impl Beside {
     /// An image must be accepted and mean just the model's store.
     pub fn check_meant(&self, alloc: Global, image: &[u8]) -> Result<(), Fail> {
         store_of(alloc, image)?;
-        let meant = PlainStore::of(alloc, &Image::decode(alloc, image)?)?;
-        match self.plain.difference(&meant) {
-            Some(difference) => Err(Fail::new(format_args!(
-                "not the model's store: {difference:?}"
-            ))),
-            None => Ok(()),
-        }
+        let image = Image::decode(alloc, image)?;
+        let difference = difference(alloc, "what is left", &self.plain, &image)?;
+        equal("what is left", difference, None)
     }
 }
 
@@ -94,21 +91,25 @@ fn check(
     let before = Image::decode(alloc, before)?;
     let after = Image::decode(alloc, after)?;
     let expected = plain.call(alloc, call, &before, &after, reply);
-    if *reply != expected {
-        return Err(Fail::new(format_args!("{spot}: {call:?}: {reply:?} and not {expected:?}")));
-    }
-    let meant = match PlainStore::of(alloc, &after) {
-        Ok(meant) => meant,
-        Err(error) => return Err(Fail::new(format_args!("{spot}: {call:?}: {error:?}"))),
-    };
+    equal(format_args!("{spot}: {call:?}"), reply, &expected)?;
     let odd = (
-        plain.difference(&meant),
+        difference(alloc, spot, plain, &after)?,
         broken_store_rule(call, reply, &before, &after),
     );
-    if odd != (None, None) {
-        return Err(Fail::new(format_args!("{spot}: {call:?}: {odd:?}")));
+    equal(format_args!("{spot}: {call:?}"), odd, (None, None))
+}
+
+/// In what the model's store differs from the one that an image means.
+fn difference(
+    alloc: Global,
+    spot: &str,
+    plain: &PlainStore,
+    image: &Image,
+) -> Result<Option<Difference>, Fail> {
+    match PlainStore::of(alloc, image) {
+        Ok(meant) => Ok(plain.difference(&meant)),
+        Err(error) => Err(Fail::new(format_args!("{spot}: {error:?}"))),
     }
-    Ok(())
 }
 
 /// The store of an image.

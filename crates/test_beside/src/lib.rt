@@ -5,20 +5,21 @@
 //! | module | does |
 //! |---|---|
 //! | `beside` | a call on both, and what must hold of it |
-//! | `calls` | a call on a store, by the managers alone |
 //! | `counts` | how often each call was accepted, and refused for which reason |
 //! | `outcomes` | what lists of calls must have met |
 //! | `images` | images that lists start from |
+//! | `verdicts` | what the check of stores says of an image, and what the plain model says |
 #![tactic(auto)]
 
 mod beside;
-mod calls;
 mod counts;
 mod images;
 mod outcomes;
+mod verdicts;
 
 pub use beside::{Beside, bytes_of, image_of, store_of};
-pub use calls::do_call;
 pub use counts::{Counts, Outcome};
 pub use images::{MIXED, blank_image};
 pub use outcomes::OUTCOMES;
+pub use palm_script::do_call;
+pub use verdicts::{Verdict, agreed_verdict};

@@ -1,8 +1,8 @@
 //! Calls on databases.
 
+use crate::draws::{any_flag, any_word, below, below_u16};
 use crate::memory::{any_name, any_owner};
 use heap_model::{DatabaseCall, Db, DbInfo, DbName, Which};
-use rand::RngExt;
 use rand::seq::IndexedRandom;
 use rand_pcg::Pcg32;
 use test_model::{Database, Image};
@@ -31,21 +31,16 @@ pub(crate) fn any_db_name(random: &mut Pcg32) -> DbName {
 /// A number: most often that of a database, else the name of a chunk or of none.
 pub(crate) fn any_db(random: &mut Pcg32, image: &Image, databases: &[Database]) -> Db {
     match databases.choose(random) {
-        Some(database) if random.random_range(0u32..6) > 0 => database.db,
+        Some(database) if below(random, 6) > 0 => database.db,
         _ => Db(any_name(random, &image.pieces).0),
     }
-}
-
-/// A date, a type or another word whose values mean nothing here.
-fn any_word(random: &mut Pcg32) -> u32 {
-    random.random_range(0u32..u32::MAX)
 }
 
 fn any_info(random: &mut Pcg32) -> DbInfo {
     DbInfo {
         name: any_db_name(random),
-        attributes: random.random_range(0u16..u16::MAX),
-        version: random.random_range(0u16..u16::MAX),
+        attributes: below_u16(random, u16::MAX),
+        version: below_u16(random, u16::MAX),
         creation_date: any_word(random),
         modification_date: any_word(random),
         backup_date: any_word(random),
@@ -53,12 +48,12 @@ fn any_info(random: &mut Pcg32) -> DbInfo {
         kind: any_word(random),
         creator: any_word(random),
         seed: any_word(random),
-        entry_count: random.random_range(0u16..u16::MAX),
+        entry_count: below_u16(random, u16::MAX),
     }
 }
 
 fn any_which(random: &mut Pcg32) -> Which {
-    if random.random_range(0u32..2) == 0 {
+    if any_flag(random) {
         Which::App
     } else {
         Which::Sort
@@ -68,7 +63,7 @@ fn any_which(random: &mut Pcg32) -> Which {
 /// A call on an info block, of any chunk.
 fn block_call(random: &mut Pcg32, image: &Image, db: Db) -> DatabaseCall {
     let which = any_which(random);
-    match random.random_range(0u32..8) {
+    match below(random, 8) {
         0..=3 => DatabaseCall::SetInfoBlock {
             db,
             which,
@@ -85,17 +80,17 @@ fn block_call(random: &mut Pcg32, image: &Image, db: Db) -> DatabaseCall {
 
 /// A call on databases, seldom one that deletes one.
 pub fn database_call(random: &mut Pcg32, image: &Image, databases: &[Database]) -> DatabaseCall {
-    match random.random_range(0u32..32) {
+    match below(random, 32) {
         0..=6 => DatabaseCall::Create {
             name: any_db_name(random),
             kind: any_word(random),
             creator: any_word(random),
-            resources: random.random_range(0u32..2) == 0,
+            resources: any_flag(random),
             date: any_word(random),
         },
         7..=9 => DatabaseCall::Delete(any_db(random, image, databases)),
         10..=12 => DatabaseCall::Find(any_db_name(random)),
-        13..=15 => DatabaseCall::Nth(random.random_range(0u32..6)),
+        13..=15 => DatabaseCall::Nth(below(random, 6)),
         16 => DatabaseCall::Count,
         17..=19 => DatabaseCall::Info(any_db(random, image, databases)),
         20..=23 => DatabaseCall::SetInfo(any_db(random, image, databases), any_info(random)),

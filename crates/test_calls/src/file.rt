@@ -1,6 +1,7 @@
 //! Calls on files, and the bytes of files for them.
 
 use crate::database::{any_db, any_db_name};
+use crate::draws::{any_byte, any_flag, any_word, below, below_u16};
 use heap_model::{Bytes, FileCall};
 use rand::RngExt;
 use rand::seq::IndexedRandom;
@@ -21,7 +22,7 @@ pub fn file_call(
     image: &Image,
     databases: &[Database],
 ) -> Result<FileCall, AllocError> {
-    match random.random_range(0u32..3) {
+    match below(random, 3) {
         0 => Ok(FileCall::Export(any_db(random, image, databases))),
         _ => Ok(FileCall::Import(Bytes::of(any_file(random, alloc)?))),
     }
@@ -30,12 +31,12 @@ pub fn file_call(
 /// A file: sometimes one of which a byte is another, or the end is missing.
 fn any_file(random: &mut Pcg32, alloc: Global) -> Result<Vec<u8>, AllocError> {
     let mut file = whole_file(random, alloc)?;
-    match random.random_range(0u32..16) {
-        0 => file.truncate(random.random_range(0u32..150) as usize),
+    match below(random, 16) {
+        0 => file.truncate(below(random, 150) as usize),
         1..=2 => {
-            let at = random.random_range(0u32..150) as usize;
+            let at = below(random, 150) as usize;
             if let Some(byte) = file.get_mut(at) {
-                *byte = random.random_range(0u8..=255);
+                *byte = any_byte(random);
             }
         }
         _ => {}
@@ -53,7 +54,7 @@ struct Area {
 impl Area {
     /// An offset: most often one of these, seldom the one in front of the first, the one behind the last, or 0.
     fn any(self, random: &mut Pcg32) -> u32 {
-        match random.random_range(0u32..48) {
+        match below(random, 48) {
             0 => self.from.saturating_sub(1),
             1 => self.to.saturating_add(1),
             2 => 0,
@@ -64,7 +65,7 @@ impl Area {
 
     /// The same, and as often 0.
     fn any_of_info(self, random: &mut Pcg32) -> u32 {
-        if random.random_range(0u32..2) == 0 {
+        if any_flag(random) {
             0
         } else {
             self.any(random)
@@ -72,15 +73,21 @@ impl Area {
     }
 }
 
+/// The area of a file with so many entries: up to 63 bytes.
+fn any_area(random: &mut Pcg32, resources: bool, count: u32) -> Area {
+    let size = if resources { 10 } else { 8 };
+    let from = count.saturating_mul(size).saturating_add(78);
+    Area {
+        from,
+        to: from.saturating_add(below(random, 64)),
+    }
+}
+
 /// A file of a few records or resources, whose blocks begin anywhere.
 fn whole_file(random: &mut Pcg32, alloc: Global) -> Result<Vec<u8>, AllocError> {
-    let resources = random.random_range(0u32..3) == 0;
-    let count = random.random_range(0u16..5);
-    let from = 78 + u32::from(count) * if resources { 10 } else { 8 };
-    let area = Area {
-        from,
-        to: from + random.random_range(0u32..64),
-    };
+    let resources = below(random, 3) == 0;
+    let count = below_u16(random, 5);
+    let area = any_area(random, resources, u32::from(count));
     let mut file = any_header(random, alloc, resources, area)?;
     file.extend_from_slice(&count.to_be_bytes())?;
     for _ in 0..count {
@@ -91,7 +98,7 @@ fn whole_file(random: &mut Pcg32, alloc: Global) -> Result<Vec<u8>, AllocError> 
         }
     }
     for _ in area.from..area.to {
-        file.push(random.random_range(0u8..=255))?;
+        file.push(any_byte(random))?;
     }
     Ok(file)
 }
@@ -104,12 +111,12 @@ fn any_header(
     area: Area,
 ) -> Result<Vec<u8>, AllocError> {
     let mut file = Vec::from_slice(alloc, any_db_name(random).as_slice())?;
-    if file.len() < 31 && random.random_range(0u32..4) == 0 {
+    if file.len() < 31 && below(random, 4) == 0 {
         file.extend_from_slice(&[0, 65])?;
     }
     file.resize(32, 0)?;
     file.extend_from_slice(&any_attributes(random, resources).to_be_bytes())?;
-    file.extend_from_slice(&random.random_range(0u16..u16::MAX).to_be_bytes())?;
+    file.extend_from_slice(&below_u16(random, u16::MAX).to_be_bytes())?;
     for _ in 0..4u32 {
         put_any_word(random, &mut file)?;
     }
@@ -119,30 +126,26 @@ fn any_header(
     put_any_word(random, &mut file)?;
     let seed = SEEDS.choose(random).map_or(0, |seed| *seed);
     file.extend_from_slice(&seed.to_be_bytes())?;
-    let chained = u32::from(random.random_range(0u32..40) == 0);
+    let chained = u32::from(below(random, 40) == 0);
     file.extend_from_slice(&chained.to_be_bytes())?;
     Ok(file)
 }
 
 /// The attributes of a database of records or of resources, seldom of one that may only be read.
 fn any_attributes(random: &mut Pcg32, resources: bool) -> u16 {
-    let read_only = if random.random_range(0u32..16) == 0 {
-        2
-    } else {
-        0
-    };
-    random.random_range(0u16..16) * 16 | read_only | u16::from(resources)
+    let read_only = if below(random, 16) == 0 { 2 } else { 0 };
+    below_u16(random, 16).wrapping_mul(16) | read_only | u16::from(resources)
 }
 
 fn put_any_word(random: &mut Pcg32, file: &mut Vec<u8>) -> Result<(), AllocError> {
-    file.extend_from_slice(&random.random_range(0u32..u32::MAX).to_be_bytes())
+    file.extend_from_slice(&any_word(random).to_be_bytes())
 }
 
 /// Adds the entry of a record; one that is deleted often has no data.
 fn put_record(random: &mut Pcg32, file: &mut Vec<u8>, area: Area) -> Result<(), AllocError> {
     let id = IDS.choose(random).map_or(0, |id| *id);
-    let attributes = random.random_range(0u32..128);
-    let (start, deleted) = match random.random_range(0u32..5) {
+    let attributes = below(random, 128);
+    let (start, deleted) = match below(random, 5) {
         0 => (0, 0x80),
         1 => (area.any(random), 0x80),
         _ => (area.any(random), 0),
@@ -154,6 +157,6 @@ fn put_record(random: &mut Pcg32, file: &mut Vec<u8>, area: Area) -> Result<(), 
 /// Adds the entry of a resource.
 fn put_resource(random: &mut Pcg32, file: &mut Vec<u8>, area: Area) -> Result<(), AllocError> {
     file.extend_from_slice(b"code")?;
-    file.extend_from_slice(&random.random_range(0u16..4).to_be_bytes())?;
+    file.extend_from_slice(&below_u16(random, 4).to_be_bytes())?;
     file.extend_from_slice(&area.any(random).to_be_bytes())
 }

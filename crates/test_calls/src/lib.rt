@@ -4,6 +4,7 @@
 #![tactic(auto)]
 
 mod database;
+mod draws;
 mod file;
 mod memory;
 mod record;

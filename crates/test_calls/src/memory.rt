@@ -1,7 +1,7 @@
 //! Calls of the memory manager.
 
+use crate::draws::{any_byte, any_word, below, below_u8};
 use heap_model::{Bytes, MemoryCall, Name, Place};
-use rand::RngExt;
 use rand::seq::IndexedRandom;
 use rand_pcg::Pcg32;
 use std::alloc::{AllocError, Global};
@@ -10,7 +10,7 @@ use test_model::{Image, Piece};
 /// A name: most often that of a chunk in the image, else a slot's, one between slots or in the chunks,
 /// or one beyond the image.
 pub(crate) fn any_name(random: &mut Pcg32, pieces: &[Piece]) -> Name {
-    match random.random_range(0u32..8) {
+    match below(random, 8) {
         0..=4 => match pieces.choose(random) {
             Some(
                 Piece {
@@ -21,51 +21,49 @@ pub(crate) fn any_name(random: &mut Pcg32, pieces: &[Piece]) -> Name {
             Some(piece) => Name(piece.place.0),
             None => Name(0),
         },
-        5 => Name(16 + 4 * random.random_range(0u32..24)),
-        6 => Name(random.random_range(0u32..1100)),
-        _ => Name(random.random_range(0u32..u32::MAX)),
+        5 => Name(below(random, 24).wrapping_mul(4).wrapping_add(16)),
+        6 => Name(below(random, 1100)),
+        _ => Name(any_word(random)),
     }
 }
 
 /// A place: most often that of a chunk in the image.
 fn any_place(random: &mut Pcg32, pieces: &[Piece]) -> Place {
     match pieces.choose(random) {
-        Some(piece) if random.random_range(0u32..4) > 0 => piece.place,
-        _ => Place(random.random_range(0u32..1100)),
+        Some(piece) if below(random, 4) > 0 => piece.place,
+        _ => Place(below(random, 1100)),
     }
 }
 
 /// An owner: that of a caller, of a database or of the manager, or none.
 pub(crate) fn any_owner(random: &mut Pcg32) -> u8 {
-    random.random_range(0u8..17)
+    below_u8(random, 17)
 }
 
 /// An offset within a chunk or a count of bytes, seldom a very large one.
 fn any_offset(random: &mut Pcg32) -> u32 {
-    match random.random_range(0u32..32) {
+    match below(random, 32) {
         0 => u32::MAX,
         1..=10 => 0,
-        _ => random.random_range(0u32..40),
+        _ => below(random, 40),
     }
 }
 
 /// The size of a chunk: often one about as large as the greatest room, seldom one that no heap has.
 pub(crate) fn any_size(random: &mut Pcg32, room: u32) -> u32 {
-    match random.random_range(0u32..32) {
+    match below(random, 32) {
         0 => u32::MAX,
         1 => 16_777_200,
-        2..=9 => room
-            .saturating_sub(24)
-            .saturating_add(random.random_range(0u32..48)),
-        _ => random.random_range(0u32..71),
+        2..=9 => room.saturating_sub(24).saturating_add(below(random, 48)),
+        _ => below(random, 71),
     }
 }
 
 /// Bytes of which some are zero.
 fn any_bytes(random: &mut Pcg32, alloc: Global) -> Result<Bytes, AllocError> {
     let mut bytes = Vec::new(alloc);
-    for _ in 0..random.random_range(0u32..24) {
-        bytes.push(random.random_range(0u8..=255).saturating_sub(60))?;
+    for _ in 0..below(random, 24) {
+        bytes.push(any_byte(random).saturating_sub(60))?;
     }
     Ok(Bytes::of(bytes))
 }
@@ -77,7 +75,7 @@ pub fn memory_call(
     image: &Image,
 ) -> Result<MemoryCall, AllocError> {
     let name = any_name(random, &image.pieces);
-    match random.random_range(0u32..32) {
+    match below(random, 32) {
         0..=6 => call_on_bytes(random, alloc, name),
         7..=8 => Ok(MemoryCall::Recover(any_place(random, &image.pieces))),
         _ => Ok(call_on_chunk(random, name, image.largest_room())),
@@ -87,7 +85,7 @@ pub fn memory_call(
 /// A call that reads or writes bytes of a chunk.
 fn call_on_bytes(random: &mut Pcg32, alloc: Global, name: Name) -> Result<MemoryCall, AllocError> {
     let at = any_offset(random);
-    let call = match random.random_range(0u32..7) {
+    let call = match below(random, 7) {
         0..=1 => MemoryCall::Read {
             name,
             at,
@@ -102,7 +100,7 @@ fn call_on_bytes(random: &mut Pcg32, alloc: Global, name: Name) -> Result<Memory
             name,
             at,
             count: any_offset(random),
-            byte: random.random_range(0u8..=255),
+            byte: any_byte(random),
         },
         _ => MemoryCall::StrCopy {
             name,
@@ -115,7 +113,7 @@ fn call_on_bytes(random: &mut Pcg32, alloc: Global, name: Name) -> Result<Memory
 
 /// A call that makes, resizes or frees chunks, or changes or asks for what stands in a header.
 fn call_on_chunk(random: &mut Pcg32, name: Name, room: u32) -> MemoryCall {
-    match random.random_range(0u32..34) {
+    match below(random, 34) {
         0..=5 => MemoryCall::HandleNew {
             size: any_size(random, room),
             owner: any_owner(random),

@@ -1,20 +1,20 @@
 //! Calls on records.
 
 use crate::database::any_db;
+use crate::draws::{any_byte, any_flag, any_word, below, below_u8};
 use crate::memory::{any_name, any_owner, any_size};
 use heap_model::{Db, RecordCall};
-use rand::RngExt;
 use rand::seq::IndexedRandom;
 use rand_pcg::Pcg32;
 use test_model::{Database, Entries, Image};
 
 /// An index: most often one below a count, else the count, one above it, or a very large one.
 pub(crate) fn any_index(random: &mut Pcg32, count: u32) -> u32 {
-    match random.random_range(0u32..16) {
+    match below(random, 16) {
         0 => count,
         1 => count.saturating_add(1),
         2 => u32::MAX,
-        _ => random.random_range(0..count.max(1)),
+        _ => below(random, count),
     }
 }
 
@@ -44,10 +44,10 @@ fn known_id(random: &mut Pcg32, databases: &[Database]) -> u32 {
 /// An ID: most often that of a record, else the same with a bit above the 24 that an ID has, a small one, or
 /// any number.
 fn any_id(random: &mut Pcg32, databases: &[Database]) -> u32 {
-    match random.random_range(0u32..8) {
+    match below(random, 8) {
         0 => known_id(random, databases) | 0x0100_0000,
-        1 => random.random_range(0u32..16),
-        2 => random.random_range(0u32..u32::MAX),
+        1 => below(random, 16),
+        2 => any_word(random),
         _ => known_id(random, databases),
     }
 }
@@ -55,22 +55,18 @@ fn any_id(random: &mut Pcg32, databases: &[Database]) -> u32 {
 /// A category: most often one of the first, else any of them, the number behind the last, what stands for
 /// all, or any number.
 fn any_category(random: &mut Pcg32) -> u8 {
-    match random.random_range(0u32..12) {
+    match below(random, 12) {
         0 => 16,
         1 => 0xFF,
-        2 => random.random_range(0u8..=255),
-        3..=4 => random.random_range(0u8..16),
-        _ => random.random_range(0u8..3),
+        2 => any_byte(random),
+        3..=4 => below_u8(random, 16),
+        _ => below_u8(random, 3),
     }
-}
-
-fn any_flag(random: &mut Pcg32) -> bool {
-    random.random_range(0u32..2) == 0
 }
 
 /// Attributes: any of the bits, most often with one of the first categories.
 fn any_attributes(random: &mut Pcg32) -> u8 {
-    random.random_range(0u8..16) * 16 + any_category(random) % 16
+    below_u8(random, 16).wrapping_mul(16) | any_category(random) % 16
 }
 
 /// A call on records.
@@ -78,7 +74,7 @@ pub fn record_call(random: &mut Pcg32, image: &Image, databases: &[Database]) ->
     let db = any_db(random, image, databases);
     let count = entries_of(databases, db);
     let index = any_index(random, count);
-    match random.random_range(0u32..56) {
+    match below(random, 56) {
         0..=16 => changing_call(random, image, db, index),
         17..=19 => RecordCall::Move {
             db,
@@ -106,7 +102,7 @@ pub fn record_call(random: &mut Pcg32, image: &Image, databases: &[Database]) ->
 /// A call by which any chunk is to become the data of a record.
 fn giving_call(random: &mut Pcg32, image: &Image, db: Db, index: u32) -> RecordCall {
     let name = any_name(random, &image.pieces);
-    match random.random_range(0u32..2) {
+    match below(random, 2) {
         0 => RecordCall::Attach {
             db,
             at: index,
@@ -123,7 +119,7 @@ fn giving_call(random: &mut Pcg32, image: &Image, db: Db, index: u32) -> RecordC
 
 /// A call that makes, deletes or removes a record.
 fn changing_call(random: &mut Pcg32, image: &Image, db: Db, index: u32) -> RecordCall {
-    match random.random_range(0u32..16) {
+    match below(random, 16) {
         0..=10 => RecordCall::New {
             db,
             at: index,
@@ -137,7 +133,7 @@ fn changing_call(random: &mut Pcg32, image: &Image, db: Db, index: u32) -> Recor
 
 /// A call that takes a record into use or out of it, asks for it, or gives its data another length.
 fn using_call(random: &mut Pcg32, image: &Image, db: Db, index: u32) -> RecordCall {
-    match random.random_range(0u32..14) {
+    match below(random, 14) {
         0..=2 => RecordCall::Get(db, index),
         3 => RecordCall::Query(db, index),
         4..=6 => RecordCall::Release {
@@ -158,7 +154,7 @@ fn using_call(random: &mut Pcg32, image: &Image, db: Db, index: u32) -> RecordCa
 /// A call on a category.
 fn category_call(random: &mut Pcg32, db: Db, index: u32) -> RecordCall {
     let category = any_category(random);
-    match random.random_range(0u32..9) {
+    match below(random, 9) {
         0 => RecordCall::CountInCategory(db, category),
         1..=2 => RecordCall::NextInCategory {
             db,

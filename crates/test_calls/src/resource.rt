@@ -1,10 +1,10 @@
 //! Calls on resources.
 
 use crate::database::any_db;
+use crate::draws::{below, below_u16};
 use crate::memory::{any_name, any_owner, any_size};
 use crate::record::{any_index, entries_of};
 use heap_model::{Db, ResourceCall};
-use rand::RngExt;
 use rand::seq::IndexedRandom;
 use rand_pcg::Pcg32;
 use test_model::{Database, Entries, Image, Resource};
@@ -38,12 +38,12 @@ fn any_resource_db(random: &mut Pcg32, image: &Image, databases: &[Database]) ->
 /// A type and an ID: often those of a resource, or one of both, else any of a few.
 fn any_kind_and_id(random: &mut Pcg32, resources: &[Resource]) -> (u32, u16) {
     let kind = TYPES.choose(random).map_or(0, |kind| *kind);
-    let id = match random.random_range(0u32..8) {
+    let id = match below(random, 8) {
         0 => u16::MAX,
-        _ => random.random_range(0u16..4),
+        _ => below_u16(random, 4),
     };
     match resources.choose(random) {
-        Some(known) => match random.random_range(0u32..8) {
+        Some(known) => match below(random, 8) {
             0 => (known.kind, id),
             1 => (kind, known.id),
             2..=4 => (kind, id),
@@ -55,10 +55,10 @@ fn any_kind_and_id(random: &mut Pcg32, resources: &[Resource]) -> (u32, u16) {
 
 /// How many others of a type are to stand in front: few, or very many.
 fn any_nth(random: &mut Pcg32) -> u32 {
-    match random.random_range(0u32..8) {
+    match below(random, 8) {
         0 => u32::MAX,
         1..=4 => 0,
-        _ => random.random_range(0u32..4),
+        _ => below(random, 4),
     }
 }
 
@@ -67,7 +67,7 @@ pub fn resource_call(random: &mut Pcg32, image: &Image, databases: &[Database]) 
     let db = any_resource_db(random, image, databases);
     let index = any_index(random, entries_of(databases, db));
     let (kind, id) = any_kind_and_id(random, resources_of(databases, db));
-    match random.random_range(0u32..24) {
+    match below(random, 24) {
         0..=11 => changing_call(random, image, db, index, (kind, id)),
         12..=14 => ResourceCall::Detach {
             db,
@@ -92,7 +92,7 @@ fn changing_call(
     index: u32,
     (kind, id): (u32, u16),
 ) -> ResourceCall {
-    match random.random_range(0u32..12) {
+    match below(random, 12) {
         0..=4 => ResourceCall::New {
             db,
             kind,
@@ -116,7 +116,7 @@ fn changing_call(
 
 /// A call that only asks.
 fn asking_call(random: &mut Pcg32, db: Db, index: u32, (kind, id): (u32, u16)) -> ResourceCall {
-    match random.random_range(0u32..7) {
+    match below(random, 7) {
         0..=1 => ResourceCall::Info(db, index),
         2..=3 => ResourceCall::Find { db, kind, id },
         4..=5 => ResourceCall::FindType {

@@ -1,169 +1,273 @@
-//! Each byte of an image set to other values, and lines on what is accepted then; each front of a script; and as many
-//! fixed chunks as an image may have.
+//! Each byte of an image with a database, set to each other value.
 
-use crate::stores::store_behind;
+use crate::stores::listed_store;
 use heap_model::Counted;
-use palm_script::{LineFault, Script, ScriptFault, parse, run};
-use palm_store::{Store, StoreFault, StoreSummary};
-use raw_region::Region;
+use palm_script::{Script, parse, run};
+use palm_store::Store;
 use std::alloc::Global;
 use std::test::*;
-use test_beside::{image_of, store_of};
-use test_fakes::{equal, holds};
+use test_beside::{Verdict, agreed_verdict, image_of, store_of};
+use test_fakes::equal;
 use test_images::{DATABASE, bytes_of};
-use test_model::{Image, PlainStore};
 
-/// Lines on the database of an image. Where the changed byte is of its name, the label is bound to nothing.
-const LINES: &str = "find d \"R\"\nrecnew d 0 0 a\nrecremove d 0\ncompact\ndbdelete d\nfreebytes\n";
+/// Calls on chunks, databases, records and resources, each with its reply on the image as it is. They ask of the
+/// database, its records and their data, change them and delete it, and then make another, of
+/// resources, with chunks of callers beside it.
+const CALLS: [(&str, &str); 82] = [
+    ("find d \"R\"", "ok"),
+    ("nth d 0", "ok"),
+    ("dbcount", "ok 1"),
+    ("dbset d \"S\" 8 1 2 3 4 \"data\" \"Memo\"", "ok"),
+    (
+        "dbinfo d",
+        "ok \"S\" 0008 1 2 3 4 1 \"data\" \"Memo\" 00000002 2",
+    ),
+    ("bind r 24", "ok"),
+    ("size r", "ok 8"),
+    ("owner r", "ok 15"),
+    ("lock r", "ok 1"),
+    ("set r 6 2 7", "ok"),
+    ("read r 0 8", "ok 4141414141410707"),
+    ("unlock r", "ok 0"),
+    // what is left is room for a header of a chunk
+    ("new a 0 1", "ok"),
+    (
+        "create e \"T\" \"DATA\" \"Test\" 0 5",
+        "refused 8 NotEnoughSpace",
+    ),
+    ("recnew d 0 0 n", "refused 8 NotEnoughSpace"),
+    ("free a", "ok"),
+    ("recinfo d 0", "ok 00 1 data"),
+    ("catcount d 0", "ok 2"),
+    ("catmove d 3 0 0", "ok"),
+    ("catnext d 1 3", "ok 1"),
+    ("recset d 1 3 7", "ok"),
+    ("recfind d 7", "ok 1"),
+    ("recget d 1 s", "ok"),
+    ("recrelease d 1 1", "ok"),
+    ("recmove d 1 0", "ok"),
+    ("recdelete d 0", "ok"),
+    ("recinfo d 0", "ok c3 7 none"),
+    ("reccount d", "ok 2"),
+    ("recdetach d 1 5 y", "ok"),
+    ("owner y", "ok 5"),
+    ("infoset d app y", "ok"),
+    ("info d app z", "ok"),
+    ("infotake d app 5 y", "ok"),
+    ("recattach d 9 y", "ok 1"),
+    ("recinfo d 1", "ok 40 3 data"),
+    ("new w 0 1", "ok"),
+    ("recreplace d 1 w 5 y", "ok"),
+    ("free y", "ok"),
+    ("recremove d 1", "ok"),
+    ("catdelete d 3", "ok"),
+    ("dbdelete d", "ok"),
+    ("largest", "ok 152"),
+    ("new a 3 1", "ok"),
+    ("create e \"T\" \"DATA\" \"Test\" 1 5", "ok"),
+    ("freebytes", "ok 40"),
+    ("resnew e \"code\" 7 2 c", "ok 0"),
+    ("resinfo e 0 u", "ok \"code\" 7"),
+    ("resfind e \"code\" 7", "ok 0"),
+    ("resset e 0 \"data\" 8", "ok"),
+    ("restype e \"data\" 0", "ok 0"),
+    ("resresize e 0 9", "ok"),
+    ("resdetach e 0 4 v", "ok"),
+    ("owner v", "ok 4"),
+    ("resattach e \"code\" 9 v", "ok 0"),
+    ("rescount e", "ok 1"),
+    ("resremove e 0", "ok"),
+    ("freebytes", "ok 40"),
+    ("new b 10 2", "ok"),
+    ("free a", "ok"),
+    ("compact", "ok"),
+    ("largest", "ok 32"),
+    ("resize b 20", "ok"),
+    ("ptrnew p 8 14", "ok"),
+    ("freebytes", "ok 8"),
+    ("lock b", "ok 1"),
+    ("write b 0 61626364", "ok"),
+    ("strcopy b 4 \"xy\"", "ok"),
+    ("set b 8 2 255", "ok"),
+    ("read b 0 10", "ok 6162636478790000ffff"),
+    ("unlock b", "ok 0"),
+    ("setowner b 3", "ok"),
+    ("owner b", "ok 3"),
+    ("size b", "ok 20"),
+    ("locks p", "ok 15"),
+    ("free p", "ok"),
+    ("freeowner 3", "ok 1"),
+    ("find x \"T\"", "ok"),
+    (
+        "dbinfo x",
+        "ok \"T\" 0001 0 5 5 0 6 \"DATA\" \"Test\" 00000000 0",
+    ),
+    ("dbcount", "ok 1"),
+    ("freebytes", "ok 56"),
+    ("compact", "ok"),
+    ("dbdelete x", "ok"),
+];
 
-/// Whether the plain model accepts an image.
-fn is_accepted(alloc: Global, bytes: &[u8]) -> bool {
-    match Image::decode(alloc, bytes) {
-        Ok(image) => PlainStore::of(alloc, &image).is_ok(),
-        Err(_) => false,
+/// Calls as a script.
+fn script_of(alloc: Global, calls: &[(&str, &str)]) -> Result<Script, Fail> {
+    let mut text = String::new(alloc);
+    for (line, _) in calls {
+        writeln!(text, "{line}")?;
     }
+    Ok(parse(alloc, text.as_str().as_bytes())?)
 }
 
-/// Runs lines on an image, if it is accepted. Answers whether it was.
-fn is_taken(alloc: Global, bytes: &[u8], script: &Script) -> Result<bool, Fail> {
-    match Store::check(alloc, Region::from_bytes(alloc, bytes)?) {
-        Ok(store) => {
-            check_run(alloc, store, script)?;
-            Ok(true)
-        }
-        Err(refused) if refused.fault == StoreFault::OutOfMemory => Err("no memory")?,
-        Err(_refused) => Ok(false),
+/// The lines of their replies.
+fn replies(alloc: Global, calls: &[(&str, &str)]) -> Result<String, Fail> {
+    let mut text = String::new(alloc);
+    for (_, reply) in calls {
+        writeln!(text, "{reply}")?;
     }
+    Ok(text)
 }
 
-/// What lines leave is accepted.
-fn check_run(alloc: Global, mut store: Store, script: &Script) -> Result<(), Fail> {
+/// Runs calls on a store, and answers what they print. What they leave is a store.
+fn run_on(alloc: Global, mut store: Store, calls: &Script) -> Result<Vec<u8>, Fail> {
     let mut out = Counted::new(Vec::new(alloc));
-    run(alloc, &mut store, script, &[], &mut out)?;
+    run(alloc, &mut store, calls, &[], &mut out)?;
     store_of(alloc, &image_of(alloc, &store)?)?;
-    Ok(())
+    Ok(out.into_inner())
 }
 
-/// Sets a byte of an image to each value.
-fn check_byte(alloc: Global, image: &[u8], at: usize, script: &Script) -> Result<(), Fail> {
-    let mut bytes = Vec::from_slice(alloc, image)?;
-    for value in 0..=255u8 {
-        *bytes.get_mut(at).ok_or("no byte")? = value;
-        check_value(alloc, &bytes, script, (at, value))?;
-    }
-    Ok(())
-}
-
-fn check_value(
+/// Runs calls on an image as it is.
+pub(crate) fn check_replies(
     alloc: Global,
-    bytes: &[u8],
-    script: &Script,
-    (at, value): (usize, u8),
+    listing: &str,
+    calls: &[(&str, &str)],
 ) -> Result<(), Fail> {
-    let is_taken = is_taken(alloc, bytes, script)?;
-    equal(
-        format_args!("byte {at}: {value}"),
-        is_taken,
-        is_accepted(alloc, bytes),
-    )
+    let store = listed_store(alloc, listing)?;
+    let said = run_on(alloc, store, &script_of(alloc, calls)?)?;
+    check_said(alloc, said, calls)
+}
+
+/// What calls print are their replies.
+fn check_said(alloc: Global, said: Vec<u8>, calls: &[(&str, &str)]) -> Result<(), Fail> {
+    let said = String::from_utf8(said)?;
+    equal("replies", said.as_str(), replies(alloc, calls)?.as_str())
 }
 
 #[test]
-fn lines_run_on_each_image_that_is_accepted(rt: HostRuntime) -> Result<(), Fail> {
-    let image = bytes_of(rt.alloc(), DATABASE)?;
-    let script = parse(rt.alloc(), LINES.as_bytes())?;
+fn calls_are_answered_on_the_image_as_it_is(rt: HostRuntime) -> Result<(), Fail> {
+    check_replies(rt.alloc(), DATABASE, &CALLS)
+}
+
+/// Ranges of bytes, and with how many values of each byte of a range the image is accepted, by what
+/// docs/FORMAT.md says of these bytes. Every other byte has one.
+const VALUES: [(usize, usize, usize); 22] = [
+    // 8 slots or 7, where the place of the eighth has the zeros behind them
+    (9, 10, 2),
+    // what is behind the number in the directory
+    (60, 64, 256),
+    // the name, of one character or two
+    (72, 73, 255),
+    (73, 74, 256),
+    // attributes, but the bit of resources
+    (104, 105, 256),
+    (105, 106, 128),
+    // version, dates, modification number; type, creator, seed
+    (106, 124, 256),
+    (132, 144, 256),
+    // of each record the attributes and the ID, which is not 0 nor that of the other
+    (154, 157, 256),
+    (157, 158, 254),
+    (162, 165, 256),
+    (165, 166, 254),
+    // what is behind the last one
+    (166, 168, 256),
+    // of the chunks with their data the length, the locks and the bytes
+    (168, 169, 8),
+    (172, 173, 15),
+    (176, 184, 256),
+    (184, 185, 8),
+    // the second chunk goes up to the free one, or has it too
+    (187, 188, 2),
+    (188, 189, 15),
+    (192, 200, 256),
+    // of the free chunk all but that it is free, and its size
+    (200, 201, 128),
+    (204, 208, 256),
+];
+
+/// With how many values of this byte an image is to be accepted.
+fn wanted_at(values: &[(usize, usize, usize)], at: usize) -> usize {
+    for (from, to, count) in values {
+        if *from <= at && at < *to {
+            return *count;
+        }
+    }
+    1
+}
+
+/// An image, or a file, in which this byte has a value.
+pub(crate) fn with_byte(
+    alloc: Global,
+    image: &[u8],
+    at: usize,
+    value: u8,
+) -> Result<Vec<u8>, Fail> {
+    let mut changed = Vec::from_slice(alloc, image)?;
+    match changed.get_mut(at) {
+        Some(byte) => *byte = value,
+        None => return Err("a byte beyond the end")?,
+    }
+    Ok(changed)
+}
+
+/// Whether an image with a byte changed is accepted; calls are run on it then.
+fn takes_value(
+    alloc: Global,
+    image: &[u8],
+    at: usize,
+    value: u8,
+    calls: &Script,
+) -> Result<bool, Fail> {
+    let changed = with_byte(alloc, image, at, value)?;
+    let verdict = agreed_verdict(alloc, format_args!("byte {at}: {value}"), &changed)?;
+    let is_taken = verdict == Verdict::Accepted;
+    if is_taken {
+        run_on(alloc, store_of(alloc, &changed)?, calls)?;
+    }
+    Ok(is_taken)
+}
+
+/// Sets a byte of an image to each value. It is accepted with so many of them.
+fn check_byte(
+    alloc: Global,
+    image: &[u8],
+    at: usize,
+    calls: &Script,
+    wanted: usize,
+) -> Result<(), Fail> {
+    let mut taken = 0usize;
+    for value in 0..=255 {
+        if takes_value(alloc, image, at, value, calls)? {
+            taken = taken.saturating_add(1);
+        }
+    }
+    equal(format_args!("byte {at}"), taken, wanted)
+}
+
+/// Sets each byte of an image to each value, and runs calls where it is accepted.
+pub(crate) fn check_bytes(
+    alloc: Global,
+    listing: &str,
+    calls: &[(&str, &str)],
+    values: &[(usize, usize, usize)],
+) -> Result<(), Fail> {
+    let image = bytes_of(alloc, listing)?;
+    let script = script_of(alloc, calls)?;
     for at in 0..image.len() {
-        check_byte(rt.alloc(), &image, at, &script)?;
+        check_byte(alloc, &image, at, &script, wanted_at(values, at))?;
     }
     Ok(())
 }
 
-/// The lines on the image as it is.
 #[test]
-fn lines_run_on_the_image_as_it_is(rt: HostRuntime) -> Result<(), Fail> {
-    let (_, said) = store_behind(rt.alloc(), DATABASE, LINES)?;
-    let replies = b"ok\nrefused 8 NotEnoughSpace\nok\nok\nok\nok 152\n".as_slice();
-    holds("the replies", said.as_slice() == replies)
-}
-
-/// Lines of many commands, with labels, numbers in both spellings, words and texts.
-const SCRIPT: &str = "create d \"Notes\" \"DATA\" \"Test\" 0 5\nrecnew d 0 4 r\nrecrelease d 0 0\n\
-    recset d 0 0xF3 9\nrecinfo d 0\nrecnew d 0 0 s\nrecset d 0 0 9\nrecfind d 2\nrecfind d 1\n\
-    catcount d 3\ncatcount d 16\ncatnext d 0 3\ncatpos d 1 255\nrecget d 0 h\ncatmove d 5 3 1\n\
-    recinfo d 1\ncatdelete d 5\nrecinfo d 1\ndbinfo d\n";
-
-/// What a front of the script reads as, by its whole lines and the one that it breaks off: how many lines there are,
-/// or the line of its fault.
-#[derive(Clone, Copy, Debug, PartialEq, Eq)]
-enum Front {
-    Lines(usize),
-    BadLine(usize),
-    NoMemory,
-}
-
-fn front_of(alloc: Global, text: &[u8]) -> Front {
-    match parse(alloc, text) {
-        Ok(script) => Front::Lines(script.lines().len()),
-        Err(
-            LineFault {
-                fault: ScriptFault::OutOfMemory,
-                ..
-            },
-        ) => Front::NoMemory,
-        Err(fault) => Front::BadLine(fault.line),
-    }
-}
-
-/// Whether this is read of a front of the script.
-fn is_read(front: &[u8], read: Front) -> bool {
-    let whole = front.iter().filter(|byte| **byte == b'\n').count();
-    let is_whole = front.is_empty() || front.ends_with(b"\n");
-    let broken = whole.saturating_add(1);
-    if is_whole {
-        return read == Front::Lines(whole);
-    }
-    read == Front::Lines(broken) || read == Front::BadLine(broken)
-}
-
-fn check_front(alloc: Global, length: usize) -> Result<(), Fail> {
-    let front = SCRIPT.as_bytes().get(..length).ok_or("no front")?;
-    let read = front_of(alloc, front);
-    holds(
-        format_args!("{length} bytes: {read:?}"),
-        is_read(front, read),
-    )
-}
-
-/// What is in front of the line that breaks off is read, and that line alone may be bad.
-#[test]
-fn every_front_of_a_script_is_read(rt: HostRuntime) -> Result<(), Fail> {
-    for length in 0..=SCRIPT.len() {
-        check_front(rt.alloc(), length)?;
-    }
-    Ok(())
-}
-
-/// The size of an image of fixed chunks.
-const FIXED_SIZE: u32 = 16_777_208;
-
-/// An image of one slot, and of fixed chunks without a byte.
-fn fixed_chunks(alloc: Global, size: u32) -> Result<Vec<u8>, Fail> {
-    let mut bytes = bytes_of(alloc, "50484931")?;
-    bytes.extend_from_slice(&size.to_be_bytes())?;
-    bytes.extend_from_slice(&bytes_of(alloc, "0001 0000 00000000 00*8")?)?;
-    let chunk = bytes_of(alloc, "00000008 F1000000")?;
-    let chunks = chunk.repeat(alloc, size.saturating_sub(24) as usize / 8)?;
-    bytes.extend_from_slice(&chunks)?;
-    Ok(bytes)
-}
-
-#[test]
-fn an_image_has_nothing_but_fixed_chunks(rt: HostRuntime) -> Result<(), Fail> {
-    let store = store_of(rt.alloc(), &fixed_chunks(rt.alloc(), FIXED_SIZE)?)?;
-    let StoreSummary { heap, databases } = store.summary();
-    equal(
-        "fixed, free, movable, databases",
-        (heap.fixed, heap.free, heap.movable, databases),
-        ((FIXED_SIZE - 24) / 8, 0, 0, 0),
-    )
+fn every_byte_has_every_value(rt: HostRuntime) -> Result<(), Fail> {
+    check_bytes(rt.alloc(), DATABASE, &CALLS, &VALUES)
 }

@@ -4,7 +4,6 @@
 use crate::stores::{
     CARRIED, WRITTEN, has_image, input_files, listed_store, store_behind, with_database,
 };
-use chunk_format::{BlankFault, blank_from};
 use heap_model::{
     Bytes, Call, Counted, DatabaseCall, Db, FileCall, MemoryCall, Name, Place, Refusal, Reply,
 };
@@ -13,7 +12,6 @@ use palm_script::{
     do_call_from, parse, run_calls_from, run_from,
 };
 use palm_store::{Store, StoreFault};
-use pdb_files::{exported, import_from};
 use raw_region::Region;
 use script_lines::parse_from;
 use std::alloc::{AllocError, Global};
@@ -33,14 +31,8 @@ enum Trial {
     Zeros,
     /// A region of some bytes.
     Copy,
-    /// A blank image.
-    Blank,
     /// The check of an image that a script leaves on a listed one.
     Check(&'static str, &'static str),
-    /// The import of a file into a store without databases.
-    Import(&'static str),
-    /// The export of what was imported from a file.
-    Export(&'static str),
     /// The reading of a script.
     Parse(&'static str),
     /// A run of a script on a listed image.
@@ -51,10 +43,10 @@ enum Trial {
     CheckedList,
     /// A read, as a call of its own.
     DoRead,
-    /// An import, as a call of its own.
-    DoImport(&'static str),
-    /// An export, as a call of its own.
-    DoExport(&'static str),
+    /// The import of a file into a store without databases.
+    Import(&'static str),
+    /// The export of what was imported from a file.
+    Export(&'static str),
 }
 
 /// What came of a call.
@@ -84,11 +76,6 @@ fn copy_with(memory: &RefusesOne) -> Came {
     outcome(memory, Region::copied_from(memory, b"PHI1").is_err(), true)
 }
 
-fn blank_with(memory: &RefusesOne) -> Came {
-    let made = blank_from(memory, 128, 4);
-    outcome(memory, matches!(made, Err(BlankFault::OutOfMemory)), true)
-}
-
 /// The check of what a script leaves on a listed image.
 fn check_with(memory: &RefusesOne, alloc: Global, listing: &str, text: &str) -> Result<Came, Fail> {
     let (store, _) = store_behind(alloc, listing, text)?;
@@ -115,30 +102,6 @@ fn came_of(
     is_want: bool,
 ) -> Result<Came, Fail> {
     Ok(outcome(memory, is_want, has_image(alloc, store, image)?))
-}
-
-fn import_with(memory: &RefusesOne, alloc: Global, listing: &str) -> Result<Came, Fail> {
-    let image = bytes_of(alloc, WIDE)?;
-    let mut store = store_of(alloc, &image)?;
-    let is_want = wants_import(memory, alloc, &mut store, listing)?;
-    came_of(memory, alloc, &store, &image, is_want)
-}
-
-/// Whether the import of a file wants memory.
-fn wants_import(
-    memory: &RefusesOne,
-    alloc: Global,
-    store: &mut Store,
-    listing: &str,
-) -> Result<bool, Fail> {
-    let file = bytes_of(alloc, listing)?;
-    Ok(import_from(memory, store, &file) == Err(Refusal::OutOfMemory))
-}
-
-fn export_with(memory: &RefusesOne, alloc: Global, listing: &str) -> Result<Came, Fail> {
-    let (store, db) = with_database(alloc, listing)?;
-    let is_want = exported(memory, &store, db).err() == Some(Refusal::OutOfMemory);
-    Ok(outcome(memory, is_want, true))
 }
 
 const NO_MEMORY: LineFault = LineFault {
@@ -242,7 +205,7 @@ fn read_with(memory: &RefusesOne, alloc: Global) -> Result<Came, Fail> {
     call_with(memory, alloc, store, &call)
 }
 
-fn import_call_with(memory: &RefusesOne, alloc: Global, listing: &str) -> Result<Came, Fail> {
+fn import_with(memory: &RefusesOne, alloc: Global, listing: &str) -> Result<Came, Fail> {
     let call = import_of(alloc, listing)?;
     call_with(memory, alloc, listed_store(alloc, WIDE)?, &call)
 }
@@ -251,7 +214,7 @@ fn import_of(alloc: Global, listing: &str) -> Result<Call, Fail> {
     Ok(Call::File(FileCall::Import(Bytes::of(bytes_of(alloc, listing)?))))
 }
 
-fn export_call_with(memory: &RefusesOne, alloc: Global, listing: &str) -> Result<Came, Fail> {
+fn export_with(memory: &RefusesOne, alloc: Global, listing: &str) -> Result<Came, Fail> {
     let (store, db) = with_database(alloc, listing)?;
     call_with(memory, alloc, store, &Call::File(FileCall::Export(db)))
 }
@@ -266,37 +229,27 @@ fn tried(memory: &RefusesOne, alloc: Global, trial: &Trial) -> Result<Came, Fail
     match trial {
         Trial::Zeros => Ok(zeros_with(memory)),
         Trial::Copy => Ok(copy_with(memory)),
-        Trial::Blank => Ok(blank_with(memory)),
         Trial::Check(listing, script) => check_with(memory, alloc, listing, script),
-        Trial::Import(listing) => import_with(memory, alloc, listing),
-        Trial::Export(listing) => export_with(memory, alloc, listing),
         Trial::Parse(text) => Ok(parse_with(memory, text)),
         Trial::Run(listing, text) => run_with(memory, alloc, listing, text),
         Trial::List => list_with(memory, alloc),
         Trial::CheckedList => checked_list_with(memory, alloc),
         Trial::DoRead => read_with(memory, alloc),
-        Trial::DoImport(listing) => import_call_with(memory, alloc, listing),
-        Trial::DoExport(listing) => export_call_with(memory, alloc, listing),
+        Trial::Import(listing) => import_with(memory, alloc, listing),
+        Trial::Export(listing) => export_with(memory, alloc, listing),
     }
 }
 
 /// Calls, and how many growths each has.
-const TRIALS: [(Trial, u32); 29] = [
+const TRIALS: [(Trial, u32); 23] = [
     (Trial::Zeros, 1),
     (Trial::Copy, 1),
-    (Trial::Blank, 1),
     (Trial::Check(BLANK, ""), 2),
     (Trial::Check(ONE_CHUNK, ""), 2),
     (Trial::Check(BLANK, WRITTEN), 2),
     (Trial::Check(WIDE, CARRIED), 2),
     (Trial::Check(DATABASE, ""), 2),
     (Trial::Check(TWO_DATABASES, ""), 2),
-    (Trial::Import(EMPTY_FILE), 4),
-    (Trial::Import(ORDER_FILE), 10),
-    (Trial::Import(TINY_FILE), 6),
-    (Trial::Export(EMPTY_FILE), 1),
-    (Trial::Export(ORDER_FILE), 1),
-    (Trial::Export(TINY_FILE), 1),
     (Trial::Parse(BOUND), 8),
     (Trial::Parse(WRITTEN), 31),
     (Trial::Parse(CARRIED), 12),
@@ -306,11 +259,12 @@ const TRIALS: [(Trial, u32); 29] = [
     (Trial::List, 1),
     (Trial::CheckedList, 3),
     (Trial::DoRead, 1),
-    (Trial::DoImport(EMPTY_FILE), 4),
-    (Trial::DoImport(ORDER_FILE), 10),
-    (Trial::DoImport(TINY_FILE), 6),
-    (Trial::DoExport(EMPTY_FILE), 1),
-    (Trial::DoExport(ORDER_FILE), 1),
+    (Trial::Import(EMPTY_FILE), 4),
+    (Trial::Import(ORDER_FILE), 10),
+    (Trial::Import(TINY_FILE), 6),
+    (Trial::Export(EMPTY_FILE), 1),
+    (Trial::Export(ORDER_FILE), 1),
+    (Trial::Export(TINY_FILE), 1),
 ];
 
 /// The number of growths of a call: behind so many none is refused.

@@ -1,5 +1,5 @@
 //! Tests of hostile use: memory that is refused at each growth in turn, writers that fail behind each byte,
-//! bytes that are damaged, and images and scripts at their limits.
+//! bytes of images and of files that are damaged, images and scripts at their limits, and long lists of calls.
 //!
 //! This crate has no code but its tests.
 #![tactic(auto)]
@@ -9,9 +9,19 @@ mod bytes;
 #[cfg(test)]
 mod commands;
 #[cfg(test)]
+mod drawn;
+#[cfg(test)]
+mod files;
+#[cfg(test)]
+mod fronts;
+#[cfg(test)]
 mod growths;
 #[cfg(test)]
 mod limits;
+#[cfg(test)]
+mod lists;
+#[cfg(test)]
+mod resources;
 #[cfg(test)]
 mod stores;
 #[cfg(test)]

@@ -2,14 +2,14 @@
 
 use heap_model::{Call, Counted, MemoryCall, Name, Reply};
 use palm_script::{do_call, run_calls};
-use palm_store::Store;
+use palm_store::{Store, StoreSummary};
 use palmheap_commands::{cmd_check, cmd_run};
 use program_io::{INPUT_LIMIT, Status};
 use std::alloc::{AllocError, Global};
 use std::test::*;
 use test_beside::{blank_image, store_of};
 use test_fakes::{equal, holds};
-use test_images::changed_words;
+use test_images::{bytes_of, changed_words};
 
 /// The most bytes of an image.
 const MOST: u32 = 16_777_208;
@@ -196,4 +196,26 @@ fn a_script_has_1025_labels_of_databases(rt: HostRuntime) -> Result<(), Fail> {
     let script = labels(rt.alloc(), 1025)?;
     let ran = run_on(rt.alloc(), &image, script.as_str());
     holds("1,027 replies", are_answered(&ran))
+}
+
+/// An image of one slot, and of fixed chunks without a byte.
+fn fixed_chunks(alloc: Global, size: u32) -> Result<Vec<u8>, Fail> {
+    let mut bytes = bytes_of(alloc, "50484931")?;
+    bytes.extend_from_slice(&size.to_be_bytes())?;
+    bytes.extend_from_slice(&bytes_of(alloc, "0001 0000 00000000 00*8")?)?;
+    let chunk = bytes_of(alloc, "00000008 F1000000")?;
+    let chunks = chunk.repeat(alloc, size.saturating_sub(24) as usize / 8)?;
+    bytes.extend_from_slice(&chunks)?;
+    Ok(bytes)
+}
+
+#[test]
+fn an_image_has_nothing_but_fixed_chunks(rt: HostRuntime) -> Result<(), Fail> {
+    let store = store_of(rt.alloc(), &fixed_chunks(rt.alloc(), MOST)?)?;
+    let StoreSummary { heap, databases } = store.summary();
+    equal(
+        "fixed, free, movable, databases",
+        (heap.fixed, heap.free, heap.movable, databases),
+        ((MOST - 24) / 8, 0, 0, 0),
+    )
 }

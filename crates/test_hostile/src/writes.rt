@@ -4,7 +4,7 @@
 use crate::stores::{
     CARRIED, WRITTEN, has_image, input_files, listed_store, store_behind, with_database,
 };
-use heap_model::{Bytes, Counted, Db, Name};
+use heap_model::{Bytes, Counted, Db};
 use palm_script::{RunFault, parse, run};
 use palm_store::Store;
 use palmheap_commands::{cmd_check, cmd_new, cmd_run};
@@ -92,31 +92,6 @@ fn an_image_is_cut_behind_each_byte(rt: HostRuntime) -> Result<(), Fail> {
         check_image_cuts(rt.alloc(), listing)?;
     }
     Ok(())
-}
-
-const TAKES_NOTHING: Way = (1, WhenFull::TakesNothing);
-
-/// The first 16 bytes of the blank image.
-#[test]
-fn the_front_of_an_image_is_this(rt: HostRuntime) -> Result<(), Fail> {
-    let front = bytes_of(rt.alloc(), "50484931 00000080 0004 0000 00000000")?;
-    let store = listed_store(rt.alloc(), BLANK)?;
-    let (out, is_written) = image_written(rt.alloc(), &store, (16, TAKES_NOTHING));
-    let is_front = !is_written && out.taken.as_slice() == front.as_slice();
-    holds("the first 16 bytes", is_front)
-}
-
-/// The first 4 bytes that lines on it print.
-#[test]
-fn the_front_of_a_text_is_this(rt: HostRuntime) -> Result<(), Fail> {
-    let ran = run_cut(rt.alloc(), BLANK, WRITTEN, (4, TAKES_NOTHING))?;
-    let is_front = !ran.is_written && ran.out.taken.as_slice() == b"ok\no".as_slice();
-    holds("the first 4 bytes", is_front && has_one_lock(&ran.store))
-}
-
-/// Whether the first chunk is locked once.
-fn has_one_lock(store: &Store) -> bool {
-    store.locks(Name(16)) == Ok(1)
 }
 
 /// Files of databases, and what is written of these.

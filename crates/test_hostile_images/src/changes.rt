@@ -76,8 +76,13 @@ fn put_word(bytes: &mut [u8], at: usize, word: u32) {
 }
 
 /// A number below a bound, and 0 where that is 0.
+pub(crate) fn drawn(random: &mut Pcg32, bound: u32) -> u32 {
+    random.random_range(0..bound.max(1))
+}
+
+/// The same of an index or an offset.
 fn below(random: &mut Pcg32, bound: usize) -> usize {
-    random.random_range(0u32..u32::MAX) as usize % bound.max(1)
+    drawn(random, u32::MAX) as usize % bound.max(1)
 }
 
 /// One of some offsets, and 0 where there is none.
@@ -96,7 +101,7 @@ fn in_list(random: &mut Pcg32, parts: &Parts) -> usize {
 
 /// The offset of a word that matters.
 fn any_spot(random: &mut Pcg32, parts: &Parts) -> usize {
-    match random.random_range(0u32..16) {
+    match drawn(random, 16) {
         0 => below(random, 4).saturating_mul(4),
         1 => one_of(random, &parts.slots),
         2..=5 => {
@@ -109,31 +114,31 @@ fn any_spot(random: &mut Pcg32, parts: &Parts) -> usize {
 
 /// A word that may stand there as well as `old`.
 fn any_word(random: &mut Pcg32, bytes: &[u8], parts: &Parts, old: u32) -> u32 {
-    match random.random_range(0u32..10) {
+    match drawn(random, 10) {
         0 => 0,
         1..=2 => word_at(bytes, one_of(random, &parts.slots)),
         3..=4 => (one_of(random, &parts.slots) % 0x100_0000) as u32,
         5 => word_at(bytes, any_spot(random, parts)),
         6 => old.wrapping_add(8),
         7 => old.wrapping_sub(8),
-        8 => old ^ 1u32.wrapping_shl(random.random_range(0u32..32)),
-        _ => random.random_range(0u32..u32::MAX),
+        8 => old ^ 1u32.wrapping_shl(drawn(random, 32)),
+        _ => drawn(random, u32::MAX),
     }
 }
 
 /// Changes a word or a byte of an image.
 pub(crate) fn change(random: &mut Pcg32, bytes: &mut [u8], parts: &Parts) {
     let spot = any_spot(random, parts);
-    if random.random_range(0u32..2) == 0 {
+    if drawn(random, 2) == 0 {
         let word = any_word(random, bytes, parts, word_at(bytes, spot));
         put_word(bytes, spot, word);
         return;
     }
     let at = spot.saturating_add(below(random, 4));
-    let byte = match random.random_range(0u32..4) {
+    let byte = match drawn(random, 4) {
         0 => random.random_range(0u8..=255),
         1 => byte_at(bytes, at).wrapping_add(1),
-        _ => byte_at(bytes, at) ^ 1u8.wrapping_shl(random.random_range(0u32..8)),
+        _ => byte_at(bytes, at) ^ 1u8.wrapping_shl(drawn(random, 8)),
     };
     put_byte(bytes, at, byte);
 }

@@ -362,25 +362,6 @@ fn a_name_is_taken_once(rt: HostRuntime) -> Result<(), Fail> {
     equal("databases", store.count(), 1)
 }
 
-/// A store with 1,024 databases.
-fn full_store(alloc: Global) -> Result<Store, Fail> {
-    let mut store = blank_store(alloc, 131_072, 1100)?;
-    for first in 65u8..97 {
-        for second in 65u8..97 {
-            store.create(&DbName::of(&[first, second]), 0, 0, false, 0)?;
-        }
-    }
-    Ok(store)
-}
-
-#[test]
-fn databases_are_1024_at_most(rt: HostRuntime) -> Result<(), Fail> {
-    let mut store = full_store(rt.alloc())?;
-    let too_many = Refusal::TooManyEntries;
-    check_refused(rt.alloc(), &mut store, EMPTY_FILE, too_many)?;
-    equal("databases", store.count(), 1024)
-}
-
 /// In a store of this size and with so many slots there is no room, and nothing is left of what was begun.
 fn check_short(alloc: Global, size: u32, slots: u16) -> Result<(), Fail> {
     let mut store = blank_store(alloc, size, slots)?;

@@ -1,8 +1,10 @@
 //! The text of each fault.
 
 use heap_check::HeapFault;
+use std::alloc::Global;
 use std::test::*;
 use store_check::StoreFault;
+use test_fakes::equal;
 
 const OF_HEAPS: [(HeapFault, &str); 11] = [
     (HeapFault::TooShort, "TooShort"),
@@ -22,12 +24,20 @@ const OF_HEAPS: [(HeapFault, &str); 11] = [
 #[test]
 fn faults_of_heaps_have_texts(rt: HostRuntime) -> Result<(), Fail> {
     for (fault, text) in &OF_HEAPS {
-        let alone = format!(in rt.alloc(); "{fault}")?;
-        assert_eq!(rt; alone.as_str(), *text);
-        let of_store = format!(in rt.alloc(); "{}", StoreFault::Heap(*fault))?;
-        assert_eq!(rt; of_store.as_str(), *text);
+        check_heap_text(rt.alloc(), *fault, text)?;
+        check_text(rt.alloc(), StoreFault::Heap(*fault), text)?;
     }
     Ok(())
+}
+
+fn check_heap_text(alloc: Global, fault: HeapFault, text: &str) -> Result<(), Fail> {
+    let said = format!(in alloc; "{fault}")?;
+    equal("of a heap", said.as_str(), text)
+}
+
+fn check_text(alloc: Global, fault: StoreFault, text: &str) -> Result<(), Fail> {
+    let said = format!(in alloc; "{fault}")?;
+    equal("of a store", said.as_str(), text)
 }
 
 const OF_STORES: [(StoreFault, &str); 9] = [
@@ -45,8 +55,7 @@ const OF_STORES: [(StoreFault, &str); 9] = [
 #[test]
 fn faults_of_stores_have_texts(rt: HostRuntime) -> Result<(), Fail> {
     for (fault, text) in &OF_STORES {
-        let found = format!(in rt.alloc(); "{fault}")?;
-        assert_eq!(rt; found.as_str(), *text);
+        check_text(rt.alloc(), *fault, text)?;
     }
     Ok(())
 }

@@ -4,6 +4,7 @@ use crate::found::found;
 use raw_region::Region;
 use std::alloc::Global;
 use std::test::*;
+use test_fakes::equal;
 
 /// Writes a word, if it lies in the region.
 fn put(region: &mut Region, at: u32, word: u32) -> Result<(), Fail> {
@@ -36,36 +37,45 @@ fn second_word(owner: u32, number: u32, at: u32) -> u32 {
 /// The most bytes that an image has.
 const MOST: u32 = 16_777_208;
 
-/// An image of the most bytes and slots, of one database with a record without a byte for each slot but
-/// two. Behind its chunk a free one takes what is left.
+/// Where the records of such an image have their entries and their chunks.
+const ENTRIES: u32 = 262_262;
+
+const CHUNKS: u32 = 786_528;
+
+/// The frame, the directory and the header of an image of the most bytes and slots, with one database that has a
+/// record for each slot but two. Behind the chunks of these a free one takes what is left.
+const HEADS: [(u32, &[u32]); 6] = [
+    (0, &[0x5048_4931, MOST, 0xFFFF_0000, 16]),
+    (16, &[262_168, 262_184]),
+    (262_160, &[0x0400_0010, 0x00FE_0000, 20]),
+    (262_176, &[0x0208_0040, 0x00FD_FFFA, 0x5200_0000]),
+    (262_258, &[65_533]),
+    (1_310_792, &[0x8000_0000 | MOST - 1_310_792]),
+];
+
+/// An image with these, and records without a byte.
 fn many_records(alloc: Global) -> Result<Region, Fail> {
     let mut region = Region::zeroed(alloc, MOST)?;
-    put_all(&mut region, 0, &[0x5048_4931, MOST, 0xFFFF_0000, 16])?;
-    put_all(&mut region, 16, &[262_168, 262_184])?;
-    put_all(
-        &mut region,
-        262_160,
-        &[0x0400_0010, second_word(0, 0, 262_160), 20],
-    )?;
-    put_all(
-        &mut region,
-        262_176,
-        &[0x0208_0040, second_word(0, 1, 262_176), 0x5200_0000],
-    )?;
-    put(&mut region, 262_184 + 74, 65_533)?;
-    for index in 0..65_533 {
-        let entry = 262_262 + 8 * index;
-        let at = 786_528 + 8 * index;
-        put_all(&mut region, entry, &[24 + 4 * index, index + 1])?;
-        put(&mut region, 24 + 4 * index, at + 8)?;
-        put_all(
-            &mut region,
-            at,
-            &[8, second_word(0x0F00_0000, index + 2, at)],
-        )?;
+    for (at, words) in &HEADS {
+        put_all(&mut region, *at, words)?;
     }
-    put(&mut region, 1_310_792, 0x8000_0000 | MOST - 1_310_792)?;
+    for index in 0..65_533 {
+        put_record(&mut region, index)?;
+    }
     Ok(region)
+}
+
+/// The record behind so many others: its entry, its slot and its chunk.
+fn put_record(region: &mut Region, index: u32) -> Result<(), Fail> {
+    let (slot, at) = (
+        index.wrapping_mul(4).wrapping_add(24),
+        index.wrapping_mul(8).wrapping_add(CHUNKS),
+    );
+    let entry = index.wrapping_mul(8).wrapping_add(ENTRIES);
+    put_all(region, entry, &[slot, index.wrapping_add(1)])?;
+    put(region, slot, at.wrapping_add(8))?;
+    let second = second_word(0x0F00_0000, index.wrapping_add(2), at);
+    put_all(region, at, &[8, second])
 }
 
 /// Words that are changed, and what is found then. The last entry stands at 786,518.
@@ -79,14 +89,24 @@ const OF_MANY_RECORDS: [(&[(u32, u32)], &str); 4] = [
     (&[(786_522, 1)], "BadId 0 65532"),
 ];
 
+/// What is found in an image in which words are changed.
+fn check_found(
+    alloc: Global,
+    mut region: Region,
+    changes: &[(u32, u32)],
+    text: &str,
+) -> Result<(), Fail> {
+    for (at, word) in changes {
+        put(&mut region, *at, *word)?;
+    }
+    let found = found(alloc, &region)?;
+    equal(format_args!("{changes:?}"), found.as_str(), text)
+}
+
 #[test]
 fn many_records_are_checked(rt: HostRuntime) -> Result<(), Fail> {
     for (changes, text) in &OF_MANY_RECORDS {
-        let mut region = many_records(rt.alloc())?;
-        for (at, word) in *changes {
-            put(&mut region, *at, *word)?;
-        }
-        assert_eq!(rt; found(rt.alloc(), &region)?.as_str(), *text);
+        check_found(rt.alloc(), many_records(rt.alloc())?, changes, text)?;
     }
     Ok(())
 }
@@ -101,18 +121,27 @@ fn many_databases(alloc: Global, count: u16) -> Result<Region, Fail> {
     put_all(&mut region, 0, &[0x5048_4931, size, 0x0402_0000, 16, 4_128])?;
     let first = (room - length) << 24 | (room + 8);
     put_all(&mut region, 4_120, &[first, second_word(0, 0, 4_120)])?;
-    for index in 0..count as u32 {
-        let at = headers + 88 * index;
-        put(&mut region, 20 + 4 * index, at + 8)?;
-        put(&mut region, 4_128 + 4 * index, 20 + 4 * index)?;
-        put_all(
-            &mut region,
-            at,
-            &[0x0200_0058, second_word(0, index + 1, at)],
-        )?;
-        put(&mut region, at + 8, 0x4141_4141 + index)?;
+    for index in 0..count {
+        put_database(&mut region, headers, u32::from(index))?;
     }
     Ok(region)
+}
+
+/// The database behind so many others: its slot, its number in the directory, and its chunk with its name.
+fn put_database(region: &mut Region, headers: u32, index: u32) -> Result<(), Fail> {
+    let (place, slot) = (
+        index.wrapping_mul(4),
+        index.wrapping_mul(4).wrapping_add(20),
+    );
+    let at = index.wrapping_mul(88).wrapping_add(headers);
+    put(region, slot, at.wrapping_add(8))?;
+    put(region, place.wrapping_add(4_128), slot)?;
+    let second = second_word(0, index.wrapping_add(1), at);
+    put_all(
+        region,
+        at,
+        &[0x0200_0058, second, 0x4141_4141u32.wrapping_add(index)],
+    )
 }
 
 /// How many databases there are, words that are changed, and what is found then. With 1,024 of them the
@@ -131,15 +160,12 @@ const OF_MANY_DATABASES: [(u16, &[(u32, u32)], &str); 7] = [
 #[test]
 fn many_databases_are_checked(rt: HostRuntime) -> Result<(), Fail> {
     for (count, changes, text) in &OF_MANY_DATABASES {
-        let mut region = many_databases(rt.alloc(), *count)?;
-        for (at, word) in *changes {
-            put(&mut region, *at, *word)?;
-        }
-        assert_eq!(rt;
-            found(rt.alloc(), &region)?.as_str(),
-            *text,
-            "{count} databases"
-        );
+        check_found(
+            rt.alloc(),
+            many_databases(rt.alloc(), *count)?,
+            changes,
+            text,
+        )?;
     }
     Ok(())
 }

@@ -1,7 +1,7 @@
 //! The same of an image whose database holds resources.
 
 use crate::bytes::{check_bytes, check_replies};
-use std::test::Fail;
+use std::test::*;
 
 /// 216 bytes with 8 slots, and a database of two resources of 8 bytes, a code and a text.
 const PROGRAM: &str = "50484931 000000D8 0008 0000 00000010 \
@@ -83,10 +83,10 @@ const VALUES: [(usize, usize, usize); 20] = [
 
 #[test]
 fn calls_on_resources_are_answered_on_the_image_as_it_is(rt: HostRuntime) -> Result<(), Fail> {
-    check_replies(&rt, PROGRAM, &CALLS)
+    check_replies(rt.alloc(), PROGRAM, &CALLS)
 }
 
 #[test]
 fn every_byte_of_a_program_has_every_value(rt: HostRuntime) -> Result<(), Fail> {
-    check_bytes(&rt, PROGRAM, &CALLS, &VALUES)
+    check_bytes(rt.alloc(), PROGRAM, &CALLS, &VALUES)
 }

@@ -5,7 +5,7 @@ use file_ids::{GivenIds, give_ids, give_ids_from};
 use pdb_format::check_file;
 use std::alloc::{AllocError, Global};
 use std::test::*;
-use test_fakes::RefusesOne;
+use test_fakes::{RefusesOne, equal};
 
 /// The attribute of a record that is deleted, above its ID. Such a record needs no data.
 const DELETED: u32 = 0x8000_0000;
@@ -55,19 +55,27 @@ const GIVEN: [(u32, &[u32], &[u32], u32); 16] = [
     ),
 ];
 
+/// The records of a file are given these IDs, and leave this seed.
+fn check_ids(alloc: Global, spot: u32, file: &[u8], ids: Vec<u32>, seed: u32) -> Result<(), Fail> {
+    let given = given_by(alloc, file);
+    equal(format_args!("{spot}"), given, Some(GivenIds { ids, seed }))
+}
+
+fn check_given(
+    alloc: Global,
+    seed: u32,
+    ids: &[u32],
+    given: &[u32],
+    last: u32,
+) -> Result<(), Fail> {
+    let file = file_of(alloc, seed, ids)?;
+    check_ids(alloc, seed, &file, Vec::from_slice(alloc, given)?, last)
+}
+
 #[test]
 fn the_first_of_each_id_is_kept(rt: HostRuntime) -> Result<(), Fail> {
     for (seed, ids, given, last) in &GIVEN {
-        let file = file_of(rt.alloc(), *seed, ids)?;
-        let ids_given = Vec::from_slice(rt.alloc(), given)?;
-        assert_eq!(rt;
-            given_by(rt.alloc(), &file),
-            Some(GivenIds {
-                ids: ids_given,
-                seed: *last,
-            }),
-            "{seed}: {ids:?}"
-        );
+        check_given(rt.alloc(), *seed, ids, given, *last)?;
     }
     Ok(())
 }
@@ -78,47 +86,49 @@ fn same_ids(alloc: Global, id: u32, count: usize) -> Result<Vec<u32>, AllocError
     Ok(ids)
 }
 
+/// The file of as many records as there may be, all with one ID.
+fn largest_file(alloc: Global, seed: u32, id: u32) -> Result<Vec<u8>, AllocError> {
+    file_of(alloc, seed, &same_ids(alloc, id, 65_535)?)
+}
+
+/// As many IDs, those behind a seed.
+fn all_behind(alloc: Global, seed: u32) -> Result<Vec<u32>, AllocError> {
+    let mut ids = Vec::new(alloc);
+    for steps in 0..65_535 {
+        ids.push(nth_behind(seed, steps))?;
+    }
+    Ok(ids)
+}
+
+fn check_largest(alloc: Global, seed: u32, last: u32) -> Result<(), Fail> {
+    let file = largest_file(alloc, seed, 0)?;
+    check_ids(alloc, seed, &file, all_behind(alloc, seed)?, last)
+}
+
 #[test]
 fn as_many_records_as_there_may_be(rt: HostRuntime) -> Result<(), Fail> {
-    for (seed, last) in [(0, 65_535), (0x00FF_FF00, 65_280), (0x00FF_FFFF, 65_535)] {
-        let ids = same_ids(rt.alloc(), 0, 65_535)?;
-        let file = file_of(rt.alloc(), seed, &ids)?;
-        let mut fresh = Vec::new(rt.alloc());
-        for steps in 0..65_535 {
-            fresh.push(nth_behind(seed, steps))?;
-        }
-        assert_eq!(rt;
-            given_by(rt.alloc(), &file),
-            Some(GivenIds {
-                ids: fresh,
-                seed: last,
-            }),
-            "{seed}"
-        );
+    for (seed, last) in &[(0, 65_535), (0x00FF_FF00, 65_280), (0x00FF_FFFF, 65_535)] {
+        check_largest(rt.alloc(), *seed, *last)?;
     }
     Ok(())
 }
 
+/// As many IDs: this one, and then the others from 1 on.
+fn all_others(alloc: Global, id: u32) -> Result<Vec<u32>, AllocError> {
+    let mut ids = Vec::new(alloc);
+    ids.push(id)?;
+    for other in 1..65_536 {
+        if other != id {
+            ids.push(other)?;
+        }
+    }
+    Ok(ids)
+}
+
 #[test]
 fn one_of_as_many_keeps_the_id_of_all(rt: HostRuntime) -> Result<(), Fail> {
-    let ids = same_ids(rt.alloc(), 1000, 65_535)?;
-    let file = file_of(rt.alloc(), 0, &ids)?;
-    let mut expected = Vec::new(rt.alloc());
-    expected.push(1000)?;
-    for id in 1..1000 {
-        expected.push(id)?;
-    }
-    for id in 1001..65_536 {
-        expected.push(id)?;
-    }
-    assert_eq!(rt;
-        given_by(rt.alloc(), &file),
-        Some(GivenIds {
-            ids: expected,
-            seed: 65_535,
-        })
-    );
-    Ok(())
+    let file = largest_file(rt.alloc(), 0, 1000)?;
+    check_ids(rt.alloc(), 0, &file, all_others(rt.alloc(), 1000)?, 65_535)
 }
 
 /// The bytes of a file of two resources without bytes, with this field of a seed.
@@ -138,14 +148,7 @@ fn file_of_resources(alloc: Global, seed: u32) -> Result<Vec<u8>, AllocError> {
 #[test]
 fn resources_are_given_none(rt: HostRuntime) -> Result<(), Fail> {
     let file = file_of_resources(rt.alloc(), 0x0600_0005)?;
-    assert_eq!(rt;
-        given_by(rt.alloc(), &file),
-        Some(GivenIds {
-            ids: Vec::new(rt.alloc()),
-            seed: 5,
-        })
-    );
-    Ok(())
+    check_ids(rt.alloc(), 0, &file, Vec::new(rt.alloc()), 5)
 }
 
 /// Whether IDs are given where so many growths are granted.
@@ -159,11 +162,19 @@ fn is_given(alloc: Global, file: &[u8], granted: u32) -> bool {
 
 #[test]
 fn refused_memory_is_told(rt: HostRuntime) -> Result<(), Fail> {
-    let records = file_of(rt.alloc(), 0, &[5, 0])?;
-    let resources = file_of_resources(rt.alloc(), 0)?;
-    for (granted, given) in [(0, false), (1, false), (2, true)] {
-        assert_eq!(rt; is_given(rt.alloc(), &records, granted), given, "{granted}");
+    let file = file_of(rt.alloc(), 0, &[5, 0])?;
+    for (granted, given) in &[(0, false), (1, false), (2, true)] {
+        equal(
+            format_args!("{granted} growths"),
+            is_given(rt.alloc(), &file, *granted),
+            *given,
+        )?;
     }
-    assert_eq!(rt; is_given(rt.alloc(), &resources, 0), true);
     Ok(())
+}
+
+#[test]
+fn resources_take_no_memory(rt: HostRuntime) -> Result<(), Fail> {
+    let file = file_of_resources(rt.alloc(), 0)?;
+    equal("no growth", is_given(rt.alloc(), &file, 0), true)
 }

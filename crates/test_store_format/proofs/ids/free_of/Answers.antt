@@ -1,6 +1,6 @@
 use Rattle.std.proofs.Common.{refl}
 use Rattle.laws_store.proofs.Shapes.{shape_spelled}
-use Rattle.test_fresh_ids.proofs.ids.free_of.Goals as goal
+use Rattle.test_store_format.proofs.ids.free_of.Goals as goal
 
 pub free_ids-free-requires-clause-spelled : goal.free_ids-free-requires-clause-spelled
 free_ids-free-requires-clause-spelled c =

@@ -5,9 +5,9 @@ use palm_script::run_calls;
 use palm_store::Store;
 use rand_pcg::Pcg32;
 use std::alloc::{AllocError, Global};
-use std::process::Abort;
 use std::test::*;
 use test_beside::{Beside, Counts, image_of, store_of};
+use test_fakes::equal;
 use test_model::Image;
 
 /// The list so far. Its calls were done one by one on a store beside the plain model, since what can be named depends
@@ -49,62 +49,87 @@ impl Drawn {
     ) -> Result<(), Fail> {
         for _ in 0..count {
             let call = self.beside.any_call(random, alloc)?;
-            let spot = format!(in alloc; "call {}", self.calls.len())?;
-            let reply = self
-                .beside
-                .call_on(alloc, &mut self.store, spot.as_str(), &call)?;
-            counts.add(&call, &reply)?;
-            self.calls.push(call)?;
-            self.replies.push(reply)?;
+            self.add(alloc, counts, call)?;
             self.forget_unlocked(alloc)?;
         }
+        Ok(())
+    }
+
+    /// Does a call, and adds it to the list.
+    fn add(&mut self, alloc: Global, counts: &mut Counts, call: Call) -> Result<(), Fail> {
+        let spot = format!(in alloc; "call {}", self.calls.len())?;
+        let reply = self
+            .beside
+            .call_on(alloc, &mut self.store, spot.as_str(), &call)?;
+        counts.add(&call, &reply)?;
+        self.calls.push(call)?;
+        self.replies.push(reply)?;
         Ok(())
     }
 
     /// Forgets the chunks that are gone, or may move now.
     fn forget_unlocked(&mut self, alloc: Global) -> Result<(), Fail> {
         let image = Image::decode(alloc, &self.beside.image)?;
-        self.staying.retain(|(name, _)| match image.piece(*name) {
-            Some(piece) => piece.stays(),
-            None => false,
-        });
+        self.staying.retain(|(name, _)| stays(&image, *name));
         Ok(())
     }
 
     /// Runs the list as a whole, from the image that it begins with. It must be answered as by the model, call by
     /// call, and what it leaves must be accepted and mean the model's store, with each chunk that stayed in its place.
-    pub(crate) fn check_run(&mut self, rt: &(impl Abort + AllocGlobal)) -> Result<(), Fail> {
-        let alloc = rt.alloc();
-        let mut store = store_of(alloc, &self.start)?;
-        let replies = run_calls(alloc, &mut store, &self.calls)
-            .ok()
-            .ok_or("no memory")?;
-        self.check_replies(rt, &replies);
-        let image = image_of(alloc, &store)?;
+    pub(crate) fn check_run(&mut self, alloc: Global) -> Result<(), Fail> {
+        let (replies, image) = run_from(alloc, &self.start, &self.calls)?;
+        self.check_replies(&replies)?;
         self.beside.check_meant(alloc, &image)?;
-        self.check_places(rt, &Image::decode(alloc, &image)?)
+        self.check_places(alloc, &Image::decode(alloc, &image)?)
     }
 
-    fn check_replies(&self, rt: &impl Abort, replies: &[Reply]) {
-        assert_eq!(rt; replies.len(), self.replies.len());
-        for (number, (reply, expected)) in replies.iter().zip(&self.replies).enumerate() {
-            assert_eq!(rt;
+    fn check_replies(&self, replies: &[Reply]) -> Result<(), Fail> {
+        equal("replies", replies.len(), self.replies.len())?;
+        for (number, (reply, wanted)) in replies.iter().zip(&self.replies).enumerate() {
+            equal(
+                format_args!("call {number}: {:?}", self.calls.get(number)),
                 reply,
-                expected,
-                "call {number}: {:?}",
-                self.calls.get(number)
-            );
+                wanted,
+            )?;
         }
+        Ok(())
     }
 
     /// Each chunk that stayed must be in its place. From here on those count that are locked or fixed now.
-    fn check_places(&mut self, rt: &(impl Abort + AllocGlobal), image: &Image) -> Result<(), Fail> {
+    fn check_places(&mut self, alloc: Global, image: &Image) -> Result<(), Fail> {
         for (name, place) in &self.staying {
-            let now = image.piece(*name).map(|piece| piece.place);
-            assert_eq!(rt; now, Some(*place), "{name:?}");
+            equal(
+                format_args!("{name:?}"),
+                place_of(image, *name),
+                Some(*place),
+            )?;
         }
-        self.staying = staying_in(rt.alloc(), image)?;
+        self.staying = staying_in(alloc, image)?;
         Ok(())
+    }
+}
+
+/// The replies to a list of calls on the store of an image, and the image that it leaves.
+fn run_from(alloc: Global, image: &[u8], calls: &[Call]) -> Result<(Vec<Reply>, Vec<u8>), Fail> {
+    let mut store = store_of(alloc, image)?;
+    match run_calls(alloc, &mut store, calls) {
+        Ok(replies) => Ok((replies, image_of(alloc, &store)?)),
+        Err(_) => Err("no memory")?,
+    }
+}
+
+/// Whether a chunk is there and may not move.
+fn stays(image: &Image, name: Name) -> bool {
+    match image.piece(name) {
+        Some(piece) => piece.stays(),
+        None => false,
+    }
+}
+
+fn place_of(image: &Image, name: Name) -> Option<Place> {
+    match image.piece(name) {
+        Some(piece) => Some(piece.place),
+        None => None,
     }
 }
 

@@ -1,23 +1,20 @@
 //! Each fault, the order of faults, and what is accepted.
 
 use crate::found::found;
-use std::process::Abort;
+use std::alloc::Global;
 use std::test::*;
+use test_fakes::equal;
 use test_images::{DATABASE, image};
 
+fn check_case(alloc: Global, listing: &str, changes: &str, text: &str) -> Result<(), Fail> {
+    let found = found(alloc, &image(alloc, listing, changes)?)?;
+    equal(changes, found.as_str(), text)
+}
+
 /// Each case has changes of the listing's image, and the text of what the checker finds then.
-fn check_changed(
-    rt: &(impl Abort + AllocGlobal),
-    listing: &str,
-    cases: &[(&str, &str)],
-) -> Result<(), Fail> {
+fn check_changed(rt: &impl AllocGlobal, listing: &str, cases: &[(&str, &str)]) -> Result<(), Fail> {
     for (changes, text) in cases {
-        let region = image(rt.alloc(), listing, changes)?;
-        assert_eq!(rt;
-            found(rt.alloc(), &region)?.as_str(),
-            *text,
-            "changed: {changes}"
-        );
+        check_case(rt.alloc(), listing, changes, text)?;
     }
     Ok(())
 }
