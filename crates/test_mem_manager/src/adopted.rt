@@ -1,13 +1,22 @@
 //! Which images are taken as heaps.
 
-use crate::beside::bytes_of;
-use crate::images::{five, odd, small};
+use crate::images::{FIVE, ODD};
 use mem_manager::Heap;
 use raw_region::Region;
 use std::alloc::Global;
-use std::process::Abort;
 use std::test::*;
+use test_fakes::holds;
+use test_images::{BLANK, bytes_of};
 use test_model::{Image, Unreadable};
+
+/// Whether the plain model reads an image.
+fn is_read(alloc: Global, image: &[u8]) -> Result<bool, Fail> {
+    match Image::decode(alloc, image) {
+        Ok(_) => Ok(true),
+        Err(Unreadable::Memory) => Err("no memory")?,
+        Err(_) => Ok(false),
+    }
+}
 
 /// Whether an image is taken exactly where the plain model reads it, and handed back as it was.
 fn is_rightly_taken(alloc: Global, image: &[u8]) -> Result<bool, Fail> {
@@ -15,33 +24,40 @@ fn is_rightly_taken(alloc: Global, image: &[u8]) -> Result<bool, Fail> {
         Ok(heap) => (true, heap.into_region()),
         Err(refused) => (false, refused.region),
     };
-    let is_read = match Image::decode(alloc, image) {
-        Ok(_) => true,
-        Err(Unreadable::Memory) => return Err("no memory")?,
-        Err(_) => false,
-    };
-    Ok(is_taken == is_read && bytes_of(&region) == image)
+    Ok(is_taken == is_read(alloc, image)? && region.as_slice() == image)
+}
+
+/// Every image that has one bit of a byte other than this one.
+fn check_flipped(alloc: Global, image: &[u8], at: usize) -> Result<(), Fail> {
+    for bit in 0..8u8 {
+        let is_right = is_rightly_taken(alloc, &flipped(alloc, image, at, bit)?)?;
+        holds(format_args!("bit {bit} of byte {at}"), is_right)?;
+    }
+    Ok(())
+}
+
+/// An image with one bit other.
+fn flipped(alloc: Global, image: &[u8], at: usize, bit: u8) -> Result<Vec<u8>, Fail> {
+    let mut flipped = Vec::from_slice(alloc, image)?;
+    if let Some(byte) = flipped.get_mut(at) {
+        *byte ^= 1u8.wrapping_shl(u32::from(bit));
+    }
+    Ok(flipped)
 }
 
 /// Every image that has one bit other than this one.
-fn check_flipped(rt: &(impl Abort + AllocGlobal), image: Vec<u8>) -> Result<(), Fail> {
+fn check_bits(alloc: Global, listing: &str) -> Result<(), Fail> {
+    let image = bytes_of(alloc, listing)?;
     for at in 0..image.len() {
-        for bit in 0..8u32 {
-            let mut flipped = image.clone()?;
-            if let Some(byte) = flipped.get_mut(at) {
-                *byte ^= 1 << bit;
-            }
-            let is_right = is_rightly_taken(rt.alloc(), &flipped)?;
-            assert!(rt; is_right, "bit {bit} of byte {at}");
-        }
+        check_flipped(alloc, &image, at)?;
     }
     Ok(())
 }
 
 #[test]
 fn images_with_a_flipped_bit(rt: HostRuntime) -> Result<(), Fail> {
-    let alloc = rt.alloc();
-    check_flipped(&rt, small(alloc)?)?;
-    check_flipped(&rt, five(alloc)?)?;
-    check_flipped(&rt, odd(alloc)?)
+    for listing in [BLANK, FIVE, ODD] {
+        check_bits(rt.alloc(), listing)?;
+    }
+    Ok(())
 }

@@ -3,12 +3,12 @@
 ghost use Rattle.std.specs.Prelude.{◌≡◌, length};
 ghost use Rattle.heap_model.specs.Heap.{HeapAccepted, directory_of};
 
-use crate::images::small;
+use crate::beside::adopt;
 use heap_model::{Name, Refusal};
 use mem_manager::Heap;
-use raw_region::Region;
-use std::process::Abort;
 use std::test::*;
+use test_fakes::equal;
+use test_images::{BLANK, image};
 
 /// Makes a movable chunk of owner 1 with a text of up to 31 bytes and a zero byte in it, and answers its
 /// name. The heap stays accepted, whatever is refused.
@@ -27,13 +27,12 @@ fn new_note(heap: &mut Heap, text: &[u8]) -> Result<Name, Refusal>
 
 #[test]
 fn a_note_is_made(rt: HostRuntime) -> Result<(), Fail> {
-    let region = Region::from_bytes(rt.alloc(), small(rt.alloc())?.as_slice())?;
-    let mut heap = match Heap::adopt(region) {
-        Ok(heap) => heap,
-        Err(_) => return Err("no heap")?,
-    };
-    assert_eq!(rt; new_note(&mut heap, b"Hello"), Ok(Name(16)));
-    assert_eq!(rt; heap.read(Name(16), 0, 6), Ok(&b"Hello\0"[..]));
-    assert_eq!(rt; new_note(&mut heap, &[1; 32]), Err(Refusal::OutOfBounds));
-    Ok(())
+    let mut heap = adopt(image(rt.alloc(), BLANK, "")?)?;
+    equal("its name", new_note(&mut heap, b"Hello"), Ok(Name(16)))?;
+    equal("it", heap.read(Name(16), 0, 6), Ok(&b"Hello\0"[..]))?;
+    equal(
+        "a longer one",
+        new_note(&mut heap, &[1; 32]),
+        Err(Refusal::OutOfBounds),
+    )
 }

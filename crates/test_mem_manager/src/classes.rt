@@ -1,45 +1,70 @@
 //! Free chunks of many sizes, on one heap from end to end, whose image is checked behind each call.
 
-use crate::beside::OneHeap;
-use crate::images::image;
-use crate::notation::{call_of, text_of};
-use std::process::Abort;
+use crate::beside::Beside;
+use crate::by_hand::{check_on, check_on_one};
+use crate::images::EIGHT_SLOTS;
+use heap_model::{MemoryCall, Name, Reply};
+use std::alloc::Global;
 use std::test::*;
+use test_fakes::equal;
+use test_images::changed_words;
 
-/// Does calls on one heap; each line has a call and its reply, with `=` between.
-pub(crate) fn check_on_one(
-    rt: &(impl Abort + AllocGlobal),
-    image: Vec<u8>,
-    lines: &[String],
+/// A heap of so many bytes and slots with one free chunk.
+pub(crate) fn blank(alloc: Global, size: u32, slots: u16) -> Result<Beside, Fail> {
+    Beside::new(alloc, changed_words(alloc, size, slots, &[])?)
+}
+
+/// Does a call, which must be answered by this reply.
+pub(crate) fn check(
+    alloc: Global,
+    beside: &mut Beside,
+    call: MemoryCall,
+    reply: Reply,
 ) -> Result<(), Fail> {
-    let alloc = rt.alloc();
-    let mut one = OneHeap::new(alloc, image)?;
-    for line in lines {
-        let (call, right) = line.trim().split_once(" = ").ok_or("no reply")?;
-        let reply = one.call(rt, line.as_str(), &call_of(alloc, call)?)?;
-        let said = text_of(alloc, &reply)?;
-        assert_eq!(rt; said.as_str(), right, "{line}");
+    let said = beside.call(alloc, "by hand", &call)?;
+    equal(format_args!("{call:?}"), said, reply)
+}
+
+/// The name of the chunk that is made as the first of this number, 0 the first.
+pub(crate) fn name(number: u32) -> Name {
+    Name(16u32.saturating_add(number.saturating_mul(4)))
+}
+
+/// Makes a chunk, which must get the name of this number.
+pub(crate) fn check_made(
+    alloc: Global,
+    beside: &mut Beside,
+    size: u32,
+    number: u32,
+) -> Result<(), Fail> {
+    let new = MemoryCall::HandleNew { size, owner: 1 };
+    check(alloc, beside, new, Reply::Named(name(number)))
+}
+
+/// Makes so many chunks of one size, which must get the names of the numbers from 0 on.
+pub(crate) fn make_all(
+    alloc: Global,
+    beside: &mut Beside,
+    size: u32,
+    count: u32,
+) -> Result<(), Fail> {
+    for number in 0..count {
+        check_made(alloc, beside, size, number)?;
     }
     Ok(())
 }
 
-/// The same, of the lines of a text.
-pub(crate) fn check_text(
-    rt: &(impl Abort + AllocGlobal),
-    image: Vec<u8>,
-    text: &str,
-) -> Result<(), Fail> {
-    let alloc = rt.alloc();
-    let mut lines = Vec::new(alloc);
-    for line in text.lines() {
-        lines.push(format!(in alloc; "{line}")?)?;
-    }
-    check_on_one(rt, image, &lines)
+/// Frees the chunk of a number.
+pub(crate) fn check_freed(alloc: Global, beside: &mut Beside, number: u32) -> Result<(), Fail> {
+    check(alloc, beside, MemoryCall::Free(name(number)), Reply::Done)
 }
 
-/// The name of the chunk that is made as the first of this number, 0 the first.
-fn name(number: u32) -> u32 {
-    16u32.saturating_add(number.saturating_mul(4))
+/// Frees so many chunks, every second one, from the second on.
+fn free_odd(alloc: Global, beside: &mut Beside, count: u32) -> Result<(), Fail> {
+    for number in 0..count {
+        check_freed(alloc, beside, number.saturating_mul(2).saturating_add(1))?;
+    }
+    Ok(())
 }
 
 /// What a chunk of two to the power of `class` units of 8 bytes has in its body.
@@ -48,58 +73,84 @@ fn body_of_class(class: u32) -> u32 {
         .saturating_sub(8)
 }
 
+/// Makes a chunk of each class, and one of 8 bytes behind each.
+fn make_classes(alloc: Global, beside: &mut Beside) -> Result<(), Fail> {
+    for class in 1..17u32 {
+        check_made(alloc, beside, body_of_class(class), class * 2 - 2)?;
+        check_made(alloc, beside, 0, class * 2 - 1)?;
+    }
+    Ok(())
+}
+
+/// Frees the chunk of each class.
+fn free_classes(alloc: Global, beside: &mut Beside) -> Result<(), Fail> {
+    for class in 1..17u32 {
+        check_freed(alloc, beside, class * 2 - 2)?;
+    }
+    Ok(())
+}
+
+/// Makes the chunk of each class again.
+fn remake_classes(alloc: Global, beside: &mut Beside) -> Result<(), Fail> {
+    for class in 1..17u32 {
+        check_made(alloc, beside, body_of_class(class), class * 2 - 2)?;
+    }
+    Ok(())
+}
+
 /// Chunks of 2, 4, 8 and so on up to 65,536 units of 8 bytes are made, each with one of 8 bytes behind it. They
 /// are freed and made again, where they were: each is the only one of its class. Between them lies no
 /// free byte, so none could go elsewhere.
 #[test]
 fn the_only_chunk_of_a_class_is_found_again(rt: HostRuntime) -> Result<(), Fail> {
-    let alloc = rt.alloc();
-    let mut lines = Vec::new(alloc);
-    for class in 1..17u32 {
-        let size = body_of_class(class);
-        let (first, second) = (name(class * 2 - 2), name(class * 2 - 1));
-        lines.push(format!(in alloc; "handle_new {size} 1 = named {first}")?)?;
-        lines.push(format!(in alloc; "handle_new 0 1 = named {second}")?)?;
-    }
-    for class in 1..17u32 {
-        let freed = name(class * 2 - 2);
-        lines.push(format!(in alloc; "free {freed} = done")?)?;
-    }
-    for class in 1..17u32 {
-        let size = body_of_class(class);
-        let made = name(class * 2 - 2);
-        lines.push(format!(in alloc; "handle_new {size} 1 = named {made}")?)?;
-    }
-    lines.push(format!(in alloc; "free_bytes = 0")?)?;
     // 2^17 - 2 units of 8 bytes, 16 chunks of 8 bytes, and 16 bytes and 32 slots in front of them.
-    check_on_one(&rt, image(alloc, 144 + 128 + 1_048_560, 32, &[])?, &lines)
+    let mut beside = blank(rt.alloc(), 144 + 128 + 1_048_560, 32)?;
+    make_classes(rt.alloc(), &mut beside)?;
+    free_classes(rt.alloc(), &mut beside)?;
+    remake_classes(rt.alloc(), &mut beside)?;
+    check(
+        rt.alloc(),
+        &mut beside,
+        MemoryCall::FreeBytes,
+        Reply::Number(0),
+    )
+}
+
+/// A chunk gets another size, which leaves so many free bytes.
+fn check_resized(
+    alloc: Global,
+    beside: &mut Beside,
+    number: u32,
+    (size, free): (u32, u32),
+) -> Result<(), Fail> {
+    let resize = MemoryCall::Resize {
+        name: name(number),
+        size,
+    };
+    check(alloc, beside, resize, Reply::Done)?;
+    check(alloc, beside, MemoryCall::FreeBytes, Reply::Number(free))
+}
+
+/// Of 16 chunks every second one is freed. The one of this number grows over the next one and gives it back; then
+/// all but the last are made again.
+fn check_grown(alloc: Global, number: u32) -> Result<(), Fail> {
+    let mut beside = blank(alloc, 80 + 16 * 32, 16)?;
+    make_all(alloc, &mut beside, 24, 16)?;
+    free_odd(alloc, &mut beside, 8)?;
+    check_resized(alloc, &mut beside, number, (40, 240))?;
+    check_resized(alloc, &mut beside, number, (0, 280))?;
+    for number in 0..7u32 {
+        check_made(alloc, &mut beside, 24, number * 2 + 1)?;
+    }
+    Ok(())
 }
 
 /// Chunks of one class are freed and made again; of two of them the one that is freed last is taken first. The
 /// chunk behind each one grows over it, wherever it stands in its list.
 #[test]
 fn chunks_grow_over_any_of_a_list(rt: HostRuntime) -> Result<(), Fail> {
-    let alloc = rt.alloc();
     for taken in 0..8u32 {
-        let mut lines = Vec::new(alloc);
-        for number in 0..16u32 {
-            let made = name(number);
-            lines.push(format!(in alloc; "handle_new 24 1 = named {made}")?)?;
-        }
-        for number in 0..8u32 {
-            let freed = name(number * 2 + 1);
-            lines.push(format!(in alloc; "free {freed} = done")?)?;
-        }
-        let grown = name(taken * 2);
-        lines.push(format!(in alloc; "resize {grown} 40 = done")?)?;
-        lines.push(format!(in alloc; "free_bytes = 240")?)?;
-        lines.push(format!(in alloc; "resize {grown} 0 = done")?)?;
-        lines.push(format!(in alloc; "free_bytes = 280")?)?;
-        for number in 0..7u32 {
-            let made = name(number * 2 + 1);
-            lines.push(format!(in alloc; "handle_new 24 1 = named {made}")?)?;
-        }
-        check_on_one(&rt, image(alloc, 80 + 16 * 32, 16, &[])?, &lines)?;
+        check_grown(rt.alloc(), taken * 2)?;
     }
     Ok(())
 }
@@ -123,8 +174,7 @@ const GROWN_OVER_TWO: &str = "handle_new 24 1 = named 16
 /// their lists.
 #[test]
 fn a_chunk_grows_over_two(rt: HostRuntime) -> Result<(), Fail> {
-    let alloc = rt.alloc();
-    check_text(&rt, image(alloc, 256, 8, &[])?, GROWN_OVER_TWO)
+    check_on_one(rt.alloc(), EIGHT_SLOTS, GROWN_OVER_TWO)
 }
 
 const OPENED: &str = "handle_new 24 1 = named 16
@@ -145,32 +195,21 @@ const OPENED: &str = "handle_new 24 1 = named 16
 /// The room of one stretch is opened behind a chunk; the free chunk of another is in its list behind the next call.
 #[test]
 fn room_is_opened_behind_a_chunk(rt: HostRuntime) -> Result<(), Fail> {
-    let alloc = rt.alloc();
-    check_text(&rt, image(alloc, 256, 8, &[])?, OPENED)
+    check_on_one(rt.alloc(), EIGHT_SLOTS, OPENED)
 }
+
+const GROWN_OVER_THE_LAST: &str = "resize 16 8 = done
+    free 24 = done
+    free_bytes = 576
+    handle_new 8 1 = named 20
+    free_bytes = 560";
 
 /// A chunk grows over the last of 72 in a list, which is behind those that are looked at: the lists are dropped,
 /// and the next chunk that is freed finds all others in theirs.
 #[test]
 fn a_chunk_grows_over_one_far_in_a_list(rt: HostRuntime) -> Result<(), Fail> {
-    let alloc = rt.alloc();
-    let mut lines = Vec::new(alloc);
-    for number in 0..144u32 {
-        let made = name(number);
-        lines.push(format!(in alloc; "handle_new 0 1 = named {made}")?)?;
-    }
-    for number in 0..72u32 {
-        let freed = name(number * 2 + 1);
-        lines.push(format!(in alloc; "free {freed} = done")?)?;
-    }
-    for line in [
-        "resize 16 8 = done",
-        "free 24 = done",
-        "free_bytes = 576",
-        "handle_new 8 1 = named 20",
-        "free_bytes = 560",
-    ] {
-        lines.push(format!(in alloc; "{line}")?)?;
-    }
-    check_on_one(&rt, image(alloc, 16 + 4 * 144 + 144 * 8, 144, &[])?, &lines)
+    let mut beside = blank(rt.alloc(), 16 + 4 * 144 + 144 * 8, 144)?;
+    make_all(rt.alloc(), &mut beside, 0, 144)?;
+    free_odd(rt.alloc(), &mut beside, 72)?;
+    check_on(rt.alloc(), &mut beside, GROWN_OVER_THE_LAST)
 }

@@ -1,326 +1,273 @@
-//! Calls with the replies that they must have, by hand: a line has a call and its reply, with `=`
-//! between.
+//! Calls with the replies that they must have, each on a heap that is adopted for it.
 
-use crate::beside::Beside;
-use crate::images::{five, image, small};
-use crate::notation::{call_of, text_of};
-use std::process::Abort;
+use crate::by_hand::check_anew;
+use crate::images::{FIVE, ONE_SLOT};
 use std::test::*;
+use test_images::BLANK;
 
-/// Does the calls of some lines, one after the other, and answers the image that they leave.
-pub(crate) fn image_behind(
-    rt: &(impl Abort + AllocGlobal),
-    image: Vec<u8>,
-    lines: &str,
-) -> Result<Vec<u8>, Fail> {
-    let alloc = rt.alloc();
-    let mut beside = Beside::new(alloc, image)?;
-    for line in lines.lines() {
-        let (call, right) = line.trim().split_once(" = ").ok_or("no reply")?;
-        let reply = beside.call(rt, line, &call_of(alloc, call)?)?;
-        let said = text_of(alloc, &reply)?;
-        assert_eq!(rt; said.as_str(), right, "{line}");
-    }
-    Ok(beside.image)
-}
-
-/// Does the calls of some lines, one after the other.
-pub(crate) fn check_lines(
-    rt: &(impl Abort + AllocGlobal),
-    image: Vec<u8>,
-    lines: &str,
-) -> Result<(), Fail> {
-    image_behind(rt, image, lines)?;
-    Ok(())
-}
+const MADE_AND_FREED: &str = "handle_new 10 1 = named 16
+    free_bytes = 72
+    size 16 = 10
+    handle_new 65 1 = refused NotEnoughSpace
+    handle_new 64 14 = named 20
+    owner 20 = 14
+    free_bytes = 0
+    free 16 = done
+    free 20 = done
+    free_bytes = 96
+    handle_new 88 1 = named 16
+    free_bytes = 0";
 
 #[test]
 fn chunks_are_made_and_freed(rt: HostRuntime) -> Result<(), Fail> {
-    check_lines(
-        &rt,
-        small(rt.alloc())?,
-        "handle_new 10 1 = named 16
-        free_bytes = 72
-        size 16 = 10
-        handle_new 65 1 = refused NotEnoughSpace
-        handle_new 64 14 = named 20
-        owner 20 = 14
-        free_bytes = 0
-        free 16 = done
-        free 20 = done
-        free_bytes = 96
-        handle_new 88 1 = named 16
-        free_bytes = 0",
-    )
+    check_anew(rt.alloc(), BLANK, MADE_AND_FREED)
 }
+
+const COMPACTED: &str = "handle_new 0 1 = named 16
+    handle_new 24 1 = named 20
+    handle_new 8 1 = named 24
+    largest_stretch = 40
+    compact = 0
+    free 16 = done
+    lock 20 = at 48 locks 1
+    write 20 0: 4142434445464748494a = done
+    largest_stretch = 40
+    compact = 0
+    unlock 20 = 0
+    largest_stretch = 48
+    compact = 48
+    largest_stretch = 48
+    lock 20 = at 40 locks 1
+    read 20 0 10 = x4142434445464748494a
+    lock 24 = at 72 locks 1";
 
 /// A chunk that moves overlaps where it goes to; where nothing is free in front of it, none moves.
 #[test]
 fn chunks_are_compacted(rt: HostRuntime) -> Result<(), Fail> {
-    check_lines(
-        &rt,
-        small(rt.alloc())?,
-        "handle_new 0 1 = named 16
-        handle_new 24 1 = named 20
-        handle_new 8 1 = named 24
-        largest_stretch = 40
-        compact = 0
-        free 16 = done
-        lock 20 = at 48 locks 1
-        write 20 0: 4142434445464748494a = done
-        largest_stretch = 40
-        compact = 0
-        unlock 20 = 0
-        largest_stretch = 48
-        compact = 48
-        largest_stretch = 48
-        lock 20 = at 40 locks 1
-        read 20 0 10 = x4142434445464748494a
-        lock 24 = at 72 locks 1",
-    )
+    check_anew(rt.alloc(), BLANK, COMPACTED)
 }
+
+const OUT_OF_SLOTS: &str = "handle_new 0 1 = named 16
+    handle_new 0 1 = named 20
+    handle_new 0 1 = named 24
+    handle_new 0 1 = named 28
+    free_bytes = 64
+    handle_new 0 1 = refused NotEnoughSpace
+    free 20 = done
+    free 16 = done
+    handle_new 0 1 = named 16
+    handle_new 0 1 = named 20
+    handle_new 0 1 = refused NotEnoughSpace";
 
 /// A slot in front that was freed is found again.
 #[test]
 fn slots_run_out_before_bytes(rt: HostRuntime) -> Result<(), Fail> {
-    check_lines(
-        &rt,
-        small(rt.alloc())?,
-        "handle_new 0 1 = named 16
-        handle_new 0 1 = named 20
-        handle_new 0 1 = named 24
-        handle_new 0 1 = named 28
-        free_bytes = 64
-        handle_new 0 1 = refused NotEnoughSpace
-        free 20 = done
-        free 16 = done
-        handle_new 0 1 = named 16
-        handle_new 0 1 = named 20
-        handle_new 0 1 = refused NotEnoughSpace",
-    )
+    check_anew(rt.alloc(), BLANK, OUT_OF_SLOTS)
 }
+
+const FREED: &str = "handle_new 0 2 = named 28
+    free 28 = done
+    size 28 = refused InvalidHandle
+    free 28 = refused InvalidHandle
+    free 72 = done
+    locks 72 = refused InvalidHandle
+    free 72 = refused InvalidHandle
+    free_bytes = 48";
 
 #[test]
 fn a_freed_name_names_nothing(rt: HostRuntime) -> Result<(), Fail> {
-    check_lines(
-        &rt,
-        five(rt.alloc())?,
-        "handle_new 0 2 = named 28
-        free 28 = done
-        size 28 = refused InvalidHandle
-        free 28 = refused InvalidHandle
-        free 72 = done
-        locks 72 = refused InvalidHandle
-        free 72 = refused InvalidHandle
-        free_bytes = 48",
-    )
+    check_anew(rt.alloc(), FIVE, FREED)
 }
+
+const OTHER_NAMES: &str = "size 24 = refused InvalidHandle
+    size 28 = refused InvalidHandle
+    size 0 = refused InvalidHandle
+    size 15 = refused InvalidHandle
+    size 18 = refused InvalidHandle
+    size 32 = refused InvalidHandle
+    size 40 = refused InvalidHandle
+    size 64 = refused InvalidHandle
+    size 73 = refused InvalidHandle
+    size 88 = refused InvalidHandle
+    size 104 = refused InvalidHandle
+    size 128 = refused InvalidHandle
+    size 4294967292 = refused InvalidHandle
+    size 4294967295 = refused InvalidHandle";
 
 /// The manager's own chunk, an empty slot, an offset between slots, places that no name is, and what
 /// lies outside.
 #[test]
 fn other_names_are_refused(rt: HostRuntime) -> Result<(), Fail> {
-    check_lines(
-        &rt,
-        five(rt.alloc())?,
-        "size 24 = refused InvalidHandle
-        size 28 = refused InvalidHandle
-        size 0 = refused InvalidHandle
-        size 15 = refused InvalidHandle
-        size 18 = refused InvalidHandle
-        size 32 = refused InvalidHandle
-        size 40 = refused InvalidHandle
-        size 64 = refused InvalidHandle
-        size 73 = refused InvalidHandle
-        size 88 = refused InvalidHandle
-        size 104 = refused InvalidHandle
-        size 128 = refused InvalidHandle
-        size 4294967292 = refused InvalidHandle
-        size 4294967295 = refused InvalidHandle",
-    )
+    check_anew(rt.alloc(), FIVE, OTHER_NAMES)
 }
+
+const NOT_A_CALLERS: &str = "free 24 = refused InvalidHandle
+    lock 24 = refused InvalidHandle
+    unlock 24 = refused InvalidHandle
+    locks 24 = refused InvalidHandle
+    read 24 0 1 = refused InvalidHandle
+    write 24 0: 41 = refused InvalidHandle
+    set 24 0 1 1 = refused InvalidHandle
+    str_copy 24 0 = refused InvalidHandle
+    set_owner 24 1 = refused InvalidHandle
+    recover 88 = refused InvalidHandle
+    owner 16 = 15
+    free 16 = refused OwnedByDatabase
+    set_owner 16 0 = refused OwnedByDatabase
+    lock 16 = at 40 locks 1
+    free 16 = refused OwnedByDatabase
+    write 16 0: 41 = done
+    read 16 0 2 = x4100
+    recover 40 = named 16
+    free 20 = refused ChunkLocked
+    set_owner 20 14 = done
+    locks 20 = 2
+    free_by_owner 14 = 1";
 
 /// The manager's own chunk has no name for callers; a database's may be locked, read and written, and
 /// keeps its owner.
 #[test]
 fn chunks_of_the_manager_and_of_databases(rt: HostRuntime) -> Result<(), Fail> {
-    check_lines(
-        &rt,
-        five(rt.alloc())?,
-        "free 24 = refused InvalidHandle
-        lock 24 = refused InvalidHandle
-        unlock 24 = refused InvalidHandle
-        locks 24 = refused InvalidHandle
-        read 24 0 1 = refused InvalidHandle
-        write 24 0: 41 = refused InvalidHandle
-        set 24 0 1 1 = refused InvalidHandle
-        str_copy 24 0 = refused InvalidHandle
-        set_owner 24 1 = refused InvalidHandle
-        recover 88 = refused InvalidHandle
-        owner 16 = 15
-        free 16 = refused OwnedByDatabase
-        set_owner 16 0 = refused OwnedByDatabase
-        lock 16 = at 40 locks 1
-        free 16 = refused OwnedByDatabase
-        write 16 0: 41 = done
-        read 16 0 2 = x4100
-        recover 40 = named 16
-        free 20 = refused ChunkLocked
-        set_owner 20 14 = done
-        locks 20 = 2
-        free_by_owner 14 = 1",
-    )
+    check_anew(rt.alloc(), FIVE, NOT_A_CALLERS)
 }
+
+const NEVER_GIVEN: &str = "handle_new 8 0 = refused InvalidOwner
+    handle_new 8 15 = refused InvalidOwner
+    handle_new 80 16 = refused InvalidOwner
+    ptr_new 80 255 = refused InvalidOwner
+    handle_new 25 1 = refused NotEnoughSpace
+    handle_new 16777208 1 = refused NotEnoughSpace
+    handle_new 4294967295 1 = refused NotEnoughSpace
+    ptr_new 25 1 = refused NotEnoughSpace
+    ptr_new 4294967295 1 = refused NotEnoughSpace
+    ptr_new 24 1 = named 104
+    free_by_owner 0 = refused InvalidOwner
+    free_by_owner 15 = refused InvalidOwner
+    free_by_owner 16 = refused InvalidOwner";
 
 /// An owner that is none of a caller's comes before want of room.
 #[test]
 fn what_no_heap_gives(rt: HostRuntime) -> Result<(), Fail> {
-    check_lines(
-        &rt,
-        five(rt.alloc())?,
-        "handle_new 8 0 = refused InvalidOwner
-        handle_new 8 15 = refused InvalidOwner
-        handle_new 80 16 = refused InvalidOwner
-        ptr_new 80 255 = refused InvalidOwner
-        handle_new 25 1 = refused NotEnoughSpace
-        handle_new 16777208 1 = refused NotEnoughSpace
-        handle_new 4294967295 1 = refused NotEnoughSpace
-        ptr_new 25 1 = refused NotEnoughSpace
-        ptr_new 4294967295 1 = refused NotEnoughSpace
-        ptr_new 24 1 = named 104
-        free_by_owner 0 = refused InvalidOwner
-        free_by_owner 15 = refused InvalidOwner
-        free_by_owner 16 = refused InvalidOwner",
-    )
+    check_anew(rt.alloc(), FIVE, NEVER_GIVEN)
 }
+
+const NO_BYTES: &str = "handle_new 0 1 = named 16
+    size 16 = 0
+    read 16 0 0 = x
+    read 16 1 0 = refused OutOfBounds
+    write 16 0: 41 = refused ChunkNotLocked
+    lock 16 = at 40 locks 1
+    write 16 0: 41 = refused OutOfBounds
+    write 16 0 = done
+    set 16 0 0 7 = done
+    str_copy 16 0 = refused OutOfBounds
+    free_bytes = 88";
 
 #[test]
 fn a_body_of_no_bytes(rt: HostRuntime) -> Result<(), Fail> {
-    check_lines(
-        &rt,
-        small(rt.alloc())?,
-        "handle_new 0 1 = named 16
-        size 16 = 0
-        read 16 0 0 = x
-        read 16 1 0 = refused OutOfBounds
-        write 16 0: 41 = refused ChunkNotLocked
-        lock 16 = at 40 locks 1
-        write 16 0: 41 = refused OutOfBounds
-        write 16 0 = done
-        set 16 0 0 7 = done
-        str_copy 16 0 = refused OutOfBounds
-        free_bytes = 88",
-    )
+    check_anew(rt.alloc(), BLANK, NO_BYTES)
 }
+
+const ENDS: &str = "handle_new 10 1 = named 16
+    lock 16 = at 40 locks 1
+    write 16 9: 41 = done
+    write 16 9: 4142 = refused OutOfBounds
+    read 16 0 10 = x00000000000000000041
+    str_copy 16 8: 78 = done
+    str_copy 16 9: 78 = refused OutOfBounds
+    read 16 0 10 = x00000000000000007800
+    str_copy 16 0: 6162006364 = done
+    read 16 0 6 = x616200000000
+    set 16 2 3 65 = done
+    set 16 8 3 65 = refused OutOfBounds
+    read 16 0 10 = x61624141410000007800
+    read 16 10 0 = x
+    read 16 11 0 = refused OutOfBounds
+    read 16 10 1 = refused OutOfBounds
+    read 16 0 11 = refused OutOfBounds
+    read 16 4294967295 1 = refused OutOfBounds
+    read 16 1 4294967295 = refused OutOfBounds
+    set 16 4294967295 1 1 = refused OutOfBounds
+    set 16 1 4294967295 1 = refused OutOfBounds
+    set 16 4294967295 4294967295 1 = refused OutOfBounds";
 
 /// Ranges that end at the length and just behind it, and sums that 32 bits can't hold.
 #[test]
 fn bytes_end_at_the_length(rt: HostRuntime) -> Result<(), Fail> {
-    check_lines(
-        &rt,
-        small(rt.alloc())?,
-        "handle_new 10 1 = named 16
-        lock 16 = at 40 locks 1
-        write 16 9: 41 = done
-        write 16 9: 4142 = refused OutOfBounds
-        read 16 0 10 = x00000000000000000041
-        str_copy 16 8: 78 = done
-        str_copy 16 9: 78 = refused OutOfBounds
-        read 16 0 10 = x00000000000000007800
-        str_copy 16 0: 6162006364 = done
-        read 16 0 6 = x616200000000
-        set 16 2 3 65 = done
-        set 16 8 3 65 = refused OutOfBounds
-        read 16 0 10 = x61624141410000007800
-        read 16 10 0 = x
-        read 16 11 0 = refused OutOfBounds
-        read 16 10 1 = refused OutOfBounds
-        read 16 0 11 = refused OutOfBounds
-        read 16 4294967295 1 = refused OutOfBounds
-        read 16 1 4294967295 = refused OutOfBounds
-        set 16 4294967295 1 1 = refused OutOfBounds
-        set 16 1 4294967295 1 = refused OutOfBounds
-        set 16 4294967295 4294967295 1 = refused OutOfBounds",
-    )
+    check_anew(rt.alloc(), BLANK, ENDS)
 }
+
+const WITH_FIXED: &str = "handle_new 0 1 = named 16
+    handle_new 0 1 = refused NotEnoughSpace
+    ptr_new 0 1 = named 40
+    lock 40 = refused ChunkFixed
+    unlock 40 = refused ChunkFixed
+    locks 40 = 15
+    free_bytes = 88
+    ptr_new 81 1 = refused NotEnoughSpace
+    ptr_new 80 2 = named 48
+    write 48 72: 3132333435363738 = done
+    write 48 73: 3132333435363738 = refused OutOfBounds
+    set_owner 48 9 = done
+    owner 48 = 9
+    read 48 72 8 = x3132333435363738
+    free 48 = done
+    free_bytes = 88";
 
 #[test]
 fn a_fixed_chunk_has_no_lock_count(rt: HostRuntime) -> Result<(), Fail> {
-    check_lines(
-        &rt,
-        image(rt.alloc(), 128, 1, &[])?,
-        "handle_new 0 1 = named 16
-        handle_new 0 1 = refused NotEnoughSpace
-        ptr_new 0 1 = named 40
-        lock 40 = refused ChunkFixed
-        unlock 40 = refused ChunkFixed
-        locks 40 = 15
-        free_bytes = 88
-        ptr_new 81 1 = refused NotEnoughSpace
-        ptr_new 80 2 = named 48
-        write 48 72: 3132333435363738 = done
-        write 48 73: 3132333435363738 = refused OutOfBounds
-        set_owner 48 9 = done
-        owner 48 = 9
-        read 48 72 8 = x3132333435363738
-        free 48 = done
-        free_bytes = 88",
-    )
+    check_anew(rt.alloc(), ONE_SLOT, WITH_FIXED)
 }
+
+const OF_OWNERS: &str = "handle_new 8 5 = named 16
+    lock 16 = at 40 locks 1
+    handle_new 8 6 = named 20
+    ptr_new 8 5 = named 72
+    handle_new 8 5 = named 24
+    handle_new 8 5 = named 28
+    free_by_owner 5 = 4
+    size 16 = refused InvalidHandle
+    size 72 = refused InvalidHandle
+    handle_new 40 1 = named 16
+    handle_new 8 1 = named 24
+    handle_new 8 1 = named 28
+    handle_new 0 1 = refused NotEnoughSpace
+    unlock 20 = refused ChunkNotLocked
+    set_owner 20 15 = refused InvalidOwner
+    set_owner 20 1 = done
+    free_by_owner 1 = 4
+    free_by_owner 1 = 0
+    free_bytes = 96";
 
 /// Locked and fixed chunks go too. The slots of freed chunks are found again, the lowest first, and the
 /// room behind the first of them.
 #[test]
 fn all_chunks_of_an_owner_go(rt: HostRuntime) -> Result<(), Fail> {
-    check_lines(
-        &rt,
-        small(rt.alloc())?,
-        "handle_new 8 5 = named 16
-        lock 16 = at 40 locks 1
-        handle_new 8 6 = named 20
-        ptr_new 8 5 = named 72
-        handle_new 8 5 = named 24
-        handle_new 8 5 = named 28
-        free_by_owner 5 = 4
-        size 16 = refused InvalidHandle
-        size 72 = refused InvalidHandle
-        handle_new 40 1 = named 16
-        handle_new 8 1 = named 24
-        handle_new 8 1 = named 28
-        handle_new 0 1 = refused NotEnoughSpace
-        unlock 20 = refused ChunkNotLocked
-        set_owner 20 15 = refused InvalidOwner
-        set_owner 20 1 = done
-        free_by_owner 1 = 4
-        free_by_owner 1 = 0
-        free_bytes = 96",
-    )
+    check_anew(rt.alloc(), BLANK, OF_OWNERS)
 }
+
+const PLACES: &str = "handle_new 32 1 = named 16
+    lock 16 = at 40 locks 1
+    write 16 0: 0000001001fffff4 = done
+    write 16 16: 00000010f1000000 = done
+    recover 40 = named 16
+    recover 48 = refused InvalidHandle
+    recover 64 = refused InvalidHandle
+    locks 64 = refused InvalidHandle
+    ptr_new 16 2 = named 80
+    recover 80 = named 80
+    recover 0 = refused InvalidHandle
+    recover 7 = refused InvalidHandle
+    recover 16 = refused InvalidHandle
+    recover 39 = refused InvalidHandle
+    recover 41 = refused InvalidHandle
+    recover 104 = refused InvalidHandle
+    recover 128 = refused InvalidHandle
+    recover 4294967295 = refused InvalidHandle";
 
 /// Bytes of a body that spell the header of a movable chunk that names the caller's slot, and of a
 /// fixed chunk.
 #[test]
 fn a_place_gives_its_name_back(rt: HostRuntime) -> Result<(), Fail> {
-    check_lines(
-        &rt,
-        small(rt.alloc())?,
-        "handle_new 32 1 = named 16
-        lock 16 = at 40 locks 1
-        write 16 0: 0000001001fffff4 = done
-        write 16 16: 00000010f1000000 = done
-        recover 40 = named 16
-        recover 48 = refused InvalidHandle
-        recover 64 = refused InvalidHandle
-        locks 64 = refused InvalidHandle
-        ptr_new 16 2 = named 80
-        recover 80 = named 80
-        recover 0 = refused InvalidHandle
-        recover 7 = refused InvalidHandle
-        recover 16 = refused InvalidHandle
-        recover 39 = refused InvalidHandle
-        recover 41 = refused InvalidHandle
-        recover 104 = refused InvalidHandle
-        recover 128 = refused InvalidHandle
-        recover 4294967295 = refused InvalidHandle",
-    )
+    check_anew(rt.alloc(), BLANK, PLACES)
 }

@@ -1,81 +1,74 @@
 //! Fixed chunks that are named again and again on one heap, which remembers their names.
 
-use crate::classes::check_text;
-use crate::images::{five, image};
+use crate::by_hand::check_on_one;
+use crate::images::{FIVE, SPACIOUS};
 use std::test::*;
+use test_images::BLANK;
+
+const TURNS: &str = "ptr_new 8 1 = named 40
+    ptr_new 488 1 = named 56
+    ptr_new 8 1 = named 552
+    write 40 0: 41 = done
+    write 552 0: 42 = done
+    read 40 0 1 = x41
+    read 552 0 1 = x42
+    write 40 0: 43 = done
+    free 552 = done
+    read 40 0 1 = x43
+    size 552 = refused InvalidHandle
+    write 552 0: 44 = refused InvalidHandle
+    recover 552 = refused InvalidHandle
+    recover 40 = named 40
+    recover 56 = named 56";
 
 /// The names are 512 bytes apart, so that each takes the other's place among those that are remembered.
 #[test]
 fn names_take_turns(rt: HostRuntime) -> Result<(), Fail> {
-    check_text(
-        &rt,
-        image(rt.alloc(), 2048, 4, &[])?,
-        "ptr_new 8 1 = named 40
-        ptr_new 488 1 = named 56
-        ptr_new 8 1 = named 552
-        write 40 0: 41 = done
-        write 552 0: 42 = done
-        read 40 0 1 = x41
-        read 552 0 1 = x42
-        write 40 0: 43 = done
-        free 552 = done
-        read 40 0 1 = x43
-        size 552 = refused InvalidHandle
-        write 552 0: 44 = refused InvalidHandle
-        recover 552 = refused InvalidHandle
-        recover 40 = named 40
-        recover 56 = named 56",
-    )
+    check_on_one(rt.alloc(), SPACIOUS, TURNS)
 }
+
+const FORGOTTEN: &str = "ptr_new 88 1 = named 40
+    write 40 0: 4142 = done
+    lock 40 = refused ChunkFixed
+    free 40 = done
+    handle_new 88 1 = named 16
+    lock 16 = at 40 locks 1
+    read 40 0 2 = refused InvalidHandle
+    write 40 0: 43 = refused InvalidHandle
+    recover 40 = named 16
+    free 40 = refused InvalidHandle";
 
 /// A movable chunk stands where the fixed one was that was freed.
 #[test]
 fn a_freed_chunk_is_forgotten(rt: HostRuntime) -> Result<(), Fail> {
-    check_text(
-        &rt,
-        image(rt.alloc(), 128, 4, &[])?,
-        "ptr_new 88 1 = named 40
-        write 40 0: 4142 = done
-        lock 40 = refused ChunkFixed
-        free 40 = done
-        handle_new 88 1 = named 16
-        lock 16 = at 40 locks 1
-        read 40 0 2 = refused InvalidHandle
-        write 40 0: 43 = refused InvalidHandle
-        recover 40 = named 16
-        free 40 = refused InvalidHandle",
-    )
+    check_on_one(rt.alloc(), BLANK, FORGOTTEN)
 }
+
+const OWNER_FORGOTTEN: &str = "ptr_new 8 1 = named 40
+    ptr_new 8 2 = named 56
+    write 40 0: 41 = done
+    write 56 0: 42 = done
+    free_by_owner 1 = 1
+    write 40 0: 43 = refused InvalidHandle
+    read 56 0 1 = x42
+    ptr_new 8 3 = named 40
+    owner 40 = 3";
 
 #[test]
 fn chunks_of_an_owner_are_forgotten(rt: HostRuntime) -> Result<(), Fail> {
-    check_text(
-        &rt,
-        image(rt.alloc(), 128, 4, &[])?,
-        "ptr_new 8 1 = named 40
-        ptr_new 8 2 = named 56
-        write 40 0: 41 = done
-        write 56 0: 42 = done
-        free_by_owner 1 = 1
-        write 40 0: 43 = refused InvalidHandle
-        read 56 0 1 = x42
-        ptr_new 8 3 = named 40
-        owner 40 = 3",
-    )
+    check_on_one(rt.alloc(), BLANK, OWNER_FORGOTTEN)
 }
+
+const FOUND: &str = "write 72 0: 4142 = done
+    set_owner 72 5 = done
+    owner 72 = 5
+    compact = 0
+    read 72 0 2 = x4142
+    free_by_owner 5 = 1
+    read 72 0 2 = refused InvalidHandle";
 
 /// A fixed chunk of an image that is adopted: another owner and other chunks that move leave it known.
 #[test]
 fn a_chunk_that_was_found_stays_known(rt: HostRuntime) -> Result<(), Fail> {
-    check_text(
-        &rt,
-        five(rt.alloc())?,
-        "write 72 0: 4142 = done
-        set_owner 72 5 = done
-        owner 72 = 5
-        compact = 0
-        read 72 0 2 = x4142
-        free_by_owner 5 = 1
-        read 72 0 2 = refused InvalidHandle",
-    )
+    check_on_one(rt.alloc(), FIVE, FOUND)
 }

@@ -1,33 +1,37 @@
 //! Heaps whose free chunks are as bad as can be: of one class that has room in its last one alone, of 8 bytes
 //! each, unjoined, with second words that lead anywhere.
 
-use crate::beside::adopt;
-use crate::classes::{check_on_one, check_text};
-use crate::images::image;
-use crate::notation::{call_of, do_call, text_of};
+use crate::beside::{Beside, adopt};
+use crate::by_hand::check_on;
+use crate::calls::do_call;
+use crate::classes::{blank, check, check_freed, make_all, name};
+use crate::notation::{call_of, check_reply, sides_of};
+use heap_model::{MemoryCall, Place, Reply};
 use mem_manager::Heap;
+use raw_region::Region;
 use std::alloc::Global;
-use std::process::Abort;
 use std::test::*;
+use test_images::changed_words;
 
-/// Does calls on one heap, and says whether its image is a heap still. Each line has a call and its reply,
-/// with `=` between.
-fn check_alone(rt: &(impl Abort + AllocGlobal), image: &[u8], lines: &[&str]) -> Result<(), Fail> {
-    let alloc = rt.alloc();
-    let mut heap = adopt(alloc, image)?;
-    for line in lines {
-        let (call, right) = line.split_once(" = ").ok_or("no reply")?;
-        let reply = do_call(alloc, &mut heap, &call_of(alloc, call)?)?;
-        let said = text_of(alloc, &reply)?;
-        assert_eq!(rt; said.as_str(), right, "{line}");
+/// Does the call of a line on a heap, with no model beside it.
+fn check_line(alloc: Global, heap: &mut Heap, line: &str) -> Result<(), Fail> {
+    let (call, right) = sides_of(line)?;
+    let reply = do_call(alloc, heap, &call_of(alloc, call)?);
+    check_reply(alloc, line, &reply, right)
+}
+
+/// Does the calls of some lines on one heap, and sees that its image is a heap still.
+fn check_alone(alloc: Global, region: Region, lines: &str) -> Result<(), Fail> {
+    let mut heap = adopt(region)?;
+    for line in lines.lines() {
+        check_line(alloc, &mut heap, line.trim())?;
     }
-    let is_heap = Heap::adopt(heap.into_region()).is_ok();
-    assert!(rt; is_heap);
+    adopt(heap.into_region())?;
     Ok(())
 }
 
 /// A heap of so many free chunks of 16 bytes, each with a fixed one of 8 bytes behind it, and a last one of 24.
-fn scattered(alloc: Global, count: u32) -> Result<Vec<u8>, Fail> {
+fn scattered(alloc: Global, count: u32) -> Result<Region, Fail> {
     let mut words = Vec::new(alloc);
     let mut at = 32usize;
     for _ in 0..count {
@@ -37,44 +41,38 @@ fn scattered(alloc: Global, count: u32) -> Result<Vec<u8>, Fail> {
         at = at.saturating_add(24);
     }
     words.push((at, 0x8000_0018))?;
-    image(
-        alloc,
-        count.saturating_mul(24).saturating_add(56),
-        4,
-        &words,
-    )
+    let size = count.saturating_mul(24).saturating_add(56);
+    changed_words(alloc, size, 4, &words)
 }
 
-const LAST_HAS_ROOM: &[&str] = &[
-    "handle_new 16 1 = named 16",
-    "handle_new 16 1 = refused NotEnoughSpace",
-    "handle_new 8 1 = named 20",
-    "free 16 = done",
-    "handle_new 16 1 = named 16",
-    "free 20 = done",
-    "free 16 = done",
-    "handle_new 16 1 = named 16",
-    "resize 16 17 = refused NotEnoughSpace",
-    "resize 16 8 = done",
-    "resize 16 16 = done",
-    "free_bytes = 480000",
-];
+const LAST_HAS_ROOM: &str = "handle_new 16 1 = named 16
+    handle_new 16 1 = refused NotEnoughSpace
+    handle_new 8 1 = named 20
+    free 16 = done
+    handle_new 16 1 = named 16
+    free 20 = done
+    free 16 = done
+    handle_new 16 1 = named 16
+    resize 16 17 = refused NotEnoughSpace
+    resize 16 8 = done
+    resize 16 16 = done
+    free_bytes = 480000";
 
 /// Of 30,001 chunks of one class the last one has the room.
 #[test]
 fn the_last_of_a_list_has_the_room(rt: HostRuntime) -> Result<(), Fail> {
-    check_alone(&rt, &scattered(rt.alloc(), 30_000)?, LAST_HAS_ROOM)
+    check_alone(rt.alloc(), scattered(rt.alloc(), 30_000)?, LAST_HAS_ROOM)
 }
 
 /// An image of 28 free chunks of 8 bytes, each with this second word.
-fn unjoined(alloc: Global, second: u32) -> Result<Vec<u8>, Fail> {
+fn unjoined(alloc: Global, second: u32) -> Result<Region, Fail> {
     let mut words = Vec::new(alloc);
     for number in 0..28usize {
         let at = number.saturating_mul(8).saturating_add(32);
         words.push((at, 0x8000_0008))?;
         words.push((at.saturating_add(4), second))?;
     }
-    image(alloc, 256, 4, &words)
+    changed_words(alloc, 256, 4, &words)
 }
 
 /// What a second word may be: behind the end, a header, the offset of a chunk or within one, and none.
@@ -93,46 +91,57 @@ const MADE_AND_FREED: &str = "free_bytes = 224
     handle_new 216 1 = named 16
     free_bytes = 0";
 
+fn check_unjoined(alloc: Global, second: u32) -> Result<(), Fail> {
+    let mut beside = Beside::new(alloc, unjoined(alloc, second)?)?;
+    check_on(alloc, &mut beside, MADE_AND_FREED)
+}
+
 #[test]
 fn second_words_of_an_adopted_image_lead_nowhere(rt: HostRuntime) -> Result<(), Fail> {
-    let alloc = rt.alloc();
     for second in SECONDS {
-        check_text(&rt, unjoined(alloc, second)?, MADE_AND_FREED)?;
+        check_unjoined(rt.alloc(), second)?;
     }
     Ok(())
 }
+
+/// Locks each of 16 chunks of 8 bytes.
+fn lock_all(alloc: Global, beside: &mut Beside) -> Result<(), Fail> {
+    for number in 0..16u32 {
+        let locked = Reply::Locked {
+            place: Place(number.saturating_mul(8).saturating_add(88)),
+            count: 1,
+        };
+        check(alloc, beside, MemoryCall::Lock(name(number)), locked)?;
+    }
+    Ok(())
+}
+
+/// Unlocks and frees every second one of 16 chunks.
+fn free_even(alloc: Global, beside: &mut Beside) -> Result<(), Fail> {
+    for number in 0..8u32 {
+        let unlock = MemoryCall::Unlock(name(number * 2));
+        check(alloc, beside, unlock, Reply::Number(0))?;
+        check_freed(alloc, beside, number * 2)?;
+    }
+    Ok(())
+}
+
+const ONE_MORE_FREED: &str = "free_bytes = 64
+    handle_new 1 1 = refused NotEnoughSpace
+    handle_new 0 1 = named 16
+    free 16 = done
+    unlock 20 = 0
+    free 20 = done
+    handle_new 16 1 = named 16
+    free_bytes = 48";
 
 /// Chunks of 8 bytes, every second one of which is freed: there is room for those of no bytes alone, until one
 /// between two is freed too.
 #[test]
 fn free_chunks_of_8_bytes(rt: HostRuntime) -> Result<(), Fail> {
-    let alloc = rt.alloc();
-    let mut lines = Vec::new(alloc);
-    for number in 0..16u32 {
-        let name = number.saturating_mul(4).saturating_add(16);
-        lines.push(format!(in alloc; "handle_new 0 1 = named {name}")?)?;
-    }
-    for number in 0..16u32 {
-        let name = number.saturating_mul(4).saturating_add(16);
-        let place = number.saturating_mul(8).saturating_add(88);
-        lines.push(format!(in alloc; "lock {name} = at {place} locks 1")?)?;
-    }
-    for number in 0..8u32 {
-        let name = number.saturating_mul(8).saturating_add(16);
-        lines.push(format!(in alloc; "unlock {name} = 0")?)?;
-        lines.push(format!(in alloc; "free {name} = done")?)?;
-    }
-    for line in [
-        "free_bytes = 64",
-        "handle_new 1 1 = refused NotEnoughSpace",
-        "handle_new 0 1 = named 16",
-        "free 16 = done",
-        "unlock 20 = 0",
-        "free 20 = done",
-        "handle_new 16 1 = named 16",
-        "free_bytes = 48",
-    ] {
-        lines.push(format!(in alloc; "{line}")?)?;
-    }
-    check_on_one(&rt, image(alloc, 80 + 16 * 8, 16, &[])?, &lines)
+    let mut beside = blank(rt.alloc(), 80 + 16 * 8, 16)?;
+    make_all(rt.alloc(), &mut beside, 0, 16)?;
+    lock_all(rt.alloc(), &mut beside)?;
+    free_even(rt.alloc(), &mut beside)?;
+    check_on(rt.alloc(), &mut beside, ONE_MORE_FREED)
 }

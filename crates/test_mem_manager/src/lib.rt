@@ -7,7 +7,11 @@ mod adopted;
 #[cfg(test)]
 mod beside;
 #[cfg(test)]
+mod by_hand;
+#[cfg(test)]
 mod caller;
+#[cfg(test)]
+mod calls;
 #[cfg(test)]
 mod classes;
 #[cfg(test)]

@@ -113,25 +113,17 @@ fn free_chunks(alloc: Global, image: &Image) -> Result<Vec<FreeChunk>, AllocErro
             chunks.push(FreeChunk {
                 at,
                 class: 31u32.saturating_sub((piece.size / 8).leading_zeros()),
-                next: second_word(image.bytes, at),
+                next: word_at(image.bytes, at.saturating_add(4) as usize).unwrap_or(0),
             })?;
         }
     }
     Ok(chunks)
 }
 
-/// The second word of the chunk at an offset.
-fn second_word(bytes: &[u8], at: u32) -> u32 {
-    match bytes.get(at as usize..) {
-        Some(chunk) => match chunk.get(4..) {
-            Some(word) => match word.first_chunk() {
-                Some(word) => u32::from_be_bytes(*word),
-                None => 0,
-            },
-            None => 0,
-        },
-        None => 0,
-    }
+/// The word of an image at an offset.
+pub(crate) fn word_at(image: &[u8], at: usize) -> Option<u32> {
+    let word = image.get(at..)?.first_chunk()?;
+    Some(u32::from_be_bytes(*word))
 }
 
 /// Whether the free chunks of a class are one list: one that no other names comes first, and from it the links

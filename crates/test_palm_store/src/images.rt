@@ -1,7 +1,10 @@
 //! Images that tests start from.
 
+use heap_model::DbName;
+use palm_store::Store;
 use std::alloc::Global;
 use std::test::*;
+use test_beside::{blank_image, store_of};
 use test_images::bytes_of as listed;
 
 /// A database with the number 20 and 65,532 resources of the type `code`, whose IDs are their indexes and whose
@@ -44,4 +47,14 @@ pub(crate) fn full_database(alloc: Global) -> Result<Vec<u8>, Fail> {
     }
     bytes.extend_from_slice(listed(alloc, "00*2 80000080 00*124")?.as_slice())?;
     Ok(bytes)
+}
+
+/// A store with so many databases, whose names are the numbers from 1 on.
+pub(crate) fn with_databases(alloc: Global, count: u32) -> Result<Store, Fail> {
+    let mut store = store_of(alloc, &blank_image(alloc, 200_000, 1_100)?)?;
+    for number in 1..=count {
+        let name = format!(in alloc; "{number}")?;
+        store.create(&DbName::of(name.as_bytes()), 0, 0, false, 0)?;
+    }
+    Ok(store)
 }

@@ -17,6 +17,8 @@ mod known;
 #[cfg(test)]
 mod lists;
 #[cfg(test)]
+mod steps;
+#[cfg(test)]
 mod taken;
 #[cfg(test)]
 mod whole;

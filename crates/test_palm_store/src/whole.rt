@@ -3,6 +3,7 @@
 ghost use Rattle.std.specs.Prelude.{◌≡◌, length, take};
 ghost use Rattle.heap_model.specs.DatabaseFields.{name_size};
 
+use crate::images::with_databases;
 use heap_model::{Db, DbInfo, DbName, Entry, Name, RecordInfo, Refusal, ResourceInfo, Which};
 use palm_store::{BlockSizes, Store, WholeEntry};
 use std::alloc::Global;
@@ -187,19 +188,9 @@ fn a_name_is_taken_once(rt: HostRuntime) -> Result<(), Fail> {
     equal("again", again, Err(Refusal::AlreadyExists))
 }
 
-/// A store with 1,024 databases.
-fn full_store(alloc: Global) -> Result<Store, Fail> {
-    let mut store = store_of(alloc, &blank_image(alloc, 200_000, 1_100)?)?;
-    for number in 1..=1_024 {
-        let name = format!(in alloc; "{number}")?;
-        store.create(&DbName::of(name.as_bytes()), 0, 0, false, 0)?;
-    }
-    Ok(store)
-}
-
 #[test]
 fn whole_databases_are_at_most_1024(rt: HostRuntime) -> Result<(), Fail> {
-    let mut store = full_store(rt.alloc())?;
+    let mut store = with_databases(rt.alloc(), 1_024)?;
     let mut names = [Name(0); 4];
     let made = make_records(&mut store, &mut names);
     equal("another", made, Err(Refusal::TooManyEntries))
