@@ -1,0 +1,79 @@
+//! The import and the export of databases. `files SIZE SLOTS RECORDS BYTES ROUNDS` makes files of RECORDS records with
+//! BYTES bytes each. In each round of a kind it imports one into an image of SIZE bytes with SLOTS slots and with
+//! nothing in it, and exports the database again. It prints the best and the median processor time of both in
+//! nanoseconds.
+//!
+//! The last line has the sum of the lengths of the exported files, and that of the words of images and files. With no
+//! words it alone is printed, of small files. bench/files.c does the same in plain C.
+
+mod shapes;
+mod work;
+
+use crate::timing::{Sum, Sums, Times, since};
+use anyhow::{Result, bail};
+use chunk_format::blank;
+use heap_model::Bytes;
+use palm_store::Store;
+use pdb_files::{exported, import};
+use shapes::{SHAPES, Shape, file_of};
+use std::rt::CpuClock;
+pub(crate) use work::{LEAST, Work};
+
+/// Times each shape of file.
+pub(crate) fn run(rt: &(impl CpuClock + Print + AllocGlobal), work: Work) -> Result<()> {
+    let mut sums = Sums::new();
+    for (name, shape) in SHAPES {
+        time_shape(rt, work, name, shape, &mut sums)?;
+    }
+    sums.print(rt)?;
+    Ok(())
+}
+
+/// Imports and exports a file of a shape in each round.
+fn time_shape(
+    rt: &(impl CpuClock + Print + AllocGlobal),
+    work: Work,
+    name: &str,
+    shape: Shape,
+    sums: &mut Sums,
+) -> Result<()> {
+    let file = file_of(rt.alloc(), shape, work)?;
+    let mut imports = Times::new(rt.alloc());
+    let mut exports = Times::new(rt.alloc());
+    for _ in 0..work.rounds {
+        let mut store = blank_store(rt, work)?;
+        let start = rt.thread_cpu_time()?;
+        let db = import(rt.alloc(), &mut store, file.as_slice())?;
+        imports.add(since(rt, start)?)?;
+        let start = rt.thread_cpu_time()?;
+        let out = exported(&rt.alloc(), &store, db)?;
+        exports.add(since(rt, start)?)?;
+        sum_up(sums, store, &out);
+    }
+    if work.prints_times {
+        imports.print(rt, format!(in rt.alloc(); "import{name}")?.as_str(), 1)?;
+        exports.print(rt, format!(in rt.alloc(); "export{name}")?.as_str(), 1)?;
+    }
+    Ok(())
+}
+
+/// A store with nothing in it.
+fn blank_store(rt: &impl AllocGlobal, work: Work) -> Result<Store> {
+    let region = blank(rt.alloc(), work.size, work.slots)?;
+    match Store::check(rt.alloc(), region) {
+        Ok(store) => Ok(store),
+        Err(error) => bail!("{}", error.fault),
+    }
+}
+
+/// Adds the length of an exported file, and the words of the image and of the file.
+fn sum_up(sums: &mut Sums, store: Store, out: &Bytes) {
+    let out = out.as_slice();
+    sums.replies.add(out.len().min(u32::MAX as usize) as u32);
+    sums.words.add(Sum::of_words(&store.into_region()).0);
+    let mut words = Sum(0);
+    for word in out.chunks_exact(4) {
+        words.add(u32::from_be_bytes([word[0], word[1], word[2], word[3]]));
+    }
+    sums.words.add(words.0);
+}
