@@ -9,7 +9,7 @@ use heap_check::{HeapFault, Summary, check_heap};
 use raw_region::Region;
 use std::fs::Files;
 use std::rt::Clock;
-use std::time::Instant;
+use std::time::{Duration, Instant};
 use std::{fs, io};
 
 /// What a run does, by its words.
@@ -57,7 +57,7 @@ fn read_region(rt: &(impl Files + AllocGlobal), image: &str) -> io::Result<Regio
     Ok(Region::from_bytes(rt.alloc(), &bytes)?)
 }
 
-/// The times of so many checks of a region, each with its answer thrown away.
+/// The times of so many checks of a region.
 fn time_checks(
     rt: &(impl Clock + AllocGlobal),
     region: &Region,
@@ -65,11 +65,16 @@ fn time_checks(
 ) -> io::Result<Times> {
     let mut times = Times::new(rt.alloc());
     for _ in 0..repeats {
-        let start = Instant::now(rt)?;
-        let _ = check_heap(region);
-        times.add(start.elapsed(rt)?)?;
+        times.add(time_heap_check(rt, region)?)?;
     }
     Ok(times)
+}
+
+/// How long a check takes, whose answer is thrown away.
+pub(crate) fn time_heap_check(rt: &impl Clock, region: &Region) -> io::Result<Duration> {
+    let start = Instant::now(rt)?;
+    let _ = check_heap(region);
+    start.elapsed(rt)
 }
 
 fn print_answer(rt: &impl Print, answer: Result<Summary, HeapFault>) -> io::Result<()> {

@@ -12,18 +12,19 @@ mod work;
 use crate::timing::{Sum, Sums, Times, since};
 use anyhow::{Result, bail};
 use chunk_format::blank;
-use heap_model::Bytes;
+use heap_model::{Bytes, Db};
 use palm_store::Store;
 use pdb_files::{exported, import};
 use shapes::{SHAPES, Shape, file_of};
 use std::rt::CpuClock;
+use std::time::Duration;
 pub(crate) use work::{LEAST, Work};
 
 /// Times each shape of file.
 pub(crate) fn run(rt: &(impl CpuClock + Print + AllocGlobal), work: Work) -> Result<()> {
     let mut sums = Sums::new();
-    for (name, shape) in SHAPES {
-        time_shape(rt, work, name, shape, &mut sums)?;
+    for (import_name, export_name, shape) in SHAPES {
+        time_shape(rt, work, (import_name, export_name), shape, &mut sums)?;
     }
     sums.print(rt)?;
     Ok(())
@@ -33,28 +34,48 @@ pub(crate) fn run(rt: &(impl CpuClock + Print + AllocGlobal), work: Work) -> Res
 fn time_shape(
     rt: &(impl CpuClock + Print + AllocGlobal),
     work: Work,
-    name: &str,
+    (import_name, export_name): (&str, &str),
     shape: Shape,
     sums: &mut Sums,
 ) -> Result<()> {
     let file = file_of(rt.alloc(), shape, work)?;
-    let mut imports = Times::new(rt.alloc());
-    let mut exports = Times::new(rt.alloc());
+    let (mut imports, mut exports) = (Times::new(rt.alloc()), Times::new(rt.alloc()));
     for _ in 0..work.rounds {
         let mut store = blank_store(rt, work)?;
-        let start = rt.thread_cpu_time()?;
-        let db = import(rt.alloc(), &mut store, file.as_slice())?;
-        imports.add(since(rt, start)?)?;
-        let start = rt.thread_cpu_time()?;
-        let out = exported(&rt.alloc(), &store, db)?;
-        exports.add(since(rt, start)?)?;
-        sum_up(sums, store, &out);
+        let (db, time) = time_import(rt, &mut store, &file)?;
+        imports.add(time)?;
+        exports.add(time_export(rt, store, db, sums)?)?;
     }
     if work.prints_times {
-        imports.print(rt, format!(in rt.alloc(); "import{name}")?.as_str(), 1)?;
-        exports.print(rt, format!(in rt.alloc(); "export{name}")?.as_str(), 1)?;
+        imports.print(rt, import_name, 1)?;
+        exports.print(rt, export_name, 1)?;
     }
     Ok(())
+}
+
+/// Imports a file, and answers how long that takes.
+fn time_import(
+    rt: &(impl CpuClock + AllocGlobal),
+    store: &mut Store,
+    file: &[u8],
+) -> Result<(Db, Duration)> {
+    let start = rt.thread_cpu_time()?;
+    let db = import(rt.alloc(), store, file)?;
+    Ok((db, since(rt, start)?))
+}
+
+/// How long it takes to export a database.
+fn time_export(
+    rt: &(impl CpuClock + AllocGlobal),
+    store: Store,
+    db: Db,
+    sums: &mut Sums,
+) -> Result<Duration> {
+    let start = rt.thread_cpu_time()?;
+    let out = exported(&rt.alloc(), &store, db)?;
+    let time = since(rt, start)?;
+    sum_up(sums, store, &out);
+    Ok(time)
 }
 
 /// A store with nothing in it.

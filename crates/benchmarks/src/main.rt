@@ -78,11 +78,11 @@ impl Benchmark<'_> {
     fn of_words(words: &[String]) -> Option<Benchmark<'_>> {
         let (name, words) = words.split_first()?;
         match name.as_str() {
-            "check" => check::Work::of_words(words).map(Benchmark::Check),
-            "stores" => stores::Work::of_words(words).map(Benchmark::Stores),
-            "memory" => memory::Work::of_words(words).map(Benchmark::Memory),
-            "records" => records::Work::of_words(words).map(Benchmark::Records),
-            "files" => files::Work::of_words(words).map(Benchmark::Files),
+            "check" => Some(Benchmark::Check(check::Work::of_words(words)?)),
+            "stores" => Some(Benchmark::Stores(stores::Work::of_words(words)?)),
+            "memory" => Some(Benchmark::Memory(memory::Work::of_words(words)?)),
+            "records" => Some(Benchmark::Records(records::Work::of_words(words)?)),
+            "files" => Some(Benchmark::Files(files::Work::of_words(words)?)),
             _ => None,
         }
     }

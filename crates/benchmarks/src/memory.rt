@@ -23,7 +23,9 @@ use mem_manager::Heap;
 use one_class::{OneClass, Order};
 use raw_region::Region;
 use scattered::{Scattered, Walk};
+use std::io;
 use std::rt::CpuClock;
+use std::time::Duration;
 use work::MOST_BYTES;
 pub(crate) use work::{LEAST, Work};
 
@@ -81,7 +83,7 @@ fn time_calls(
     rt: &(impl CpuClock + Print + AllocGlobal),
     load: &mut Load,
     work: Work,
-) -> Result<()> {
+) -> io::Result<()> {
     load.shuffle(work.slots);
     load.find_wide()?;
     for (name, call) in CALLS {
@@ -136,11 +138,9 @@ fn heap_of(region: Region) -> Result<Heap> {
 }
 
 /// Makes a chunk under each slot.
-fn fill(rt: &(impl CpuClock + Print + AllocGlobal), load: &mut Load, work: Work) -> Result<()> {
+fn fill(rt: &(impl CpuClock + Print + AllocGlobal), load: &mut Load, work: Work) -> io::Result<()> {
     let mut times = Times::new(rt.alloc());
-    let start = rt.thread_cpu_time()?;
-    load.make(work.slots)?;
-    times.add(since(rt, start)?)?;
+    times.add(time_to_make(rt, load, work.slots)?)?;
     print_times(rt, work, "handle_new_filling", work.slots as u128, times)
 }
 
@@ -152,20 +152,30 @@ fn move_chunks(
     work: Work,
     (free, make): (&str, &str),
     among: u16,
-) -> Result<()> {
+) -> io::Result<()> {
     let (mut freed, mut made) = (Times::new(rt.alloc()), Times::new(rt.alloc()));
     for _ in 0..work.rounds {
         load.shuffle(among);
-        let start = rt.thread_cpu_time()?;
-        load.free(work.moved());
-        freed.add(since(rt, start)?)?;
-        let start = rt.thread_cpu_time()?;
-        load.make(work.moved())?;
-        made.add(since(rt, start)?)?;
+        freed.add(time_to_free(rt, load, work.moved())?)?;
+        made.add(time_to_make(rt, load, work.moved())?)?;
     }
     let calls = work.moved() as u128;
     print_times(rt, work, free, calls, freed)?;
     print_times(rt, work, make, calls, made)
+}
+
+/// How long it takes to free the chunks of the last handles, so many of them.
+fn time_to_free(rt: &impl CpuClock, load: &mut Load, count: u16) -> io::Result<Duration> {
+    let start = rt.thread_cpu_time()?;
+    load.free(count);
+    since(rt, start)
+}
+
+/// How long it takes to make so many chunks.
+fn time_to_make(rt: &impl CpuClock, load: &mut Load, count: u16) -> io::Result<Duration> {
+    let start = rt.thread_cpu_time()?;
+    load.make(count)?;
+    since(rt, start)
 }
 
 /// Does calls of one kind in each round.
@@ -175,15 +185,25 @@ fn repeat(
     work: Work,
     name: &str,
     call: Call,
-) -> Result<()> {
+) -> io::Result<()> {
     let mut times = Times::new(rt.alloc());
     for _ in 0..work.rounds {
-        let start = rt.thread_cpu_time()?;
-        load.repeat(call, work.passes);
-        times.add(since(rt, start)?)?;
+        times.add(time_to_repeat(rt, load, call, work.passes)?)?;
     }
     let calls = load.calls(call).saturating_mul(work.passes as u128);
     print_times(rt, work, name, calls, times)
+}
+
+/// How long calls of one kind take.
+fn time_to_repeat(
+    rt: &impl CpuClock,
+    load: &mut Load,
+    call: Call,
+    passes: u32,
+) -> io::Result<Duration> {
+    let start = rt.thread_cpu_time()?;
+    load.repeat(call, passes);
+    since(rt, start)
 }
 
 /// Does calls of one kind in each round, on a new copy of a heap.
@@ -198,15 +218,26 @@ fn walk_through(
     let mut times = Times::new(rt.alloc());
     for _ in 0..work.rounds {
         let mut heap = heap_of(scattered.copy(rt.alloc())?)?;
-        if let Walk::HandleNew = walk {
-            scattered.part(&mut heap);
-        }
-        let start = rt.thread_cpu_time()?;
-        let replies = scattered.walk(&mut heap, walk);
-        times.add(since(rt, start)?)?;
-        sums.add(replies, &heap.into_region());
+        scattered.prepare(&mut heap, walk);
+        times.add(time_walk(rt, scattered, walk, heap, sums)?)?;
     }
-    print_times(rt, work, name, scattered.calls(walk), times)
+    print_times(rt, work, name, scattered.calls(walk), times)?;
+    Ok(())
+}
+
+/// How long calls of one kind take on a heap.
+fn time_walk(
+    rt: &impl CpuClock,
+    scattered: &Scattered,
+    walk: Walk,
+    mut heap: Heap,
+    sums: &mut Sums,
+) -> io::Result<Duration> {
+    let start = rt.thread_cpu_time()?;
+    let replies = scattered.walk(&mut heap, walk);
+    let time = since(rt, start)?;
+    sums.add(replies, &heap.into_region());
+    Ok(time)
 }
 
 /// Does calls in one order in each round, on a new copy of a heap.
@@ -222,15 +253,34 @@ fn run_order(
     for _ in 0..work.rounds {
         let mut heap = heap_of(one_class.copy(rt.alloc())?)?;
         one_class.prepare(&mut heap, order);
-        let start = rt.thread_cpu_time()?;
-        let replies = one_class.run(&mut heap, order);
-        times.add(since(rt, start)?)?;
-        sums.add(replies, &heap.into_region());
+        times.add(time_order(rt, one_class, order, heap, sums)?)?;
     }
-    print_times(rt, work, name, one_class.calls(order), times)
+    print_times(rt, work, name, one_class.calls(order), times)?;
+    Ok(())
 }
 
-fn print_times(rt: &impl Print, work: Work, name: &str, calls: u128, times: Times) -> Result<()> {
+/// How long calls in one order take on a heap.
+fn time_order(
+    rt: &impl CpuClock,
+    one_class: &OneClass,
+    order: Order,
+    mut heap: Heap,
+    sums: &mut Sums,
+) -> io::Result<Duration> {
+    let start = rt.thread_cpu_time()?;
+    let replies = one_class.run(&mut heap, order);
+    let time = since(rt, start)?;
+    sums.add(replies, &heap.into_region());
+    Ok(time)
+}
+
+fn print_times(
+    rt: &impl Print,
+    work: Work,
+    name: &str,
+    calls: u128,
+    times: Times,
+) -> io::Result<()> {
     if work.prints_times {
         times.print(rt, name, calls)?;
     }

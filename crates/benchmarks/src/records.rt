@@ -18,7 +18,9 @@ use heap_model::{Db, DbName};
 use load::{Call, Load};
 use palm_store::Store;
 use resources::ResourceLoad;
+use std::io;
 use std::rt::CpuClock;
+use std::time::Duration;
 pub(crate) use work::{LEAST, Work};
 
 /// The kinds of call, by what is printed of them.
@@ -48,16 +50,26 @@ const PROGRAM: u32 = 0x6170_706C;
 /// The creator of the databases, `Test`.
 const CREATOR: u32 = 0x5465_7374;
 
-/// Times each kind of call on a new load.
+/// Times each kind of call on a new load, and prints the sums.
 pub(crate) fn run(rt: &(impl CpuClock + Print + AllocGlobal), work: Work) -> Result<()> {
     let mut load = blank_load(rt, work)?;
-    fill(rt, &mut load, work)?;
-    for (name, call) in CALLS {
-        time_calls(rt, &mut load, work, name, call)?;
-    }
-    time_deletion(rt, &mut load, work)?;
+    time_load(rt, &mut load, work)?;
     load.into_sums().print(rt)?;
     Ok(())
+}
+
+/// Times each kind of call.
+fn time_load(
+    rt: &(impl CpuClock + Print + AllocGlobal),
+    load: &mut Load,
+    work: Work,
+) -> io::Result<()> {
+    fill(rt, load, work)?;
+    fill_resources(rt, load, work)?;
+    for (name, call) in CALLS {
+        time_calls(rt, load, work, name, call)?;
+    }
+    time_deletion(rt, load, work)
 }
 
 /// A load on a database without records and on one without resources, each in an image with nothing else.
@@ -85,24 +97,28 @@ fn blank_store(
     Ok((store, db))
 }
 
-/// Makes the records and the resources.
-fn fill(rt: &(impl CpuClock + Print + AllocGlobal), load: &mut Load, work: Work) -> Result<()> {
+/// Makes the records.
+fn fill(rt: &(impl CpuClock + Print + AllocGlobal), load: &mut Load, work: Work) -> io::Result<()> {
     let mut times = Times::new(rt.alloc());
     let start = rt.thread_cpu_time()?;
     load.make(work.records);
     times.add(since(rt, start)?)?;
-    print_times(rt, work, "new_record_filling", work.records as u128, times)?;
+    let calls = work.records as u128;
+    print_times(rt, work, "new_record_filling", calls, times)
+}
+
+/// Makes the resources.
+fn fill_resources(
+    rt: &(impl CpuClock + Print + AllocGlobal),
+    load: &mut Load,
+    work: Work,
+) -> io::Result<()> {
     let mut times = Times::new(rt.alloc());
     let start = rt.thread_cpu_time()?;
     load.make_resources(work.records);
     times.add(since(rt, start)?)?;
-    print_times(
-        rt,
-        work,
-        "new_resource_filling",
-        work.records as u128,
-        times,
-    )
+    let calls = work.records as u128;
+    print_times(rt, work, "new_resource_filling", calls, times)
 }
 
 /// Does calls of one kind in each round.
@@ -112,15 +128,25 @@ fn time_calls(
     work: Work,
     name: &str,
     call: Call,
-) -> Result<()> {
+) -> io::Result<()> {
     let mut times = Times::new(rt.alloc());
     for _ in 0..work.rounds {
-        let start = rt.thread_cpu_time()?;
-        load.repeat(call, work);
-        times.add(since(rt, start)?)?;
+        times.add(time_to_repeat(rt, load, call, work)?)?;
         load.even_out(call, work);
     }
     print_times(rt, work, name, load.calls(call, work), times)
+}
+
+/// How long calls of one kind take.
+fn time_to_repeat(
+    rt: &impl CpuClock,
+    load: &mut Load,
+    call: Call,
+    work: Work,
+) -> io::Result<Duration> {
+    let start = rt.thread_cpu_time()?;
+    load.repeat(call, work);
+    since(rt, start)
 }
 
 /// Deletes every second record by its category.
@@ -128,7 +154,7 @@ fn time_deletion(
     rt: &(impl CpuClock + Print + AllocGlobal),
     load: &mut Load,
     work: Work,
-) -> Result<()> {
+) -> io::Result<()> {
     load.categorize();
     let mut times = Times::new(rt.alloc());
     let start = rt.thread_cpu_time()?;
@@ -137,7 +163,13 @@ fn time_deletion(
     print_times(rt, work, "delete_category", 1, times)
 }
 
-fn print_times(rt: &impl Print, work: Work, name: &str, calls: u128, times: Times) -> Result<()> {
+fn print_times(
+    rt: &impl Print,
+    work: Work,
+    name: &str,
+    calls: u128,
+    times: Times,
+) -> io::Result<()> {
     if work.prints_times {
         times.print(rt, name, calls)?;
     }

@@ -4,14 +4,14 @@
 
 mod image;
 
+use crate::check::time_heap_check;
 use crate::timing::Times;
 use anyhow::Result;
-use heap_check::check_heap;
 use image::{Flaw, Store};
 use raw_region::Region;
 use std::io;
 use std::rt::Clock;
-use std::time::Instant;
+use std::time::{Duration, Instant};
 use store_check::{StoreFault, StoreSummary, check_store};
 
 /// What a run does, by its words.
@@ -95,14 +95,17 @@ fn time_both(
 ) -> io::Result<(Times, Times)> {
     let (mut heap, mut store) = (Times::new(rt.alloc()), Times::new(rt.alloc()));
     for _ in 0..repeats {
-        let start = Instant::now(rt)?;
-        let _ = check_heap(region);
-        heap.add(start.elapsed(rt)?)?;
-        let start = Instant::now(rt)?;
-        let _ = check_store(rt.alloc(), region);
-        store.add(start.elapsed(rt)?)?;
+        heap.add(time_heap_check(rt, region)?)?;
+        store.add(time_store_check(rt, region)?)?;
     }
     Ok((heap, store))
+}
+
+/// How long a check takes, whose answer is thrown away.
+fn time_store_check(rt: &(impl Clock + AllocGlobal), region: &Region) -> io::Result<Duration> {
+    let start = Instant::now(rt)?;
+    let _ = check_store(rt.alloc(), region);
+    start.elapsed(rt)
 }
 
 fn print_found(rt: &impl Print, found: Result<StoreSummary, StoreFault>) -> io::Result<()> {

@@ -14,11 +14,11 @@ pub(crate) enum Shape {
     OneStart,
 }
 
-/// The shapes, by what is printed of them.
-pub(crate) const SHAPES: [(&str, Shape); 3] = [
-    ("", Shape::Rising),
-    ("_equal_ids", Shape::EqualIds),
-    ("_one_start", Shape::OneStart),
+/// The shapes, by what is printed of the import and the export of such a file.
+pub(crate) const SHAPES: [(&str, &str, Shape); 3] = [
+    ("import", "export", Shape::Rising),
+    ("import_equal_ids", "export_equal_ids", Shape::EqualIds),
+    ("import_one_start", "export_one_start", Shape::OneStart),
 ];
 
 /// How many bytes a header takes, and the entry of a record.

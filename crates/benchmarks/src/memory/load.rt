@@ -58,7 +58,7 @@ impl Load {
                     self.replies.add(name.0);
                     self.handles.push(name)?;
                 }
-                Err(refusal) => self.replies.add(refusal.number() as u32),
+                Err(refusal) => self.replies.add_refusal(refusal),
             }
         }
         Ok(())
@@ -68,10 +68,7 @@ impl Load {
     pub(crate) fn free(&mut self, count: u16) {
         for _ in 0..count {
             if let Some(name) = self.handles.pop() {
-                match self.heap.free(name) {
-                    Ok(()) => self.replies.add(0),
-                    Err(refusal) => self.replies.add(refusal.number() as u32),
-                }
+                self.replies.add_done(self.heap.free(name));
             }
         }
     }
@@ -79,10 +76,7 @@ impl Load {
     /// Frees the chunks of every second handle, the first among them.
     pub(crate) fn free_every_second(&mut self) {
         for name in self.handles.iter().step_by(2) {
-            match self.heap.free(*name) {
-                Ok(()) => self.replies.add(0),
-                Err(refusal) => self.replies.add(refusal.number() as u32),
-            }
+            self.replies.add_done(self.heap.free(*name));
         }
     }
 
@@ -107,7 +101,7 @@ impl Load {
         for name in &self.wide {
             match self.heap.lock(*name) {
                 Ok(locked) => self.replies.add(locked.place.0),
-                Err(refusal) => self.replies.add(refusal.number() as u32),
+                Err(refusal) => self.replies.add_refusal(refusal),
             }
         }
     }
@@ -139,21 +133,18 @@ impl Load {
         for name in &self.handles {
             match self.heap.lock(*name) {
                 Ok(locked) => self.replies.add(locked.place.0 ^ locked.count as u32),
-                Err(refusal) => self.replies.add(refusal.number() as u32),
+                Err(refusal) => self.replies.add_refusal(refusal),
             }
             match self.heap.unlock(*name) {
                 Ok(count) => self.replies.add(count as u32),
-                Err(refusal) => self.replies.add(refusal.number() as u32),
+                Err(refusal) => self.replies.add_refusal(refusal),
             }
         }
     }
 
     fn ask_sizes(&mut self) {
         for name in &self.handles {
-            match self.heap.size(*name) {
-                Ok(size) => self.replies.add(size),
-                Err(refusal) => self.replies.add(refusal.number() as u32),
-            }
+            self.replies.add_number(self.heap.size(*name));
         }
     }
 
@@ -161,7 +152,7 @@ impl Load {
         for name in &self.handles {
             match self.heap.owner(*name) {
                 Ok(owner) => self.replies.add(owner as u32),
-                Err(refusal) => self.replies.add(refusal.number() as u32),
+                Err(refusal) => self.replies.add_refusal(refusal),
             }
         }
     }
@@ -170,7 +161,7 @@ impl Load {
         for name in &self.handles {
             match self.heap.locks(*name) {
                 Ok(count) => self.replies.add(count as u32),
-                Err(refusal) => self.replies.add(refusal.number() as u32),
+                Err(refusal) => self.replies.add_refusal(refusal),
             }
         }
     }
@@ -180,7 +171,7 @@ impl Load {
         for name in &self.wide {
             match self.heap.read(*name, 0, WIDTH) {
                 Ok(bytes) => self.replies.add_ends(bytes),
-                Err(refusal) => self.replies.add(refusal.number() as u32),
+                Err(refusal) => self.replies.add_refusal(refusal),
             }
         }
     }
@@ -189,10 +180,7 @@ impl Load {
     fn write(&mut self, byte: u8) {
         let bytes = [byte; WIDTH as usize];
         for name in &self.wide {
-            match self.heap.write(*name, 0, &bytes) {
-                Ok(()) => self.replies.add(0),
-                Err(refusal) => self.replies.add(refusal.number() as u32),
-            }
+            self.replies.add_done(self.heap.write(*name, 0, &bytes));
         }
     }
 

@@ -2,7 +2,7 @@
 
 use crate::memory::load::OWNER;
 use crate::timing::Sum;
-use heap_model::{Name, Refusal};
+use heap_model::Name;
 use mem_manager::Heap;
 use raw_region::Region;
 use std::alloc::{AllocError, Global};
@@ -105,25 +105,19 @@ impl OneClass {
         match order {
             Order::FarInAList => {
                 for _ in 0..self.large {
-                    add_made(&mut replies, heap.handle_new(LARGE, OWNER));
+                    replies.add_name(heap.handle_new(LARGE, OWNER));
                 }
             }
             Order::ResizeInTurn => {
                 for name in self.kept.iter().take(self.large) {
-                    match heap.resize(*name, LARGE) {
-                        Ok(()) => replies.add(0),
-                        Err(refusal) => replies.add(refusal.number() as u32),
-                    }
-                    add_made(&mut replies, heap.handle_new(SMALL - 16, OWNER));
+                    replies.add_done(heap.resize(*name, LARGE));
+                    replies.add_name(heap.handle_new(SMALL - 16, OWNER));
                 }
             }
             Order::OverManyFreed => {
                 let freed = u32::try_from(self.freed()).unwrap_or(0);
                 let size = freed.saturating_mul(SMALL + 16);
-                add_made(
-                    &mut replies,
-                    heap.handle_new(size.saturating_add(SMALL), OWNER),
-                );
+                replies.add_name(heap.handle_new(size.saturating_add(SMALL), OWNER));
             }
         }
         replies
@@ -136,12 +130,4 @@ fn make(heap: &mut Heap, size: u32, names: &mut Vec<Name>) -> Result<(), AllocEr
         names.push(name)?;
     }
     Ok(())
-}
-
-/// Adds a handle, or the number of a refusal.
-fn add_made(replies: &mut Sum, made: Result<Name, Refusal>) {
-    match made {
-        Ok(name) => replies.add(name.0),
-        Err(refusal) => replies.add(refusal.number() as u32),
-    }
 }

@@ -2,7 +2,7 @@
 
 use crate::memory::load::{Load, OWNER};
 use crate::timing::Sum;
-use heap_model::{Name, Refusal};
+use heap_model::Name;
 use mem_manager::Heap;
 use raw_region::Region;
 use std::alloc::{AllocError, Global};
@@ -67,8 +67,15 @@ impl Scattered {
         u32::try_from(self.region.len()).unwrap_or(u32::MAX)
     }
 
+    /// Parts a copy of the heap, where stretches are to be compacted.
+    pub(crate) fn prepare(&self, heap: &mut Heap, walk: Walk) {
+        if let Walk::HandleNew = walk {
+            self.part(heap);
+        }
+    }
+
     /// Locks chunks of a heap that part it into stretches of about as many chunks each.
-    pub(crate) fn part(&self, heap: &mut Heap) {
+    fn part(&self, heap: &mut Heap) {
         let step = (self.kept.len() / STRETCHES).max(1);
         for kept in self.kept.iter().step_by(step) {
             if heap.lock(kept.name).is_err() {
@@ -103,34 +110,20 @@ impl Scattered {
     fn make_large(&self, heap: &mut Heap, replies: &mut Sum) {
         let size = self.bytes() / (2 * STRETCHES as u32) / 4 * 3;
         for _ in 0..STRETCHES / 2 {
-            match heap.handle_new(size, OWNER) {
-                Ok(name) => replies.add(name.0),
-                Err(refusal) => replies.add(refusal.number() as u32),
-            }
+            replies.add_name(heap.handle_new(size, OWNER));
         }
     }
 
     fn resize_each(&self, heap: &mut Heap, replies: &mut Sum) {
         for kept in &self.kept {
-            add_done(
-                replies,
-                heap.resize(kept.name, kept.length.saturating_add(8)),
-            );
-            add_done(replies, heap.resize(kept.name, kept.length));
+            replies.add_done(heap.resize(kept.name, kept.length.saturating_add(8)));
+            replies.add_done(heap.resize(kept.name, kept.length));
         }
     }
 
     fn resize_one(&self, heap: &mut Heap, replies: &mut Sum) {
         if let Some(kept) = self.kept.get(self.kept.len() / 2) {
-            add_done(replies, heap.resize(kept.name, self.bytes() / 4));
+            replies.add_done(heap.resize(kept.name, self.bytes() / 4));
         }
-    }
-}
-
-/// Adds the number of a refusal, and 0 where there is none.
-fn add_done(replies: &mut Sum, done: Result<(), Refusal>) {
-    match done {
-        Ok(()) => replies.add(0),
-        Err(refusal) => replies.add(refusal.number() as u32),
     }
 }

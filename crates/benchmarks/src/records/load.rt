@@ -90,7 +90,7 @@ impl Load {
                     self.replies.add(index);
                     self.replies.add(name.0);
                 }
-                Err(refusal) => self.replies.add(refusal.number() as u32),
+                Err(refusal) => self.replies.add_refusal(refusal),
             }
         }
     }
@@ -149,14 +149,14 @@ impl Load {
         for removed in 0..count {
             let last = records.saturating_sub(removed).saturating_sub(1);
             let done = remove(&mut self.store, self.db, last);
-            add_done(&mut self.replies, done);
+            self.replies.add_done(done);
         }
     }
 
     fn remove_first(&mut self, count: u32) {
         for _ in 0..count {
             let done = remove(&mut self.store, self.db, 0);
-            add_done(&mut self.replies, done);
+            self.replies.add_done(done);
         }
     }
 
@@ -164,7 +164,7 @@ impl Load {
         let records = self.count();
         for _ in 0..count {
             let done = move_record(&mut self.store, self.db, 0, records);
-            add_done(&mut self.replies, done);
+            self.replies.add_done(done);
         }
     }
 
@@ -172,7 +172,7 @@ impl Load {
         let last = self.count().saturating_sub(1);
         for _ in 0..count {
             let done = move_record(&mut self.store, self.db, last, 0);
-            add_done(&mut self.replies, done);
+            self.replies.add_done(done);
         }
     }
 
@@ -191,7 +191,7 @@ impl Load {
                     self.replies.add(info.id);
                     self.replies.add(info.data.map_or(0, |name| name.0));
                 }
-                Err(refusal) => self.replies.add(refusal.number() as u32),
+                Err(refusal) => self.replies.add_refusal(refusal),
             }
         }
     }
@@ -222,7 +222,7 @@ impl Load {
         if let Ok(info) = last {
             for _ in 0..passes {
                 let found = find_by_id(&self.store, self.db, info.id);
-                add_number(&mut self.replies, found);
+                self.replies.add_number(found);
             }
         }
     }
@@ -230,7 +230,7 @@ impl Load {
     fn count_category(&mut self, passes: u32) {
         for _ in 0..passes {
             let number = num_in_category(&self.store, self.db, 0);
-            add_number(&mut self.replies, number);
+            self.replies.add_number(number);
         }
     }
 
@@ -238,7 +238,7 @@ impl Load {
         for pass in 0..passes {
             let from = if pass % 2 == 0 { 0 } else { 1 };
             let done = move_category(&mut self.store, self.db, 1 - from, from, false);
-            add_done(&mut self.replies, done);
+            self.replies.add_done(done);
         }
     }
 
@@ -246,7 +246,7 @@ impl Load {
         for _ in 0..count {
             let last = self.count().saturating_sub(1);
             let index = self.attach_again(last);
-            add_number(&mut self.replies, index);
+            self.replies.add_number(index);
         }
     }
 
@@ -260,14 +260,14 @@ impl Load {
     pub(crate) fn categorize(&mut self) {
         for half in 0..self.count() / 2 {
             let done = set_record_info(&mut self.store, self.db, 2 * half + 1, DELETED_CATEGORY, 0);
-            add_done(&mut self.replies, done);
+            self.replies.add_done(done);
         }
     }
 
     /// Deletes every second record by its category.
     pub(crate) fn delete_categorized(&mut self) {
         let done = delete_category(&mut self.store, self.db, DELETED_CATEGORY);
-        add_done(&mut self.replies, done);
+        self.replies.add_done(done);
     }
 
     /// The sums of all replies, and of the words of the images.
@@ -278,21 +278,5 @@ impl Load {
         };
         self.resources.add_to(&mut sums);
         sums
-    }
-}
-
-/// Adds the number of a refusal, and 0 where there is none.
-pub(crate) fn add_done(replies: &mut Sum, done: Result<(), Refusal>) {
-    match done {
-        Ok(()) => replies.add(0),
-        Err(refusal) => replies.add(refusal.number() as u32),
-    }
-}
-
-/// Adds the number that is answered, or that of a refusal.
-pub(crate) fn add_number(replies: &mut Sum, number: Result<u32, Refusal>) {
-    match number {
-        Ok(number) => replies.add(number),
-        Err(refusal) => replies.add(refusal.number() as u32),
     }
 }

@@ -1,6 +1,5 @@
 //! A database of resources under load: they are made, searched for and taken out in a fixed order.
 
-use crate::records::load::{add_done, add_number};
 use crate::timing::{Sum, Sums};
 use heap_model::{Db, ResourceInfo};
 use palm_store::Store;
@@ -51,7 +50,7 @@ impl ResourceLoad {
                     self.replies.add(index);
                     self.replies.add(name.0);
                 }
-                Err(refusal) => self.replies.add(refusal.number() as u32),
+                Err(refusal) => self.replies.add_refusal(refusal),
             }
         }
     }
@@ -71,7 +70,7 @@ impl ResourceLoad {
         if let Some(last) = self.last() {
             for _ in 0..passes {
                 let found = find_resource(&self.store, self.db, last.kind, last.id);
-                add_number(&mut self.replies, found);
+                self.replies.add_number(found);
             }
         }
     }
@@ -82,7 +81,7 @@ impl ResourceLoad {
         if let Some(last) = self.last() {
             for _ in 0..passes {
                 let found = find_type(&self.store, self.db, last.kind, in_front);
-                add_number(&mut self.replies, found);
+                self.replies.add_number(found);
             }
         }
     }
@@ -90,7 +89,7 @@ impl ResourceLoad {
     pub(crate) fn remove_first(&mut self, count: u32) {
         for _ in 0..count {
             let done = remove_resource(&mut self.store, self.db, 0);
-            add_done(&mut self.replies, done);
+            self.replies.add_done(done);
         }
     }
 

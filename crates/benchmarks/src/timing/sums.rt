@@ -1,5 +1,6 @@
 //! Sums that tell whether two programs saw the same numbers in the same order.
 
+use heap_model::{Name, Refusal};
 use raw_region::Region;
 use std::io;
 
@@ -20,6 +21,38 @@ impl Sum {
         if let (Some(first), Some(last)) = (bytes.first(), bytes.last()) {
             self.add(*first as u32);
             self.add(*last as u32);
+        }
+    }
+
+    #[inline]
+    pub(crate) fn add_refusal(&mut self, refusal: Refusal) {
+        self.add(refusal.number() as u32);
+    }
+
+    /// Adds the number of a refusal, and 0 where there is none.
+    #[inline]
+    pub(crate) fn add_done(&mut self, done: Result<(), Refusal>) {
+        match done {
+            Ok(()) => self.add(0),
+            Err(refusal) => self.add_refusal(refusal),
+        }
+    }
+
+    /// Adds the number that is answered, or that of a refusal.
+    #[inline]
+    pub(crate) fn add_number(&mut self, number: Result<u32, Refusal>) {
+        match number {
+            Ok(number) => self.add(number),
+            Err(refusal) => self.add_refusal(refusal),
+        }
+    }
+
+    /// Adds the name that is answered, or the number of a refusal.
+    #[inline]
+    pub(crate) fn add_name(&mut self, name: Result<Name, Refusal>) {
+        match name {
+            Ok(name) => self.add(name.0),
+            Err(refusal) => self.add_refusal(refusal),
         }
     }
 
