@@ -5,7 +5,7 @@ ghost use Rattle.heap_model.specs.Leaving.{SpellsHere, database_here};
 ghost use Rattle.db_format.specs.EitherEntry.{entry_of, is_resource, HasFittingId};
 ghost use Rattle.database_edits.specs.Edits.{Changes, HasKindHere, entry_written, entry_moved};
 
-use crate::counting::{count_change_if, count_change};
+use crate::counting::{count_change, count_change_if};
 use crate::{moving, writing};
 use db_format::DbEntry;
 use heap_model::Db;

@@ -166,7 +166,7 @@ fn mark(store: &mut Store, db: Db, index: u32, live: LiveRecord, bits: RecordAtt
     requires some { 0 < live.«data».0 }
     ensures marked { LeavesChanged store.old store.new
         (λ store. raised_if counts (entry_changed store db index
-            (with_attributes (λ attributes. bit_or attributes bits.0))) db) }
+        (with_attributes (λ attributes. bit_or attributes bits.0))) db) }
     ensures none_made { MakesNone store.old.bytes store.new.bytes }
     ensures rest { store.new ≡ record store.old { bytes = store.new.bytes } }
 {

@@ -177,11 +177,9 @@ pub(crate) fn make_database_line(
             Line::BindDatabase(label, Call::Database(DatabaseCall::Nth(index)))),
         DatabaseCommand::Count => line_if!(values, [] =>
             Line::Print(Call::Database(DatabaseCall::Count))),
-        DatabaseCommand::Delete =>
-            line_if!(values, &[Database(db)] =>
+        DatabaseCommand::Delete => line_if!(values, &[Database(db)] =>
             Line::Print(Call::Database(DatabaseCall::Delete(db)))),
-        DatabaseCommand::Info =>
-            line_if!(values, &[Database(db)] =>
+        DatabaseCommand::Info => line_if!(values, &[Database(db)] =>
             Line::Print(Call::Database(DatabaseCall::Info(db)))),
         DatabaseCommand::SetInfo => info_line(values, text),
         DatabaseCommand::SetInfoBlock => line_if!(values,

@@ -149,8 +149,7 @@ pub(crate) fn make_memory_line(
             Line::Print(Call::Memory(MemoryCall::Set { name, at, count, byte }))),
         MemoryCommand::StrCopy => line_if!(values, &[Chunk(name), Number(at)] =>
             Line::Print(Call::Memory(MemoryCall::StrCopy { name, at, text: bytes }))),
-        MemoryCommand::FreeByOwner =>
-            line_if!(values, &[Byte(owner)] =>
+        MemoryCommand::FreeByOwner => line_if!(values, &[Byte(owner)] =>
             Line::Print(Call::Memory(MemoryCall::FreeByOwner(owner)))),
         MemoryCommand::FreeBytes => line_if!(values, [] =>
             Line::Print(Call::Memory(MemoryCall::FreeBytes))),

@@ -21,7 +21,7 @@ use crate::entries::{
 };
 use crate::lookup::{find_header, header_of};
 use crate::store::Store;
-use database_edits::{move_entry, count_change, remove_entry, write_entry};
+use database_edits::{count_change, move_entry, remove_entry, write_entry};
 use db_format::{DatabaseView, DbAttrs};
 use heap_model::{Db, Name, Refusal};
 use mem_manager::DATA_OWNER;
