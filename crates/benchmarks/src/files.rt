@@ -10,7 +10,7 @@ mod shapes;
 mod work;
 
 use crate::timing::{Sum, Sums, Times, since};
-use anyhow::{Result, bail};
+use anyhow::Result;
 use chunk_format::blank;
 use heap_model::{Bytes, Db};
 use palm_store::Store;
@@ -81,10 +81,7 @@ fn time_export(
 /// A store with nothing in it.
 fn blank_store(rt: &impl AllocGlobal, work: Work) -> Result<Store> {
     let region = blank(rt.alloc(), work.size, work.slots)?;
-    match Store::check(rt.alloc(), region) {
-        Ok(store) => Ok(store),
-        Err(error) => bail!("{}", error.fault),
-    }
+    Ok(Store::check(rt.alloc(), region)?)
 }
 
 /// Adds the length of an exported file, and the words of the image and of the file.

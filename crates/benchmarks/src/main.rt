@@ -67,7 +67,7 @@ fn main(rt: HostRuntime) -> Result<ExitCode> {
 
 /// Runs each with its least work.
 fn run_each(rt: &(impl Clock + CpuClock + Files + Print + AllocGlobal)) -> Result<()> {
-    for benchmark in LEAST {
+    for benchmark in &LEAST {
         benchmark.run(rt)?;
     }
     Ok(())

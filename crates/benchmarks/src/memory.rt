@@ -16,12 +16,11 @@ mod scattered;
 mod work;
 
 use crate::timing::{Sums, Times, since};
-use anyhow::{Result, bail};
+use anyhow::Result;
 use chunk_format::blank;
 use load::{Call, Load};
 use mem_manager::Heap;
 use one_class::{OneClass, Order};
-use raw_region::Region;
 use scattered::{Scattered, Walk};
 use std::io;
 use std::rt::CpuClock;
@@ -127,14 +126,8 @@ fn blank_load(rt: &impl AllocGlobal, work: Work, most: u16) -> Result<Load> {
 }
 
 fn blank_heap(rt: &impl AllocGlobal, work: Work) -> Result<Heap> {
-    heap_of(blank(rt.alloc(), work.size, work.slots)?)
-}
-
-fn heap_of(region: Region) -> Result<Heap> {
-    match Heap::adopt(region) {
-        Ok(heap) => Ok(heap),
-        Err(error) => bail!("{}", error.fault),
-    }
+    let region = blank(rt.alloc(), work.size, work.slots)?;
+    Ok(Heap::adopt(region)?)
 }
 
 /// Makes a chunk under each slot.
@@ -217,7 +210,7 @@ fn walk_through(
 ) -> Result<()> {
     let mut times = Times::new(rt.alloc());
     for _ in 0..work.rounds {
-        let mut heap = heap_of(scattered.copy(rt.alloc())?)?;
+        let mut heap = Heap::adopt(scattered.copy(rt.alloc())?)?;
         scattered.prepare(&mut heap, walk);
         times.add(time_walk(rt, scattered, walk, heap, sums)?)?;
     }
@@ -251,7 +244,7 @@ fn run_order(
 ) -> Result<()> {
     let mut times = Times::new(rt.alloc());
     for _ in 0..work.rounds {
-        let mut heap = heap_of(one_class.copy(rt.alloc())?)?;
+        let mut heap = Heap::adopt(one_class.copy(rt.alloc())?)?;
         one_class.prepare(&mut heap, order);
         times.add(time_order(rt, one_class, order, heap, sums)?)?;
     }

@@ -12,7 +12,7 @@ mod resources;
 mod work;
 
 use crate::timing::{Times, since};
-use anyhow::{Result, bail};
+use anyhow::Result;
 use chunk_format::blank;
 use heap_model::{Db, DbName};
 use load::{Call, Load};
@@ -89,10 +89,7 @@ fn blank_store(
     resources: bool,
 ) -> Result<(Store, Db)> {
     let region = blank(rt.alloc(), work.size, work.slots)?;
-    let mut store = match Store::check(rt.alloc(), region) {
-        Ok(store) => store,
-        Err(error) => bail!("{}", error.fault),
-    };
+    let mut store = Store::check(rt.alloc(), region)?;
     let db = store.create(&DbName::of(name), kind, CREATOR, resources, 0)?;
     Ok((store, db))
 }

@@ -2,8 +2,8 @@
 
 use crate::memory::numbers::Numbers;
 use crate::timing::{Sum, Sums};
-use heap_model::Name;
-use mem_manager::Heap;
+use heap_model::{Name, Refusal};
+use mem_manager::{Heap, Locked};
 use std::alloc::{AllocError, Global};
 
 /// The owner of all chunks.
@@ -89,7 +89,7 @@ impl Load {
     /// Looks for the handles of the chunks that have 16 bytes.
     pub(crate) fn find_wide(&mut self) -> Result<(), AllocError> {
         for name in &self.handles {
-            if self.heap.size(*name).is_ok_and(|size| size >= WIDTH) {
+            if matches!(self.heap.size(*name), Ok(WIDTH..)) {
                 self.wide.push(*name)?;
             }
         }
@@ -131,14 +131,8 @@ impl Load {
 
     fn lock_and_unlock(&mut self) {
         for name in &self.handles {
-            match self.heap.lock(*name) {
-                Ok(locked) => self.replies.add(locked.place.0 ^ locked.count as u32),
-                Err(refusal) => self.replies.add_refusal(refusal),
-            }
-            match self.heap.unlock(*name) {
-                Ok(count) => self.replies.add(count as u32),
-                Err(refusal) => self.replies.add_refusal(refusal),
-            }
+            add_locked(&mut self.replies, self.heap.lock(*name));
+            self.replies.add_byte(self.heap.unlock(*name));
         }
     }
 
@@ -150,19 +144,13 @@ impl Load {
 
     fn ask_owners(&mut self) {
         for name in &self.handles {
-            match self.heap.owner(*name) {
-                Ok(owner) => self.replies.add(owner as u32),
-                Err(refusal) => self.replies.add_refusal(refusal),
-            }
+            self.replies.add_byte(self.heap.owner(*name));
         }
     }
 
     fn ask_locks(&mut self) {
         for name in &self.handles {
-            match self.heap.locks(*name) {
-                Ok(count) => self.replies.add(count as u32),
-                Err(refusal) => self.replies.add_refusal(refusal),
-            }
+            self.replies.add_byte(self.heap.locks(*name));
         }
     }
 
@@ -195,5 +183,13 @@ impl Load {
     /// The heap, and the handles of the chunks that were made.
     pub(crate) fn into_parts(self) -> (Heap, Vec<Name>) {
         (self.heap, self.handles)
+    }
+}
+
+/// Adds the place and the count of a chunk that was locked, or the number of a refusal.
+fn add_locked(replies: &mut Sum, locked: Result<Locked, Refusal>) {
+    match locked {
+        Ok(locked) => replies.add(locked.place.0 ^ locked.count as u32),
+        Err(refusal) => replies.add_refusal(refusal),
     }
 }

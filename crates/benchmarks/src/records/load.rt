@@ -210,7 +210,7 @@ impl Load {
     /// The index of the record with an ID, or the number of records where none of them has it.
     fn index_of(&self, id: u32, records: u32) -> u32 {
         for index in 0..records {
-            if record_info(&self.store, self.db, index).is_ok_and(|info| info.id == id) {
+            if matches!(record_info(&self.store, self.db, index), Ok(info) if info.id == id) {
                 return index;
             }
         }

@@ -120,6 +120,16 @@ fn length(bytes: &[u8]) -> u32 {
     u32::try_from(bytes.len()).unwrap_or(u32::MAX)
 }
 
+/// The head of an image of so many bytes and slots, which begin behind it.
+fn head(alloc: Global, size: u32, slots: u16) -> Result<Vec<u8>, AllocError> {
+    let mut bytes = Vec::from_slice(alloc, b"PHI1")?;
+    bytes.extend_from_slice(&size.to_be_bytes())?;
+    bytes.extend_from_slice(&slots.to_be_bytes())?;
+    bytes.extend_from_slice(&[0; 2])?;
+    bytes.extend_from_slice(&slot(0).to_be_bytes())?;
+    Ok(bytes)
+}
+
 /// The header of a database of so many records. Names are 31 bytes long and differ in the last two alone.
 fn header(alloc: Global, number: u16, records: u16) -> Result<Vec<u8>, AllocError> {
     let mut bytes = vec![in alloc; b'n'; 29]?;
@@ -165,12 +175,7 @@ impl Chunks {
     fn into_region(self, alloc: Global, size: u32) -> Result<Region, AllocError> {
         let left = size.saturating_sub(self.end());
         let slots = u16::try_from(self.table.len() / 4).unwrap_or(u16::MAX);
-        let mut bytes = Vec::new(alloc);
-        bytes.extend_from_slice(b"PHI1")?;
-        bytes.extend_from_slice(&size.to_be_bytes())?;
-        bytes.extend_from_slice(&slots.to_be_bytes())?;
-        bytes.extend_from_slice(&[0; 2])?;
-        bytes.extend_from_slice(&slot(0).to_be_bytes())?;
+        let mut bytes = head(alloc, size, slots)?;
         bytes.extend_from_slice(&self.table)?;
         bytes.resize(self.start as usize, 0)?;
         bytes.extend_from_slice(&self.area)?;

@@ -47,6 +47,15 @@ impl Sum {
         }
     }
 
+    /// Adds the byte that is answered, or the number of a refusal.
+    #[inline]
+    pub(crate) fn add_byte(&mut self, byte: Result<u8, Refusal>) {
+        match byte {
+            Ok(byte) => self.add(byte as u32),
+            Err(refusal) => self.add_refusal(refusal),
+        }
+    }
+
     /// Adds the name that is answered, or the number of a refusal.
     #[inline]
     pub(crate) fn add_name(&mut self, name: Result<Name, Refusal>) {
