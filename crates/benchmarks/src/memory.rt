@@ -218,7 +218,7 @@ fn walk_through(
     Ok(())
 }
 
-/// How long calls of one kind take on a heap.
+/// How long calls of one kind take on a heap. The sums get what they leave.
 fn time_walk(
     rt: &impl CpuClock,
     scattered: &Scattered,
@@ -252,7 +252,7 @@ fn run_order(
     Ok(())
 }
 
-/// How long calls in one order take on a heap.
+/// How long calls in one order take on a heap. The sums get what they leave.
 fn time_order(
     rt: &impl CpuClock,
     one_class: &OneClass,

@@ -4,7 +4,7 @@ use crate::files::Work;
 use std::alloc::{AllocError, Global};
 
 /// What a file has.
-#[derive(Clone, Copy, PartialEq, Eq)]
+#[derive(Clone, Copy)]
 pub(crate) enum Shape {
     /// The records stand one behind the other, and have IDs of their own.
     Rising,
@@ -44,10 +44,9 @@ pub(crate) fn file_of(alloc: Global, shape: Shape, work: Work) -> Result<Vec<u8>
             Shape::OneStart => start,
             Shape::Rising | Shape::EqualIds => start.wrapping_add(index.wrapping_mul(work.bytes)),
         };
-        let id = if shape == Shape::EqualIds {
-            7
-        } else {
-            index + 1
+        let id = match shape {
+            Shape::EqualIds => 7,
+            Shape::Rising | Shape::OneStart => index + 1,
         };
         file.extend_from_slice(&at.to_be_bytes())?;
         file.extend_from_slice(&((index % 16) << 24 | id).to_be_bytes())?;

@@ -72,7 +72,7 @@ impl OneClass {
 
     /// A region that is a copy of the heap's.
     pub(crate) fn copy(&self, alloc: Global) -> Result<Region, AllocError> {
-        Region::from_bytes(alloc, self.region.slice(0, self.region.len()))
+        Region::from_bytes(alloc, self.region.as_slice())
     }
 
     /// How many calls are made.
@@ -115,7 +115,7 @@ impl OneClass {
                 }
             }
             Order::OverManyFreed => {
-                let freed = u32::try_from(self.freed()).unwrap_or(0);
+                let freed = self.freed().min(u32::MAX as usize) as u32;
                 let size = freed.saturating_mul(SMALL + 16);
                 replies.add_name(heap.handle_new(size.saturating_add(SMALL), OWNER));
             }

@@ -60,11 +60,11 @@ impl Scattered {
 
     /// A region that is a copy of the heap's.
     pub(crate) fn copy(&self, alloc: Global) -> Result<Region, AllocError> {
-        Region::from_bytes(alloc, self.region.slice(0, self.region.len()))
+        Region::from_bytes(alloc, self.region.as_slice())
     }
 
     fn bytes(&self) -> u32 {
-        u32::try_from(self.region.len()).unwrap_or(u32::MAX)
+        self.region.len().min(u32::MAX as usize) as u32
     }
 
     /// Parts a copy of the heap, where stretches are to be compacted.

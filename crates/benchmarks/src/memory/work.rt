@@ -55,6 +55,6 @@ impl Work {
         let slots = u32::from(self.slots.max(1));
         let area = self.size.saturating_sub(16 + 4 * slots);
         let body = (area / slots).saturating_sub(12);
-        u16::try_from(body.saturating_mul(2)).unwrap_or(u16::MAX)
+        body.saturating_mul(2).min(u16::MAX as u32) as u16
     }
 }

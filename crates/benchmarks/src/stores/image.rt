@@ -16,7 +16,7 @@ const MANAGERS_OWNER: u32 = 0;
 const DATA_OWNER: u32 = 15;
 
 /// What is wrong with a store.
-#[derive(Clone, Copy, PartialEq)]
+#[derive(Clone, Copy)]
 pub(crate) enum Flaw {
     Nothing,
     /// All records of a database have one ID.
@@ -98,10 +98,9 @@ impl Store {
                 .wrapping_add(self.first_data()),
         };
         for index in 0..self.records as u32 {
-            let id = if self.flaw == Flaw::OneId {
-                1
-            } else {
-                index + 1
+            let id = match self.flaw {
+                Flaw::OneId => 1,
+                _ => index + 1,
             };
             bytes.extend_from_slice(&slot(first.wrapping_add(index)).to_be_bytes())?;
             bytes.extend_from_slice(&id.to_be_bytes())?;
@@ -117,7 +116,7 @@ fn slot(number: u32) -> u32 {
 
 /// How many bytes there are, of which no image has more than a `u32` says.
 fn length(bytes: &[u8]) -> u32 {
-    u32::try_from(bytes.len()).unwrap_or(u32::MAX)
+    bytes.len().min(u32::MAX as usize) as u32
 }
 
 /// The head of an image of so many bytes and slots, which begin behind it.
@@ -174,7 +173,7 @@ impl Chunks {
     /// The image of these chunks, with a free one behind them where there is room.
     fn into_region(self, alloc: Global, size: u32) -> Result<Region, AllocError> {
         let left = size.saturating_sub(self.end());
-        let slots = u16::try_from(self.table.len() / 4).unwrap_or(u16::MAX);
+        let slots = (self.table.len() / 4).min(u16::MAX as usize) as u16;
         let mut bytes = head(alloc, size, slots)?;
         bytes.extend_from_slice(&self.table)?;
         bytes.resize(self.start as usize, 0)?;
