@@ -41,6 +41,7 @@ impl Work<'_> {
 }
 
 /// Checks the image so many times, and prints what is found and the times.
+#[inline(never)]
 pub(crate) fn run(rt: &(impl Clock + Files + Print + AllocGlobal), work: Work<'_>) -> Result<()> {
     let region = match work.image {
         Some(image) => read_region(rt, image)?,

@@ -21,6 +21,7 @@ use std::time::Duration;
 pub(crate) use work::{LEAST, Work};
 
 /// Times each shape of file.
+#[inline(never)]
 pub(crate) fn run(rt: &(impl CpuClock + Print + AllocGlobal), work: Work) -> Result<()> {
     let mut sums = Sums::new();
     for (import_name, export_name, shape) in SHAPES {

@@ -9,9 +9,10 @@
 //! benchmarks files SIZE SLOTS RECORDS BYTES ROUNDS
 //! ```
 //!
-//! Each has a module of its name, which says what it does. With its name alone it does little and prints no times,
-//! and with no word at all each of them does so, in this order. Wrong words end with status 2. The scripts in bench/
-//! run it, and docs/MEASUREMENTS.md has what was measured.
+//! Each has a module of its name, which says what it does, and whose function `run` isn't inlined, so that each is
+//! compiled for itself. With its name alone it does little and prints no times, and with no word at all each of them
+//! does so, in this order. Wrong words end with status 2. The scripts in bench/ run it, and docs/MEASUREMENTS.md has
+//! what was measured.
 #![tactic(auto)]
 
 mod check;

@@ -59,6 +59,7 @@ const AT_THE_END: (&str, &str) = ("free_at_the_end", "handle_new_at_the_end");
 const ANYWHERE: (&str, &str) = ("free_anywhere", "handle_new_anywhere");
 
 /// Times each kind of call.
+#[inline(never)]
 pub(crate) fn run(rt: &(impl CpuClock + Print + AllocGlobal), work: Work) -> Result<()> {
     let mut sums = time_load(rt, work)?;
     time_walks(rt, work, &mut sums)?;

@@ -51,6 +51,7 @@ const PROGRAM: u32 = 0x6170_706C;
 const CREATOR: u32 = 0x5465_7374;
 
 /// Times each kind of call on a new load, and prints the sums.
+#[inline(never)]
 pub(crate) fn run(rt: &(impl CpuClock + Print + AllocGlobal), work: Work) -> Result<()> {
     let mut load = blank_load(rt, work)?;
     time_load(rt, &mut load, work)?;

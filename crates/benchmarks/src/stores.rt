@@ -66,6 +66,7 @@ fn store(size: u32, databases: u16, records: u16) -> Store {
 }
 
 /// Checks each of the images, and prints what is found, and the times of both checkers.
+#[inline(never)]
 pub(crate) fn run(rt: &(impl Clock + Print + AllocGlobal), work: Work) -> Result<()> {
     for (name, store) in stores() {
         println!(rt; "image {name}")?;
