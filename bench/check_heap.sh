@@ -18,17 +18,18 @@ trap 'rm -rf "$work"' EXIT
 
 python3 bench/make_images.py "$work"
 cc -O2 -o "$work/c" bench/check_heap.c
-if ! (cd crates/bench_check && rt run) >"$work/log" 2>&1; then
+if ! (cd crates/benchmarks && rt run) >"$work/log" 2>&1; then
     cat "$work/log"
     exit 1
 fi
-cp crates/bench_check/out/bench_check "$work/rattle"
+cp crates/benchmarks/out/benchmarks "$work/benchmarks"
 
 for image in fixed movable; do
     : >"$work/times"
     for round in $(seq "$rounds"); do
+        "$work/c" "$work/$image.image" "$repeats" >"$work/c.says"
+        "$work/benchmarks" check "$work/$image.image" "$repeats" >"$work/rattle.says"
         for program in c rattle; do
-            "$work/$program" "$work/$image.image" "$repeats" >"$work/$program.says"
             sed -n "s/^check /$program /p; s/^floor /floor /p" "$work/$program.says" >>"$work/times"
             head -n 1 "$work/$program.says" >"$work/$program.answer"
         done

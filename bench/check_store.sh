@@ -14,11 +14,11 @@ cd "$(dirname "$0")/.."
 work=$(mktemp -d)
 trap 'rm -rf "$work"' EXIT
 
-if ! (cd crates/bench_check && rt run) >"$work/log" 2>&1; then
+if ! (cd crates/benchmarks && rt run) >"$work/log" 2>&1; then
     cat "$work/log"
     exit 1
 fi
-crates/bench_check/out/bench_check "$repeats" | awk '
+crates/benchmarks/out/benchmarks stores "$repeats" | awk '
     function row(name, best, median) { printf "  %-6s best %7.2f  median %7.2f\n", name, best, median }
     $1 == "image" { printf "%s: ", $2; next }
     $1 == "heap" { best = $3; median = $5; row("heap", best / 1000, median / 1000); next }

@@ -1,11 +1,11 @@
 /*
- * Files of databases in plain C, for comparison with bench_files.
+ * Files of databases in plain C, for comparison with `benchmarks files`.
  *
  *   files SIZE SLOTS RECORDS BYTES ROUNDS
  *
- * It makes files of RECORDS records with BYTES bytes each, as bench_files does, and in each round imports one into
- * an image of SIZE bytes with SLOTS slots and with nothing in it, and exports the database again. It prints the
- * processor time of both, and the sums by which the two programs are compared.
+ * It makes files of RECORDS records with BYTES bytes each, as `benchmarks files` does, and in each round imports
+ * one into an image of SIZE bytes with SLOTS slots and with nothing in it, and exports the database again. It prints
+ * the processor time of both, and the sums by which the two programs are compared.
  *
  * A file is looked at for faults first. Its blocks are sorted by their offsets, and at one offset by their rank. The
  * first use of each ID is kept, with a bit for each that there can be, and the other records get the next free ones.

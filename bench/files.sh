@@ -17,7 +17,7 @@ turns=${2:-3}
 cd "$(dirname "$0")/.."
 . bench/turns.sh
 
-build_both files bench_files
+build_both files files
 print_table "60000 records" . 16777208 65535 60000 238 "$rounds"
 perl -MPalm::PDB -e 1 2>/dev/null || exit 0
 perl -MPalm::PDB -MPalm::Raw -MTime::HiRes=time -e '

@@ -3,7 +3,7 @@
  *
  * usage: memory_calls [SIZE SLOTS PASSES ROUNDS]
  *
- * It does the same calls in the same order as crates/bench_memory, on an image of the same format
+ * It does the same calls in the same order as crates/benchmarks/src/memory, on an image of the same format
  * (docs/FORMAT.md) and by the same algorithm (heap.h), and prints the same lines. Compaction is one walk,
  * with one move for each chunk that goes down over the free one in front of it.
  */

@@ -15,7 +15,7 @@ turns=${2:-3}
 cd "$(dirname "$0")/.."
 . bench/turns.sh
 
-build_both memory_calls bench_memory
+build_both memory_calls memory
 
 # The kinds of call whose time doesn't depend on the heap. In the small heap the others are too few to
 # be timed.

@@ -3,7 +3,7 @@
  *
  * usage: record_calls [SIZE SLOTS RECORDS CALLS PASSES ROUNDS]
  *
- * It does the same calls in the same order as crates/bench_records, on databases in images of the same
+ * It does the same calls in the same order as crates/benchmarks/src/records, on databases in images of the same
  * format (docs/FORMAT.md) and by the same algorithm, and prints the same lines. Each call looks first whether
  * its database is there, holds records, and may be written where it is to be. Entries are moved by one memmove.
  * A new record gets the first ID behind the seed that no record has. How far the IDs are free from the one next

@@ -17,5 +17,5 @@ turns=${2:-3}
 cd "$(dirname "$0")/.."
 . bench/turns.sh
 
-build_both record_calls bench_records
+build_both record_calls records
 print_table "60000 records" . 16777208 65535 60000 200 16 "$rounds"

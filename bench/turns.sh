@@ -8,22 +8,25 @@
 work=$(mktemp -d)
 trap 'rm -rf "$work"' EXIT
 
-# build_both NAME CRATE: builds the C program bench/NAME.c and the Rattle program crates/CRATE.
+# build_both NAME BENCHMARK: builds the C program bench/NAME.c and the Rattle program crates/benchmarks, and notes
+# which of its benchmarks is run.
 build_both() {
     gcc -O2 -o "$work/c" "bench/$1.c"
-    if ! (cd "crates/$2" && rt run) >"$work/log" 2>&1; then
+    if ! (cd crates/benchmarks && rt run) >"$work/log" 2>&1; then
         cat "$work/log"
         exit 1
     fi
-    cp "crates/$2/out/$2" "$work/rattle"
+    cp crates/benchmarks/out/benchmarks "$work/benchmarks"
+    benchmark=$2
 }
 
 # take_turns WORDS: runs both programs on these words, turn by turn.
 take_turns() {
     : >"$work/times"
     for turn in $(seq "$turns"); do
+        "$work/c" "$@" >"$work/c.says"
+        "$work/benchmarks" "$benchmark" "$@" >"$work/rattle.says"
         for program in c rattle; do
-            "$work/$program" "$@" >"$work/$program.says"
             sed -n "s/^\(.*\) calls \(.*\) best \(.*\) median \(.*\)/$program \1 \2 \3 \4/p" \
                 "$work/$program.says" >>"$work/times"
             tail -n 1 "$work/$program.says" >"$work/$program.sums"

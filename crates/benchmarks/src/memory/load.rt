@@ -1,0 +1,195 @@
+//! A heap that is under load: its chunks are made, freed and asked for in a fixed order.
+
+use crate::memory::numbers::Numbers;
+use crate::timing::{Sum, Sums};
+use heap_model::{Name, Refusal};
+use mem_manager::{Heap, Locked};
+use std::alloc::{AllocError, Global};
+
+/// The owner of all chunks.
+pub(crate) const OWNER: u8 = 1;
+
+/// How many bytes are read and written by one call.
+const WIDTH: u32 = 16;
+
+/// A call that takes the same time however large the heap is, or two of them.
+#[derive(Clone, Copy)]
+pub(crate) enum Call {
+    LockAndUnlock,
+    Size,
+    Owner,
+    Locks,
+    Read,
+    Write,
+}
+
+/// A heap, the handles of its chunks, and the sum of all replies to the calls so far.
+#[derive(Drop)]
+pub(crate) struct Load {
+    heap: Heap,
+    /// The most bytes that a chunk is made with.
+    most: u16,
+    handles: Vec<Name>,
+    /// Those of the chunks that have 16 bytes.
+    wide: Vec<Name>,
+    numbers: Numbers,
+    replies: Sum,
+}
+
+impl Load {
+    /// No chunks yet, which are to be of 0 to so many bytes.
+    pub(crate) fn new(alloc: Global, heap: Heap, most: u16) -> Load {
+        Load {
+            heap,
+            most,
+            handles: Vec::new(alloc),
+            wide: Vec::new(alloc),
+            numbers: Numbers::new(),
+            replies: Sum(0),
+        }
+    }
+
+    /// Makes so many chunks.
+    pub(crate) fn make(&mut self, count: u16) -> Result<(), AllocError> {
+        for _ in 0..count {
+            let size = self.numbers.below(self.most as usize + 1) as u32;
+            match self.heap.handle_new(size, OWNER) {
+                Ok(name) => {
+                    self.replies.add(name.0);
+                    self.handles.push(name)?;
+                }
+                Err(refusal) => self.replies.add_refusal(refusal),
+            }
+        }
+        Ok(())
+    }
+
+    /// Frees the chunks of the last handles, so many of them.
+    pub(crate) fn free(&mut self, count: u16) {
+        for _ in 0..count {
+            if let Some(name) = self.handles.pop() {
+                self.replies.add_done(self.heap.free(name));
+            }
+        }
+    }
+
+    /// Frees the chunks of every second handle, the first among them.
+    pub(crate) fn free_every_second(&mut self) {
+        for name in self.handles.iter().step_by(2) {
+            self.replies.add_done(self.heap.free(*name));
+        }
+    }
+
+    /// Brings the last handles into another order, so many of them.
+    pub(crate) fn shuffle(&mut self, count: u16) {
+        let from = self.handles.len().saturating_sub(count as usize);
+        self.numbers.shuffle(&mut self.handles[from..]);
+    }
+
+    /// Looks for the handles of the chunks that have 16 bytes.
+    pub(crate) fn find_wide(&mut self) -> Result<(), AllocError> {
+        for name in &self.handles {
+            if matches!(self.heap.size(*name), Ok(WIDTH..)) {
+                self.wide.push(*name)?;
+            }
+        }
+        Ok(())
+    }
+
+    /// Locks the chunks that have 16 bytes once more.
+    pub(crate) fn lock_wide(&mut self) {
+        for name in &self.wide {
+            match self.heap.lock(*name) {
+                Ok(locked) => self.replies.add(locked.place.0),
+                Err(refusal) => self.replies.add_refusal(refusal),
+            }
+        }
+    }
+
+    /// How many calls a pass of this kind has.
+    pub(crate) fn calls(&self, call: Call) -> u128 {
+        match call {
+            Call::LockAndUnlock => 2 * self.handles.len() as u128,
+            Call::Size | Call::Owner | Call::Locks => self.handles.len() as u128,
+            Call::Read | Call::Write => self.wide.len() as u128,
+        }
+    }
+
+    /// Does a call at each handle, or at each one of a chunk that has 16 bytes, so many times.
+    pub(crate) fn repeat(&mut self, call: Call, passes: u32) {
+        for pass in 0..passes {
+            match call {
+                Call::LockAndUnlock => self.lock_and_unlock(),
+                Call::Size => self.ask_sizes(),
+                Call::Owner => self.ask_owners(),
+                Call::Locks => self.ask_locks(),
+                Call::Read => self.read(),
+                Call::Write => self.write((pass % 256) as u8),
+            }
+        }
+    }
+
+    fn lock_and_unlock(&mut self) {
+        for name in &self.handles {
+            add_locked(&mut self.replies, self.heap.lock(*name));
+            self.replies.add_byte(self.heap.unlock(*name));
+        }
+    }
+
+    fn ask_sizes(&mut self) {
+        for name in &self.handles {
+            self.replies.add_number(self.heap.size(*name));
+        }
+    }
+
+    fn ask_owners(&mut self) {
+        for name in &self.handles {
+            self.replies.add_byte(self.heap.owner(*name));
+        }
+    }
+
+    fn ask_locks(&mut self) {
+        for name in &self.handles {
+            self.replies.add_byte(self.heap.locks(*name));
+        }
+    }
+
+    /// Reads 16 bytes of each chunk, and adds up the first and the last.
+    fn read(&mut self) {
+        for name in &self.wide {
+            match self.heap.read(*name, 0, WIDTH) {
+                Ok(bytes) => self.replies.add_ends(bytes),
+                Err(refusal) => self.replies.add_refusal(refusal),
+            }
+        }
+    }
+
+    /// Writes a byte over the first 16 bytes of each chunk.
+    fn write(&mut self, byte: u8) {
+        let bytes = [byte; WIDTH as usize];
+        for name in &self.wide {
+            self.replies.add_done(self.heap.write(*name, 0, &bytes));
+        }
+    }
+
+    /// The sum of all replies, and that of the words of the heap.
+    pub(crate) fn into_sums(self) -> Sums {
+        Sums {
+            replies: self.replies,
+            words: Sum::of_words(&self.heap.into_region()),
+        }
+    }
+
+    /// The heap, and the handles of the chunks that were made.
+    pub(crate) fn into_parts(self) -> (Heap, Vec<Name>) {
+        (self.heap, self.handles)
+    }
+}
+
+/// Adds the place and the count of a chunk that was locked, or the number of a refusal.
+fn add_locked(replies: &mut Sum, locked: Result<Locked, Refusal>) {
+    match locked {
+        Ok(locked) => replies.add(locked.place.0 ^ locked.count as u32),
+        Err(refusal) => replies.add_refusal(refusal),
+    }
+}

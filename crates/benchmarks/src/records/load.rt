@@ -1,0 +1,282 @@
+//! Databases under load: their entries are made, moved, taken out and asked for in a fixed order.
+
+use crate::records::Work;
+use crate::records::resources::ResourceLoad;
+use crate::timing::{Sum, Sums};
+use heap_model::{Db, Refusal};
+use palm_store::Store;
+use record_db::{
+    attach, delete_category, detach, find_by_id, move_category, move_record, new_record,
+    num_in_category, num_records, record_info, remove, set_record_info,
+};
+
+/// An index behind all records.
+const END: u32 = 0xFFFF;
+
+/// The most bytes of a record.
+const MOST_BYTES: u32 = 64;
+
+/// The owner that gets what is taken out of the database.
+const CALLER: u8 = 1;
+
+/// The category that is deleted.
+const DELETED_CATEGORY: u8 = 2;
+
+/// A kind of call on records, or on resources.
+#[derive(Clone, Copy)]
+pub(crate) enum Call {
+    /// New records behind the last.
+    NewAtTheEnd,
+    RemoveTheLast,
+    RemoveTheFirst,
+    /// The first record is moved behind the last.
+    MoveToTheEnd,
+    /// The last record is moved in front of the first.
+    MoveToTheFront,
+    /// All records are asked for.
+    Info,
+    /// Records are asked for from the first on, until one has the ID of the last.
+    SearchById,
+    /// The record with the ID of the last is found.
+    FindTheLast,
+    CountCategory,
+    /// All records are moved to another category and back.
+    MoveCategory,
+    /// The last record is taken out, and its data made the last record's again.
+    DetachAndAttach,
+    /// The last resource is found by its type and its ID.
+    FindResource,
+    /// The last resource is found as the last of its type.
+    FindType,
+    /// The first resource is taken out.
+    RemoveResource,
+}
+
+/// A store with a database, and the sum of all replies to the calls so far.
+#[derive(Drop)]
+pub(crate) struct Load {
+    store: Store,
+    db: Db,
+    /// How many records were asked for to be made.
+    made: u32,
+    replies: Sum,
+    resources: ResourceLoad,
+}
+
+impl Load {
+    /// A load on a database that has no records yet, and on one of resources.
+    pub(crate) fn new(store: Store, db: Db, resources: ResourceLoad) -> Load {
+        Load {
+            store,
+            db,
+            made: 0,
+            replies: Sum(0),
+            resources,
+        }
+    }
+
+    /// How many records there are.
+    fn count(&self) -> u32 {
+        num_records(&self.store, self.db).unwrap_or(0)
+    }
+
+    /// Makes so many records behind the last, of 0 to 64 bytes.
+    pub(crate) fn make(&mut self, count: u32) {
+        for _ in 0..count {
+            let size = self.made % (MOST_BYTES + 1);
+            self.made = self.made.wrapping_add(1);
+            match new_record(&mut self.store, self.db, END, size) {
+                Ok((index, name)) => {
+                    self.replies.add(index);
+                    self.replies.add(name.0);
+                }
+                Err(refusal) => self.replies.add_refusal(refusal),
+            }
+        }
+    }
+
+    /// Makes so many resources behind the last.
+    pub(crate) fn make_resources(&mut self, count: u32) {
+        self.resources.make(count);
+    }
+
+    /// How many calls of a kind `repeat` does.
+    pub(crate) fn calls(&self, call: Call, work: Work) -> u128 {
+        match call {
+            Call::Info => (self.count() as u128).saturating_mul(work.passes as u128),
+            Call::SearchById
+            | Call::FindTheLast
+            | Call::CountCategory
+            | Call::MoveCategory
+            | Call::FindResource
+            | Call::FindType => work.passes as u128,
+            _ => work.calls as u128,
+        }
+    }
+
+    /// Does calls of a kind.
+    pub(crate) fn repeat(&mut self, call: Call, work: Work) {
+        match call {
+            Call::NewAtTheEnd => self.make(work.calls),
+            Call::RemoveTheLast => self.remove_last(work.calls),
+            Call::RemoveTheFirst => self.remove_first(work.calls),
+            Call::MoveToTheEnd => self.move_to_the_end(work.calls),
+            Call::MoveToTheFront => self.move_to_the_front(work.calls),
+            Call::Info => self.ask(work.passes),
+            Call::SearchById => self.search(work.passes),
+            Call::FindTheLast => self.find_last(work.passes),
+            Call::CountCategory => self.count_category(work.passes),
+            Call::MoveCategory => self.move_all(work.passes),
+            Call::DetachAndAttach => self.detach_and_attach(work.calls),
+            Call::FindResource => self.resources.find_last(work.passes),
+            Call::FindType => self.resources.find_last_of_type(work.passes),
+            Call::RemoveResource => self.resources.remove_first(work.calls),
+        }
+    }
+
+    /// Brings the databases back to as many entries as they had before calls of a kind.
+    pub(crate) fn even_out(&mut self, call: Call, work: Work) {
+        match call {
+            Call::NewAtTheEnd => self.remove_last(work.calls),
+            Call::RemoveTheLast | Call::RemoveTheFirst => self.make(work.calls),
+            Call::RemoveResource => self.resources.make(work.calls),
+            _ => {}
+        }
+    }
+
+    fn remove_last(&mut self, count: u32) {
+        let records = self.count();
+        for removed in 0..count {
+            let last = records.saturating_sub(removed).saturating_sub(1);
+            let done = remove(&mut self.store, self.db, last);
+            self.replies.add_done(done);
+        }
+    }
+
+    fn remove_first(&mut self, count: u32) {
+        for _ in 0..count {
+            let done = remove(&mut self.store, self.db, 0);
+            self.replies.add_done(done);
+        }
+    }
+
+    fn move_to_the_end(&mut self, count: u32) {
+        let records = self.count();
+        for _ in 0..count {
+            let done = move_record(&mut self.store, self.db, 0, records);
+            self.replies.add_done(done);
+        }
+    }
+
+    fn move_to_the_front(&mut self, count: u32) {
+        let last = self.count().saturating_sub(1);
+        for _ in 0..count {
+            let done = move_record(&mut self.store, self.db, last, 0);
+            self.replies.add_done(done);
+        }
+    }
+
+    fn ask(&mut self, passes: u32) {
+        for _ in 0..passes {
+            self.ask_each();
+        }
+    }
+
+    /// Asks for each record.
+    fn ask_each(&mut self) {
+        for index in 0..self.count() {
+            match record_info(&self.store, self.db, index) {
+                Ok(info) => {
+                    self.replies.add(info.attributes as u32);
+                    self.replies.add(info.id);
+                    self.replies.add(info.data.map_or(0, |name| name.0));
+                }
+                Err(refusal) => self.replies.add_refusal(refusal),
+            }
+        }
+    }
+
+    fn search(&mut self, passes: u32) {
+        let records = self.count();
+        let last = record_info(&self.store, self.db, records.saturating_sub(1));
+        if let Ok(info) = last {
+            for _ in 0..passes {
+                let index = self.index_of(info.id, records);
+                self.replies.add(index);
+            }
+        }
+    }
+
+    /// The index of the record with an ID, or the number of records where none of them has it.
+    fn index_of(&self, id: u32, records: u32) -> u32 {
+        for index in 0..records {
+            if matches!(record_info(&self.store, self.db, index), Ok(info) if info.id == id) {
+                return index;
+            }
+        }
+        records
+    }
+
+    fn find_last(&mut self, passes: u32) {
+        let last = record_info(&self.store, self.db, self.count().saturating_sub(1));
+        if let Ok(info) = last {
+            for _ in 0..passes {
+                let found = find_by_id(&self.store, self.db, info.id);
+                self.replies.add_number(found);
+            }
+        }
+    }
+
+    fn count_category(&mut self, passes: u32) {
+        for _ in 0..passes {
+            let number = num_in_category(&self.store, self.db, 0);
+            self.replies.add_number(number);
+        }
+    }
+
+    fn move_all(&mut self, passes: u32) {
+        for pass in 0..passes {
+            let from = if pass % 2 == 0 { 0 } else { 1 };
+            let done = move_category(&mut self.store, self.db, 1 - from, from, false);
+            self.replies.add_done(done);
+        }
+    }
+
+    fn detach_and_attach(&mut self, count: u32) {
+        for _ in 0..count {
+            let last = self.count().saturating_sub(1);
+            let index = self.attach_again(last);
+            self.replies.add_number(index);
+        }
+    }
+
+    /// Takes a record out, and makes its data the last record's.
+    fn attach_again(&mut self, index: u32) -> Result<u32, Refusal> {
+        let name = detach(&mut self.store, self.db, index, CALLER)?;
+        attach(&mut self.store, self.db, END, name)
+    }
+
+    /// Gives every second record the category that is deleted.
+    pub(crate) fn categorize(&mut self) {
+        for half in 0..self.count() / 2 {
+            let done = set_record_info(&mut self.store, self.db, 2 * half + 1, DELETED_CATEGORY, 0);
+            self.replies.add_done(done);
+        }
+    }
+
+    /// Deletes every second record by its category.
+    pub(crate) fn delete_categorized(&mut self) {
+        let done = delete_category(&mut self.store, self.db, DELETED_CATEGORY);
+        self.replies.add_done(done);
+    }
+
+    /// The sums of all replies, and of the words of the images.
+    pub(crate) fn into_sums(self) -> Sums {
+        let mut sums = Sums {
+            replies: self.replies,
+            words: Sum::of_words(&self.store.into_region()),
+        };
+        self.resources.add_to(&mut sums);
+        sums
+    }
+}

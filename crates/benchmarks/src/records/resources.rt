@@ -1,0 +1,100 @@
+//! A database of resources under load: they are made, searched for and taken out in a fixed order.
+
+use crate::timing::{Sum, Sums};
+use heap_model::{Db, ResourceInfo};
+use palm_store::Store;
+use resource_db::{
+    find_resource, find_type, new_resource, num_resources, remove_resource, resource_info,
+};
+
+/// The most bytes of a resource.
+const MOST_BYTES: u32 = 64;
+
+/// The two types that resources have by turns, `code` and `tSTR`: those of even indexes the first.
+const KINDS: [u32; 2] = [0x636F_6465, 0x7453_5452];
+
+/// How many IDs there are.
+const IDS: u32 = 0x1_0000;
+
+/// A store with a database of resources, and the sum of all replies to the calls so far.
+#[derive(Drop)]
+pub(crate) struct ResourceLoad {
+    store: Store,
+    db: Db,
+    /// How many resources were asked for to be made.
+    made: u32,
+    replies: Sum,
+}
+
+impl ResourceLoad {
+    /// A load on a database that has no resources yet.
+    pub(crate) fn new(store: Store, db: Db) -> ResourceLoad {
+        ResourceLoad {
+            store,
+            db,
+            made: 0,
+            replies: Sum(0),
+        }
+    }
+
+    /// Makes so many resources behind the last, of 0 to 64 bytes.
+    pub(crate) fn make(&mut self, count: u32) {
+        for _ in 0..count {
+            let number = self.made;
+            self.made = self.made.wrapping_add(1);
+            let kind = KINDS[(number % 2) as usize];
+            let id = (number % IDS) as u16;
+            let size = number % (MOST_BYTES + 1);
+            match new_resource(&mut self.store, self.db, kind, id, size) {
+                Ok((index, name)) => {
+                    self.replies.add(index);
+                    self.replies.add(name.0);
+                }
+                Err(refusal) => self.replies.add_refusal(refusal),
+            }
+        }
+    }
+
+    /// How many resources there are.
+    fn count(&self) -> u32 {
+        num_resources(&self.store, self.db).unwrap_or(0)
+    }
+
+    /// What the last resource is, if there is one.
+    fn last(&self) -> Option<ResourceInfo> {
+        resource_info(&self.store, self.db, self.count().saturating_sub(1)).ok()
+    }
+
+    /// Finds the last resource by its type and its ID.
+    pub(crate) fn find_last(&mut self, passes: u32) {
+        if let Some(last) = self.last() {
+            for _ in 0..passes {
+                let found = find_resource(&self.store, self.db, last.kind, last.id);
+                self.replies.add_number(found);
+            }
+        }
+    }
+
+    /// Finds the last resource as the last of its type.
+    pub(crate) fn find_last_of_type(&mut self, passes: u32) {
+        let in_front = self.count().saturating_sub(1) / 2;
+        if let Some(last) = self.last() {
+            for _ in 0..passes {
+                let found = find_type(&self.store, self.db, last.kind, in_front);
+                self.replies.add_number(found);
+            }
+        }
+    }
+
+    pub(crate) fn remove_first(&mut self, count: u32) {
+        for _ in 0..count {
+            let done = remove_resource(&mut self.store, self.db, 0);
+            self.replies.add_done(done);
+        }
+    }
+
+    /// Adds the sum of all replies, and that of the words of the image.
+    pub(crate) fn add_to(self, sums: &mut Sums) {
+        sums.add(self.replies, &self.store.into_region());
+    }
+}

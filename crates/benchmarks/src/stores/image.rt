@@ -1,0 +1,187 @@
+//! Images with databases, written out chunk by chunk.
+
+use raw_region::Region;
+use std::alloc::{AllocError, Global};
+
+/// What the head takes: the slots begin behind it.
+const HEAD: u32 = 16;
+
+/// What the header of a chunk takes.
+const CHUNK_HEADER: usize = 8;
+
+/// The owner of the directory and of the headers of databases.
+const MANAGERS_OWNER: u32 = 0;
+
+/// The owner of chunks for data.
+const DATA_OWNER: u32 = 15;
+
+/// What is wrong with a store.
+#[derive(Clone, Copy)]
+pub(crate) enum Flaw {
+    Nothing,
+    /// All records of a database have one ID.
+    OneId,
+    /// All databases name the same data.
+    SharedData,
+}
+
+/// A store: the bytes of its image, and its databases, each with so many records.
+#[derive(Clone, Copy)]
+pub(crate) struct Store {
+    pub(crate) size: u32,
+    pub(crate) databases: u16,
+    pub(crate) records: u16,
+    pub(crate) flaw: Flaw,
+}
+
+/// Chunks, each under a slot of its own, and the slots.
+#[derive(Drop)]
+struct Chunks {
+    start: u32,
+    table: Vec<u8>,
+    area: Vec<u8>,
+}
+
+impl Store {
+    /// The same with this wrong.
+    pub(crate) fn with(self, flaw: Flaw) -> Store {
+        Store { flaw, ..self }
+    }
+
+    /// The image. Its slots are the directory's, those of the headers and those of the data, in this order,
+    /// and all are in use. The chunks for data are as long as all of them can be, and what is left behind
+    /// them is a free chunk.
+    pub(crate) fn image(self, alloc: Global) -> Result<Region, AllocError> {
+        let slots = self.data_chunks().wrapping_add(self.first_data());
+        let mut chunks = Chunks::new(alloc, slots);
+        chunks.add(MANAGERS_OWNER, &self.directory(alloc)?)?;
+        for database in 0..self.databases {
+            chunks.add(MANAGERS_OWNER, &self.database(alloc, database)?)?;
+        }
+        let room = self.size.saturating_sub(chunks.end()) / self.data_chunks().max(1) / 8 * 8;
+        let body = vec![in alloc; 0u8; (room as usize).saturating_sub(CHUNK_HEADER)]?;
+        for _ in 0..self.data_chunks() {
+            chunks.add(DATA_OWNER, &body)?;
+        }
+        chunks.into_region(alloc, self.size)
+    }
+
+    /// How many chunks for data there are.
+    fn data_chunks(self) -> u32 {
+        match self.flaw {
+            Flaw::SharedData => self.records as u32,
+            _ => (self.databases as u32).wrapping_mul(self.records as u32),
+        }
+    }
+
+    /// The number of the slot of the first chunk for data.
+    fn first_data(self) -> u32 {
+        self.databases as u32 + 1
+    }
+
+    /// The directory: the slots behind its own.
+    fn directory(self, alloc: Global) -> Result<Vec<u8>, AllocError> {
+        let mut bytes = Vec::new(alloc);
+        for database in 0..self.databases {
+            bytes.extend_from_slice(&slot(database as u32 + 1).to_be_bytes())?;
+        }
+        Ok(bytes)
+    }
+
+    /// The header of a database and its records. IDs go up from 1.
+    fn database(self, alloc: Global, number: u16) -> Result<Vec<u8>, AllocError> {
+        let mut bytes = header(alloc, number, self.records)?;
+        let first = match self.flaw {
+            Flaw::SharedData => self.first_data(),
+            _ => (number as u32)
+                .wrapping_mul(self.records as u32)
+                .wrapping_add(self.first_data()),
+        };
+        for index in 0..self.records as u32 {
+            let id = match self.flaw {
+                Flaw::OneId => 1,
+                _ => index + 1,
+            };
+            bytes.extend_from_slice(&slot(first.wrapping_add(index)).to_be_bytes())?;
+            bytes.extend_from_slice(&id.to_be_bytes())?;
+        }
+        Ok(bytes)
+    }
+}
+
+/// The offset of the slot of a number.
+fn slot(number: u32) -> u32 {
+    number.wrapping_mul(4).wrapping_add(HEAD)
+}
+
+/// How many bytes there are, of which no image has more than a `u32` says.
+fn length(bytes: &[u8]) -> u32 {
+    bytes.len().min(u32::MAX as usize) as u32
+}
+
+/// The head of an image of so many bytes and slots, which begin behind it.
+fn head(alloc: Global, size: u32, slots: u16) -> Result<Vec<u8>, AllocError> {
+    let mut bytes = Vec::from_slice(alloc, b"PHI1")?;
+    bytes.extend_from_slice(&size.to_be_bytes())?;
+    bytes.extend_from_slice(&slots.to_be_bytes())?;
+    bytes.extend_from_slice(&[0; 2])?;
+    bytes.extend_from_slice(&slot(0).to_be_bytes())?;
+    Ok(bytes)
+}
+
+/// The header of a database of so many records. Names are 31 bytes long and differ in the last two alone.
+fn header(alloc: Global, number: u16, records: u16) -> Result<Vec<u8>, AllocError> {
+    let mut bytes = vec![in alloc; b'n'; 29]?;
+    bytes.push((number / 32 % 32) as u8 + b'A')?;
+    bytes.push((number % 32) as u8 + b'A')?;
+    bytes.resize(76, 0)?;
+    bytes.extend_from_slice(&records.to_be_bytes())?;
+    Ok(bytes)
+}
+
+impl Chunks {
+    /// No chunks yet, where there will be so many.
+    fn new(alloc: Global, slots: u32) -> Chunks {
+        Chunks {
+            start: slot(slots.wrapping_add(1) / 2 * 2),
+            table: Vec::new(alloc),
+            area: Vec::new(alloc),
+        }
+    }
+
+    /// Where the next chunk goes.
+    fn end(&self) -> u32 {
+        self.start.wrapping_add(length(&self.area))
+    }
+
+    /// Adds a chunk with this body under the next slot.
+    fn add(&mut self, owner: u32, body: &[u8]) -> Result<(), AllocError> {
+        let slack = length(body).wrapping_neg() % 8;
+        let size = length(body).wrapping_add(slack).wrapping_add(8);
+        let distance = slot(length(&self.table) / 4).wrapping_sub(self.end());
+        let body_at = self.end().wrapping_add(8);
+        self.table.extend_from_slice(&body_at.to_be_bytes())?;
+        self.area
+            .extend_from_slice(&(slack << 24 | size).to_be_bytes())?;
+        self.area
+            .extend_from_slice(&(owner << 24 | distance / 2 & 0xFF_FFFF).to_be_bytes())?;
+        self.area.extend_from_slice(body)?;
+        self.area.extend_from_slice(&[0; 8][..slack as usize])?;
+        Ok(())
+    }
+
+    /// The image of these chunks, with a free one behind them where there is room.
+    fn into_region(self, alloc: Global, size: u32) -> Result<Region, AllocError> {
+        let left = size.saturating_sub(self.end());
+        let slots = (self.table.len() / 4).min(u16::MAX as usize) as u16;
+        let mut bytes = head(alloc, size, slots)?;
+        bytes.extend_from_slice(&self.table)?;
+        bytes.resize(self.start as usize, 0)?;
+        bytes.extend_from_slice(&self.area)?;
+        if left > 0 {
+            bytes.extend_from_slice(&(left | 0x8000_0000).to_be_bytes())?;
+        }
+        bytes.resize(size as usize, 0)?;
+        Region::from_bytes(alloc, bytes.as_slice())
+    }
+}
