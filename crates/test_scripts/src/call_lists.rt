@@ -6,15 +6,46 @@ use palm_script::{NotRun, OutOfMemory, check_and_run, run_calls, run_calls_from}
 use palm_store::Store;
 use std::alloc::{AllocError, Global};
 use std::test::Fail;
-use test_fakes::RefusesOne;
+use test_fakes::{RefusesOne, equal};
 use test_images::{BLANK, image};
 
 /// The name of the first chunk that is made.
 const CHUNK: Name = Name(16);
 
-fn in_memory<const N: usize>(calls: [MemoryCall; N]) -> [Call; N] {
-    calls.map(Call::Memory)
-}
+/// A chunk is made, and what is free is asked for.
+const IN_ORDER: [Call; 2] = [
+    Call::Memory(MemoryCall::HandleNew { size: 10, owner: 1 }),
+    Call::Memory(MemoryCall::FreeBytes),
+];
+
+/// The place that `lock` answers is 40: this place and one behind it are asked for.
+pub(crate) const PLACES: [Call; 4] = [
+    Call::Memory(MemoryCall::HandleNew { size: 8, owner: 1 }),
+    Call::Memory(MemoryCall::Lock(CHUNK)),
+    Call::Memory(MemoryCall::Recover(Place(40))),
+    Call::Memory(MemoryCall::Recover(Place(48))),
+];
+
+/// A call that is refused doesn't end the list, and changes nothing for those behind it.
+const WITH_REFUSALS: [Call; 6] = [
+    Call::Memory(MemoryCall::Free(CHUNK)),
+    Call::Memory(MemoryCall::HandleNew { size: 90, owner: 1 }),
+    Call::Memory(MemoryCall::HandleNew { size: 2, owner: 1 }),
+    Call::Memory(MemoryCall::Lock(CHUNK)),
+    Call::Memory(MemoryCall::Free(CHUNK)),
+    Call::Memory(MemoryCall::Size(CHUNK)),
+];
+
+/// A chunk is made, read and asked for.
+const WITH_READ: [Call; 3] = [
+    Call::Memory(MemoryCall::HandleNew { size: 2, owner: 1 }),
+    Call::Memory(MemoryCall::Read {
+        name: CHUNK,
+        at: 0,
+        count: 2,
+    }),
+    Call::Memory(MemoryCall::Size(CHUNK)),
+];
 
 /// The replies to a list, as text.
 fn told(alloc: Global, replies: &[Reply]) -> Result<String, AllocError> {
@@ -25,91 +56,61 @@ fn told(alloc: Global, replies: &[Reply]) -> Result<String, AllocError> {
     Ok(text)
 }
 
-/// What a list is answered on a store, as text.
-fn answered(alloc: Global, store: &mut Store, calls: &[Call]) -> Result<String, Fail> {
-    let replies = run_calls(alloc, store, calls).ok().ok_or("no memory")?;
-    Ok(told(alloc, replies.as_slice())?)
+/// What a list is answered on a store.
+fn check_list(alloc: Global, store: &mut Store, calls: &[Call], wanted: &str) -> Result<(), Fail> {
+    let replies = run_calls(alloc, store, calls)?;
+    let said = told(alloc, &replies)?;
+    equal("replies", said.as_str(), wanted)
 }
 
 #[test]
 fn a_list_is_answered_in_order(rt: HostRuntime) -> Result<(), Fail> {
     let mut store = small_store(rt.alloc())?;
-    let calls = in_memory([
-        MemoryCall::HandleNew { size: 10, owner: 1 },
-        MemoryCall::FreeBytes,
-    ]);
-    let said = answered(rt.alloc(), &mut store, &calls)?;
-    assert_eq!(rt; said.as_str(), "name 16; 72; ");
-    let said = answered(rt.alloc(), &mut store, &[])?;
-    assert_eq!(rt; said.as_str(), "");
-    Ok(())
+    check_list(rt.alloc(), &mut store, &IN_ORDER, "name 16; 72; ")?;
+    check_list(rt.alloc(), &mut store, &[], "")
 }
 
-/// The place that `lock` answers is 40.
 #[test]
 fn a_place_in_a_list_has_its_name(rt: HostRuntime) -> Result<(), Fail> {
     let mut store = small_store(rt.alloc())?;
-    let calls = in_memory([
-        MemoryCall::HandleNew { size: 8, owner: 1 },
-        MemoryCall::Lock(CHUNK),
-        MemoryCall::Recover(Place(40)),
-        MemoryCall::Recover(Place(48)),
-    ]);
-    let said = answered(rt.alloc(), &mut store, &calls)?;
-    assert_eq!(rt; said.as_str(), "name 16; at 40, 1; name 16; refused 1; ");
-    Ok(())
+    let said = "name 16; at 40, 1; name 16; refused 1; ";
+    check_list(rt.alloc(), &mut store, &PLACES, said)
 }
 
-/// A call that is refused doesn't end the list, and changes nothing for those behind it.
 #[test]
 fn a_list_goes_on_behind_a_refusal(rt: HostRuntime) -> Result<(), Fail> {
     let mut store = small_store(rt.alloc())?;
-    let calls = in_memory([
-        MemoryCall::Free(CHUNK),
-        MemoryCall::HandleNew { size: 90, owner: 1 },
-        MemoryCall::HandleNew { size: 2, owner: 1 },
-        MemoryCall::Lock(CHUNK),
-        MemoryCall::Free(CHUNK),
-        MemoryCall::Size(CHUNK),
-    ]);
-    let said = answered(rt.alloc(), &mut store, &calls)?;
-    assert_eq!(rt;
-        said.as_str(),
-        "refused 1; refused 8; name 16; at 40, 1; refused 3; 2; "
-    );
-    Ok(())
+    let said = "refused 1; refused 8; name 16; at 40, 1; refused 3; 2; ";
+    check_list(rt.alloc(), &mut store, &WITH_REFUSALS, said)
 }
 
-/// What comes of a chunk that is made, read and asked for, where a growth behind so many is refused: the replies,
-/// and how many bytes are free then.
-fn told_without(alloc: Global, before: u32) -> Result<String, Fail> {
+/// What comes of the list with a read where a growth behind so many is refused: the replies, and how many bytes are
+/// free then.
+fn check_without(alloc: Global, before: u32, wanted: (&str, u32)) -> Result<(), Fail> {
     let mut store = small_store(alloc)?;
-    let calls = in_memory([
-        MemoryCall::HandleNew { size: 2, owner: 1 },
-        MemoryCall::Read {
-            name: CHUNK,
-            at: 0,
-            count: 2,
-        },
-        MemoryCall::Size(CHUNK),
-    ]);
     let memory = RefusesOne::behind(alloc, before);
-    let said = match run_calls_from(&memory, &mut store, &calls) {
-        Ok(replies) => told(alloc, replies.as_slice())?,
+    let said = match run_calls_from(&memory, &mut store, &WITH_READ) {
+        Ok(replies) => told(alloc, &replies)?,
         Err(OutOfMemory) => String::from_str(alloc, "nothing; ")?,
     };
-    Ok(format!(in alloc; "{said}{}", store.free_bytes())?)
+    equal(
+        format_args!("after {before}"),
+        (said.as_str(), store.free_bytes()),
+        wanted,
+    )
 }
+
+const WITHOUT: [(u32, (&str, u32)); 3] = [
+    (0, ("nothing; ", 96)),
+    (1, ("name 16; refused 26; 2; ", 80)),
+    (2, ("name 16; [0, 0]; 2; ", 80)),
+];
 
 /// Room for the replies comes first: without it nothing is done.
 #[test]
 fn every_growth_of_a_list_may_be_refused(rt: HostRuntime) -> Result<(), Fail> {
-    for (before, wanted) in [
-        (0, "nothing; 96"),
-        (1, "name 16; refused 26; 2; 80"),
-        (2, "name 16; [0, 0]; 2; 80"),
-    ] {
-        assert_eq!(rt; told_without(rt.alloc(), before)?.as_str(), wanted);
+    for (before, wanted) in &WITHOUT {
+        check_without(rt.alloc(), *before, *wanted)?;
     }
     Ok(())
 }
@@ -121,9 +122,8 @@ fn an_image_is_checked_for_a_list(rt: HostRuntime) -> Result<(), Fail> {
     let Ok((store, replies)) = check_and_run(rt.alloc(), region, &calls) else {
         return Err("not run")?;
     };
-    assert_eq!(rt; told(rt.alloc(), replies.as_slice())?.as_str(), "0; ");
-    assert_eq!(rt; store.free_bytes(), 96);
-    Ok(())
+    let said = told(rt.alloc(), &replies)?;
+    equal("replies", (said.as_str(), store.free_bytes()), ("0; ", 96))
 }
 
 /// What is wrong with a region that is no accepted image is said.
@@ -133,6 +133,6 @@ fn a_list_is_not_run_on_a_broken_image(rt: HostRuntime) -> Result<(), Fail> {
     let Err(NotRun::NotAStore(error)) = check_and_run(rt.alloc(), region, &[]) else {
         return Err("run")?;
     };
-    assert_eq!(rt; format!(in rt.alloc(); "{error}")?.as_str(), "BadMagic");
-    Ok(())
+    let said = format!(in rt.alloc(); "{error}")?;
+    equal("the fault", said.as_str(), "BadMagic")
 }

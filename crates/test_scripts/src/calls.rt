@@ -1,20 +1,31 @@
 //! Memory that is refused, calls that are done one by one, and a reply line that breaks off.
 
+use crate::call_lists::PLACES;
 use chunk_format::blank;
-use heap_model::{Bytes, Call, Counted, MemoryCall, Name, Place, Refusal, Reply};
+use heap_model::{Bytes, Call, Counted, DatabaseCall, DbName, MemoryCall, Name, Reply};
 use palm_script::{RunFault, do_call, do_call_from, parse, run, run_from};
 use palm_store::Store;
 use std::alloc::{AllocError, Global};
 use std::test::Fail;
-use test_fakes::RefusesOne;
+use test_fakes::{RefusesOne, equal};
+use test_images::{BLANK, image};
+
+/// The store of a listed image.
+pub(crate) fn listed_store(alloc: Global, listing: &str) -> Result<Store, Fail> {
+    match Store::check(alloc, image(alloc, listing, "")?) {
+        Ok(store) => Ok(store),
+        Err(_) => Err("no store")?,
+    }
+}
 
 /// A store of 128 bytes with 4 slots, and one free chunk of 96.
 pub(crate) fn small_store(alloc: Global) -> Result<Store, Fail> {
-    blank_store(alloc, 128)
+    listed_store(alloc, BLANK)
 }
 
-fn blank_store(alloc: Global, size: u32) -> Result<Store, Fail> {
-    match Store::check(alloc, blank(alloc, size, 4)?) {
+/// A store of the most bytes.
+fn largest_store(alloc: Global) -> Result<Store, Fail> {
+    match Store::check(alloc, blank(alloc, 16_777_208, 4)?) {
         Ok(store) => Ok(store),
         Err(_) => Err("no store")?,
     }
@@ -22,47 +33,54 @@ fn blank_store(alloc: Global, size: u32) -> Result<Store, Fail> {
 
 const SCRIPT: &[u8] = b"new a 10 1\nlock a\nread a 0 2\n";
 
-/// Runs the script where a growth behind so many is refused: the answer, and what was printed.
-fn run_without(
+/// How many files come of a run, or why it ended early.
+type Ended = Result<usize, RunFault>;
+
+/// Runs the script: how that ends, and what is printed.
+fn run_with(
+    memory: &RefusesOne,
     alloc: Global,
     store: &mut Store,
-    before: u32,
-) -> Result<(Result<Vec<Bytes>, RunFault>, Vec<u8>), Fail> {
-    let script = parse(alloc, SCRIPT).ok().ok_or("no script")?;
+) -> Result<(Ended, Vec<u8>), Fail> {
+    let script = parse(alloc, SCRIPT)?;
     let mut out = Counted::new(Vec::new(alloc));
-    let memory = RefusesOne::behind(alloc, before);
-    let ran = run_from(&memory, store, &script, &[], &mut out);
-    Ok((ran, out.into_inner()))
+    let ended = match run_from(memory, store, &script, &[], &mut out) {
+        Ok(files) => Ok(files.len()),
+        Err(fault) => Err(fault),
+    };
+    Ok((ended, out.into_inner()))
 }
 
-/// What comes of the script then: the answer, how many bytes are free, and what was printed.
-fn told_without(alloc: Global, before: u32) -> Result<String, Fail> {
+/// What comes of the script where a growth behind so many is refused: how it ends, how many bytes are free, and
+/// what is printed.
+fn check_without(alloc: Global, before: u32, wanted: (Ended, u32, &[u8])) -> Result<(), Fail> {
     let mut store = small_store(alloc)?;
-    let (ran, out) = run_without(alloc, &mut store, before)?;
-    let printed = String::from_utf8(out).ok().ok_or("no text")?;
-    Ok(format!(in alloc; "{ran:?} {} {printed}", store.free_bytes())?)
+    let memory = RefusesOne::behind(alloc, before);
+    let (ended, out) = run_with(&memory, alloc, &mut store)?;
+    let came = (ended, store.free_bytes(), out.as_slice());
+    equal(format_args!("after {before}"), came, wanted)
 }
 
 /// How many growths are granted, and what comes of the script: nothing but the tables of labels and the list of
 /// files grows.
-const RUNS: [(u32, &str); 4] = [
-    (0, "Err(OutOfMemory) 96 "),
-    (1, "Err(OutOfMemory) 96 "),
-    (2, "Err(OutOfMemory) 96 "),
-    (3, "Ok([]) 72 ok\nok 1\nok 0000\n"),
+const RUNS: [(u32, (Ended, u32, &[u8])); 4] = [
+    (0, (Err(RunFault::OutOfMemory), 96, b"")),
+    (1, (Err(RunFault::OutOfMemory), 96, b"")),
+    (2, (Err(RunFault::OutOfMemory), 96, b"")),
+    (3, (Ok(0), 72, b"ok\nok 1\nok 0000\n")),
 ];
 
 #[test]
 fn refused_memory_leaves_all_as_it_was(rt: HostRuntime) -> Result<(), Fail> {
     for (before, wanted) in &RUNS {
-        assert_eq!(rt; told_without(rt.alloc(), *before)?.as_str(), *wanted);
+        check_without(rt.alloc(), *before, *wanted)?;
     }
     Ok(())
 }
 
 /// Makes a chunk of so many bytes.
 fn chunk_of(store: &mut Store, length: u32) -> Result<Name, Fail> {
-    Ok(store.handle_new(length, 1).ok().ok_or("no chunk")?)
+    Ok(store.handle_new(length, 1)?)
 }
 
 /// The number of a refusal, and 0 where there is none.
@@ -73,19 +91,8 @@ fn refused(reply: &Reply) -> u8 {
     }
 }
 
-/// The number with which a read from a chunk of 2 bytes is refused where a growth behind so many is,
-/// 0 where it isn't. `is_named` says whether the read names the chunk.
-fn read_without(alloc: Global, before: u32, is_named: bool, count: u32) -> Result<u8, Fail> {
-    let mut store = small_store(alloc)?;
-    let chunk = chunk_of(&mut store, 2)?;
-    let name = if is_named { chunk } else { Name(0) };
-    let call = Call::Memory(MemoryCall::Read { name, at: 0, count });
-    let memory = RefusesOne::behind(alloc, before);
-    Ok(refused(&do_call_from(&memory, &mut store, &call)))
-}
-
-/// How many growths are granted, whether the read names the chunk, how many bytes it asks for, and the
-/// number of its refusal.
+/// How many growths are granted, whether a read from a chunk of 2 bytes names the chunk, how many bytes it asks
+/// for, and the number of its refusal.
 const READS: [(u32, bool, u32, u8); 6] = [
     (0, true, 2, 26),
     (0, true, 0, 26),
@@ -95,107 +102,164 @@ const READS: [(u32, bool, u32, u8); 6] = [
     (1, true, 0, 0),
 ];
 
+fn check_read(
+    alloc: Global,
+    before: u32,
+    is_named: bool,
+    count: u32,
+    number: u8,
+) -> Result<(), Fail> {
+    let mut store = small_store(alloc)?;
+    let chunk = chunk_of(&mut store, 2)?;
+    let name = if is_named { chunk } else { Name(0) };
+    let call = Call::Memory(MemoryCall::Read { name, at: 0, count });
+    let memory = RefusesOne::behind(alloc, before);
+    let reply = do_call_from(&memory, &mut store, &call);
+    equal(
+        format_args!("{count} bytes after {before}"),
+        refused(&reply),
+        number,
+    )
+}
+
 #[test]
 fn a_read_is_refused_for_want_of_memory_alone(rt: HostRuntime) -> Result<(), Fail> {
     for (before, is_named, count, number) in &READS {
-        let refused = read_without(rt.alloc(), *before, *is_named, *count)?;
-        assert_eq!(rt; refused, *number);
+        check_read(rt.alloc(), *before, *is_named, *count, *number)?;
     }
     Ok(())
 }
 
-/// The reply to a call.
-fn reply_to(alloc: Global, store: &mut Store, call: MemoryCall) -> Reply {
-    do_call(alloc, store, &Call::Memory(call))
+/// How many bytes a reply has, if it has some.
+fn length_of(reply: &Reply) -> Option<usize> {
+    match reply {
+        Reply::Data(bytes) => Some(bytes.as_slice().len()),
+        _ => None,
+    }
 }
 
-/// How many bytes a read of so many answers, from the greatest chunk; none where it is refused.
-fn bytes_read(alloc: Global, count: u32) -> Result<Option<usize>, Fail> {
-    let mut store = blank_store(alloc, 16_777_208)?;
-    let name = chunk_of(&mut store, 16_777_168)?;
-    match reply_to(alloc, &mut store, MemoryCall::Read { name, at: 0, count }) {
-        Reply::Data(bytes) => Ok(Some(bytes.as_slice().len())),
-        _ => Ok(None),
-    }
+/// A read of so many bytes from a chunk is answered by as many.
+fn check_count(alloc: Global, store: &mut Store, name: Name, count: u32) -> Result<(), Fail> {
+    let call = Call::Memory(MemoryCall::Read { name, at: 0, count });
+    let length = length_of(&do_call(alloc, store, &call));
+    equal("bytes", length, Some(count as usize))
 }
 
 const COUNTS: [u32; 6] = [0, 1, 4096, 65_536, 100_001, 16_777_168];
 
-/// Where memory isn't refused, a read of any size is answered.
+/// Where memory isn't refused, a read of any size from the greatest chunk is answered.
 #[test]
 fn reads_of_every_size_are_answered(rt: HostRuntime) -> Result<(), Fail> {
+    let mut store = largest_store(rt.alloc())?;
+    let name = chunk_of(&mut store, 16_777_168)?;
     for count in &COUNTS {
-        assert_eq!(rt; bytes_read(rt.alloc(), *count)?, Some(*count as usize));
+        check_count(rt.alloc(), &mut store, name, *count)?;
     }
     Ok(())
 }
 
+/// The chunk that the first call makes.
 const CHUNK: Name = Name(16);
 
-/// How many calls there are.
-const CALL_COUNT: u32 = 18;
+/// Calls one behind another: those in front of two that carry bytes.
+const FIRST_CALLS: [Call; 3] = [
+    Call::Memory(MemoryCall::HandleNew { size: 10, owner: 1 }),
+    Call::Memory(MemoryCall::PtrNew { size: 4, owner: 15 }),
+    Call::Memory(MemoryCall::Lock(CHUNK)),
+];
 
-/// The call with this number, of calls one behind another on the chunk that the first one makes.
-fn call_of(alloc: Global, number: u32) -> Result<MemoryCall, AllocError> {
-    let (name, at, owner) = (CHUNK, 0, 1);
-    Ok(match number {
-        0 => MemoryCall::HandleNew { size: 10, owner },
-        1 => MemoryCall::PtrNew { size: 4, owner: 15 },
-        2 => MemoryCall::Lock(name),
-        3 => MemoryCall::Write {
-            name,
-            at,
-            bytes: bytes_of(alloc, b"ab")?,
-        },
-        4 => MemoryCall::StrCopy {
-            name,
-            at: 2,
-            text: bytes_of(alloc, b"x")?,
-        },
-        5 => MemoryCall::Set {
-            name,
-            at: 4,
-            count: 2,
-            byte: 7,
-        },
-        6 => MemoryCall::Read { name, at, count: 6 },
-        7 => MemoryCall::Locks(name),
-        8 => MemoryCall::Unlock(name),
-        9 => MemoryCall::SetOwner { name, owner: 3 },
-        10 => MemoryCall::Owner(name),
-        11 => MemoryCall::Size(name),
-        12 => MemoryCall::Resize { name, size: 24 },
-        13 => MemoryCall::FreeBytes,
-        14 => MemoryCall::LargestStretch,
-        15 => MemoryCall::Compact,
-        16 => MemoryCall::FreeByOwner(3),
-        _ => MemoryCall::Free(name),
-    })
-}
+/// Those behind the two.
+const LAST_CALLS: [Call; 13] = [
+    Call::Memory(MemoryCall::Set {
+        name: CHUNK,
+        at: 4,
+        count: 2,
+        byte: 7,
+    }),
+    Call::Memory(MemoryCall::Read {
+        name: CHUNK,
+        at: 0,
+        count: 6,
+    }),
+    Call::Memory(MemoryCall::Locks(CHUNK)),
+    Call::Memory(MemoryCall::Unlock(CHUNK)),
+    Call::Memory(MemoryCall::SetOwner {
+        name: CHUNK,
+        owner: 3,
+    }),
+    Call::Memory(MemoryCall::Owner(CHUNK)),
+    Call::Memory(MemoryCall::Size(CHUNK)),
+    Call::Memory(MemoryCall::Resize {
+        name: CHUNK,
+        size: 24,
+    }),
+    Call::Memory(MemoryCall::FreeBytes),
+    Call::Memory(MemoryCall::LargestStretch),
+    Call::Memory(MemoryCall::Compact),
+    Call::Memory(MemoryCall::FreeByOwner(3)),
+    Call::Memory(MemoryCall::Free(CHUNK)),
+];
 
 fn bytes_of(alloc: Global, bytes: &[u8]) -> Result<Bytes, AllocError> {
     Ok(Bytes::of(Vec::from_slice(alloc, bytes)?))
 }
 
-/// The replies to the calls, as text.
-fn answers(alloc: Global) -> Result<String, Fail> {
-    let mut store = small_store(alloc)?;
-    let mut said = String::new(alloc);
-    for number in 0..CALL_COUNT {
-        let reply = reply_to(alloc, &mut store, call_of(alloc, number)?);
-        put_reply(&mut said, &reply)?;
+fn write_of(alloc: Global, bytes: &[u8]) -> Result<Call, AllocError> {
+    Ok(Call::Memory(MemoryCall::Write {
+        name: CHUNK,
+        at: 0,
+        bytes: bytes_of(alloc, bytes)?,
+    }))
+}
+
+fn copy_of(alloc: Global, text: &[u8]) -> Result<Call, AllocError> {
+    Ok(Call::Memory(MemoryCall::StrCopy {
+        name: CHUNK,
+        at: 2,
+        text: bytes_of(alloc, text)?,
+    }))
+}
+
+/// Does calls one by one, and adds the replies to a text.
+fn put_replies(
+    alloc: Global,
+    text: &mut String,
+    store: &mut Store,
+    calls: &[Call],
+) -> Result<(), AllocError> {
+    for call in calls {
+        put_reply(text, &do_call(alloc, store, call))?;
     }
-    Ok(said)
+    Ok(())
+}
+
+/// Does the calls of some lists one by one, and compares the replies as text.
+pub(crate) fn check_calls(
+    alloc: Global,
+    store: &mut Store,
+    lists: &[&[Call]],
+    wanted: &str,
+) -> Result<(), Fail> {
+    let mut text = String::new(alloc);
+    for calls in lists {
+        put_replies(alloc, &mut text, store, calls)?;
+    }
+    equal("replies", text.as_str(), wanted)
 }
 
 #[test]
 fn calls_are_done_one_by_one(rt: HostRuntime) -> Result<(), Fail> {
-    assert_eq!(rt;
-        answers(rt.alloc())?.as_str(),
-        "name 16; refused 7; at 40, 1; done; done; done; \
-        [97, 98, 120, 0, 7, 7]; 1; 0; done; 3; 10; done; 64; 64; 0; 1; refused 1; "
-    );
-    Ok(())
+    let alloc = rt.alloc();
+    let mut store = small_store(alloc)?;
+    let with_bytes = [write_of(alloc, b"ab")?, copy_of(alloc, b"x")?];
+    let said = "name 16; refused 7; at 40, 1; done; done; done; \
+        [97, 98, 120, 0, 7, 7]; 1; 0; done; 3; 10; done; 64; 64; 0; 1; refused 1; ";
+    check_calls(
+        alloc,
+        &mut store,
+        &[&FIRST_CALLS, &with_bytes, &LAST_CALLS],
+        said,
+    )
 }
 
 /// A reply as text.
@@ -226,42 +290,42 @@ pub(crate) fn put_reply(text: &mut String, reply: &Reply) -> Result<(), AllocErr
     }
 }
 
-/// The reply to a place so far behind that of a chunk.
-fn recovered(alloc: Global, distance: u32) -> Result<Reply, Fail> {
-    let mut store = small_store(alloc)?;
-    let name = chunk_of(&mut store, 8)?;
-    let place = match reply_to(alloc, &mut store, MemoryCall::Lock(name)) {
-        Reply::Locked { place, .. } => place.0,
-        _ => 0,
-    };
-    let place = Place(place.saturating_add(distance));
-    Ok(reply_to(alloc, &mut store, MemoryCall::Recover(place)))
+/// A call that makes a database.
+pub(crate) fn creation(name: &[u8], resources: bool) -> Call {
+    Call::Database(DatabaseCall::Create {
+        name: DbName::of(name),
+        kind: 1,
+        creator: 2,
+        resources,
+        date: 3,
+    })
 }
 
+/// A place has a name, and that behind it has none.
 #[test]
 fn a_place_has_its_name(rt: HostRuntime) -> Result<(), Fail> {
-    assert_eq!(rt; recovered(rt.alloc(), 0)?, Reply::Named(CHUNK));
-    assert_eq!(rt;
-        recovered(rt.alloc(), 8)?,
-        Reply::Refused(Refusal::InvalidHandle)
-    );
-    Ok(())
+    let mut store = small_store(rt.alloc())?;
+    let said = "name 16; at 40, 1; name 16; refused 1; ";
+    check_calls(rt.alloc(), &mut store, &[&PLACES], said)
 }
 
-/// What comes of the script on a writer with room for 4 bytes, and how often its chunk is locked then.
-fn run_cut(alloc: Global, room: &mut [u8; 4]) -> Result<(Option<RunFault>, Option<u8>), Fail> {
-    let script = parse(alloc, SCRIPT).ok().ok_or("no script")?;
-    let mut store = small_store(alloc)?;
+/// Runs the script on a writer with room for 4 bytes.
+fn run_cut(alloc: Global, store: &mut Store, room: &mut [u8; 4]) -> Result<Option<RunFault>, Fail> {
+    let script = parse(alloc, SCRIPT)?;
     let mut out = Counted::new(room.as_mut_slice());
-    let ran = run(alloc, &mut store, &script, &[], &mut out);
+    let ran = run(alloc, store, &script, &[], &mut out);
     drop(out.into_inner());
-    Ok((ran.err(), store.locks(CHUNK).ok()))
+    Ok(ran.err())
 }
 
 #[test]
 fn the_line_that_breaks_off_was_done(rt: HostRuntime) -> Result<(), Fail> {
+    let mut store = small_store(rt.alloc())?;
     let mut room = [0; 4];
-    assert!(rt; run_cut(rt.alloc(), &mut room)? == (Some(RunFault::Write), Some(1)));
-    assert_eq!(rt; &room, b"ok\no");
-    Ok(())
+    let fault = run_cut(rt.alloc(), &mut store, &mut room)?;
+    equal(
+        "the run",
+        (fault, store.locks(CHUNK), room),
+        (Some(RunFault::Write), Ok(1), *b"ok\no"),
+    )
 }

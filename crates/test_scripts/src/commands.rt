@@ -1,12 +1,13 @@
 //! The commands: what they print and write, and a writer that fails.
 
+use crate::runs::check_told;
 use heap_model::Counted;
 use palmheap_commands::{cmd_check, cmd_new};
 use program_io::Status;
 use std::alloc::Global;
 use std::io::{ErrorKind, Write};
 use std::test::Fail;
-use test_fakes::{Narrow, Unflushed, WhenFull};
+use test_fakes::{Narrow, Unflushed, WhenFull, equal, holds};
 use test_images::{BLANK, DATABASE, ONE_CHUNK, bytes_of, image};
 
 /// What a command answered, and what its writers hold.
@@ -34,7 +35,7 @@ fn new_on<W: Write, V: Write>(
 }
 
 /// The status of `check`, and what its writer holds.
-fn check_on<V: Write>(alloc: Global, image: &[u8], out: V) -> (Status, V) {
+pub(crate) fn check_on<V: Write>(alloc: Global, image: &[u8], out: V) -> (Status, V) {
     let mut out = Counted::new(out);
     let status = cmd_check(alloc, image, &mut out);
     (status, out.into_inner())
@@ -43,107 +44,150 @@ fn check_on<V: Write>(alloc: Global, image: &[u8], out: V) -> (Status, V) {
 /// The size and the slots of the blank image.
 const SMALL: (u32, u16) = (128, 4);
 
-/// Whether `new` writes the blank image and prints `ok`, over writers of which a write takes few bytes.
-fn writes_blank(alloc: Global, image_step: usize, step: usize) -> Result<bool, Fail> {
+/// `new` writes the blank image and prints `ok`, over writers of which a write takes few bytes.
+fn check_blank(alloc: Global, image_step: usize, step: usize) -> Result<(), Fail> {
+    let blank = bytes_of(alloc, BLANK)?;
     let image = Narrow::new(alloc, 128, image_step, WhenFull::TakesNothing);
     let out = Narrow::new(alloc, 3, step, WhenFull::TakesNothing);
-    let Told { status, image, out } = new_on(alloc, SMALL, image, out);
-    let is_written = image.taken.as_slice() == bytes_of(alloc, BLANK)?.as_slice();
-    let is_said = out.taken.as_slice() == b"ok\n".as_slice();
-    Ok(status == Status::Done && is_written && is_said)
+    let told = new_on(alloc, SMALL, image, out);
+    let is_written = told.image.taken.as_slice() == blank.as_slice();
+    let is_said = told.out.taken.as_slice() == b"ok\n".as_slice();
+    holds(
+        format_args!("{image_step} {step}"),
+        told.status == Status::Done && is_written && is_said,
+    )
 }
 
 #[test]
 fn new_writes_a_blank_image(rt: HostRuntime) -> Result<(), Fail> {
-    for (image_step, step) in [(128, 3), (7, 1)] {
-        assert!(rt;
-            writes_blank(rt.alloc(), image_step, step)?,
-            "{image_step} {step}"
-        );
+    check_blank(rt.alloc(), 128, 3)?;
+    check_blank(rt.alloc(), 7, 1)
+}
+
+/// Sizes and slot counts, and what `new` says of them.
+const NO_IMAGES: [((u32, u16), &str); 7] = [
+    ((66, 4), "bad BadSize\n"),
+    ((56, 4), "bad BadSize\n"),
+    ((16_777_216, 4), "bad BadSize\n"),
+    ((0, 0), "bad BadSize\n"),
+    ((64, 13), "bad BadSlotCount\n"),
+    ((64, 0), "bad BadSlotCount\n"),
+    ((128, 65_535), "bad BadSlotCount\n"),
+];
+
+/// `new` refuses a size and a slot count with this line, and writes no image.
+fn check_refused(alloc: Global, asked: (u32, u16), line: &str) -> Result<(), Fail> {
+    let told = new_on(alloc, asked, Vec::new(alloc), Vec::new(alloc));
+    let is_said = told.out.as_slice() == line.as_bytes();
+    holds(
+        format_args!("{asked:?}"),
+        told.status == Status::BadWords && is_said && told.image.is_empty(),
+    )
+}
+
+#[test]
+fn new_refuses_what_is_no_image(rt: HostRuntime) -> Result<(), Fail> {
+    for (asked, line) in &NO_IMAGES {
+        check_refused(rt.alloc(), *asked, line)?;
     }
     Ok(())
 }
 
-/// Whether `new` refuses a size and a slot count with this line, and writes no image.
-fn refuses(alloc: Global, asked: (u32, u16), line: &str) -> bool {
-    let told = new_on(alloc, asked, Vec::new(alloc), Vec::new(alloc));
-    told.status == Status::BadWords
-        && told.out.as_slice() == line.as_bytes()
-        && told.image.is_empty()
-}
-
-#[test]
-fn new_refuses_what_is_no_image(rt: HostRuntime) {
-    for (asked, line) in [
-        ((66, 4), "bad BadSize\n"),
-        ((56, 4), "bad BadSize\n"),
-        ((16_777_216, 4), "bad BadSize\n"),
-        ((0, 0), "bad BadSize\n"),
-        ((64, 13), "bad BadSlotCount\n"),
-        ((64, 0), "bad BadSlotCount\n"),
-        ((128, 65_535), "bad BadSlotCount\n"),
-    ] {
-        assert!(rt; refuses(rt.alloc(), asked, line), "{asked:?}");
-    }
-}
-
-/// What `check` comes to and prints.
-pub(crate) fn check_said(alloc: Global, image: &[u8]) -> Result<String, Fail> {
+/// What `check` comes to and prints of an image.
+pub(crate) fn check_image(
+    alloc: Global,
+    spot: &str,
+    image: &[u8],
+    wanted: (Status, &str),
+) -> Result<(), Fail> {
     let (status, out) = check_on(alloc, image, Vec::new(alloc));
-    let line = String::from_utf8(out).ok().ok_or("no text")?;
-    Ok(format!(in alloc; "{status:?} {line}")?)
+    check_told(spot, (status, &out), wanted)
+}
+
+/// The same, of a listing in which this is changed.
+pub(crate) fn check_changed(
+    alloc: Global,
+    listing: &str,
+    changes: &str,
+    wanted: (Status, &str),
+) -> Result<(), Fail> {
+    let region = image(alloc, listing, changes)?;
+    check_image(alloc, changes, region.as_slice(), wanted)
 }
 
 /// Listings, what is changed in them, and what `check` comes to and prints.
-const CHECKS: [(&str, &str, &str); 19] = [
+const CHECKS: [(&str, &str, (Status, &str)); 19] = [
     (
         BLANK,
         "",
-        "Done ok size 128 slots 4 movable 0 fixed 0 free 96\ndatabases 0\n",
+        (
+            Status::Done,
+            "ok size 128 slots 4 movable 0 fixed 0 free 96\ndatabases 0\n",
+        ),
     ),
     (
         ONE_CHUNK,
         "",
-        "Done ok size 128 slots 4 movable 1 fixed 0 free 72\ndatabases 0\n",
+        (
+            Status::Done,
+            "ok size 128 slots 4 movable 1 fixed 0 free 72\ndatabases 0\n",
+        ),
     ),
     (
         DATABASE,
         "",
-        "Done ok size 208 slots 8 movable 4 fixed 0 free 8\ndatabases 1\n",
+        (
+            Status::Done,
+            "ok size 208 slots 8 movable 4 fixed 0 free 8\ndatabases 1\n",
+        ),
     ),
-    ("", "", "Refused bad TooShort\n"),
-    ("5048 49", "", "Refused bad TooShort\n"),
-    ("50484931 00000080 00*8", "", "Refused bad TooShort\n"),
+    ("", "", (Status::Refused, "bad TooShort\n")),
+    ("5048 49", "", (Status::Refused, "bad TooShort\n")),
+    (
+        "50484931 00000080 00*8",
+        "",
+        (Status::Refused, "bad TooShort\n"),
+    ),
     // the blank image without its last byte, and with a chunk that reaches beyond its end
     (
         "50484931 00000080 0004 0000 00000000 00*16 80000060 00*91",
         "",
-        "Refused bad TooShort\n",
+        (Status::Refused, "bad TooShort\n"),
     ),
-    (BLANK, "32: 80000068", "Refused bad BadChunk 32\n"),
-    (DATABASE, "3: 33", "Refused bad BadMagic\n"),
-    (DATABASE, "7: D8", "Refused bad TooShort\n"),
-    (DATABASE, "7: C8", "Refused bad BadSize\n"),
-    (DATABASE, "9: 00", "Refused bad BadSlotCount\n"),
-    (DATABASE, "9: 09", "Refused bad BadPadding\n"),
-    (DATABASE, "10: 01", "Refused bad BadReserved\n"),
-    (DATABASE, "15: 18", "Refused bad BadDirectory\n"),
-    (DATABASE, "172: FF", "Refused bad BadChunk 168\n"),
-    (DATABASE, "175: BA", "Refused bad SlotMismatch 24\n"),
-    (DATABASE, "31: 00", "Refused bad ChunkWithoutSlot 184\n"),
+    (
+        BLANK,
+        "32: 80000068",
+        (Status::Refused, "bad BadChunk 32\n"),
+    ),
+    (DATABASE, "3: 33", (Status::Refused, "bad BadMagic\n")),
+    (DATABASE, "7: D8", (Status::Refused, "bad TooShort\n")),
+    (DATABASE, "7: C8", (Status::Refused, "bad BadSize\n")),
+    (DATABASE, "9: 00", (Status::Refused, "bad BadSlotCount\n")),
+    (DATABASE, "9: 09", (Status::Refused, "bad BadPadding\n")),
+    (DATABASE, "10: 01", (Status::Refused, "bad BadReserved\n")),
+    (DATABASE, "15: 18", (Status::Refused, "bad BadDirectory\n")),
+    (DATABASE, "172: FF", (Status::Refused, "bad BadChunk 168\n")),
+    (
+        DATABASE,
+        "175: BA",
+        (Status::Refused, "bad SlotMismatch 24\n"),
+    ),
+    (
+        DATABASE,
+        "31: 00",
+        (Status::Refused, "bad ChunkWithoutSlot 184\n"),
+    ),
     (
         DATABASE,
         "27: 00, 172: FF000000",
-        "Refused bad BadFixedOwner 168\n",
+        (Status::Refused, "bad BadFixedOwner 168\n"),
     ),
 ];
 
 #[test]
 fn check_says_what_is_there(rt: HostRuntime) -> Result<(), Fail> {
-    for (listing, changes, said) in &CHECKS {
-        let image = image(rt.alloc(), listing, changes)?;
-        let text = check_said(rt.alloc(), image.slice(0, image.len()))?;
-        assert_eq!(rt; text.as_str(), *said);
+    for (listing, changes, wanted) in &CHECKS {
+        check_changed(rt.alloc(), listing, changes, *wanted)?;
     }
     Ok(())
 }
@@ -155,84 +199,98 @@ const CUTS: [(usize, WhenFull); 3] = [
     (2, WhenFull::Fails(ErrorKind::Interrupted)),
 ];
 
-/// Whether `new` ends with a write fault behind so many bytes of its image, and none that it prints.
-fn stops_in_image(alloc: Global, room: usize, way: WhenFull) -> bool {
+/// `new` ends with a write fault behind so many bytes of its image, and none that it prints.
+fn check_image_cut(alloc: Global, room: usize, way: WhenFull) -> Result<(), Fail> {
     let image = Narrow::new(alloc, room, 50, way);
     let told = new_on(alloc, SMALL, image, Vec::new(alloc));
-    told.status == Status::WriteFault && told.image.is_cut_at(room) && told.out.is_empty()
+    let is_cut = told.status == Status::WriteFault && told.image.is_cut_at(room);
+    holds(
+        format_args!("{room} {way:?}"),
+        is_cut && told.out.is_empty(),
+    )
 }
 
 #[test]
-fn new_stops_where_the_image_is_not_taken(rt: HostRuntime) {
+fn new_stops_where_the_image_is_not_taken(rt: HostRuntime) -> Result<(), Fail> {
     for (room, way) in &CUTS {
-        assert!(rt; stops_in_image(rt.alloc(), *room, *way), "{room} {way:?}");
+        check_image_cut(rt.alloc(), *room, *way)?;
     }
-    assert!(rt; stops_in_image(rt.alloc(), 127, WhenFull::TakesNothing));
+    check_image_cut(rt.alloc(), 127, WhenFull::TakesNothing)
 }
 
-/// Whether `new` ends with a write fault behind so many bytes that it prints, and so many of an image.
-fn stops_in_line(alloc: Global, size: u32, written: usize, room: usize, way: WhenFull) -> bool {
+/// `new` ends with a write fault behind so many bytes that it prints, and so many of an image.
+fn check_line_cut(
+    alloc: Global,
+    size: u32,
+    written: usize,
+    room: usize,
+    way: WhenFull,
+) -> Result<(), Fail> {
     let out = Narrow::new(alloc, room, 2, way);
     let told = new_on(alloc, (size, 4), Vec::new(alloc), out);
-    told.status == Status::WriteFault && told.image.len() == written && told.out.is_cut_at(room)
+    let is_cut = told.status == Status::WriteFault && told.out.is_cut_at(room);
+    holds(
+        format_args!("{size} {room} {way:?}"),
+        is_cut && told.image.len() == written,
+    )
 }
 
 #[test]
-fn new_stops_where_its_line_is_not_taken(rt: HostRuntime) {
+fn new_stops_where_its_line_is_not_taken(rt: HostRuntime) -> Result<(), Fail> {
     for (room, way) in &CUTS {
-        assert!(rt;
-            stops_in_line(rt.alloc(), 128, 128, *room, *way),
-            "{room} {way:?}"
-        );
-        assert!(rt;
-            stops_in_line(rt.alloc(), 66, 0, *room, *way),
-            "{room} {way:?}"
-        );
+        check_line_cut(rt.alloc(), 128, 128, *room, *way)?;
+        check_line_cut(rt.alloc(), 66, 0, *room, *way)?;
     }
+    Ok(())
 }
 
 #[test]
-fn new_says_what_is_not_flushed(rt: HostRuntime) {
+fn new_says_that_its_image_is_not_flushed(rt: HostRuntime) -> Result<(), Fail> {
     let alloc = rt.alloc();
     let told = new_on(alloc, SMALL, Unflushed(Vec::new(alloc)), Vec::new(alloc));
-    assert!(rt; told.status == Status::WriteFault && told.out.is_empty());
-    let told = new_on(alloc, SMALL, Vec::new(alloc), Unflushed(Vec::new(alloc)));
-    assert!(rt; told.status == Status::WriteFault);
+    let is_fault = told.status == Status::WriteFault;
+    holds("the image", is_fault && told.out.is_empty())
 }
 
-/// Whether `check` ends with a write fault behind so many bytes that it prints of a listing.
-fn check_stops(alloc: Global, listing: &str, room: usize, way: WhenFull) -> Result<bool, Fail> {
+#[test]
+fn new_says_that_its_line_is_not_flushed(rt: HostRuntime) -> Result<(), Fail> {
+    let alloc = rt.alloc();
+    let told = new_on(alloc, SMALL, Vec::new(alloc), Unflushed(Vec::new(alloc)));
+    equal("the line", told.status, Status::WriteFault)
+}
+
+/// `check` ends with a write fault behind so many bytes that it prints of a listing.
+fn check_cut(alloc: Global, listing: &str, room: usize, way: WhenFull) -> Result<(), Fail> {
     let image = bytes_of(alloc, listing)?;
-    let (status, out) = check_on(alloc, image.as_slice(), Narrow::new(alloc, room, 3, way));
-    Ok(status == Status::WriteFault && out.is_cut_at(room))
+    let (status, out) = check_on(alloc, &image, Narrow::new(alloc, room, 3, way));
+    holds(
+        format_args!("{listing}: {room} {way:?}"),
+        status == Status::WriteFault && out.is_cut_at(room),
+    )
 }
 
 #[test]
 fn check_stops_where_its_line_is_not_taken(rt: HostRuntime) -> Result<(), Fail> {
     for (room, way) in &CUTS {
-        assert!(rt;
-            check_stops(rt.alloc(), BLANK, 4 * room, *way)?,
-            "{room} {way:?}"
-        );
-        assert!(rt;
-            check_stops(rt.alloc(), "", 4 * room, *way)?,
-            "{room} {way:?}"
-        );
+        check_cut(rt.alloc(), BLANK, 4 * room, *way)?;
+        check_cut(rt.alloc(), "", 4 * room, *way)?;
     }
     Ok(())
 }
 
-/// The status of `check`, and how many bytes it prints to a writer that can't be flushed.
-fn check_unflushed(alloc: Global, listing: &str) -> Result<(Status, usize), Fail> {
+/// How many bytes `check` prints of a listing to a writer that can't be flushed.
+fn check_unflushed(alloc: Global, listing: &str, printed: usize) -> Result<(), Fail> {
     let image = bytes_of(alloc, listing)?;
-    let (status, out) = check_on(alloc, image.as_slice(), Unflushed(Vec::new(alloc)));
-    Ok((status, out.0.len()))
+    let (status, out) = check_on(alloc, &image, Unflushed(Vec::new(alloc)));
+    equal(
+        listing,
+        (status, out.0.len()),
+        (Status::WriteFault, printed),
+    )
 }
 
 #[test]
 fn check_says_that_its_line_is_not_flushed(rt: HostRuntime) -> Result<(), Fail> {
-    for (listing, printed) in [(BLANK, 58), ("", 13)] {
-        assert!(rt; check_unflushed(rt.alloc(), listing)? == (Status::WriteFault, printed));
-    }
-    Ok(())
+    check_unflushed(rt.alloc(), BLANK, 58)?;
+    check_unflushed(rt.alloc(), "", 13)
 }

@@ -1,59 +1,50 @@
 //! Databases: images with them that are checked, and the lines that make, ask for, change and delete
 //! them.
 
-use crate::calls::put_reply;
-use crate::commands::check_said;
-use crate::runs::{check_runs, run_on};
+use crate::calls::{check_calls, creation, listed_store};
+use crate::commands::{check_changed, check_on};
+use crate::runs::run_on;
 use heap_model::{Call, DatabaseCall, Db, DbName};
-use palm_script::do_call;
-use palm_store::Store;
-use std::alloc::Global;
-use std::fmt::Write;
+use program_io::Status;
+use std::alloc::{AllocError, Global};
 use std::test::Fail;
-use test_images::{BLANK, DATABASE, TWO_DATABASES, WIDE, bytes_of, image};
+use test_fakes::{equal, holds};
+use test_images::{BLANK, DATABASE, TWO_DATABASES, WIDE, bytes_of};
 
 /// Free chunks of 88 and 16 bytes, and between them one that is locked.
 const TWO_ROOMS: &str = "50484931 00000090 0004 0000 00000000 00000080 00*12 80000058 00*84 \
     00000008 11FFFFCC 80000010 00*12";
 
-/// What is changed in an image, and the fault that comes of it.
+/// What is changed in an image, and what `check` says of it.
 const FAULTS: [(&str, &str, &str); 15] = [
-    (DATABASE, "59: 10", "BadDirectorySlot 0"),
-    (DATABASE, "149: 03", "BadHeader 0"),
-    (DATABASE, "147: 01", "BadHeader 0"),
-    (DATABASE, "127: 14", "BadHeader 0"),
-    (DATABASE, "158: 00000014", "BadEntry 0 1"),
-    (DATABASE, "158: 00000000", "BadEntry 0 1"),
-    (DATABASE, "158: 00000018", "SharedChunk 24"),
-    (DATABASE, "158: 0000000080", "StrayChunk 28"),
-    (DATABASE, "15: 00", "StrayChunk 16"),
-    (DATABASE, "163: 000001", "BadId 0 1"),
-    (DATABASE, "163: 000000", "BadId 0 1"),
-    (DATABASE, "72: 00", "BadName 0"),
+    (DATABASE, "59: 10", "bad BadDirectorySlot 0\n"),
+    (DATABASE, "149: 03", "bad BadHeader 0\n"),
+    (DATABASE, "147: 01", "bad BadHeader 0\n"),
+    (DATABASE, "127: 14", "bad BadHeader 0\n"),
+    (DATABASE, "158: 00000014", "bad BadEntry 0 1\n"),
+    (DATABASE, "158: 00000000", "bad BadEntry 0 1\n"),
+    (DATABASE, "158: 00000018", "bad SharedChunk 24\n"),
+    (DATABASE, "158: 0000000080", "bad StrayChunk 28\n"),
+    (DATABASE, "15: 00", "bad StrayChunk 16\n"),
+    (DATABASE, "163: 000001", "bad BadId 0 1\n"),
+    (DATABASE, "163: 000000", "bad BadId 0 1\n"),
+    (DATABASE, "72: 00", "bad BadName 0\n"),
     // in the second of two databases
-    (TWO_DATABASES, "251: 000000", "BadId 1 0"),
-    (TWO_DATABASES, "168: 00", "BadName 1"),
-    (TWO_DATABASES, "168: 41", "SameName 1"),
+    (TWO_DATABASES, "251: 000000", "bad BadId 1 0\n"),
+    (TWO_DATABASES, "168: 00", "bad BadName 1\n"),
+    (TWO_DATABASES, "168: 41", "bad SameName 1\n"),
 ];
 
 #[test]
 fn check_names_what_is_wrong_with_databases(rt: HostRuntime) -> Result<(), Fail> {
     for (listing, changes, fault) in &FAULTS {
-        let region = image(rt.alloc(), listing, changes)?;
-        let said = check_said(rt.alloc(), region.slice(0, region.len()))?;
-        let wanted = format!(in rt.alloc(); "Refused bad {fault}\n")?;
-        assert_eq!(rt; said.as_str(), wanted.as_str());
+        check_changed(rt.alloc(), listing, changes, (Status::Refused, fault))?;
     }
     Ok(())
 }
 
-#[test]
-fn lines_on_databases_print_their_replies(rt: HostRuntime) -> Result<(), Fail> {
-    check_runs(&rt, &RUNS)
-}
-
 /// Images, and the lines that are run on them, each with its reply.
-const RUNS: [(&str, &str); 8] = [
+pub(crate) const RUNS: [(&str, &str); 8] = [
     // a database that an image has is found and deleted
     (
         DATABASE,
@@ -174,50 +165,35 @@ const RUNS: [(&str, &str); 8] = [
     ),
 ];
 
-/// A call on the databases of a store, by its number, and the one that was made before.
-fn call(number: u32) -> DatabaseCall {
-    let name = DbName::of(b"Notes");
-    let db = Db(16);
-    match number {
-        0 => DatabaseCall::Create {
-            name,
-            kind: 1,
-            creator: 2,
-            resources: false,
-            date: 3,
-        },
-        1 => DatabaseCall::Find(name),
-        2 => DatabaseCall::Nth(0),
-        3 => DatabaseCall::Count,
-        4 => DatabaseCall::Info(db),
-        5 => DatabaseCall::Delete(Db(20)),
-        6 => DatabaseCall::Delete(db),
-        _ => DatabaseCall::Find(name),
-    }
+/// The database that the first call makes.
+const NOTES: Db = Db(16);
+
+/// Calls on it, of which the last deletes it.
+const CALLS: [Call; 5] = [
+    Call::Database(DatabaseCall::Nth(0)),
+    Call::Database(DatabaseCall::Count),
+    Call::Database(DatabaseCall::Info(NOTES)),
+    Call::Database(DatabaseCall::Delete(Db(20))),
+    Call::Database(DatabaseCall::Delete(NOTES)),
+];
+
+fn search(name: &[u8]) -> Call {
+    Call::Database(DatabaseCall::Find(DbName::of(name)))
 }
 
 /// The calls in their order, and what each is answered.
 #[test]
 fn calls_on_databases_are_answered(rt: HostRuntime) -> Result<(), Fail> {
-    let region = image(rt.alloc(), WIDE, "")?;
-    let Ok(mut store) = Store::check(rt.alloc(), region) else {
-        return Err("no store")?;
-    };
-    let mut text = String::new(rt.alloc());
-    for number in 0..8 {
-        let reply = do_call(rt.alloc(), &mut store, &Call::Database(call(number)));
-        put_reply(&mut text, &reply)?;
-    }
-    assert_eq!(rt;
-        text.as_str(),
-        "database 16; database 16; database 16; 1; 0 of 5; refused 10; done; refused 10; "
-    );
-    assert_eq!(rt; store.summary().databases, 0);
-    Ok(())
+    let mut store = listed_store(rt.alloc(), WIDE)?;
+    let front = [creation(b"Notes", false), search(b"Notes")];
+    let behind = [search(b"Notes")];
+    let said = "database 16; database 16; database 16; 1; 0 of 5; refused 10; done; refused 10; ";
+    check_calls(rt.alloc(), &mut store, &[&front, &CALLS, &behind], said)?;
+    equal("databases", store.summary().databases, 0)
 }
 
 /// A script that makes so many databases.
-fn creations(alloc: Global, count: u32) -> Result<String, Fail> {
+fn creations(alloc: Global, count: u32) -> Result<String, AllocError> {
     let mut script = String::new(alloc);
     for number in 0..count {
         writeln!(script, "create d \"{number}\" \"DATA\" \"Test\" 0 0")?;
@@ -225,21 +201,21 @@ fn creations(alloc: Global, count: u32) -> Result<String, Fail> {
     Ok(script)
 }
 
+/// Whether `check` counts 1,024 databases in an image.
+fn has_1024(alloc: Global, image: &[u8]) -> bool {
+    let (status, out) = check_on(alloc, image, Vec::new(alloc));
+    status == Status::Done && out.ends_with(b"databases 1024\n")
+}
+
 /// 1,024 databases are made, and no other.
 #[test]
 fn a_store_has_1024_databases_at_most(rt: HostRuntime) -> Result<(), Fail> {
     let blank = bytes_of(rt.alloc(), ROOMY)?;
     let script = creations(rt.alloc(), 1_025)?;
-    let ran = run_on(rt.alloc(), blank.as_slice(), script.as_str());
-    assert_eq!(rt; ran.out.len(), 1_024 * 3 + 26);
-    assert!(rt;
-        ran.out
-            .as_slice()
-            .ends_with(b"ok\nrefused 17 TooManyEntries\n")
-    );
-    let said = check_said(rt.alloc(), ran.image.as_slice())?;
-    assert!(rt; said.as_str().ends_with("databases 1024\n"));
-    Ok(())
+    let ran = run_on(rt.alloc(), &blank, script.as_str(), &[]);
+    let is_told = ran.out.ends_with(b"ok\nrefused 17 TooManyEntries\n");
+    equal("bytes", ran.out.len(), 1_024 * 3 + 26)?;
+    holds("the replies", is_told && has_1024(rt.alloc(), &ran.image))
 }
 
 /// A blank image of 200,000 bytes with 1,100 slots.

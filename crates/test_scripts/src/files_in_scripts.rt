@@ -1,13 +1,14 @@
 //! Files that scripts import and export.
 
-use heap_model::{Bytes, Call, Counted, FileCall, Reply};
-use palm_script::{do_call, parse, run};
-use palm_store::Store;
+use crate::calls::listed_store;
+use crate::runs::check_lines;
+use heap_model::{Bytes, Call, FileCall, Reply};
+use palm_script::do_call;
 use std::alloc::Global;
-use std::process::Abort;
-use std::test::*;
+use std::test::Fail;
+use test_fakes::equal;
 use test_images::{
-    BLANK, EMPTY_FILE, EMPTY_WRITTEN, ORDER_FILE, ORDER_WRITTEN, TINY_FILE, WIDE, bytes_of, image,
+    BLANK, EMPTY_FILE, EMPTY_WRITTEN, ORDER_FILE, ORDER_WRITTEN, TINY_FILE, WIDE, bytes_of,
 };
 
 /// A file of records with the greatest and the least ID, whose seed is just below the greatest.
@@ -182,85 +183,62 @@ const CASES: [Case; 9] = [
     },
 ];
 
-/// What a script prints that is run on a store, and the files that it exports.
-fn ran_on(
-    alloc: Global,
-    store: &mut Store,
-    script: &[u8],
-    inputs: &[Bytes],
-) -> Result<(String, Vec<Bytes>), Fail> {
-    let script = parse(alloc, script).ok().ok_or("no script")?;
-    let mut out = Counted::new(Vec::new(alloc));
-    let files = run(alloc, store, &script, inputs, &mut out)?;
-    let text = String::from_utf8(out.into_inner()).ok().ok_or("no text")?;
-    Ok((text, files))
+/// The bytes of a listing, as calls have them.
+fn file_of(alloc: Global, listing: &str) -> Result<Bytes, Fail> {
+    Ok(Bytes::of(bytes_of(alloc, listing)?))
 }
 
-/// The bytes of some listings.
 fn files_of(alloc: Global, listings: &[&str]) -> Result<Vec<Bytes>, Fail> {
     let mut files = Vec::new(alloc);
     for listing in listings {
-        files.push(Bytes::of(bytes_of(alloc, listing)?))?;
+        files.push(file_of(alloc, listing)?)?;
     }
     Ok(files)
 }
 
-/// The lines of a case, and their replies.
-fn parted(alloc: Global, lines: &str) -> Result<(String, String), Fail> {
-    let (mut script, mut wanted) = (String::new(alloc), String::new(alloc));
-    for row in lines.lines() {
-        let (line, reply) = row.trim().split_once(" = ").ok_or("no reply")?;
-        writeln!(script, "{line}")?;
-        writeln!(wanted, "{reply}")?;
-    }
-    Ok((script, wanted))
-}
-
-fn check_case(rt: &(impl Abort + AllocGlobal), case: &Case) -> Result<(), Fail> {
-    let alloc = rt.alloc();
-    let Ok(mut store) = Store::check(alloc, image(alloc, case.image, "")?) else {
-        return Err("no store")?;
-    };
-    let (script, wanted) = parted(alloc, case.lines)?;
+fn check_case(alloc: Global, case: &Case) -> Result<(), Fail> {
+    let image = bytes_of(alloc, case.image)?;
     let inputs = files_of(alloc, case.inputs)?;
-    let (said, files) = ran_on(alloc, &mut store, script.as_bytes(), inputs.as_slice())?;
-    assert_eq!(rt; said.as_str(), wanted.as_str());
-    assert!(rt; files == files_of(alloc, case.files)?, "{said}");
-    Ok(())
+    let files = files_of(alloc, case.files)?;
+    check_lines(alloc, &image, case.lines, &inputs, &files)
 }
 
 #[test]
 fn files_come_and_go(rt: HostRuntime) -> Result<(), Fail> {
     for case in &CASES {
-        check_case(&rt, case)?;
+        check_case(rt.alloc(), case)?;
     }
     Ok(())
 }
 
-/// The bytes of a listing, as a call has them.
-fn file_of(alloc: Global, listing: &str) -> Result<Bytes, Fail> {
-    Ok(Bytes::of(bytes_of(alloc, listing)?))
+/// The file that is written of a database that is read from a file, as a reply.
+fn carried(alloc: Global, file: Bytes) -> Result<Reply, Fail> {
+    let mut store = listed_store(alloc, WIDE)?;
+    let import = Call::File(FileCall::Import(file));
+    match do_call(alloc, &mut store, &import) {
+        Reply::Database(db) => Ok(do_call(alloc, &mut store, &Call::File(FileCall::Export(db)))),
+        _ => Err("not read")?,
+    }
 }
+
+fn check_carried(alloc: Global, read: &str, written: &str) -> Result<(), Fail> {
+    let reply = carried(alloc, file_of(alloc, read)?)?;
+    equal(read, reply, Reply::Data(file_of(alloc, written)?))
+}
+
+/// Files, and what is written of them.
+const CARRIED: [(&str, &str); 4] = [
+    (EMPTY_FILE, EMPTY_WRITTEN),
+    (ORDER_FILE, ORDER_WRITTEN),
+    (TINY_FILE, TINY_FILE),
+    (TURNED, TURNED_WRITTEN),
+];
 
 /// A file is read by one call, and written by another: each byte of it.
 #[test]
 fn a_file_comes_and_goes_by_calls(rt: HostRuntime) -> Result<(), Fail> {
-    let alloc = rt.alloc();
-    for (read, written) in [
-        (EMPTY_FILE, EMPTY_WRITTEN),
-        (ORDER_FILE, ORDER_WRITTEN),
-        (TINY_FILE, TINY_FILE),
-        (TURNED, TURNED_WRITTEN),
-    ] {
-        let Ok(mut store) = Store::check(alloc, image(alloc, WIDE, "")?) else {
-            return Err("no store")?;
-        };
-        let import = Call::File(FileCall::Import(file_of(alloc, read)?));
-        let Reply::Database(db) = do_call(alloc, &mut store, &import) else {
-            return Err("not read")?;
-        };
-        let said = do_call(alloc, &mut store, &Call::File(FileCall::Export(db)));
-        assert_eq!(rt; said, Reply::Data(file_of(alloc, written)?));
+    for (read, written) in &CARRIED {
+        check_carried(rt.alloc(), read, written)?;
     }
     Ok(())
 }

@@ -3,21 +3,52 @@
 //! the format's own words.
 
 use crate::shown::shown;
-use script_lines::{LineFault, ScriptFault, parse, parse_from};
+use script_lines::{LineFault, Script, ScriptFault, parse, parse_from};
 use std::alloc::Global;
-use std::process::Abort;
 use std::test::*;
-use test_fakes::RefusesOne;
+use test_fakes::{RefusesOne, equal};
 
-/// Each case has a script, and what it reads as.
-fn check(rt: &(impl Abort + AllocGlobal), cases: &[(&[u8], &str)]) -> Result<(), Fail> {
-    for (script, want) in cases {
-        assert_eq!(rt; shown(rt.alloc(), script)?.as_str(), *want);
+/// A script reads as this.
+fn check_case(alloc: Global, script: &[u8], wanted: &str) -> Result<(), Fail> {
+    let said = shown(alloc, script)?;
+    equal(format_args!("{script:?}"), said.as_str(), wanted)
+}
+
+fn check(alloc: Global, cases: &[Case]) -> Result<(), Fail> {
+    for (script, wanted) in cases {
+        check_case(alloc, script, wanted)?;
     }
     Ok(())
 }
 
-const COMMAND_CASES: [(&[u8], &str); 27] = [
+/// A script, and what it reads as.
+type Case = (&'static [u8], &'static str);
+
+const TABLES: [&[Case]; 13] = [
+    &COMMAND_CASES,
+    &NUMBER_CASES,
+    &LABEL_CASES,
+    &BYTES_CASES,
+    &RECORD_CASES,
+    &CATEGORY_CASES,
+    &RESOURCE_CASES,
+    &GIVING_CASES,
+    &DATABASE_CASES,
+    &FILE_CASES,
+    &LINE_CASES,
+    &WORD_CASES,
+    &FAULT_CASES,
+];
+
+#[test]
+fn scripts_are_read(rt: HostRuntime) -> Result<(), Fail> {
+    for cases in &TABLES {
+        check(rt.alloc(), cases)?;
+    }
+    Ok(())
+}
+
+const COMMAND_CASES: [Case; 27] = [
     (b"bind a 16", "bind 0 16;"),
     (b"new a 8 1", "new 0 8 1;"),
     (b"ptrnew a 8 1", "ptrnew 0 8 1;"),
@@ -48,12 +79,7 @@ const COMMAND_CASES: [(&[u8], &str); 27] = [
     (b"\"#\"", "line 1 UnknownCommand"),
 ];
 
-#[test]
-fn commands(rt: HostRuntime) -> Result<(), Fail> {
-    check(&rt, &COMMAND_CASES)
-}
-
-const NUMBER_CASES: [(&[u8], &str); 32] = [
+const NUMBER_CASES: [Case; 32] = [
     (b"freeowner 0", "freeowner 0;"),
     (b"freeowner 255", "freeowner 255;"),
     (b"freeowner 256", "line 1 BadWord 2"),
@@ -88,12 +114,7 @@ const NUMBER_CASES: [(&[u8], &str); 32] = [
     (b"read a 0 0x1G", "line 1 BadWord 4"),
 ];
 
-#[test]
-fn numbers(rt: HostRuntime) -> Result<(), Fail> {
-    check(&rt, &NUMBER_CASES)
-}
-
-const LABEL_CASES: [(&[u8], &str); 19] = [
+const LABEL_CASES: [Case; 19] = [
     (b"free Z", "free 0;"),
     (b"free z_9A", "free 0;"),
     (b"free a_1", "free 0;"),
@@ -125,12 +146,7 @@ const LABEL_CASES: [(&[u8], &str); 19] = [
     (b"free new", "free 0;"),
 ];
 
-#[test]
-fn labels(rt: HostRuntime) -> Result<(), Fail> {
-    check(&rt, &LABEL_CASES)
-}
-
-const BYTES_CASES: [(&[u8], &str); 28] = [
+const BYTES_CASES: [Case; 28] = [
     (b"write a 0 -", "write 0 0 /;"),
     (b"write a 0 00fFa9", "write 0 0 /00ffa9;"),
     (b"write a 0 4", "line 1 BadWord 4"),
@@ -161,12 +177,7 @@ const BYTES_CASES: [(&[u8], &str); 28] = [
     (b"strcopy a 0 a\"b\"", "line 1 BadWord 4"),
 ];
 
-#[test]
-fn bytes_and_texts(rt: HostRuntime) -> Result<(), Fail> {
-    check(&rt, &BYTES_CASES)
-}
-
-const RECORD_CASES: [(&[u8], &str); 36] = [
+const RECORD_CASES: [Case; 36] = [
     (b"recnew d 1 2 h", "recnew 0 1 2 0;"),
     (b"recdelete d 4294967295", "recdelete 0 4294967295;"),
     (b"recarchive d 0", "recarchive 0 0;"),
@@ -211,12 +222,7 @@ const RECORD_CASES: [(&[u8], &str); 36] = [
     (b"recfree d 0", "line 1 UnknownCommand"),
 ];
 
-#[test]
-fn records(rt: HostRuntime) -> Result<(), Fail> {
-    check(&rt, &RECORD_CASES)
-}
-
-const CATEGORY_CASES: [(&[u8], &str); 38] = [
+const CATEGORY_CASES: [Case; 38] = [
     (b"recdetach d 1 2 h", "recdetach 0 1 2 0;"),
     (b"recset d 1 0xF3 4294967295", "recset 0 1 243 4294967295;"),
     (b"recfind d 9", "recfind 0 9;"),
@@ -263,12 +269,7 @@ const CATEGORY_CASES: [(&[u8], &str); 38] = [
     (b"catset d 0 0", "line 1 UnknownCommand"),
 ];
 
-#[test]
-fn categories(rt: HostRuntime) -> Result<(), Fail> {
-    check(&rt, &CATEGORY_CASES)
-}
-
-const RESOURCE_CASES: [(&[u8], &str); 52] = [
+const RESOURCE_CASES: [Case; 52] = [
     (
         b"resnew d \"code\" 65535 4294967295 h",
         "resnew 0 636f6465 65535 4294967295 0;",
@@ -338,12 +339,7 @@ const RESOURCE_CASES: [(&[u8], &str); 52] = [
     (b"resmove d 0 1", "line 1 UnknownCommand"),
 ];
 
-#[test]
-fn resources(rt: HostRuntime) -> Result<(), Fail> {
-    check(&rt, &RESOURCE_CASES)
-}
-
-const GIVING_CASES: [(&[u8], &str); 38] = [
+const GIVING_CASES: [Case; 38] = [
     (b"recattach d 4294967295 h", "recattach 0 4294967295 0;"),
     (b"recreplace d 1 h 14 o", "recreplace 0 1 0 14 1;"),
     (b"recreplace d 1 h 0 h", "recreplace 0 1 0 0 0;"),
@@ -390,12 +386,7 @@ const GIVING_CASES: [(&[u8], &str); 38] = [
     (b"infofree d app", "line 1 UnknownCommand"),
 ];
 
-#[test]
-fn chunks_that_are_given(rt: HostRuntime) -> Result<(), Fail> {
-    check(&rt, &GIVING_CASES)
-}
-
-const DATABASE_CASES: [(&[u8], &str); 41] = [
+const DATABASE_CASES: [Case; 41] = [
     (
         b"create d \"No\" \"DATA\" \"Test\" 0 7",
         "create 0 /4e6f 44415441 54657374 false 7;",
@@ -491,12 +482,7 @@ const DATABASE_CASES: [(&[u8], &str); 41] = [
     (b"dbDelete d", "line 1 UnknownCommand"),
 ];
 
-#[test]
-fn lines_on_databases(rt: HostRuntime) -> Result<(), Fail> {
-    check(&rt, &DATABASE_CASES)
-}
-
-const FILE_CASES: [(&[u8], &str); 18] = [
+const FILE_CASES: [Case; 18] = [
     (b"import d 1", "import 0 1;"),
     (b"import d 0", "import 0 0;"),
     (b"import d 0xFFFFFFFF", "import 0 4294967295;"),
@@ -521,12 +507,7 @@ const FILE_CASES: [(&[u8], &str); 18] = [
     (b"exports d", "line 1 UnknownCommand"),
 ];
 
-#[test]
-fn lines_on_files(rt: HostRuntime) -> Result<(), Fail> {
-    check(&rt, &FILE_CASES)
-}
-
-const LINE_CASES: [(&[u8], &str); 22] = [
+const LINE_CASES: [Case; 22] = [
     // no lines, and lines that are passed over
     (b"", ""),
     (b"\n", ""),
@@ -554,12 +535,7 @@ const LINE_CASES: [(&[u8], &str); 22] = [
     (b"free a\n\n\n\n\n\n\n\n\nread a 0 x", "line 10 BadWord 4"),
 ];
 
-#[test]
-fn lines_and_their_ends(rt: HostRuntime) -> Result<(), Fail> {
-    check(&rt, &LINE_CASES)
-}
-
-const WORD_CASES: [(&[u8], &str); 19] = [
+const WORD_CASES: [Case; 19] = [
     // blanks in front, between and behind
     (b" \tfree\t \ta \t", "free 0;"),
     (b"free a\n", "free 0;"),
@@ -586,12 +562,7 @@ const WORD_CASES: [(&[u8], &str); 19] = [
     (b"free\" a", "line 1 UnknownCommand"),
 ];
 
-#[test]
-fn words_and_their_quotes(rt: HostRuntime) -> Result<(), Fail> {
-    check(&rt, &WORD_CASES)
-}
-
-const FAULT_CASES: [(&[u8], &str); 19] = [
+const FAULT_CASES: [Case; 19] = [
     (b"frob", "line 1 UnknownCommand"),
     (b"new a 8", "line 1 WrongCount"),
     (b"read a 0 x", "line 1 BadWord 4"),
@@ -617,79 +588,98 @@ const FAULT_CASES: [(&[u8], &str); 19] = [
     (b"new a 8 256", "line 1 BadWord 4"),
 ];
 
-#[test]
-fn the_first_fault_of_a_line(rt: HostRuntime) -> Result<(), Fail> {
-    check(&rt, &FAULT_CASES)
+/// What is counted in a script.
+#[derive(Clone, Copy, Debug)]
+pub(crate) enum What {
+    /// The labels of chunks, up to the last that it binds.
+    ChunkLabels,
+    /// Those of databases, likewise.
+    DatabaseLabels,
+    /// The lines that export a file.
+    Exports,
 }
 
-/// How many labels of chunks a script has, up to the last that it binds, if it is one.
-pub(crate) fn label_count(alloc: Global, script: &[u8]) -> Option<usize> {
+fn count_in(script: &Script, what: What) -> usize {
+    match what {
+        What::ChunkLabels => script.chunk_label_count(),
+        What::DatabaseLabels => script.database_label_count(),
+        What::Exports => script.export_count(),
+    }
+}
+
+/// How many there are in a script, if it is one.
+pub(crate) fn count_of(alloc: Global, script: &[u8], what: What) -> Option<usize> {
     match parse(alloc, script) {
-        Ok(script) => Some(script.chunk_label_count()),
+        Ok(script) => Some(count_in(&script, what)),
         Err(_) => None,
     }
 }
 
-const COUNT_CASES: [(&[u8], Option<usize>); 8] = [
-    (b"", Some(0)),
-    (b"freebytes", Some(0)),
-    (b"free a\nfree b\nbind c 0\nfree d", Some(3)),
-    (b"new a 1 1\nnth b 0\nrecget b 0 b", Some(2)),
-    (b"free a\ninfo d app b", Some(2)),
-    (b"free a\ninfotake d app 1 b\nrecreplace d 0 a 1 c", Some(3)),
-    (b"new a 1 1\ninfoset d app b\nrecattach d 0 c", Some(1)),
-    (b"free a\nfree", None),
+fn check_count(
+    alloc: Global,
+    what: What,
+    script: &[u8],
+    wanted: Option<usize>,
+) -> Result<(), Fail> {
+    equal(
+        format_args!("{what:?} of {script:?}"),
+        count_of(alloc, script, what),
+        wanted,
+    )
+}
+
+/// What is counted, scripts, and how many there are.
+const COUNT_CASES: [(What, &[u8], Option<usize>); 18] = [
+    (What::ChunkLabels, b"", Some(0)),
+    (What::ChunkLabels, b"freebytes", Some(0)),
+    (
+        What::ChunkLabels,
+        b"free a\nfree b\nbind c 0\nfree d",
+        Some(3),
+    ),
+    (
+        What::ChunkLabels,
+        b"new a 1 1\nnth b 0\nrecget b 0 b",
+        Some(2),
+    ),
+    (What::ChunkLabels, b"free a\ninfo d app b", Some(2)),
+    (
+        What::ChunkLabels,
+        b"free a\ninfotake d app 1 b\nrecreplace d 0 a 1 c",
+        Some(3),
+    ),
+    (
+        What::ChunkLabels,
+        b"new a 1 1\ninfoset d app b\nrecattach d 0 c",
+        Some(1),
+    ),
+    (What::ChunkLabels, b"free a\nfree", None),
+    (What::DatabaseLabels, b"free a\nfree b\ndbcount", Some(0)),
+    (
+        What::DatabaseLabels,
+        b"free a\nfree b\ndbinfo a\nfind a \"\"",
+        Some(1),
+    ),
+    (What::DatabaseLabels, b"nth a 0\nnth b 0\nnth a 1", Some(2)),
+    (What::DatabaseLabels, b"import a 1\nexport b", Some(1)),
+    (What::DatabaseLabels, b"export b\nimport a 1", Some(2)),
+    (What::DatabaseLabels, b"nth a 0\nnth b", None),
+    (What::Exports, b"", Some(0)),
+    (What::Exports, b"import d 1\nfreebytes", Some(0)),
+    (
+        What::Exports,
+        b"export d\nimport d 1\nexport d\n# export d",
+        Some(2),
+    ),
+    (What::Exports, b"export d\nexport", None),
 ];
 
 #[test]
-fn labels_are_counted(rt: HostRuntime) {
-    for (script, want) in &COUNT_CASES {
-        assert_eq!(rt; label_count(rt.alloc(), script), *want);
+fn labels_and_exports_are_counted(rt: HostRuntime) -> Result<(), Fail> {
+    for (what, script, wanted) in &COUNT_CASES {
+        check_count(rt.alloc(), *what, script, *wanted)?;
     }
-}
-
-/// How many labels of databases a script has, if it is one.
-fn database_label_count(alloc: Global, script: &[u8]) -> Option<usize> {
-    match parse(alloc, script) {
-        Ok(script) => Some(script.database_label_count()),
-        Err(_) => None,
-    }
-}
-
-const DATABASE_COUNT_CASES: [(&[u8], Option<usize>); 6] = [
-    (b"free a\nfree b\ndbcount", Some(0)),
-    (b"free a\nfree b\ndbinfo a\nfind a \"\"", Some(1)),
-    (b"nth a 0\nnth b 0\nnth a 1", Some(2)),
-    (b"import a 1\nexport b", Some(1)),
-    (b"export b\nimport a 1", Some(2)),
-    (b"nth a 0\nnth b", None),
-];
-
-#[test]
-fn labels_of_databases_are_counted(rt: HostRuntime) {
-    for (script, want) in &DATABASE_COUNT_CASES {
-        assert_eq!(rt; database_label_count(rt.alloc(), script), *want);
-    }
-}
-
-/// How many lines of a script export a file, if it is one.
-fn export_count(alloc: Global, script: &[u8]) -> Option<usize> {
-    match parse(alloc, script) {
-        Ok(script) => Some(script.export_count()),
-        Err(_) => None,
-    }
-}
-
-#[test]
-fn exports_are_counted(rt: HostRuntime) {
-    for (script, want) in [
-        (b"".as_slice(), Some(0)),
-        (b"import d 1\nfreebytes", Some(0)),
-        (b"export d\nimport d 1\nexport d\n# export d", Some(2)),
-        (b"export d\nexport", None),
-    ] {
-        assert_eq!(rt; export_count(rt.alloc(), script), want);
-    }
+    Ok(())
 }
 
 /// A script that takes each kind of memory, with how many growths: 6 lines, 3 labels, 14 values, and
@@ -700,27 +690,24 @@ const EACH_GROWTH: &[u8] =
 
 const GROWTHS: u32 = 27;
 
-/// How many lines that script has, or its fault, where a growth behind so many is refused.
-fn lines_without(alloc: Global, before: u32) -> Result<usize, LineFault> {
-    match parse_from(&RefusesOne::behind(alloc, before), EACH_GROWTH) {
-        Ok(script) => Ok(script.lines().len()),
-        Err(fault) => Err(fault),
-    }
-}
-
 const REFUSED: LineFault = LineFault {
     line: 0,
     fault: ScriptFault::OutOfMemory,
 };
 
+/// How many lines that script has, or its fault, where a growth behind so many is refused.
+fn check_without(alloc: Global, before: u32, wanted: Result<usize, LineFault>) -> Result<(), Fail> {
+    let lines = match parse_from(&RefusesOne::behind(alloc, before), EACH_GROWTH) {
+        Ok(script) => Ok(script.lines().len()),
+        Err(fault) => Err(fault),
+    };
+    equal(format_args!("after {before}"), lines, wanted)
+}
+
 #[test]
-fn every_growth_may_be_refused(rt: HostRuntime) {
-    for before in 0..=GROWTHS {
-        let wanted = if before < GROWTHS {
-            Err(REFUSED)
-        } else {
-            Ok(6)
-        };
-        assert_eq!(rt; lines_without(rt.alloc(), before), wanted, "after {before}");
+fn every_growth_may_be_refused(rt: HostRuntime) -> Result<(), Fail> {
+    for before in 0..GROWTHS {
+        check_without(rt.alloc(), before, Err(REFUSED))?;
     }
+    check_without(rt.alloc(), GROWTHS, Ok(6))
 }

@@ -1,11 +1,9 @@
 //! Scripts whose lines move chunks, or may not.
 
-use crate::runs::check_runs;
-use std::test::Fail;
 use test_images::{THREE_CHUNKS, TWO_CHUNKS};
 
 /// Images, and the lines that are run on them, each with its reply.
-const RUNS: [(&str, &str); 6] = [
+pub(crate) const RUNS: [(&str, &str); 6] = [
     // a locked chunk parts two rooms
     (
         THREE_CHUNKS,
@@ -73,8 +71,3 @@ const RUNS: [(&str, &str); 6] = [
         read b 23 1 = ok 00",
     ),
 ];
-
-#[test]
-fn lines_that_may_move_chunks(rt: HostRuntime) -> Result<(), Fail> {
-    check_runs(&rt, &RUNS)
-}

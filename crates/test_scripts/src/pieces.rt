@@ -4,7 +4,8 @@ use heap_model::Counted;
 use palm_text::{Piece, put_pieces};
 use std::alloc::Global;
 use std::io::ErrorKind;
-use test_fakes::{Narrow, WhenFull};
+use std::test::Fail;
+use test_fakes::{Narrow, WhenFull, holds};
 
 /// 33 bytes, which is a turn of hex and one byte more.
 const BYTES: [u8; 33] = [
@@ -45,29 +46,39 @@ fn put_to(alloc: Global, room: usize, step: usize, way: WhenFull) -> (bool, Narr
     (is_put, out.into_inner())
 }
 
-#[test]
-fn pieces_are_written_one_behind_another(rt: HostRuntime) {
-    for step in [1, 2, 7, 1000] {
-        let (is_put, out) = put_to(rt.alloc(), 1000, step, WhenFull::TakesNothing);
-        assert!(rt; is_put && out.refused == 0, "{step} bytes at a time");
-        assert_eq!(rt; out.taken.as_slice(), TEXT.as_bytes());
-    }
+/// Pieces are written one behind another, so many bytes at a time.
+fn check_put(alloc: Global, step: usize) -> Result<(), Fail> {
+    let (is_put, out) = put_to(alloc, 1000, step, WhenFull::TakesNothing);
+    let is_text = out.taken.as_slice() == TEXT.as_bytes();
+    holds(
+        format_args!("{step} bytes at a time"),
+        is_put && out.refused == 0 && is_text,
+    )
 }
 
-/// Whether `put_pieces` fails where there is room for so many bytes, and writes these.
-fn is_cut(alloc: Global, room: usize, way: WhenFull) -> bool {
+#[test]
+fn pieces_are_written_one_behind_another(rt: HostRuntime) -> Result<(), Fail> {
+    for step in &[1, 2, 7, 1000] {
+        check_put(rt.alloc(), *step)?;
+    }
+    Ok(())
+}
+
+/// `put_pieces` fails where there is room for so many bytes, and writes these.
+fn check_cut(alloc: Global, room: usize, way: WhenFull) -> Result<(), Fail> {
     let (is_put, out) = put_to(alloc, room, 5, way);
-    !is_put && out.is_cut_at(room) && TEXT.as_bytes().starts_with(out.taken.as_slice())
+    let is_front = TEXT.as_bytes().starts_with(&out.taken);
+    holds(
+        format_args!("room for {room}"),
+        !is_put && out.is_cut_at(room) && is_front,
+    )
 }
 
 #[test]
-fn nothing_follows_a_write_that_fails(rt: HostRuntime) {
+fn nothing_follows_a_write_that_fails(rt: HostRuntime) -> Result<(), Fail> {
     for room in 0..TEXT.len() {
-        assert!(rt;
-            is_cut(rt.alloc(), room, WhenFull::TakesNothing),
-            "room for {room}"
-        );
-        let way = WhenFull::Fails(ErrorKind::Interrupted);
-        assert!(rt; is_cut(rt.alloc(), room, way), "room for {room}");
+        check_cut(rt.alloc(), room, WhenFull::TakesNothing)?;
+        check_cut(rt.alloc(), room, WhenFull::Fails(ErrorKind::Interrupted))?;
     }
+    Ok(())
 }

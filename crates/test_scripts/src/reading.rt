@@ -4,7 +4,7 @@ use program_io::{INPUT_LIMIT, InputFault, read_input, read_input_from};
 use std::alloc::Global;
 use std::io::ErrorKind;
 use std::test::Fail;
-use test_fakes::{RefusesOne, Source};
+use test_fakes::{RefusesOne, Source, equal};
 
 /// What came of reading, apart from the system's reason.
 #[derive(Clone, Copy, Debug, PartialEq, Eq)]
@@ -32,82 +32,121 @@ fn outcome_at(alloc: Global, mut source: Source) -> (Outcome, usize) {
 
 #[test]
 fn reads_what_is_there(rt: HostRuntime) -> Result<(), Fail> {
-    let text = "the bytes of a file";
-    let read = read_input(rt.alloc(), &mut text.as_bytes());
-    assert_eq!(rt; read.ok().ok_or("a fault")?.as_slice(), text.as_bytes());
+    let text = "the bytes of a file".as_bytes();
+    match read_input(rt.alloc(), &mut "the bytes of a file".as_bytes()) {
+        Ok(bytes) => equal("bytes", bytes.as_slice(), text),
+        Err(_) => Err("a fault")?,
+    }
+}
+
+/// How many bytes a source has, how many a read gives, and how many reads there are.
+const TO_THE_END: [(usize, usize, usize); 5] = [
+    (0, 1, 1),
+    (1, 1, 2),
+    (5, 2, 4),
+    (65_536, 65_536, 2),
+    (65_537, 99_999, 3),
+];
+
+fn check_to_the_end(alloc: Global, left: usize, step: usize, reads: usize) -> Result<(), Fail> {
+    let came = outcome_at(alloc, Source::new(left, step));
+    equal(
+        format_args!("{step} at a time"),
+        came,
+        (Outcome::Bytes(left), reads),
+    )
+}
+
+#[test]
+fn reads_to_the_end(rt: HostRuntime) -> Result<(), Fail> {
+    for (left, step, reads) in &TO_THE_END {
+        check_to_the_end(rt.alloc(), *left, *step, *reads)?;
+    }
+    Ok(())
+}
+
+/// A source of 4 bytes, one at a time, of which a read fails so.
+fn failing(fails_at: usize, kind: ErrorKind) -> Source {
+    Source {
+        left: 4,
+        step: 1,
+        reads: 0,
+        fails_at: Some(fails_at),
+        kind,
+    }
+}
+
+/// Nothing is read after a read that fails.
+fn check_failing(alloc: Global, kind: ErrorKind) -> Result<(), Fail> {
+    for fails_at in 0..5 {
+        equal(
+            format_args!("{kind:?} at {fails_at}"),
+            outcome_at(alloc, failing(fails_at, kind)),
+            (Outcome::ReadFault, fails_at + 1),
+        )?;
+    }
     Ok(())
 }
 
 #[test]
-fn reads_to_the_end(rt: HostRuntime) {
-    for (left, step, reads) in [
-        (0, 1, 1),
-        (1, 1, 2),
-        (5, 2, 4),
-        (65_536, 65_536, 2),
-        (65_537, 99_999, 3),
-    ] {
-        let came = outcome_at(rt.alloc(), Source::new(left, step));
-        assert_eq!(rt; came, (Outcome::Bytes(left), reads), "{step} at a time");
-    }
+fn answers_a_read_that_fails(rt: HostRuntime) -> Result<(), Fail> {
+    check_failing(rt.alloc(), ErrorKind::Interrupted)?;
+    check_failing(rt.alloc(), ErrorKind::UnexpectedEof)?;
+    check_failing(rt.alloc(), ErrorKind::OutOfMemory)
 }
 
-/// What comes of a source of which a read fails so, and how often it was read.
-fn outcome_failing(alloc: Global, fails_at: usize, kind: ErrorKind) -> (Outcome, usize) {
-    let mut source = Source::new(4, 1);
-    source.fails_at = Some(fails_at);
-    source.kind = kind;
-    outcome_at(alloc, source)
-}
-
-/// Nothing is read after the fault.
-#[test]
-fn answers_a_read_that_fails(rt: HostRuntime) {
-    for kind in [
-        ErrorKind::Interrupted,
-        ErrorKind::UnexpectedEof,
-        ErrorKind::OutOfMemory,
-    ] {
-        for fails_at in 0..5 {
-            let came = outcome_failing(rt.alloc(), fails_at, kind);
-            assert_eq!(rt; came, (Outcome::ReadFault, fails_at + 1));
-        }
-    }
+/// What comes of reading 4 bytes, one at a time, where a growth behind so many is refused.
+fn check_with(alloc: Global, before: u32, wanted: Outcome) -> Result<(), Fail> {
+    let memory = RefusesOne::behind(alloc, before);
+    let came = outcome_of(read_input_from(&memory, &mut Source::new(4, 1)));
+    equal(format_args!("after {before}"), came, wanted)
 }
 
 /// A growth for the turn, and one for each read that gives bytes.
 #[test]
-fn every_growth_may_be_refused(rt: HostRuntime) {
+fn every_growth_may_be_refused(rt: HostRuntime) -> Result<(), Fail> {
     for before in 0..5 {
-        let came = read_with(rt.alloc(), before);
-        assert_eq!(rt; came, Outcome::NoMemory, "after {before}");
+        check_with(rt.alloc(), before, Outcome::NoMemory)?;
     }
-    assert_eq!(rt; read_with(rt.alloc(), 5), Outcome::Bytes(4));
+    check_with(rt.alloc(), 5, Outcome::Bytes(4))
 }
 
-/// What comes of reading 4 bytes, one at a time, where a growth behind so many is refused.
-fn read_with(alloc: Global, before: u32) -> Outcome {
-    let memory = RefusesOne::behind(alloc, before);
-    outcome_of(read_input_from(&memory, &mut Source::new(4, 1)))
-}
-
-#[test]
-fn takes_as_much_as_the_limit(rt: HostRuntime) {
-    for step in [65_536, 60_001] {
-        let (came, _) = outcome_at(rt.alloc(), Source::new(INPUT_LIMIT, step));
-        assert_eq!(rt; came, Outcome::Bytes(INPUT_LIMIT), "{step} at a time");
-    }
+fn check_limit(alloc: Global, step: usize) -> Result<(), Fail> {
+    let (came, _) = outcome_at(alloc, Source::new(INPUT_LIMIT, step));
+    equal(
+        format_args!("{step} at a time"),
+        came,
+        Outcome::Bytes(INPUT_LIMIT),
+    )
 }
 
 #[test]
-fn refuses_more_than_the_limit(rt: HostRuntime) {
-    for (left, step) in [
-        (INPUT_LIMIT + 1, 65_536),
-        (INPUT_LIMIT + 1, 60_001),
-        (usize::MAX, 65_536),
-    ] {
-        let (came, reads) = outcome_at(rt.alloc(), Source::new(left, step));
-        assert_eq!(rt; came, Outcome::TooLong, "{left} bytes, {step} at a time");
-        assert!(rt; reads <= INPUT_LIMIT / step + 1, "{reads} reads");
+fn takes_as_much_as_the_limit(rt: HostRuntime) -> Result<(), Fail> {
+    check_limit(rt.alloc(), 65_536)?;
+    check_limit(rt.alloc(), 60_001)
+}
+
+/// More bytes than the limit are refused, and no more are read than one more turn has.
+fn check_too_long(alloc: Global, left: usize, step: usize, most: usize) -> Result<(), Fail> {
+    let (came, reads) = outcome_at(alloc, Source::new(left, step));
+    equal(
+        format_args!("{left} bytes, {step} at a time"),
+        (came, reads <= most),
+        (Outcome::TooLong, true),
+    )
+}
+
+/// How many bytes there are, how many a read gives, and how many reads there may be.
+const TOO_LONG: [(usize, usize, usize); 3] = [
+    (INPUT_LIMIT + 1, 65_536, INPUT_LIMIT / 65_536 + 1),
+    (INPUT_LIMIT + 1, 60_001, INPUT_LIMIT / 60_001 + 1),
+    (usize::MAX, 65_536, INPUT_LIMIT / 65_536 + 1),
+];
+
+#[test]
+fn refuses_more_than_the_limit(rt: HostRuntime) -> Result<(), Fail> {
+    for (left, step, most) in &TOO_LONG {
+        check_too_long(rt.alloc(), *left, *step, *most)?;
     }
+    Ok(())
 }

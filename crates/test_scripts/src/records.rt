@@ -1,27 +1,24 @@
 //! Records: the lines that make, use, change, move and delete them.
 
-use crate::calls::put_reply;
-use crate::commands::check_said;
-use crate::runs::{Ran, check_runs, parted, run_on};
+use crate::calls::{check_calls, creation, listed_store};
+use crate::commands::check_image;
+use crate::runs::check_lines;
 use heap_model::{
-    Call, DatabaseCall, Db, DbName, FileCall, Name, RecordCall, Refusal, Reply, ResourceCall, Which,
+    Call, DatabaseCall, Db, FileCall, Name, RecordCall, Refusal, Reply, ResourceCall, Which,
 };
 use palm_script::do_call;
 use palm_store::Store;
-use std::alloc::Global;
+use program_io::Status;
+use std::alloc::{AllocError, Global};
 use std::test::Fail;
-use test_images::{DATABASE, WIDE, bytes_of, image};
+use test_fakes::equal;
+use test_images::{DATABASE, WIDE, bytes_of};
 
 /// A blank image of 168 bytes with 8 slots.
 pub(crate) const NARROW: &str = "50484931 000000A8 0008 0000 00000000 00*32 80000078 00*116";
 
-#[test]
-fn lines_on_records_print_their_replies(rt: HostRuntime) -> Result<(), Fail> {
-    check_runs(&rt, &RUNS)
-}
-
 /// Images, and the lines that are run on them, each with its reply.
-const RUNS: [(&str, &str); 11] = [
+pub(crate) const RUNS: [(&str, &str); 11] = [
     // a record is busy from its making on, until it is released
     (
         WIDE,
@@ -259,58 +256,55 @@ const RUNS: [(&str, &str); 11] = [
     ),
 ];
 
-/// A call on the records of a store, by its number, and one that makes a database.
-fn call(number: u32) -> Call {
-    let (db, index) = (Db(16), 0);
-    Call::Record(match number {
-        0 => {
-            return Call::Database(DatabaseCall::Create {
-                name: DbName::of(b"Notes"),
-                kind: 1,
-                creator: 2,
-                resources: false,
-                date: 3,
-            });
-        }
-        1 => RecordCall::New { db, at: 9, size: 4 },
-        2 => RecordCall::New { db, at: 0, size: 5 },
-        3 => RecordCall::Count(db),
-        4 => RecordCall::Get(db, index),
-        5 => RecordCall::Release {
-            db,
-            index,
-            dirty: true,
-        },
-        6 => RecordCall::Query(db, index),
-        7 => RecordCall::Move { db, from: 0, to: 2 },
-        8 => RecordCall::Info(db, index),
-        9 => RecordCall::Resize { db, index, size: 6 },
-        10 => RecordCall::Archive(db, index),
-        11 => RecordCall::Delete(db, 1),
-        12 => RecordCall::Info(db, 1),
-        13 => RecordCall::Remove(db, index),
-        _ => RecordCall::Info(Db(20), index),
-    })
-}
+/// The database that is made first.
+const NOTES: Db = Db(16);
+
+/// Calls on its records, and one on those of no database.
+const CALLS: [Call; 14] = [
+    Call::Record(RecordCall::New {
+        db: NOTES,
+        at: 9,
+        size: 4,
+    }),
+    Call::Record(RecordCall::New {
+        db: NOTES,
+        at: 0,
+        size: 5,
+    }),
+    Call::Record(RecordCall::Count(NOTES)),
+    Call::Record(RecordCall::Get(NOTES, 0)),
+    Call::Record(RecordCall::Release {
+        db: NOTES,
+        index: 0,
+        dirty: true,
+    }),
+    Call::Record(RecordCall::Query(NOTES, 0)),
+    Call::Record(RecordCall::Move {
+        db: NOTES,
+        from: 0,
+        to: 2,
+    }),
+    Call::Record(RecordCall::Info(NOTES, 0)),
+    Call::Record(RecordCall::Resize {
+        db: NOTES,
+        index: 0,
+        size: 6,
+    }),
+    Call::Record(RecordCall::Archive(NOTES, 0)),
+    Call::Record(RecordCall::Delete(NOTES, 1)),
+    Call::Record(RecordCall::Info(NOTES, 1)),
+    Call::Record(RecordCall::Remove(NOTES, 0)),
+    Call::Record(RecordCall::Info(Db(20), 0)),
+];
 
 /// The calls in their order, and what each is answered.
 #[test]
 fn calls_on_records_are_answered(rt: HostRuntime) -> Result<(), Fail> {
-    let region = image(rt.alloc(), WIDE, "")?;
-    let Ok(mut store) = Store::check(rt.alloc(), region) else {
-        return Err("no store")?;
-    };
-    let mut text = String::new(rt.alloc());
-    for number in 0..15 {
-        let reply = do_call(rt.alloc(), &mut store, &call(number));
-        put_reply(&mut text, &reply)?;
-    }
-    assert_eq!(rt;
-        text.as_str(),
-        "database 16; made 0, name 24; made 0, name 28; 2; refused 16; done; name 28; done; \
-        96, 1, true; done; done; done; 192, 2, false; done; refused 10; "
-    );
-    Ok(())
+    let mut store = listed_store(rt.alloc(), WIDE)?;
+    let first = [creation(b"Notes", false)];
+    let said = "database 16; made 0, name 24; made 0, name 28; 2; refused 16; done; name 28; done; \
+        96, 1, true; done; done; done; 192, 2, false; done; refused 10; ";
+    check_calls(rt.alloc(), &mut store, &[&first, &CALLS], said)
 }
 
 /// Calls of each kind on the database of a number.
@@ -329,21 +323,26 @@ fn calls_on(db: Db) -> [Call; 9] {
     ]
 }
 
+/// A chunk is no database: calls of each kind say so.
+fn check_no_database(alloc: Global, store: &mut Store, number: u32) -> Result<(), Fail> {
+    for call in &calls_on(Db(number)) {
+        equal(
+            format_args!("{call:?}"),
+            do_call(alloc, store, call),
+            Reply::Refused(Refusal::NoSuchDatabase),
+        )?;
+    }
+    Ok(())
+}
+
 /// The directory, the data of a record and a caller's chunk are no databases.
 #[test]
 fn a_chunk_is_no_database(rt: HostRuntime) -> Result<(), Fail> {
-    let alloc = rt.alloc();
-    let Ok(mut store) = Store::check(alloc, image(alloc, DATABASE, "")?) else {
-        return Err("no store")?;
-    };
+    let mut store = listed_store(rt.alloc(), DATABASE)?;
     let Name(chunk) = store.handle_new(0, 1)?;
-    for number in [16, 24, chunk] {
-        for call in calls_on(Db(number)) {
-            let said = do_call(alloc, &mut store, &call);
-            assert_eq!(rt; said, Reply::Refused(Refusal::NoSuchDatabase));
-        }
-    }
-    Ok(())
+    check_no_database(rt.alloc(), &mut store, 16)?;
+    check_no_database(rt.alloc(), &mut store, 24)?;
+    check_no_database(rt.alloc(), &mut store, chunk)
 }
 
 /// The front of an image of 524,544 bytes with 4 slots, whose one database has 65,535 records: up to its
@@ -352,14 +351,21 @@ const CROWDED: &str = "50484931 00080100 0004 0000 00000010 00000028 00000038 00
     04000010 00FFFFF8 00000014 00*4 02080050 00FFFFF2 \
     52 00*31 0000 0000 00*24 44415441 54657374 0000FFFF 00000000 FFFF";
 
-/// The image: its records are deleted, have no data and the IDs from 1 on. 128 bytes are free.
-fn crowded(alloc: Global) -> Result<Vec<u8>, Fail> {
-    let mut bytes = bytes_of(alloc, CROWDED)?;
+/// Adds 65,535 entries of records that are deleted and have no data, with the IDs from 1 on.
+fn add_entries(bytes: &mut Vec<u8>) -> Result<(), AllocError> {
     for id in 1..=u16::MAX {
         bytes.extend_from_slice(&[0, 0, 0, 0, 0x80, 0])?;
         bytes.extend_from_slice(&id.to_be_bytes())?;
     }
-    bytes.extend_from_slice(bytes_of(alloc, "00*2 80000080 00*124")?.as_slice())?;
+    Ok(())
+}
+
+/// The image: its records are deleted, have no data and the IDs from 1 on. 128 bytes are free.
+fn crowded(alloc: Global) -> Result<Vec<u8>, Fail> {
+    let mut bytes = bytes_of(alloc, CROWDED)?;
+    add_entries(&mut bytes)?;
+    let behind = bytes_of(alloc, "00*2 80000080 00*124")?;
+    bytes.extend_from_slice(&behind)?;
     Ok(bytes)
 }
 
@@ -416,15 +422,7 @@ const ON_CROWDED: &str = "find d \"R\" = ok
 #[test]
 fn a_database_has_65535_records_at_most(rt: HostRuntime) -> Result<(), Fail> {
     let image = crowded(rt.alloc())?;
-    let said = check_said(rt.alloc(), image.as_slice())?;
-    assert_eq!(rt;
-        said.as_str(),
-        "Done ok size 524544 slots 4 movable 2 fixed 0 free 128\ndatabases 1\n"
-    );
-    let (script, wanted) = parted(rt.alloc(), ON_CROWDED)?;
-    let Ran { status, out, .. } = run_on(rt.alloc(), image.as_slice(), script.as_str());
-    let printed = String::from_utf8(out).ok().ok_or("no text")?;
-    let said = format!(in rt.alloc(); "{status:?} {printed}")?;
-    assert_eq!(rt; said.as_str(), wanted.as_str());
-    Ok(())
+    let said = "ok size 524544 slots 4 movable 2 fixed 0 free 128\ndatabases 1\n";
+    check_image(rt.alloc(), "the image", &image, (Status::Done, said))?;
+    check_lines(rt.alloc(), &image, ON_CROWDED, &[], &[])
 }

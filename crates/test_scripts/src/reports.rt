@@ -7,6 +7,7 @@ use std::fmt::Display;
 use std::io;
 use std::io::ErrorKind;
 use std::test::Fail;
+use test_fakes::equal;
 
 /// Standard error, as a text.
 struct ErrorText {
@@ -43,58 +44,75 @@ impl Eprint for ErrorText {
     }
 }
 
-#[test]
-fn a_file_that_is_not_read_is_named(rt: HostRuntime) {
-    let denied = InputFault::Read(io::Error::from(ErrorKind::PermissionDenied));
-    for (fault, text) in [
-        (denied, "fault read\na.img: permission denied\n"),
-        (
-            InputFault::TooLong,
-            "fault read\na.img: longer than 16777216 bytes\n",
-        ),
-        (InputFault::Memory, "fault memory\n"),
-    ] {
-        let said = ErrorText::new(rt.alloc());
-        report_input_fault(&said, "a.img", fault);
-        assert_eq!(rt; said.into_text().as_str(), text);
-    }
+/// What is said of an input file is this.
+fn check_input(alloc: Global, fault: InputFault, wanted: &str) -> Result<(), Fail> {
+    let said = ErrorText::new(alloc);
+    report_input_fault(&said, "a.img", fault);
+    let text = said.into_text();
+    equal("the input", text.as_str(), wanted)
 }
 
 #[test]
-fn the_first_output_that_is_not_written_is_named(rt: HostRuntime) {
-    let full = Some(io::Error::from(ErrorKind::StorageFull));
-    let closed = Some(io::Error::from(ErrorKind::BrokenPipe));
-    for (status, image_fault, fault, text) in [
-        (
-            Status::WriteFault,
-            full,
-            None,
-            "fault write\nb.img: no storage space\n",
-        ),
-        (
-            Status::WriteFault,
-            None,
-            closed,
-            "fault write\nstandard output: broken pipe\n",
-        ),
-        (
-            Status::WriteFault,
-            full,
-            closed,
-            "fault write\nb.img: no storage space\n",
-        ),
-        (Status::NoMemory, None, None, "fault memory\n"),
-        (Status::NoMemory, full, closed, "fault memory\n"),
-        (Status::BadWords, None, None, ""),
-        (Status::Refused, None, None, ""),
-        (Status::Done, None, None, ""),
-    ] {
-        let said = ErrorText::new(rt.alloc());
-        report_outcome(
-            &said,
-            status,
-            &[("b.img", image_fault), ("standard output", fault)],
-        );
-        assert_eq!(rt; said.into_text().as_str(), text);
+fn a_file_that_is_not_read_is_named(rt: HostRuntime) -> Result<(), Fail> {
+    let alloc = rt.alloc();
+    let denied = InputFault::Read(io::Error::from(ErrorKind::PermissionDenied));
+    check_input(alloc, denied, "fault read\na.img: permission denied\n")?;
+    check_input(
+        alloc,
+        InputFault::TooLong,
+        "fault read\na.img: longer than 16777216 bytes\n",
+    )?;
+    check_input(alloc, InputFault::Memory, "fault memory\n")
+}
+
+/// A status, why the image and why the text wasn't written, and what is said.
+type Outcome = (Status, Option<ErrorKind>, Option<ErrorKind>, &'static str);
+
+const FULL: Option<ErrorKind> = Some(ErrorKind::StorageFull);
+
+const CLOSED: Option<ErrorKind> = Some(ErrorKind::BrokenPipe);
+
+const OUTCOMES: [Outcome; 8] = [
+    (
+        Status::WriteFault,
+        FULL,
+        None,
+        "fault write\nb.img: no storage space\n",
+    ),
+    (
+        Status::WriteFault,
+        None,
+        CLOSED,
+        "fault write\nstandard output: broken pipe\n",
+    ),
+    (
+        Status::WriteFault,
+        FULL,
+        CLOSED,
+        "fault write\nb.img: no storage space\n",
+    ),
+    (Status::NoMemory, None, None, "fault memory\n"),
+    (Status::NoMemory, FULL, CLOSED, "fault memory\n"),
+    (Status::BadWords, None, None, ""),
+    (Status::Refused, None, None, ""),
+    (Status::Done, None, None, ""),
+];
+
+fn check_outcome(alloc: Global, (status, image_fault, fault, wanted): Outcome) -> Result<(), Fail> {
+    let said = ErrorText::new(alloc);
+    let outputs = [
+        ("b.img", image_fault.map(io::Error::from)),
+        ("standard output", fault.map(io::Error::from)),
+    ];
+    report_outcome(&said, status, &outputs);
+    let text = said.into_text();
+    equal(format_args!("{status:?}"), text.as_str(), wanted)
+}
+
+#[test]
+fn the_first_output_that_is_not_written_is_named(rt: HostRuntime) -> Result<(), Fail> {
+    for outcome in &OUTCOMES {
+        check_outcome(rt.alloc(), *outcome)?;
     }
+    Ok(())
 }

@@ -1,21 +1,13 @@
 //! Resources: the lines that make, ask for, change and remove them, and those that give and take their data.
 
-use crate::calls::put_reply;
+use crate::calls::{check_calls, creation, listed_store};
 use crate::records::NARROW;
-use crate::runs::check_runs;
-use heap_model::{Call, DatabaseCall, Db, DbName, Name, ResourceCall};
-use palm_script::do_call;
-use palm_store::Store;
+use heap_model::{Call, Db, Name, ResourceCall};
 use std::test::Fail;
-use test_images::{WIDE, image};
-
-#[test]
-fn lines_on_resources_print_their_replies(rt: HostRuntime) -> Result<(), Fail> {
-    check_runs(&rt, &RUNS)
-}
+use test_images::WIDE;
 
 /// Images, and the lines that are run on them, each with its reply.
-const RUNS: [(&str, &str); 11] = [
+pub(crate) const RUNS: [(&str, &str); 11] = [
     // made, asked for, changed, resized, locked, detached and attached
     (
         WIDE,
@@ -273,74 +265,67 @@ const RUNS: [(&str, &str); 11] = [
 /// The type `code`.
 const CODE: u32 = 0x636F_6465;
 
-/// A call on the resources of a store, by its number, and one that makes a database.
-fn call(number: u32) -> Call {
-    let (db, index, kind, id) = (Db(16), 0, CODE, 7);
-    Call::Resource(match number {
-        0 => {
-            return Call::Database(DatabaseCall::Create {
-                name: DbName::of(b"Prog"),
-                kind: 1,
-                creator: 2,
-                resources: true,
-                date: 3,
-            });
-        }
-        1 => ResourceCall::New {
-            db,
-            kind,
-            id,
-            size: 4,
-        },
-        2 => ResourceCall::New {
-            db,
-            kind,
-            id: 8,
-            size: 5,
-        },
-        3 => ResourceCall::Count(db),
-        4 => ResourceCall::Find { db, kind, id: 8 },
-        5 => ResourceCall::FindType { db, kind, nth: 1 },
-        6 => ResourceCall::SetInfo {
-            db,
-            index,
-            kind: 1,
-            id: 9,
-        },
-        7 => ResourceCall::Info(db, index),
-        8 => ResourceCall::Resize { db, index, size: 6 },
-        9 => ResourceCall::Detach {
-            db,
-            index,
-            owner: 1,
-        },
-        10 => ResourceCall::Attach {
-            db,
-            kind,
-            id,
-            name: Name(24),
-        },
-        11 => ResourceCall::Remove(db, 1),
-        _ => ResourceCall::Info(db, 1),
-    })
-}
+/// The database that is made first.
+const PROGRAM: Db = Db(16);
+
+/// Calls on its resources.
+const CALLS: [Call; 12] = [
+    Call::Resource(ResourceCall::New {
+        db: PROGRAM,
+        kind: CODE,
+        id: 7,
+        size: 4,
+    }),
+    Call::Resource(ResourceCall::New {
+        db: PROGRAM,
+        kind: CODE,
+        id: 8,
+        size: 5,
+    }),
+    Call::Resource(ResourceCall::Count(PROGRAM)),
+    Call::Resource(ResourceCall::Find {
+        db: PROGRAM,
+        kind: CODE,
+        id: 8,
+    }),
+    Call::Resource(ResourceCall::FindType {
+        db: PROGRAM,
+        kind: CODE,
+        nth: 1,
+    }),
+    Call::Resource(ResourceCall::SetInfo {
+        db: PROGRAM,
+        index: 0,
+        kind: 1,
+        id: 9,
+    }),
+    Call::Resource(ResourceCall::Info(PROGRAM, 0)),
+    Call::Resource(ResourceCall::Resize {
+        db: PROGRAM,
+        index: 0,
+        size: 6,
+    }),
+    Call::Resource(ResourceCall::Detach {
+        db: PROGRAM,
+        index: 0,
+        owner: 1,
+    }),
+    Call::Resource(ResourceCall::Attach {
+        db: PROGRAM,
+        kind: CODE,
+        id: 7,
+        name: Name(24),
+    }),
+    Call::Resource(ResourceCall::Remove(PROGRAM, 1)),
+    Call::Resource(ResourceCall::Info(PROGRAM, 1)),
+];
 
 /// The calls in their order, and what each is answered.
 #[test]
 fn calls_on_resources_are_answered(rt: HostRuntime) -> Result<(), Fail> {
-    let region = image(rt.alloc(), WIDE, "")?;
-    let Ok(mut store) = Store::check(rt.alloc(), region) else {
-        return Err("no store")?;
-    };
-    let mut text = String::new(rt.alloc());
-    for number in 0..13 {
-        let reply = do_call(rt.alloc(), &mut store, &call(number));
-        put_reply(&mut text, &reply)?;
-    }
-    assert_eq!(rt;
-        text.as_str(),
-        "database 16; made 0, name 24; made 1, name 28; 2; 1; 1; done; 1, 9, name 24; done; \
-        name 24; 1; done; refused 14; "
-    );
-    Ok(())
+    let mut store = listed_store(rt.alloc(), WIDE)?;
+    let first = [creation(b"Prog", true)];
+    let said = "database 16; made 0, name 24; made 1, name 28; 2; 1; 1; done; 1, 9, name 24; done; \
+        name 24; 1; done; refused 14; ";
+    check_calls(rt.alloc(), &mut store, &[&first, &CALLS], said)
 }

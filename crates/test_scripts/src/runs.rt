@@ -1,13 +1,14 @@
 //! Scripts that are run on images: what they print, and what they leave.
 
-use heap_model::Counted;
+use crate::{categories, databases, giving, moving, records, resources};
+use heap_model::{Bytes, Counted};
 use palmheap_commands::cmd_run;
 use program_io::Status;
-use std::alloc::Global;
+use std::alloc::{AllocError, Global};
 use std::io::{BufWriter, ErrorKind, Write};
-use std::process::Abort;
+use std::str;
 use std::test::Fail;
-use test_fakes::{Narrow, Unflushed, WhenFull};
+use test_fakes::{Narrow, Unflushed, WhenFull, equal, holds};
 use test_images::{BLANK, ONE_CHUNK, WIDE, bytes_of};
 
 /// A blank image of 128 bytes with one slot.
@@ -16,11 +17,12 @@ const ONE_SLOT: &str = "50484931 00000080 0001 0000 00000000 00*8 80000068 00*10
 /// A blank image with a chunk that reaches beyond its end.
 const LONG_CHUNK: &str = "50484931 00000080 0004 0000 00000000 00*16 80000068 00*92";
 
-/// What a run answered, and what its writers hold.
+/// What a run answered, what its writers hold, and the files that it exports.
 #[derive(Drop)]
 pub(crate) struct Ran<W, V> {
     pub status: Status,
     pub image: W,
+    pub files: Vec<Bytes>,
     pub out: V,
 }
 
@@ -28,6 +30,7 @@ fn run_to<W: Write, V: Write>(
     alloc: Global,
     image: &[u8],
     script: &str,
+    inputs: &[Bytes],
     image_out: W,
     out: V,
 ) -> Ran<W, V> {
@@ -38,7 +41,7 @@ fn run_to<W: Write, V: Write>(
         alloc,
         image,
         script,
-        &[],
+        inputs,
         &mut image_out,
         &mut files,
         &mut out,
@@ -46,74 +49,111 @@ fn run_to<W: Write, V: Write>(
     Ran {
         status,
         image: image_out.into_inner(),
+        files,
         out: out.into_inner(),
     }
 }
 
 /// Runs a script with writers that take all.
-pub(crate) fn run_on(alloc: Global, image: &[u8], script: &str) -> Ran<Vec<u8>, Vec<u8>> {
-    run_to(alloc, image, script, Vec::new(alloc), Vec::new(alloc))
-}
-
-/// Runs a script on the blank image.
-fn run_blank<W: Write + Drop, V: Write + Drop>(
+pub(crate) fn run_on(
     alloc: Global,
+    image: &[u8],
     script: &str,
-    image_out: W,
-    out: V,
-) -> Result<Ran<W, V>, Fail> {
-    let image = bytes_of(alloc, BLANK)?;
-    Ok(run_to(alloc, image.as_slice(), script, image_out, out))
+    inputs: &[Bytes],
+) -> Ran<Vec<u8>, Vec<u8>> {
+    run_to(
+        alloc,
+        image,
+        script,
+        inputs,
+        Vec::new(alloc),
+        Vec::new(alloc),
+    )
 }
 
-/// What a run on a listing answers and prints, and the image that it writes.
-fn ran_on(alloc: Global, listing: &str, script: &str) -> Result<(String, Vec<u8>), Fail> {
-    let image = bytes_of(alloc, listing)?;
-    let Ran { status, image, out } = run_on(alloc, image.as_slice(), script);
-    let text = String::from_utf8(out).ok().ok_or("no text")?;
-    Ok((format!(in alloc; "{status:?} {text}")?, image))
+/// What a command came to and printed is this.
+pub(crate) fn check_told(
+    spot: &str,
+    (status, out): (Status, &[u8]),
+    wanted: (Status, &str),
+) -> Result<(), Fail> {
+    equal(spot, (status, str::from_utf8(out)?), wanted)
 }
 
-/// The lines of a text in which each line has a reply, with ` = ` between: a script, and what it
-/// answers and prints.
-pub(crate) fn parted(alloc: Global, text: &str) -> Result<(String, String), Fail> {
-    let (mut script, mut said) = (String::new(alloc), String::from_str(alloc, "Done ")?);
+/// Adds the lines of a text in which each line has a reply, with ` = ` between, to a script and to what it prints.
+fn part(script: &mut String, said: &mut String, text: &str) -> Result<(), AllocError> {
     for row in text.lines() {
-        let (line, reply) = row.trim().split_once(" = ").ok_or("no reply")?;
+        let (line, reply) = row.trim().split_once(" = ").unwrap_or((row, ""));
         writeln!(script, "{line}")?;
         writeln!(said, "{reply}")?;
     }
-    Ok((script, said))
+    Ok(())
+}
+
+/// Runs the lines of such a text on an image, and checks their replies and the files that they export.
+pub(crate) fn check_lines(
+    alloc: Global,
+    image: &[u8],
+    text: &str,
+    inputs: &[Bytes],
+    files: &[Bytes],
+) -> Result<(), Fail> {
+    let (mut script, mut said) = (String::new(alloc), String::new(alloc));
+    part(&mut script, &mut said, text)?;
+    let ran = run_on(alloc, image, script.as_str(), inputs);
+    check_told(
+        text,
+        (ran.status, ran.out.as_slice()),
+        (Status::Done, said.as_str()),
+    )?;
+    equal(text, ran.files.as_slice(), files)
+}
+
+fn check_run(alloc: Global, listing: &str, text: &str) -> Result<(), Fail> {
+    let image = bytes_of(alloc, listing)?;
+    check_lines(alloc, &image, text, &[], &[])
 }
 
 /// Runs lines on images, and checks their replies.
-pub(crate) fn check_runs(
-    rt: &(impl Abort + AllocGlobal),
-    runs: &[(&str, &str)],
-) -> Result<(), Fail> {
+fn check_runs(alloc: Global, runs: &[(&str, &str)]) -> Result<(), Fail> {
     for (listing, text) in runs {
-        let (script, wanted) = parted(rt.alloc(), text)?;
-        let (said, _) = ran_on(rt.alloc(), listing, script.as_str())?;
-        assert_eq!(rt; said.as_str(), wanted.as_str());
+        check_run(alloc, listing, text)?;
     }
     Ok(())
 }
 
+/// All tables of images and lines on them.
+const TABLES: [&[(&str, &str)]; 7] = [
+    &RUNS,
+    &moving::RUNS,
+    &databases::RUNS,
+    &records::RUNS,
+    &categories::RUNS,
+    &giving::RUNS,
+    &resources::RUNS,
+];
+
 #[test]
 fn lines_print_their_replies(rt: HostRuntime) -> Result<(), Fail> {
-    check_runs(&rt, &RUNS)
+    for runs in &TABLES {
+        check_runs(rt.alloc(), runs)?;
+    }
+    Ok(())
 }
 
-/// A line may end by a carriage return and a line feed.
-#[test]
-fn lines_end_by_two_characters_too(rt: HostRuntime) -> Result<(), Fail> {
-    let script = "create d x:0a \"DATA\" \"Test\" 0 0\r\ndbinfo d\r\n";
-    let (said, _) = ran_on(rt.alloc(), WIDE, script)?;
-    assert_eq!(rt;
-        said.as_str(),
-        "Done ok\nok x:0a 0000 0 0 0 0 0 \"DATA\" \"Test\" 00000000 0\n"
-    );
-    Ok(())
+/// A script on an image comes to this, and leaves this image.
+fn check_outcome(
+    alloc: Global,
+    listing: &str,
+    script: &str,
+    wanted: (Status, &str),
+    after: &str,
+) -> Result<(), Fail> {
+    let image = bytes_of(alloc, listing)?;
+    let ran = run_on(alloc, &image, script, &[]);
+    check_told(script, (ran.status, ran.out.as_slice()), wanted)?;
+    let after = bytes_of(alloc, after)?;
+    equal(script, ran.image.as_slice(), after.as_slice())
 }
 
 /// Images, and the lines that are run on them, each with its reply.
@@ -235,38 +275,74 @@ const RUNS: [(&str, &str); 7] = [
 
 /// Images and scripts, what the run answers and prints, and the image that it writes, none where one
 /// of them is refused.
-const OUTCOMES: [(&str, &str, &str, &str); 10] = [
-    (BLANK, "new a 10 1\n", "Done ok\n", ONE_CHUNK),
-    (ONE_CHUNK, "", "Done ", ONE_CHUNK),
-    (ONE_CHUNK, "\n", "Done ", ONE_CHUNK),
+const OUTCOMES: [(&str, &str, (Status, &str), &str); 10] = [
+    (BLANK, "new a 10 1\n", (Status::Done, "ok\n"), ONE_CHUNK),
+    (ONE_CHUNK, "", (Status::Done, ""), ONE_CHUNK),
+    (ONE_CHUNK, "\n", (Status::Done, ""), ONE_CHUNK),
     (
         ONE_CHUNK,
         "# a line that is passed over\n",
-        "Done ",
+        (Status::Done, ""),
         ONE_CHUNK,
     ),
-    (BLANK, "new a 8", "Refused line 1 WrongCount\n", ""),
-    (BLANK, "frob", "Refused line 1 UnknownCommand\n", ""),
-    (BLANK, "read a 0 x", "Refused line 1 BadWord 4\n", ""),
+    (
+        BLANK,
+        "new a 8",
+        (Status::Refused, "line 1 WrongCount\n"),
+        "",
+    ),
+    (
+        BLANK,
+        "frob",
+        (Status::Refused, "line 1 UnknownCommand\n"),
+        "",
+    ),
+    (
+        BLANK,
+        "read a 0 x",
+        (Status::Refused, "line 1 BadWord 4\n"),
+        "",
+    ),
     (
         BLANK,
         "new a 8 1\n\nnew b 8 256\nfrob\n",
-        "Refused line 3 BadWord 4\n",
+        (Status::Refused, "line 3 BadWord 4\n"),
         "",
     ),
-    (LONG_CHUNK, "new a 8 1\n", "Refused bad BadChunk 32\n", ""),
-    (LONG_CHUNK, "frob", "Refused bad BadChunk 32\n", ""),
+    (
+        LONG_CHUNK,
+        "new a 8 1\n",
+        (Status::Refused, "bad BadChunk 32\n"),
+        "",
+    ),
+    (
+        LONG_CHUNK,
+        "frob",
+        (Status::Refused, "bad BadChunk 32\n"),
+        "",
+    ),
 ];
 
 #[test]
 fn a_run_writes_its_image_or_says_why_not(rt: HostRuntime) -> Result<(), Fail> {
     for (listing, script, wanted, after) in &OUTCOMES {
-        let (said, image) = ran_on(rt.alloc(), listing, script)?;
-        assert_eq!(rt; said.as_str(), *wanted);
-        let after = bytes_of(rt.alloc(), after)?;
-        assert!(rt; image.as_slice() == after.as_slice(), "{script}");
+        check_outcome(rt.alloc(), listing, script, *wanted, after)?;
     }
     Ok(())
+}
+
+/// A line may end by a carriage return and a line feed.
+#[test]
+fn lines_end_by_two_characters_too(rt: HostRuntime) -> Result<(), Fail> {
+    let image = bytes_of(rt.alloc(), WIDE)?;
+    let script = "create d x:0a \"DATA\" \"Test\" 0 0\r\ndbinfo d\r\n";
+    let ran = run_on(rt.alloc(), &image, script, &[]);
+    let said = "ok\nok x:0a 0000 0 0 0 0 0 \"DATA\" \"Test\" 00000000 0\n";
+    check_told(
+        script,
+        (ran.status, ran.out.as_slice()),
+        (Status::Done, said),
+    )
 }
 
 /// A script, and what it prints on a blank image.
@@ -274,37 +350,44 @@ const SCRIPT: &str = "new a 10 1\nlock a\nwrite a 9 41\nwrite a 9 4142\nread a 0
 
 const REPLIES: &[u8] = b"ok\nok 1\nok\nrefused 9 OutOfBounds\nok 00000000000000000041\n";
 
-/// Whether a run ends with a write fault behind this text and so many bytes of the image, and writes
-/// nothing behind that, where its outputs have room for so many bytes.
-fn stops(
+/// Whether a run ended with a write fault behind this text and so many bytes of the image, and wrote
+/// nothing behind that.
+fn stops(ran: &Ran<Narrow, Narrow>, (written, text): (usize, &[u8])) -> bool {
+    let (image, out) = (&ran.image, &ran.out);
+    let is_cut = image.taken.len() == written && out.taken.as_slice() == text;
+    let is_last = image.refused.max(out.refused) == 1 && image.refused.min(out.refused) == 0;
+    ran.status == Status::WriteFault && is_cut && is_last
+}
+
+/// A run stops so where its outputs have room for so many bytes.
+fn check_stop(
     alloc: Global,
     script: &str,
     (image_room, room): (usize, usize),
     way: WhenFull,
-    (written, text): (usize, &[u8]),
-) -> Result<bool, Fail> {
+    wanted: (usize, &[u8]),
+) -> Result<(), Fail> {
+    let image = bytes_of(alloc, BLANK)?;
     let image_out = Narrow::new(alloc, image_room, 50, way);
     let out = Narrow::new(alloc, room, 3, way);
-    let ran = run_blank(alloc, script, image_out, out)?;
-    let is_cut = ran.image.taken.len() == written && ran.out.taken.as_slice() == text;
-    let is_last = ran.image.refused.max(ran.out.refused) == 1
-        && ran.image.refused.min(ran.out.refused) == 0;
-    Ok(ran.status == Status::WriteFault && is_cut && is_last)
+    let ran = run_to(alloc, &image, script, &[], image_out, out);
+    holds(
+        format_args!("{script} {image_room} {room}"),
+        stops(&ran, wanted),
+    )
+}
+
+fn check_replies_cut(alloc: Global, way: WhenFull) -> Result<(), Fail> {
+    for room in 0..REPLIES.len() {
+        check_stop(alloc, SCRIPT, (1000, room), way, (0, &REPLIES[..room]))?;
+    }
+    Ok(())
 }
 
 #[test]
 fn nothing_follows_a_reply_that_is_not_taken(rt: HostRuntime) -> Result<(), Fail> {
-    for way in [
-        WhenFull::TakesNothing,
-        WhenFull::Fails(ErrorKind::Interrupted),
-    ] {
-        for room in 0..REPLIES.len() {
-            let wanted = (0, &REPLIES[..room]);
-            let stops = stops(rt.alloc(), SCRIPT, (1000, room), way, wanted)?;
-            assert!(rt; stops, "room for {room}");
-        }
-    }
-    Ok(())
+    check_replies_cut(rt.alloc(), WhenFull::TakesNothing)?;
+    check_replies_cut(rt.alloc(), WhenFull::Fails(ErrorKind::Interrupted))
 }
 
 /// Scripts, the room of the outputs for the image and for the text, and what of both is taken.
@@ -319,48 +402,55 @@ const CUTS: [(&str, (usize, usize), (usize, &[u8])); 5] = [
 #[test]
 fn an_output_that_takes_0_bytes_is_a_write_fault(rt: HostRuntime) -> Result<(), Fail> {
     for (script, room, wanted) in &CUTS {
-        let stops = stops(rt.alloc(), script, *room, WhenFull::TakesNothing, *wanted)?;
-        assert!(rt; stops, "{script} {room:?}");
+        check_stop(rt.alloc(), script, *room, WhenFull::TakesNothing, *wanted)?;
     }
     Ok(())
 }
 
-/// Whether nothing follows replies that go through a buffer to a writer with room for so many bytes.
-fn stops_behind_buffer(alloc: Global, capacity: usize, room: usize) -> Result<bool, Fail> {
+/// Nothing follows replies that go through a buffer to a writer with room for so many bytes.
+fn check_behind_buffer(alloc: Global, capacity: usize, room: usize) -> Result<(), Fail> {
+    let image = bytes_of(alloc, BLANK)?;
     let narrow = Narrow::new(alloc, room, 3, WhenFull::TakesNothing);
     let out = BufWriter::with_capacity(alloc, capacity, narrow)?;
-    let Ran { status, image, out } = run_blank(alloc, SCRIPT, Vec::new(alloc), out)?;
-    let (narrow, _) = out.into_parts();
-    let is_text = narrow.taken.as_slice() == &REPLIES[..room.min(REPLIES.len())];
-    Ok(status == Status::WriteFault && image.is_empty() && narrow.is_cut_at(room) && is_text)
+    let ran = run_to(alloc, &image, SCRIPT, &[], Vec::new(alloc), out);
+    let is_fault = ran.status == Status::WriteFault && ran.image.is_empty();
+    let (narrow, _) = ran.out.into_parts();
+    let is_cut = narrow.is_cut_at(room) && REPLIES.starts_with(&narrow.taken);
+    holds(format_args!("{capacity} {room}"), is_fault && is_cut)
 }
+
+/// How many bytes the buffer has, and for how many there is room behind it.
+const BUFFERS: [(usize, usize); 5] = [(8, 0), (8, 1), (8, 20), (1000, 0), (1000, 20)];
 
 #[test]
 fn nothing_follows_a_buffer_that_is_not_taken(rt: HostRuntime) -> Result<(), Fail> {
-    for (capacity, room) in [(8, 0), (8, 1), (8, 20), (1000, 0), (1000, 20)] {
-        assert!(rt;
-            stops_behind_buffer(rt.alloc(), capacity, room)?,
-            "{capacity} {room}"
-        );
+    for (capacity, room) in &BUFFERS {
+        check_behind_buffer(rt.alloc(), *capacity, *room)?;
     }
     Ok(())
+}
+
+/// No image follows what a script prints where that isn't flushed.
+fn check_unflushed(alloc: Global, script: &str) -> Result<(), Fail> {
+    let image = bytes_of(alloc, BLANK)?;
+    let out = Unflushed(Vec::new(alloc));
+    let ran = run_to(alloc, &image, script, &[], Vec::new(alloc), out);
+    let is_fault = ran.status == Status::WriteFault && ran.image.is_empty();
+    holds(script, is_fault)
 }
 
 #[test]
 fn no_image_follows_replies_that_are_not_flushed(rt: HostRuntime) -> Result<(), Fail> {
-    let alloc = rt.alloc();
-    for script in [SCRIPT, "frob"] {
-        let ran = run_blank(alloc, script, Vec::new(alloc), Unflushed(Vec::new(alloc)))?;
-        assert!(rt; ran.status == Status::WriteFault && ran.image.is_empty());
-    }
-    Ok(())
+    check_unflushed(rt.alloc(), SCRIPT)?;
+    check_unflushed(rt.alloc(), "frob")
 }
 
 #[test]
 fn an_image_that_is_not_flushed_is_a_fault(rt: HostRuntime) -> Result<(), Fail> {
     let alloc = rt.alloc();
-    let ran = run_blank(alloc, SCRIPT, Unflushed(Vec::new(alloc)), Vec::new(alloc))?;
-    assert!(rt; ran.status == Status::WriteFault && ran.image.0.len() == 128);
-    assert!(rt; ran.out.as_slice() == REPLIES);
-    Ok(())
+    let image = bytes_of(alloc, BLANK)?;
+    let image_out = Unflushed(Vec::new(alloc));
+    let ran = run_to(alloc, &image, SCRIPT, &[], image_out, Vec::new(alloc));
+    let is_fault = ran.status == Status::WriteFault && ran.image.0.len() == 128;
+    holds("the script", is_fault && ran.out.as_slice() == REPLIES)
 }

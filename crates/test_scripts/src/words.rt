@@ -3,6 +3,7 @@
 use command_line::{Request, parse};
 use std::alloc::{AllocError, Global};
 use std::test::Fail;
+use test_fakes::holds;
 
 /// The words of a command line that has no spaces in a word.
 fn words_of(alloc: Global, line: &str) -> Result<Vec<String>, AllocError> {
@@ -16,13 +17,13 @@ fn words_of(alloc: Global, line: &str) -> Result<Vec<String>, AllocError> {
 /// What a command line asks for; where that is no command, the status and what is said.
 fn asked(alloc: Global, line: &str) -> Result<String, AllocError> {
     let words = words_of(alloc, line)?;
-    match parse(alloc, words.as_slice()) {
-        Ok(request) => shown(alloc, request),
+    match parse(alloc, &words) {
+        Ok(request) => shown(alloc, &request),
         Err(error) => format!(in alloc; "{} {error}", error.exit_code()),
     }
 }
 
-fn shown(alloc: Global, request: Request) -> Result<String, AllocError> {
+fn shown(alloc: Global, request: &Request) -> Result<String, AllocError> {
     match request {
         Request::New { size, slots, out } => format!(in alloc; "new {size} {slots} {out}\n"),
         Request::Check { image } => format!(in alloc; "check {image}\n"),
@@ -32,13 +33,19 @@ fn shown(alloc: Global, request: Request) -> Result<String, AllocError> {
             out,
             files,
         } => {
-            let mut line = format!(in alloc; "run {image} {script} {out}")?;
-            for file in &files {
-                line = format!(in alloc; "{line} {file}")?;
-            }
-            format!(in alloc; "{line}\n")
+            let line = format!(in alloc; "run {image} {script} {out}")?;
+            with_files(line, files)
         }
     }
+}
+
+/// A line with the files behind it.
+fn with_files(mut line: String, files: &[&str]) -> Result<String, AllocError> {
+    for file in files {
+        write!(line, " {file}")?;
+    }
+    line.push_str("\n")?;
+    Ok(line)
 }
 
 /// Words, and how what comes of them begins, and what stands in it: commands, words that are refused,
@@ -132,12 +139,16 @@ const CASES: [(&str, &str, &str); 22] = [
     ("palmheap run --help", "0 ", "strcopy A AT \"TEXT\""),
 ];
 
+fn check_words(alloc: Global, line: &str, front: &str, part: &str) -> Result<(), Fail> {
+    let said = asked(alloc, line)?;
+    let is_right = said.as_str().starts_with(front) && said.as_str().contains(part);
+    holds(format_args!("{line}: {said}"), is_right)
+}
+
 #[test]
 fn words_are_read(rt: HostRuntime) -> Result<(), Fail> {
     for (line, front, part) in &CASES {
-        let said = asked(rt.alloc(), line)?;
-        let is_right = said.as_str().starts_with(front) && said.as_str().contains(part);
-        assert!(rt; is_right, "{line}: {said}");
+        check_words(rt.alloc(), line, front, part)?;
     }
     Ok(())
 }
