@@ -36,4 +36,3 @@ pub mod ResourceSteps
 pub mod FileSteps
 pub mod StoreSteps
 pub mod Runs
-pub mod Counted

@@ -43,7 +43,6 @@
 //! | `FileSteps` | the row of each call on files, and the room that a database takes which is made whole |
 //! | `StoreSteps` | the row of each call on a store, the memory manager's calls among them, and its step |
 //! | `Runs` | a list of calls, done one after the other |
-//! | `Counted` | what contracts see of a writer whose faults are counted |
 //!
 //! Offsets count bytes from the image's start, and numbers are big-endian. The fields of a chunk's
 //! header are those of the Palm OS Programmer's Companion ("Memory Architecture"), and those of a
@@ -53,7 +52,6 @@
 
 mod bytes;
 mod call;
-mod counted;
 mod database;
 mod entry;
 mod file_fault;
@@ -63,7 +61,6 @@ mod tally;
 
 pub use bytes::Bytes;
 pub use call::{Call, DatabaseCall, FileCall, MemoryCall, RecordCall, Reply, ResourceCall};
-pub use counted::Counted;
 pub use database::{DbInfo, DbName};
 pub use entry::{Entry, RecordInfo, ResourceInfo};
 pub use file_fault::FileFault;

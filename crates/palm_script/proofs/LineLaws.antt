@@ -6,7 +6,7 @@ use Rattle.std.proofs.lemmas.List.Sums.{sum_by-append, sum_by-take-le}
 use Rattle.std.proofs.lemmas.Option.{slice_get-get_or}
 use Rattle.std.proofs.KnownBytes.{Appends-trans}
 use Rattle.heap_model.specs.Memory.{Memory}
-use Rattle.heap_model.specs.Counted.{Writing, Writes}
+use Rattle.palm_text.specs.Counted.{Writing, Writes}
 use Rattle.heap_model.specs.declared.call.Reply.{Reply}
 use Rattle.heap_model.specs.declared.call.Reply.TheVariants.{Data}
 use Rattle.palm_text.specs.declared.output.WriteFault.{WriteFault}

@@ -8,7 +8,7 @@ use Rattle.heap_model.specs.Memory.{Memory as Region}
 use Rattle.heap_model.specs.Bytes.{u16_bytes, u32_bytes}
 use Rattle.palm_text.specs.Pieces.{spelled}
 use Rattle.heap_model.specs.StoreSteps.{Call, DoesInStore, call_by}
-use Rattle.heap_model.specs.Counted.{Writing, Writes}
+use Rattle.palm_text.specs.Counted.{Writing, Writes}
 use Rattle.heap_model.specs.Numbers.{number_of, name_of}
 use Rattle.heap_model.specs.declared.names.Name.{Name}
 use Rattle.heap_model.specs.declared.names.Db.{Db}

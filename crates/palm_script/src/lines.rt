@@ -13,9 +13,9 @@ use crate::calls::{Outcome, do_given};
 use crate::files::{export, import};
 use crate::replies::{number, put_data, put_refusal, put_reply};
 use allowance::Allowance;
-use heap_model::{Bytes, Counted, Db, Name, Reply};
+use heap_model::{Bytes, Db, Name, Reply};
 use palm_store::Store;
-use palm_text::WriteFault;
+use palm_text::{Counted, WriteFault};
 use script_lines::Line;
 use std::io::Write;
 

@@ -1,7 +1,7 @@
 //! Replies, and the lines that they are printed as.
 
 ghost use Rattle.std.specs.Prelude.{◌≡◌, ◌++◌, codes, decimal, is_ok, length};
-ghost use Rattle.heap_model.specs.Counted.{Writes};
+ghost use Rattle.palm_text.specs.Counted.{Writes};
 ghost use Rattle.heap_model.specs.MemorySteps.{reply_of};
 ghost use Rattle.heap_model.specs.declared.call.Reply.{Reply};
 ghost use Rattle.palm_script.specs.Lines.{details_text, hex_text, info_words, record_words};
@@ -13,11 +13,11 @@ ghost use Rattle.palm_store.specs.Replies.{made_reply};
 ghost use Rattle.palm_text.specs.Pieces.{piece_text};
 
 use heap_model::{
-    Bytes, Counted, Db, DbInfo, FileFault, Name, RecordInfo, Refusal, Reply, ResourceInfo, Which,
+    Bytes, Db, DbInfo, FileFault, Name, RecordInfo, Refusal, Reply, ResourceInfo, Which,
 };
 use itoa::Buffer;
 use palm_store::Locked;
-use palm_text::{Piece, WriteFault, put_pieces};
+use palm_text::{Counted, Piece, WriteFault, put_pieces};
 use script_lines::Line;
 use std::io::Write;
 

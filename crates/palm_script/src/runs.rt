@@ -8,8 +8,9 @@ ghost use Rattle.palm_script.specs.Lines.{no_database, no_name};
 
 use crate::lines::do_line;
 use allowance::{Allowance, room_for};
-use heap_model::{Bytes, Counted, Db, Name};
+use heap_model::{Bytes, Db, Name};
 use palm_store::Store;
+use palm_text::Counted;
 use script_lines::Script;
 use std::alloc::{AllocError, Global};
 use std::io::Write;

@@ -5,7 +5,7 @@
 
 ghost use Rattle.std.specs.Prelude.{◌≡◌, ◌⊎◌, None, is_ok, IfOk, IfErr, OnOk, OnErr};
 ghost use Rattle.heap_model.specs.Store.{Accepted};
-ghost use Rattle.heap_model.specs.Counted.{Writes};
+ghost use Rattle.palm_text.specs.Counted.{Writes};
 ghost use Rattle.store_check.specs.Checks.{IsAnswered, Summarizes};
 
 mod asking;
@@ -21,9 +21,8 @@ mod whole;
 use crate::entries::{KnownIds, NOTHING_KNOWN};
 use crate::lookup::count_databases;
 use allowance::Allowance;
-use heap_model::Counted;
 use mem_manager::Heap;
-use palm_text::{WriteFault, put_all};
+use palm_text::{Counted, WriteFault, put_all};
 use raw_region::Region;
 use std::alloc::Global;
 use std::fmt;

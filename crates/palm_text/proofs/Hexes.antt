@@ -1,7 +1,7 @@
 -- Bytes in hex, in parts.
 use Rattle.std.proofs.Common.{◌≡◌, ℕ, List, [], ◌∷◌, ◌++◌, refl, ap, sym, ◌∙◌, take, drop, take-append-drop}
 use Rattle.std.specs.Prelude.{slice_index, ◌/◌, ◌%◌, Option, Bool, true, false}
-use Rattle.heap_model.specs.Counted.{Writing, Writes}
+use Rattle.palm_text.specs.Counted.{Writing, Writes}
 use Rattle.palm_text.proofs.Parts.{then, stops, nothing}
 use Rattle.hex.specs.Hex.{encode_with, encode_lower, lower_digits}
 

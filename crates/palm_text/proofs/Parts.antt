@@ -4,7 +4,7 @@ use Rattle.std.proofs.lemmas.List.{take-append-le}
 use Rattle.std.proofs.Math.Seq.{take-append-add}
 use Rattle.std.specs.Io.KnownBytes.{Appends}
 use Rattle.std.proofs.KnownBytes.{Appends-trans, Appends-nil}
-use Rattle.heap_model.specs.Counted.{Writing, AppendsFront, Writes}
+use Rattle.palm_text.specs.Counted.{Writing, AppendsFront, Writes}
 use Rattle.palm_text.specs.declared.pieces.Piece.{Piece}
 use Rattle.palm_text.specs.Pieces.{piece_text, text_of}
 

@@ -1,9 +1,10 @@
-//! Writing all of some bytes.
+//! Writing all of some bytes, and flushing behind them.
 
 ghost use Rattle.std.specs.Prelude.{◌≡◌, is_ok, None, OnErr};
-ghost use Rattle.heap_model.specs.Counted.{Writes};
+ghost use Rattle.palm_text.specs.Counted.{Writes};
+ghost use Rattle.palm_text.specs.Output.{Puts};
 
-use heap_model::Counted;
+use crate::counted::Counted;
 use std::io::Write;
 use thiserror::Error;
 
@@ -26,4 +27,13 @@ pub fn put_all<W: Write>(out: &mut Counted<W>, bytes: &[u8]) -> Result<(), Write
         }
     }
     Ok(())
+}
+
+/// Writes all of `bytes`, and flushes. After a write that fails or takes 0 bytes nothing more is
+/// written, and nothing flushed.
+pub fn put<W: Write>(out: &mut Counted<W>, bytes: &[u8]) -> Result<(), WriteFault>
+    ensures { Puts W.contents out.old out.new bytes.now (is_ok result) }
+{
+    put_all(out, bytes)?;
+    out.flush().map_err(|_| WriteFault)
 }

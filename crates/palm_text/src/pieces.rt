@@ -3,13 +3,13 @@
 ghost use Rattle.std.specs.Prelude.{◌≤◌, is_ok, length};
 ghost use Rattle.hex.specs.Hex.{encode_lower};
 ghost use Rattle.heap_model.specs.Bytes.{u16_bytes, u32_bytes};
-ghost use Rattle.heap_model.specs.Counted.{Writes};
+ghost use Rattle.palm_text.specs.Counted.{Writes};
 ghost use Rattle.palm_text.specs.Pieces.{piece_text, spelled, text_of};
 
+use crate::counted::Counted;
 use crate::output::{WriteFault, put_all};
 use crate::spelled::put_spelled;
 use byteorder::{BigEndian, ByteOrder};
-use heap_model::Counted;
 use itoa::Buffer;
 use std::io::Write;
 

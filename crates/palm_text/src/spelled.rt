@@ -2,13 +2,13 @@
 
 ghost use Rattle.std.specs.Prelude.{◌≡◌, is_ok};
 ghost use Rattle.std.specs.List.{list_all};
-ghost use Rattle.heap_model.specs.Counted.{Writes};
+ghost use Rattle.palm_text.specs.Counted.{Writes};
 ghost use Rattle.palm_text.specs.Pieces as pieces;
 ghost use Rattle.palm_text.specs.Pieces.{closed, marked_hex, quoted, spelled};
 
+use crate::counted::Counted;
 use crate::output::{WriteFault, put_all};
 use crate::pieces::put_hex;
-use heap_model::Counted;
 use std::io::Write;
 
 /// Whether all of these may stand in quotes.

@@ -1,13 +1,13 @@
 -- What `new` and `check` write. Where a definition ends in a `Bool`, it says whether all got through.
 use Rattle.std.specs.Prelude.{◌≡◌, ◌≢◌, ◌⊎◌, ℕ, Bool, true, false, List, ◌++◌, codes, decimal, Option}
-use Rattle.heap_model.specs.Counted.{Writing}
+use Rattle.palm_text.specs.Counted.{Writing}
 use Rattle.heap_model.specs.Store.{Accepted}
 use Rattle.chunk_format.specs.Blank.{IsBlank, IsRegionSize, LeavesRoom}
 use Rattle.heap_check.specs.declared.summary.Summary.{Summary}
 use Rattle.store_check.specs.declared.summary.StoreSummary.{StoreSummary}
 use Rattle.store_check.specs.Checks.{Summarizes}
 use Rattle.program_io.specs.FaultLines.{PutsBad}
-use Rattle.program_io.specs.Output.{Puts}
+use Rattle.palm_text.specs.Output.{Puts}
 use Rattle.program_io.specs.declared.status.Status.{Status}
 use Rattle.program_io.specs.declared.status.Status.TheVariants.{Done, Refused, BadWords, ReadFault, WriteFault, NoMemory}
 

@@ -2,14 +2,14 @@
 -- with `short`, a line was refused for want of memory only where that holds.
 use Rattle.std.specs.Prelude.{◌≡◌, ◌≢◌, ◌⊎◌, ℕ, Bool, true, false, List, Option, Some, Ok, Err}
 use Rattle.heap_model.specs.Memory.{Memory}
-use Rattle.heap_model.specs.Counted.{Writing}
+use Rattle.palm_text.specs.Counted.{Writing}
 use Rattle.heap_model.specs.Store.{Accepted}
 use Rattle.script_lines.specs.Reading.{read_script}
 use Rattle.script_lines.specs.declared.fault.LineFault.{LineFault}
 use Rattle.script_lines.specs.declared.line.Line.{Line}
 use Rattle.palm_script.specs.Lines.{BreaksOffShort, RunsThroughShort}
 use Rattle.program_io.specs.FaultLines.{PutsBad, PutsFault}
-use Rattle.program_io.specs.Output.{Puts}
+use Rattle.palm_text.specs.Output.{Puts}
 use Rattle.program_io.specs.declared.status.Status.{Status}
 use Rattle.program_io.specs.declared.status.Status.TheVariants.{Done, Refused, BadWords, ReadFault, WriteFault, NoMemory}
 

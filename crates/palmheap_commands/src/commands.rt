@@ -7,7 +7,7 @@ use crate::images::put_image;
 use allowance::Allowance;
 use chunk_format::{BlankFault, blank_from};
 use heap_check::Summary;
-use heap_model::Counted;
+use palm_text::Counted;
 use program_io::{Status, say, say_bad, say_text};
 use raw_region::Region;
 use std::alloc::{AllocError, Global};

@@ -1,12 +1,10 @@
 //! Images that are written.
 
 ghost use Rattle.std.specs.Prelude.{is_ok};
-ghost use Rattle.program_io.specs.Output.{Puts};
+ghost use Rattle.palm_text.specs.Output.{Puts};
 
-use heap_model::Counted;
 use palm_store::Store;
-use palm_text::WriteFault;
-use program_io::put;
+use palm_text::{Counted, WriteFault, put};
 use raw_region::Region;
 use std::io::Write;
 

@@ -8,9 +8,10 @@ ghost use Rattle.palmheap_commands.specs.Runs.{RunsAndFlushes, RunsAndWrites, Ru
 
 use crate::images::put_store;
 use allowance::Allowance;
-use heap_model::{Bytes, Counted};
+use heap_model::Bytes;
 use palm_script::{RunFault, Script, ScriptFault, run_from};
 use palm_store::{NotAStore, Store, StoreFault};
+use palm_text::Counted;
 use program_io::{Status, say_bad, say_line_fault};
 use raw_region::Region;
 use script_lines::parse_from;

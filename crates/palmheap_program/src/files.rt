@@ -3,9 +3,10 @@
 ghost use Rattle.std.specs.Prelude.{◌≡◌, ◌≤◌, ◌⊎◌, IfOk, IfErr, length, vec_len};
 
 use crate::faults::{fail, fail_to_read};
-use heap_model::{Bytes, Counted};
+use heap_model::Bytes;
+use palm_text::{Counted, put};
 use program_io::{
-    INPUT_LIMIT, InputFault, Noted, OutputFile, Status, put, read_input_from, report_outcome,
+    INPUT_LIMIT, InputFault, Noted, OutputFile, Status, read_input_from, report_outcome,
 };
 use raw_region::Region;
 use std::fs::File;

@@ -4,7 +4,7 @@ ghost use Rattle.std.specs.Prelude.{◌≢◌};
 
 use crate::faults::{STANDARD_OUTPUT, fail};
 use crate::files::read_image;
-use heap_model::Counted;
+use palm_text::Counted;
 use palmheap_commands::{check_region_from, cmd_new_from};
 use program_io::{Noted, OutputFile, Status, report_outcome};
 use std::io;

@@ -4,7 +4,8 @@ ghost use Rattle.std.specs.Prelude.{◌≡◌, ◌≢◌, ◌⊎◌, IfErr};
 
 use crate::faults::{STANDARD_OUTPUT, fail};
 use crate::files::{read_file, read_files, read_image, write_files};
-use heap_model::{Bytes, Counted};
+use heap_model::Bytes;
+use palm_text::Counted;
 use palmheap_commands::run_region_from;
 use program_io::{Noted, OutputFile, Status, report_outcome};
 use raw_region::Region;

@@ -3,7 +3,7 @@ use Rattle.std.proofs.Common.{◌≡◌, ℕ, ◌+◌, ◌<◌, ◌≤◌, Bool,
 use Rattle.std.proofs.lemmas.Grind.{common_steps}
 use Rattle.std.specs.Prelude.{IsErr, is_ok}
 use Rattle.std.specs.List.{flat_map}
-use Rattle.heap_model.specs.Counted.{Writing, Writes}
+use Rattle.palm_text.specs.Counted.{Writing, Writes}
 use Rattle.heap_model.specs.Meaning.{ChunkMap}
 use Rattle.heap_model.specs.Database.{Database, Entry, a_record, a_resource, entry_data, entry_with, data_in, entry_bytes, spelled, entry_in, entry_count_in}
 use Rattle.heap_model.specs.Store.{bytes_named}

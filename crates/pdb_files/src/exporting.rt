@@ -1,7 +1,7 @@
 //! Writing the file of a database.
 
 ghost use Rattle.std.specs.Prelude.{◌≡◌, ◌↔◌, ℕ, None, Err, is_ok, length, IfOk, OnErr};
-ghost use Rattle.heap_model.specs.Counted.{Writes};
+ghost use Rattle.palm_text.specs.Counted.{Writes};
 ghost use Rattle.heap_model.specs.Database.{Database};
 ghost use Rattle.heap_model.specs.Store.{store_of, content};
 ghost use Rattle.heap_model.specs.StoreWords.{with_number};
@@ -20,8 +20,9 @@ mod places;
 use crate::exporting::parts::put_file;
 use crate::exporting::places::file_size;
 use allowance::{Allowance, room_for};
-use heap_model::{Bytes, Counted, Db, Refusal};
+use heap_model::{Bytes, Db, Refusal};
 use palm_store::Store;
+use palm_text::Counted;
 use std::alloc::AllocError;
 use std::io::Write;
 use thiserror::Error;

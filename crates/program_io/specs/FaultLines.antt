@@ -1,8 +1,8 @@
 -- The lines for what is refused. Where a definition ends in a `Bool`, it says whether all got through.
 use Rattle.std.specs.Prelude.{◌≡◌, ◌++◌, ℕ, Bool, List, Option, codes, decimal}
-use Rattle.heap_model.specs.Counted.{Writing}
+use Rattle.palm_text.specs.Counted.{Writing}
 use Rattle.script_lines.specs.declared.fault.LineFault.{LineFault}
-use Rattle.program_io.specs.Output.{Puts}
+use Rattle.palm_text.specs.Output.{Puts}
 
 -- `bad`, a fault and a line's end
 abbrev pub IsBadLine : List ℕ → Type 0

@@ -1,3 +1,2 @@
-pub mod Output
 pub mod Status
 pub mod FaultLines

@@ -6,7 +6,7 @@ ghost use Rattle.program_io.specs.FaultLines.{IsBadLine, IsFaultLine, PutsBad, P
 use crate::output::say_text;
 use crate::status::Status;
 use allowance::Allowance;
-use heap_model::Counted;
+use palm_text::Counted;
 use script_lines::LineFault;
 use std::alloc::AllocError;
 use std::fmt::Display;

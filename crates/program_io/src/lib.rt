@@ -1,13 +1,13 @@
-//! What a program reads and writes: input files, texts on writers whose faults are counted, output
+//! What a program reads and writes: input files, lines on writers whose faults are counted, output
 //! files, and what all that came to.
 //!
 //! No file or terminal stands in a contract: each function works over readers and writers. Start at
-//! `put`, which every text goes through, and at `Status`.
+//! `say`, which prints a line, and at `Status`.
 //!
 //! | module | does |
 //! |---|---|
 //! | `input` | reads a file to its end, within the limit |
-//! | `output` | writes a text and flushes, or answers that one of these failed |
+//! | `output` | prints a line, and answers the status that a run comes to |
 //! | `fault_lines` | the lines for a refused image and a refused script |
 //! | `output_file` | a file that takes the place of another as a whole |
 //! | `noted` | a writer that keeps why it failed first |
@@ -27,6 +27,6 @@ pub use fault_lines::{say_bad, say_line_fault};
 pub use fault_report::{report_fault, report_input_fault, report_outcome, report_write_fault};
 pub use input::{INPUT_LIMIT, InputFault, read_input, read_input_from};
 pub use noted::Noted;
-pub use output::{put, say, say_text};
+pub use output::{say, say_text};
 pub use output_file::OutputFile;
 pub use status::Status;

@@ -1,23 +1,13 @@
-//! Texts that are written and flushed.
+//! Lines that are printed, and what that comes to.
 
-ghost use Rattle.std.specs.Prelude.{◌≡◌, ◌≢◌, ◌⊎◌, IsOkAnd, is_ok, string_bytes, true, false};
+ghost use Rattle.std.specs.Prelude.{◌≡◌, ◌≢◌, ◌⊎◌, IsOkAnd, string_bytes, true, false};
 ghost use Rattle.std.specs.Result.{IsErr};
-ghost use Rattle.program_io.specs.Output.{Puts};
+ghost use Rattle.palm_text.specs.Output.{Puts};
 
 use crate::status::Status;
-use heap_model::Counted;
-use palm_text::{WriteFault, put_all};
+use palm_text::{Counted, put};
 use std::alloc::AllocError;
 use std::io::Write;
-
-/// Writes all of `bytes`, and flushes. After a write that fails or takes 0 bytes nothing more is
-/// written, and nothing flushed.
-pub fn put<W: Write>(out: &mut Counted<W>, bytes: &[u8]) -> Result<(), WriteFault>
-    ensures { Puts W.contents out.old out.new bytes.now (is_ok result) }
-{
-    put_all(out, bytes)?;
-    out.flush().map_err(|_| WriteFault)
-}
 
 /// Prints a line, and answers `status`.
 pub fn say<V: Write>(line: &[u8], status: Status, out: &mut Counted<V>) -> Status

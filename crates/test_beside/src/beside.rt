@@ -1,8 +1,9 @@
 //! A call on a store, and the same on the plain model beside it.
 
-use heap_model::{Call, Counted, Reply};
+use heap_model::{Call, Reply};
 use palm_script::do_call;
 use palm_store::Store;
+use palm_text::Counted;
 use rand::RngExt;
 use rand_pcg::Pcg32;
 use raw_region::Region;

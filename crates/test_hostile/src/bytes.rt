@@ -1,9 +1,9 @@
 //! Each byte of an image with a database, set to each other value.
 
 use crate::stores::listed_store;
-use heap_model::Counted;
 use palm_script::{Script, parse, run};
 use palm_store::Store;
+use palm_text::Counted;
 use std::alloc::Global;
 use std::test::*;
 use test_beside::{Verdict, agreed_verdict, image_of, store_of};

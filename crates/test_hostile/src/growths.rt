@@ -5,13 +5,14 @@ use crate::stores::{
     CARRIED, WRITTEN, has_image, input_files, listed_store, store_behind, with_database,
 };
 use heap_model::{
-    Bytes, Call, Counted, DatabaseCall, Db, FileCall, MemoryCall, Name, Place, Refusal, Reply,
+    Bytes, Call, DatabaseCall, Db, FileCall, MemoryCall, Name, Place, Refusal, Reply,
 };
 use palm_script::{
     LineFault, NotRun, OutOfMemory, RunFault, Script, ScriptFault, check_and_run_from,
     do_call_from, parse, run_calls_from, run_from,
 };
 use palm_store::{Store, StoreFault};
+use palm_text::Counted;
 use raw_region::Region;
 use script_lines::parse_from;
 use std::alloc::{AllocError, Global};

@@ -1,8 +1,9 @@
 //! Images and scripts at their limits: no want of memory is invented for them.
 
-use heap_model::{Call, Counted, MemoryCall, Name, Reply};
+use heap_model::{Call, MemoryCall, Name, Reply};
 use palm_script::{do_call, run_calls};
 use palm_store::{Store, StoreSummary};
+use palm_text::Counted;
 use palmheap_commands::{cmd_check, cmd_run};
 use program_io::{INPUT_LIMIT, Status};
 use std::alloc::{AllocError, Global};

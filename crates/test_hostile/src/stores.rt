@@ -1,8 +1,9 @@
 //! Stores behind scripts and files, and the scripts and files.
 
-use heap_model::{Bytes, Counted, Db};
+use heap_model::{Bytes, Db};
 use palm_script::{parse, run};
 use palm_store::Store;
+use palm_text::Counted;
 use pdb_files::import;
 use std::alloc::Global;
 use std::test::*;

@@ -4,9 +4,10 @@
 use crate::stores::{
     CARRIED, WRITTEN, has_image, input_files, listed_store, store_behind, with_database,
 };
-use heap_model::{Bytes, Counted, Db};
+use heap_model::{Bytes, Db};
 use palm_script::{RunFault, parse, run};
 use palm_store::Store;
+use palm_text::Counted;
 use palmheap_commands::{cmd_check, cmd_new, cmd_run};
 use pdb_files::export;
 use program_io::Status;

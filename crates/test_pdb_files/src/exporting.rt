@@ -1,8 +1,9 @@
 //! Files of databases that were made by calls, byte for byte.
 
 use chunk_format::blank;
-use heap_model::{Counted, Db, DbName, Name, Refusal, Which};
+use heap_model::{Db, DbName, Name, Refusal, Which};
 use palm_store::Store;
+use palm_text::Counted;
 use pdb_files::{ExportFault, export, exported};
 use record_db::{archive, delete, get, new_record, release};
 use resource_db::new_resource;

@@ -2,9 +2,10 @@
 
 use crate::call_lists::PLACES;
 use chunk_format::blank;
-use heap_model::{Bytes, Call, Counted, DatabaseCall, DbName, MemoryCall, Name, Reply};
+use heap_model::{Bytes, Call, DatabaseCall, DbName, MemoryCall, Name, Reply};
 use palm_script::{RunFault, do_call, do_call_from, parse, run, run_from};
 use palm_store::Store;
+use palm_text::Counted;
 use std::alloc::{AllocError, Global};
 use std::test::Fail;
 use test_fakes::{RefusesOne, equal};

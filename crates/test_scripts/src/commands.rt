@@ -1,7 +1,7 @@
 //! The commands: what they print and write, and a writer that fails.
 
 use crate::runs::check_told;
-use heap_model::Counted;
+use palm_text::Counted;
 use palmheap_commands::{cmd_check, cmd_new};
 use program_io::Status;
 use std::alloc::Global;

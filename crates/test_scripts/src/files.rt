@@ -1,7 +1,7 @@
 //! A file that takes the place of another.
 
-use heap_model::Counted;
-use program_io::{Noted, OutputFile, Status, put, say};
+use palm_text::{Counted, put};
+use program_io::{Noted, OutputFile, Status, say};
 use std::alloc::AllocError;
 use std::io::Write;
 use std::os::unix::fs::symlink;

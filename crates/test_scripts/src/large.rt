@@ -4,7 +4,7 @@
 use crate::commands::check_image;
 use crate::grammar::{What, count_of};
 use crate::runs::{Ran, run_on};
-use heap_model::Counted;
+use palm_text::Counted;
 use palmheap_commands::cmd_new;
 use program_io::{INPUT_LIMIT, Status};
 use std::alloc::{AllocError, Global};

@@ -1,7 +1,6 @@
 //! The text of pieces, and writers that take few bytes at a time, or fail.
 
-use heap_model::Counted;
-use palm_text::{Piece, put_pieces};
+use palm_text::{Counted, Piece, put_pieces};
 use std::alloc::Global;
 use std::io::ErrorKind;
 use std::test::Fail;

@@ -1,7 +1,8 @@
 //! Scripts that are run on images: what they print, and what they leave.
 
 use crate::{categories, databases, giving, moving, records, resources};
-use heap_model::{Bytes, Counted};
+use heap_model::Bytes;
+use palm_text::Counted;
 use palmheap_commands::cmd_run;
 use program_io::Status;
 use std::alloc::{AllocError, Global};

@@ -2,7 +2,7 @@
 
 ghost use Rattle.std.specs.Prelude.{◌≡◌, ◌+◌, ◌<◌, ◌^◌, None, OnErr, is_ok, length};
 ghost use Rattle.std.specs.List.{flat_map};
-ghost use Rattle.heap_model.specs.Counted.{Writes};
+ghost use Rattle.palm_text.specs.Counted.{Writes};
 ghost use Rattle.heap_model.specs.Meaning.{ChunkMap};
 ghost use Rattle.heap_model.specs.Database.{HasShape, data_in};
 ghost use Rattle.heap_model.specs.Files.{block_bytes, file_of};
@@ -14,9 +14,8 @@ use bitflags::Flags;
 use db_format::{
     DbEntry, DbHeader, RecordAttrs, app_info, entry_count, entry_slot, has_resources, sort_info,
 };
-use heap_model::Counted;
 use palm_store::Store;
-use palm_text::{WriteFault, put_all};
+use palm_text::{Counted, WriteFault, put_all};
 use std::io::Write;
 
 /// Writes the file of a database, given by its bytes.

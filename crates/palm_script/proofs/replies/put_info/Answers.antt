@@ -1,6 +1,6 @@
 use Rattle.std.proofs.Common.{ℕ, List, subst}
 use Rattle.std.specs.Prelude.{is_ok}
-use Rattle.heap_model.specs.Counted.{Writes}
+use Rattle.palm_text.specs.Counted.{Writes}
 use Rattle.palm_script.proofs.WordLaws.{words_before, words_of_info}
 use Rattle.palm_script.proofs.replies.put_info.Goals as goal
 

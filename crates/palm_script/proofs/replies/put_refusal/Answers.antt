@@ -1,6 +1,6 @@
 use Rattle.std.proofs.Common.{◌≡◌, ◌++◌, List, ℕ, ap, ◌∙◌, subst, append_assoc}
 use Rattle.std.specs.Prelude.{codes, decimal, is_ok}
-use Rattle.heap_model.specs.Counted.{Writes}
+use Rattle.palm_text.specs.Counted.{Writes}
 use Rattle.heap_model.specs.Numbers.{number_of, name_of}
 use Rattle.palm_text.specs.Pieces.{piece_text}
 use Rattle.palm_script.specs.Lines.{details_text}

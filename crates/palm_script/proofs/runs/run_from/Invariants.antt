@@ -1,6 +1,6 @@
 use Rattle.std.proofs.Common.{◌≡◌, ◌≤◌, ℕ, List, length, take, true}
 use Rattle.std.specs.Prelude.{count_by, vec_capacity, vec_len}
-use Rattle.heap_model.specs.Counted.{Writes}
+use Rattle.palm_text.specs.Counted.{Writes}
 use Rattle.script_lines.specs.Labels.{chunk_label_end, database_label_end, is_export, label_count}
 use Rattle.palm_script.specs.Lines.{Lines, unbound, tables}
 use Rattle.palm_script.proofs.runs.run_from.Given as goal

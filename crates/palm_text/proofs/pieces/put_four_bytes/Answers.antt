@@ -1,7 +1,7 @@
 use Rattle.std.proofs.Common.{List, ℕ, subst}
 use Rattle.std.specs.Prelude.{is_ok}
 use Rattle.heap_model.specs.Bytes.{u32_bytes}
-use Rattle.heap_model.specs.Counted.{Writes}
+use Rattle.palm_text.specs.Counted.{Writes}
 use Rattle.palm_text.specs.Pieces.{spelled}
 use Rattle.palm_text.proofs.pieces.put_four_bytes.Goals as goal
 

@@ -1,6 +1,6 @@
 use Rattle.std.proofs.Common.{Bool, length}
 use Rattle.hex.specs.Hex.{encode_lower}
-use Rattle.heap_model.specs.Counted.{Writing, Writes}
+use Rattle.palm_text.specs.Counted.{Writing, Writes}
 use Rattle.palm_text.proofs.pieces.put_hex.Given as goal
 
 -- whatever is written from here on completes the text

@@ -2,7 +2,7 @@ use Rattle.std.proofs.Common.{List, ℕ, subst}
 use Rattle.std.specs.Prelude.{is_ok}
 use Rattle.hex.specs.Hex.{encode_lower}
 use Rattle.heap_model.specs.Bytes.{u32_bytes}
-use Rattle.heap_model.specs.Counted.{Writes}
+use Rattle.palm_text.specs.Counted.{Writes}
 use Rattle.palm_text.proofs.pieces.put_hex_32.Goals as goal
 
 pub returns : goal.returns

@@ -1,5 +1,5 @@
 use Rattle.std.proofs.Common.{drop, Bool}
-use Rattle.heap_model.specs.Counted.{Writing, Writes}
+use Rattle.palm_text.specs.Counted.{Writing, Writes}
 use Rattle.palm_text.specs.Pieces.{text_of}
 use Rattle.palm_text.proofs.pieces.put_pieces.Given as goal
 

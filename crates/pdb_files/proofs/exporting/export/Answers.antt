@@ -1,6 +1,6 @@
 use Rattle.std.proofs.Common.{ℕ, true, false, subst, ap, ◌∙◌}
 use Rattle.std.specs.Prelude.{length}
-use Rattle.heap_model.specs.Counted.{Writes}
+use Rattle.palm_text.specs.Counted.{Writes}
 use Rattle.heap_model.specs.Database.{Database, database_in}
 use Rattle.heap_model.specs.Store.{content, store_of}
 use Rattle.heap_model.specs.Files.{file_of}

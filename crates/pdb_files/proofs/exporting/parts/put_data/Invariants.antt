@@ -1,5 +1,5 @@
 use Rattle.std.proofs.Common.{◌≡◌, Bool, None, drop}
-use Rattle.heap_model.specs.Counted.{Writing, Writes}
+use Rattle.palm_text.specs.Counted.{Writing, Writes}
 use Rattle.pdb_files.specs.FileParts.{content_of, data_text}
 use Rattle.pdb_files.proofs.exporting.parts.put_data.Given as goal
 

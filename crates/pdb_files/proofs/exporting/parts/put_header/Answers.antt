@@ -1,6 +1,6 @@
 use Rattle.std.proofs.Common.{ℕ, List, Option, subst}
 use Rattle.std.specs.Prelude.{is_ok}
-use Rattle.heap_model.specs.Counted.{Writes}
+use Rattle.palm_text.specs.Counted.{Writes}
 use Rattle.heap_model.specs.Database.{Database, database_in}
 use Rattle.heap_model.specs.Store.{store_of}
 use Rattle.heap_model.specs.Files.{idle, with_offsets, first_block}

@@ -3,9 +3,9 @@
 ghost use Rattle.std.specs.Prelude.{◌≡◌, ◌+◌, None, Some, is_ok};
 ghost use Rattle.std.specs.Io.{WritesAtMost};
 ghost use Rattle.std.specs.Io.KnownBytes.{Keeps, WriteAppends};
-ghost use Rattle.heap_model.specs.Counted.{writing, faults_of};
+ghost use Rattle.palm_text.specs.Counted.{writing, faults_of};
 
-use crate::tally::Tally;
+use heap_model::Tally;
 use std::io;
 use std::io::Write;
 use std::marker::Model;
@@ -21,7 +21,7 @@ pub struct Counted<W: Write> {
 }
 
 impl<W: Write> Model for Counted<W> {
-    ghost use Rattle.heap_model.specs.Counted.{Writing, writing, writing_code};
+    ghost use Rattle.palm_text.specs.Counted.{Writing, writing, writing_code};
 
     ghost Value = { Writing W };
 

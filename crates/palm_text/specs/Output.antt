@@ -1,6 +1,6 @@
 -- What a writer gets that a text is written to and that is flushed behind it.
 use Rattle.std.specs.Prelude.{◌≡◌, ◌⊎◌, ℕ, Bool, true, false, List, Option, None, Some}
-use Rattle.heap_model.specs.Counted.{Writing, Writes}
+use Rattle.palm_text.specs.Counted.{Writing, Writes}
 
 -- All of a text was written and no write failed, and then the writer was flushed, which got through or
 -- didn't.
