@@ -4,89 +4,65 @@ ghost use Rattle.std.specs.Prelude.{◌≡◌};
 ghost use Rattle.heap_model.specs.Numbers.{number_of, name_of};
 
 use crate::file_fault::FileFault;
-use thiserror::Error;
+use std::error::Error;
+use std::fmt;
+use std::fmt::Display;
 
 /// Why a call was refused. A refused call leaves what the heap means as it was. The numbers are this
 /// project's own, whatever a device answers.
-#[derive(Clone, Copy, Debug, PartialEq, Eq, Error)]
+#[derive(Clone, Copy, Debug, PartialEq, Eq)]
 pub enum Refusal {
     /// The name is no caller's chunk, nor a database's.
-    #[error("InvalidHandle")]
     InvalidHandle,
     /// The chunk is a database's.
-    #[error("OwnedByDatabase")]
     OwnedByDatabase,
     /// The chunk is locked.
-    #[error("ChunkLocked")]
     ChunkLocked,
     /// The chunk has no lock.
-    #[error("ChunkNotLocked")]
     ChunkNotLocked,
     /// The chunk has 14 locks already.
-    #[error("LockOverflow")]
     LockOverflow,
     /// The chunk is fixed.
-    #[error("ChunkFixed")]
     ChunkFixed,
     /// The owner isn't 1 to 14.
-    #[error("InvalidOwner")]
     InvalidOwner,
     /// No slot or not enough free space is left.
-    #[error("NotEnoughSpace")]
     NotEnoughSpace,
     /// The range reaches beyond the chunk's end.
-    #[error("OutOfBounds")]
     OutOfBounds,
     /// No database has this number, this name or this index.
-    #[error("NoSuchDatabase")]
     NoSuchDatabase,
     /// The database holds resources.
-    #[error("NotRecordDatabase")]
     NotRecordDatabase,
     /// The database holds records.
-    #[error("NotResourceDatabase")]
     NotResourceDatabase,
     /// The database may only be read.
-    #[error("ReadOnly")]
     ReadOnly,
     /// There are not so many entries; or none from an index on is of a category.
-    #[error("IndexOutOfRange")]
     IndexOutOfRange,
     /// The record is deleted.
-    #[error("RecordDeleted")]
     RecordDeleted,
     /// The record is in use.
-    #[error("RecordBusy")]
     RecordBusy,
     /// There are as many databases, or entries of one, as there may be.
-    #[error("TooManyEntries")]
     TooManyEntries,
     /// The category isn't 0 to 15, and not 0xFF either in the calls that count.
-    #[error("InvalidCategory")]
     InvalidCategory,
     /// Another record has the unique ID.
-    #[error("DuplicateId")]
     DuplicateId,
     /// No record has the unique ID.
-    #[error("UniqueIdNotFound")]
     UniqueIdNotFound,
     /// Another database has the name; or the info block is there.
-    #[error("AlreadyExists")]
     AlreadyExists,
     /// The name of a database has 1 to 31 bytes, none of them zero.
-    #[error("InvalidName")]
     InvalidName,
     /// No resource has the type and the id, or not so many have the type.
-    #[error("ResourceNotFound")]
     ResourceNotFound,
     /// The database has no such info block.
-    #[error("NoInfoBlock")]
     NoInfoBlock,
     /// No database is read from the file, and this is what is wrong with it first.
-    #[error("BadFile {0}")]
     BadFile(FileFault),
     /// Memory for the answer was refused.
-    #[error("OutOfMemory")]
     OutOfMemory,
 }
 
@@ -95,48 +71,78 @@ impl Refusal {
     pub fn number(self) -> u8
         ensures { result ≡ number_of self }
     {
-        self.number_and_name().0
+        match self {
+            Refusal::InvalidHandle => 1,
+            Refusal::OwnedByDatabase => 2,
+            Refusal::ChunkLocked => 3,
+            Refusal::ChunkNotLocked => 4,
+            Refusal::LockOverflow => 5,
+            Refusal::ChunkFixed => 6,
+            Refusal::InvalidOwner => 7,
+            Refusal::NotEnoughSpace => 8,
+            Refusal::OutOfBounds => 9,
+            Refusal::NoSuchDatabase => 10,
+            Refusal::NotRecordDatabase => 11,
+            Refusal::NotResourceDatabase => 12,
+            Refusal::ReadOnly => 13,
+            Refusal::IndexOutOfRange => 14,
+            Refusal::RecordDeleted => 15,
+            Refusal::RecordBusy => 16,
+            Refusal::TooManyEntries => 17,
+            Refusal::InvalidCategory => 18,
+            Refusal::DuplicateId => 19,
+            Refusal::UniqueIdNotFound => 20,
+            Refusal::AlreadyExists => 21,
+            Refusal::InvalidName => 22,
+            Refusal::ResourceNotFound => 23,
+            Refusal::NoInfoBlock => 24,
+            Refusal::BadFile(_) => 25,
+            Refusal::OutOfMemory => 26,
+        }
     }
 
     /// The name of the refusal.
     pub fn name(self) -> &'static str
         ensures { result.now ≡ name_of self }
     {
-        self.number_and_name().1
-    }
-
-    /// The table of numbers and names.
-    fn number_and_name(self) -> (u8, &'static str)
-        ensures number { result.0 ≡ number_of self }
-        ensures name { result.1.now ≡ name_of self }
-    {
         match self {
-            Refusal::InvalidHandle => (1, "InvalidHandle"),
-            Refusal::OwnedByDatabase => (2, "OwnedByDatabase"),
-            Refusal::ChunkLocked => (3, "ChunkLocked"),
-            Refusal::ChunkNotLocked => (4, "ChunkNotLocked"),
-            Refusal::LockOverflow => (5, "LockOverflow"),
-            Refusal::ChunkFixed => (6, "ChunkFixed"),
-            Refusal::InvalidOwner => (7, "InvalidOwner"),
-            Refusal::NotEnoughSpace => (8, "NotEnoughSpace"),
-            Refusal::OutOfBounds => (9, "OutOfBounds"),
-            Refusal::NoSuchDatabase => (10, "NoSuchDatabase"),
-            Refusal::NotRecordDatabase => (11, "NotRecordDatabase"),
-            Refusal::NotResourceDatabase => (12, "NotResourceDatabase"),
-            Refusal::ReadOnly => (13, "ReadOnly"),
-            Refusal::IndexOutOfRange => (14, "IndexOutOfRange"),
-            Refusal::RecordDeleted => (15, "RecordDeleted"),
-            Refusal::RecordBusy => (16, "RecordBusy"),
-            Refusal::TooManyEntries => (17, "TooManyEntries"),
-            Refusal::InvalidCategory => (18, "InvalidCategory"),
-            Refusal::DuplicateId => (19, "DuplicateId"),
-            Refusal::UniqueIdNotFound => (20, "UniqueIdNotFound"),
-            Refusal::AlreadyExists => (21, "AlreadyExists"),
-            Refusal::InvalidName => (22, "InvalidName"),
-            Refusal::ResourceNotFound => (23, "ResourceNotFound"),
-            Refusal::NoInfoBlock => (24, "NoInfoBlock"),
-            Refusal::BadFile(_) => (25, "BadFile"),
-            Refusal::OutOfMemory => (26, "OutOfMemory"),
+            Refusal::InvalidHandle => "InvalidHandle",
+            Refusal::OwnedByDatabase => "OwnedByDatabase",
+            Refusal::ChunkLocked => "ChunkLocked",
+            Refusal::ChunkNotLocked => "ChunkNotLocked",
+            Refusal::LockOverflow => "LockOverflow",
+            Refusal::ChunkFixed => "ChunkFixed",
+            Refusal::InvalidOwner => "InvalidOwner",
+            Refusal::NotEnoughSpace => "NotEnoughSpace",
+            Refusal::OutOfBounds => "OutOfBounds",
+            Refusal::NoSuchDatabase => "NoSuchDatabase",
+            Refusal::NotRecordDatabase => "NotRecordDatabase",
+            Refusal::NotResourceDatabase => "NotResourceDatabase",
+            Refusal::ReadOnly => "ReadOnly",
+            Refusal::IndexOutOfRange => "IndexOutOfRange",
+            Refusal::RecordDeleted => "RecordDeleted",
+            Refusal::RecordBusy => "RecordBusy",
+            Refusal::TooManyEntries => "TooManyEntries",
+            Refusal::InvalidCategory => "InvalidCategory",
+            Refusal::DuplicateId => "DuplicateId",
+            Refusal::UniqueIdNotFound => "UniqueIdNotFound",
+            Refusal::AlreadyExists => "AlreadyExists",
+            Refusal::InvalidName => "InvalidName",
+            Refusal::ResourceNotFound => "ResourceNotFound",
+            Refusal::NoInfoBlock => "NoInfoBlock",
+            Refusal::BadFile(_) => "BadFile",
+            Refusal::OutOfMemory => "OutOfMemory",
         }
     }
 }
+
+impl Display for Refusal {
+    fn fmt<W: fmt::Write>(&self, f: &mut fmt::Formatter<W>) -> fmt::Result {
+        match self {
+            Refusal::BadFile(fault) => write!(f, "BadFile {fault}"),
+            refusal => f.write_str(refusal.name()),
+        }
+    }
+}
+
+impl Error for Refusal {}
