@@ -4,7 +4,7 @@ use Rattle.std.proofs.lemmas.Bool.{cases_eq}
 use Rattle.std.proofs.lemmas.List.{append-nil, map-append, get_or-map, length-map}
 use Rattle.std.proofs.lemmas.List.Elements.{All-nil}
 use Rattle.std.proofs.lemmas.List.Quantifiers.{all_pairs_push}
-use Rattle.std.specs.Prelude.{◌⊎◌, if◌then◌else◌, All}
+use Rattle.std.specs.Prelude.{IsTrue, ◌⊎◌, if◌then◌else◌, All}
 use Rattle.std.specs.List.{filter_map, flat_map}
 use Rattle.heap_model.specs.Memory.{Memory}
 use Rattle.heap_model.specs.Bytes.{u32_bytes}
@@ -74,6 +74,11 @@ header_put old mid new slot bytes h l w long =
 
       loose_directory : (name : ℕ) (live : LiveChunk) → held old name ≡ Some live → 0 < live.lock → name ≡ directory_of old → 0 < directory_of old → ⊥
       loose_directory name live e locked is some = let o = owned old name 0 (ap (owner_under old) is ∙ directory_owner old h some) (omega arith) in let none = lock_of old name o.live live o.there (managers_loose old name o.live h o.there o.own) e in omega arith
+
+-- ---- what was found of a name
+
+pub not_taken : (image given name : List ℕ) (db : ℕ) (found : Bool) → (IsTaken (store_of image) db given → IsTrue found) → found ≡ false → given ≡ name → IsTaken (store_of image) db name → ⊥
+not_taken image given name db found finds none is taken = let there = finds (subst (λ (n : List ℕ). IsTaken (store_of image) db n) (sym is) taken) in absurd cc
 
 -- ---- the database that came
 

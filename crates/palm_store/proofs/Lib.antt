@@ -1,5 +1,6 @@
 mod MemoryCalls
 pub mod Numbers
+pub mod Outcomes
 pub mod Lookups
 pub mod Maps
 pub mod ListedSlots

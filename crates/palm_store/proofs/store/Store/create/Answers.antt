@@ -14,7 +14,7 @@ use Rattle.laws_store.proofs.Spellings.{length-header_bytes}
 use Rattle.palm_store.specs.Directory.{ListsNew}
 use Rattle.palm_store.proofs.Maps.{bytes_held}
 use Rattle.palm_store.proofs.ListedSlots.{chunk_of, loose_movable}
-use Rattle.palm_store.proofs.Creation.{not_named, name_taken, too_many, header_put, created, not_created, empty_fits, header_spells, then_written}
+use Rattle.palm_store.proofs.Creation.{not_taken, not_named, name_taken, too_many, header_put, created, not_created, empty_fits, header_spells, then_written}
 use Rattle.palm_store.proofs.MemoryCalls.{viewed, ask_viewed}
 use Rattle.palm_store.proofs.KnownIds.{nothing_known}
 use Rattle.palm_store.proofs.store.Store.create.Goals as goal
@@ -34,20 +34,16 @@ returns-then-has_other_name c =
 pub returns-then-count_databases-ge-MOST_DATABASES : goal.returns-then-count_databases-ge-MOST_DATABASES
 returns-then-count_databases-ge-MOST_DATABASES c =
     let named : IsDatabaseName c.args.name.now = subst (λ (name : List ℕ). IsDatabaseName name) c.as_slice.ensures.is c.in-Some.ensures.0 in
-    let free : IsTaken (store_of c.self.inside.heap.bytes) 0 c.args.name.now → ⊥ = λ taken. (let yes = c.has_other_name.ensures.1 (subst (λ (name : List ℕ). IsTaken (store_of c.self.inside.heap.bytes) 0 name) (sym c.as_slice-2.ensures.is) taken) in let no = c.if-has_other_name.false in absurd cc) in
-    let count = c.count_databases.ensures in
-    let most = c.if-count_databases-ge-MOST_DATABASES.true in
-    let many : most_databases ≤ length (listed c.self.inside.heap.bytes) = omega (arith, count, most) in
+    let free : IsTaken (store_of c.self.inside.heap.bytes) 0 c.args.name.now → ⊥ = not_taken c.self.inside.heap.bytes _ c.args.name.now 0 _ c.has_other_name.ensures.1 c.if-has_other_name.false c.as_slice-2.ensures.is in
+    let many : most_databases ≤ length (listed c.self.inside.heap.bytes) = subst (λ (n : ℕ). most_databases ≤ n) c.count_databases.ensures c.if-count_databases-ge-MOST_DATABASES.true in
     ask_viewed c.self.inside.heap c.args.self.now _ _ c.self.view_is (too_many c.self.inside.heap c.args.name.now c.args.kind c.args.creator c.args.resources c.args.date c.self.invariant.accepted named free many)
 
 pub invariant_of-self : goal.invariant_of-self
 invariant_of-self c =
     let image : List ℕ = c.self.inside.heap.bytes in
     let named : IsDatabaseName c.args.name.now = subst (λ (name : List ℕ). IsDatabaseName name) c.as_slice.ensures.is c.in-Some.ensures.0 in
-    let free : IsTaken (store_of image) 0 c.args.name.now → ⊥ = λ taken. (let yes = c.has_other_name.ensures.1 (subst (λ (name : List ℕ). IsTaken (store_of image) 0 name) (sym c.as_slice-2.ensures.is) taken) in let no = c.if-has_other_name.false in absurd cc) in
-    let count = c.count_databases.ensures in
-    let below = c.if-count_databases-ge-MOST_DATABASES.false in
-    let few : length (listed image) < most_databases = omega (arith, count, below) in
+    let free : IsTaken (store_of image) 0 c.args.name.now → ⊥ = not_taken image _ c.args.name.now 0 _ c.has_other_name.ensures.1 c.if-has_other_name.false c.as_slice-2.ensures.is in
+    let few : length (listed image) < most_databases = subst (λ (n : ℕ). n < most_databases) c.count_databases.ensures c.if-count_databases-ge-MOST_DATABASES.false in
     let does = not_created c.self.inside.heap c.list_new.new.heap c.args.name.now c.args.kind c.args.creator c.args.resources c.args.date c.in_err-slot.field-0.0 c.self.invariant.accepted named few free c.in_err-slot.ensures.no_room c.in_err-slot.ensures.refusal c.in_err-slot.ensures.refused c.list_new.ensures.rest in
     nothing_known _ does.accepted
 
@@ -55,10 +51,8 @@ pub returns-in_err-slot : goal.returns-in_err-slot
 returns-in_err-slot c =
     let image : List ℕ = c.self.inside.heap.bytes in
     let named : IsDatabaseName c.args.name.now = subst (λ (name : List ℕ). IsDatabaseName name) c.as_slice.ensures.is c.in-Some.ensures.0 in
-    let free : IsTaken (store_of image) 0 c.args.name.now → ⊥ = λ taken. (let yes = c.has_other_name.ensures.1 (subst (λ (name : List ℕ). IsTaken (store_of image) 0 name) (sym c.as_slice-2.ensures.is) taken) in let no = c.if-has_other_name.false in absurd cc) in
-    let count = c.count_databases.ensures in
-    let below = c.if-count_databases-ge-MOST_DATABASES.false in
-    let few : length (listed image) < most_databases = omega (arith, count, below) in
+    let free : IsTaken (store_of image) 0 c.args.name.now → ⊥ = not_taken image _ c.args.name.now 0 _ c.has_other_name.ensures.1 c.if-has_other_name.false c.as_slice-2.ensures.is in
+    let few : length (listed image) < most_databases = subst (λ (n : ℕ). n < most_databases) c.count_databases.ensures c.if-count_databases-ge-MOST_DATABASES.false in
     viewed c.self.inside.heap c.args.self.now c.list_new.new.heap _ _ c.self.view_is
     (handed_on (λ db. replies.Database db) (calls.Database (Create c.args.name.now c.args.kind c.args.creator c.args.resources c.args.date)) c.from_residual.result (let e = c.from_residual.ensures in (e.0, e.1))
     (not_created c.self.inside.heap c.list_new.new.heap c.args.name.now c.args.kind c.args.creator c.args.resources c.args.date c.in_err-slot.field-0.0 c.self.invariant.accepted named few free c.in_err-slot.ensures.no_room c.in_err-slot.ensures.refusal c.in_err-slot.ensures.refused c.list_new.ensures.rest))
@@ -84,10 +78,8 @@ invariant_of-self-2 c =
     let mid : List ℕ = c.list_new.new.heap.bytes in
     let database : Database ℕ = empty_database c.args.name.now c.args.kind c.args.creator c.args.resources c.args.date in
     let named : IsDatabaseName c.args.name.now = subst (λ (name : List ℕ). IsDatabaseName name) c.as_slice.ensures.is c.in-Some.ensures.0 in
-    let free : IsTaken (store_of image) 0 c.args.name.now → ⊥ = λ taken. (let yes = c.has_other_name.ensures.1 (subst (λ (name : List ℕ). IsTaken (store_of image) 0 name) (sym c.as_slice-2.ensures.is) taken) in let no = c.if-has_other_name.false in absurd cc) in
-    let count = c.count_databases.ensures in
-    let below = c.if-count_databases-ge-MOST_DATABASES.false in
-    let few : length (listed image) < most_databases = omega (arith, count, below) in
+    let free : IsTaken (store_of image) 0 c.args.name.now → ⊥ = not_taken image _ c.args.name.now 0 _ c.has_other_name.ensures.1 c.if-has_other_name.false c.as_slice-2.ensures.is in
+    let few : length (listed image) < most_databases = subst (λ (n : ℕ). n < most_databases) c.count_databases.ensures c.if-count_databases-ge-MOST_DATABASES.false in
     let kind_fits = c.ranges.kind.fits in
     let creator_fits = c.ranges.creator.fits in
     let date_fits = c.ranges.date.fits in
@@ -108,10 +100,8 @@ returns c =
     let mid : List ℕ = c.list_new.new.heap.bytes in
     let database : Database ℕ = empty_database c.args.name.now c.args.kind c.args.creator c.args.resources c.args.date in
     let named : IsDatabaseName c.args.name.now = subst (λ (name : List ℕ). IsDatabaseName name) c.as_slice.ensures.is c.in-Some.ensures.0 in
-    let free : IsTaken (store_of image) 0 c.args.name.now → ⊥ = λ taken. (let yes = c.has_other_name.ensures.1 (subst (λ (name : List ℕ). IsTaken (store_of image) 0 name) (sym c.as_slice-2.ensures.is) taken) in let no = c.if-has_other_name.false in absurd cc) in
-    let count = c.count_databases.ensures in
-    let below = c.if-count_databases-ge-MOST_DATABASES.false in
-    let few : length (listed image) < most_databases = omega (arith, count, below) in
+    let free : IsTaken (store_of image) 0 c.args.name.now → ⊥ = not_taken image _ c.args.name.now 0 _ c.has_other_name.ensures.1 c.if-has_other_name.false c.as_slice-2.ensures.is in
+    let few : length (listed image) < most_databases = subst (λ (n : ℕ). n < most_databases) c.count_databases.ensures c.if-count_databases-ge-MOST_DATABASES.false in
     let kind_fits = c.ranges.kind.fits in
     let creator_fits = c.ranges.creator.fits in
     let date_fits = c.ranges.date.fits in

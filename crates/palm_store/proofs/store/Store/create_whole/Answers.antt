@@ -1,5 +1,5 @@
 -- What was found of the name and of the databases lets the call go on; all is made and written, or all is as before.
-use Rattle.std.proofs.Common.{refl, sym, ap, subst, ◌∙◌, ◌<◌, ◌≤◌, arith, inl, inr, ℕ, List, length, replicate}
+use Rattle.std.proofs.Common.{refl, ap, subst, ◌∙◌, ◌<◌, ◌≤◌, inl, inr, ℕ, List, length, replicate}
 use Rattle.std.proofs.lemmas.List.{length-replicate, length-map}
 use Rattle.heap_model.specs.Refusals.{FirstBrings}
 use Rattle.heap_model.specs.Database.{spelled}
@@ -12,7 +12,7 @@ use Rattle.heap_model.specs.FileSteps.{whole_parts, whole_slots}
 use Rattle.palm_store.specs.WholeDatabases.{data_sizes, numbers_in, whole_database, RunsOut, MakesWhole, checks_of_whole}
 use Rattle.palm_store.proofs.Maps.{bytes_held, owner_held}
 use Rattle.palm_store.proofs.ListedSlots.{chunk_of}
-use Rattle.palm_store.proofs.Creation.{below_most, most_there}
+use Rattle.palm_store.proofs.Creation.{not_taken, below_most, most_there}
 use Rattle.palm_store.proofs.NewEntries.{left_as_before}
 use Rattle.palm_store.proofs.WholeChunks.{whole_written}
 use Rattle.palm_store.proofs.WholeSteps.{whole_made, few_listed, size_asked}
@@ -22,10 +22,8 @@ use Rattle.palm_store.proofs.store.Store.create_whole.Goals as goal
 pub returns-then-count_databases-ge-MOST_DATABASES-clause-why : goal.returns-then-count_databases-ge-MOST_DATABASES-clause-why
 returns-then-count_databases-ge-MOST_DATABASES-clause-why c =
     let image : List ℕ = c.self.inside.heap.bytes in
-    let free : IsTaken (store_of image) 0 c.args.info.now.name → ⊥ = λ taken. (let yes = c.has_other_name.ensures.1 (subst (λ (name : List ℕ). IsTaken (store_of image) 0 name) (sym c.as_slice.ensures.is) taken) in let no = c.if-has_other_name.false in absurd cc) in
-    let count = c.count_databases.ensures in
-    let most = c.if-count_databases-ge-MOST_DATABASES.true in
-    let many : most_databases ≤ length (listed image) = omega (arith, count, most) in
+    let free : IsTaken (store_of image) 0 c.args.info.now.name → ⊥ = not_taken image _ c.args.info.now.name 0 _ c.has_other_name.ensures.1 c.if-has_other_name.false c.as_slice.ensures.is in
+    let many : most_databases ≤ length (listed image) = subst (λ (n : ℕ). most_databases ≤ n) c.count_databases.ensures c.if-count_databases-ge-MOST_DATABASES.true in
     rw (← c.self.view_is) (inr (free, inl (most_there image many, refl)))
 
 pub invariant_of-self : goal.invariant_of-self
@@ -34,10 +32,8 @@ invariant_of-self c = nothing_known _ (same_steps c.self.inside.heap.bytes c.lis
 pub returns-in_err-slot-clause-why : goal.returns-in_err-slot-clause-why
 returns-in_err-slot-clause-why c =
     let image : List ℕ = c.self.inside.heap.bytes in
-    let free : IsTaken (store_of image) 0 c.args.info.now.name → ⊥ = λ taken. (let yes = c.has_other_name.ensures.1 (subst (λ (name : List ℕ). IsTaken (store_of image) 0 name) (sym c.as_slice.ensures.is) taken) in let no = c.if-has_other_name.false in absurd cc) in
-    let count = c.count_databases.ensures in
-    let below = c.if-count_databases-ge-MOST_DATABASES.false in
-    let few : length (listed image) < most_databases = omega (arith, count, below) in
+    let free : IsTaken (store_of image) 0 c.args.info.now.name → ⊥ = not_taken image _ c.args.info.now.name 0 _ c.has_other_name.ensures.1 c.if-has_other_name.false c.as_slice.ensures.is in
+    let few : length (listed image) < most_databases = subst (λ (n : ℕ). n < most_databases) c.count_databases.ensures c.if-count_databases-ge-MOST_DATABASES.false in
     let size = size_asked c.args.info.now c.args.entries.now c.has_resources-resources.result c.entry_offset-size.result c.has_resources-resources.ensures c.requires.whole.entry_count c.entry_offset-size.ensures in
     let lacks = subst (λ (bytes : ℕ). RunsOut image (whole_slots image (data_sizes c.args.blocks c.args.entries.now)) (whole_parts image bytes (data_sizes c.args.blocks c.args.entries.now))) size c.in_err-slot.ensures.no_room in
     let e = c.from_residual.ensures in
@@ -65,10 +61,8 @@ made : (c : goal.After-write_whole) → MakesWhole c.self.inside.heap.bytes c.wr
 made c =
     let image : List ℕ = c.self.inside.heap.bytes in
     let names : List ℕ = numbers_in c.list_whole.new.names in
-    let free : IsTaken (store_of image) 0 c.args.info.now.name → ⊥ = λ taken. (let yes = c.has_other_name.ensures.1 (subst (λ (name : List ℕ). IsTaken (store_of image) 0 name) (sym c.as_slice.ensures.is) taken) in let no = c.if-has_other_name.false in absurd cc) in
-    let count = c.count_databases.ensures in
-    let below = c.if-count_databases-ge-MOST_DATABASES.false in
-    let few : length (listed image) < most_databases = omega (arith, count, below) in
+    let free : IsTaken (store_of image) 0 c.args.info.now.name → ⊥ = not_taken image _ c.args.info.now.name 0 _ c.has_other_name.ensures.1 c.if-has_other_name.false c.as_slice.ensures.is in
+    let few : length (listed image) < most_databases = subst (λ (n : ℕ). n < most_databases) c.count_databases.ensures c.if-count_databases-ge-MOST_DATABASES.false in
     let many = length-map c.list_whole.new.names (λ (one : Name). one.0) in
     let written = whole_written image c.list_whole.new.heap.bytes c.write_whole.new.heap.bytes c.in_ok-slot.slot.0 (replicate c.entry_offset-size.result 0) (spelled (whole_database c.args.info.now c.args.entries.now names)) (data_sizes c.args.blocks c.args.entries.now) names
     c.self.invariant.accepted.heap c.in_ok-slot.ensures.lists c.write_whole.ensures.written in
@@ -83,8 +77,6 @@ returns-clause-made c = rw (← c.self.view_is) (made c)
 pub returns-clause-could : goal.returns-clause-could
 returns-clause-could c =
     let image : List ℕ = c.self.inside.heap.bytes in
-    let free : IsTaken (store_of image) 0 c.args.info.now.name → ⊥ = λ taken. (let yes = c.has_other_name.ensures.1 (subst (λ (name : List ℕ). IsTaken (store_of image) 0 name) (sym c.as_slice.ensures.is) taken) in let no = c.if-has_other_name.false in absurd cc) in
-    let count = c.count_databases.ensures in
-    let below = c.if-count_databases-ge-MOST_DATABASES.false in
-    let few : length (listed image) < most_databases = omega (arith, count, below) in
+    let free : IsTaken (store_of image) 0 c.args.info.now.name → ⊥ = not_taken image _ c.args.info.now.name 0 _ c.has_other_name.ensures.1 c.if-has_other_name.false c.as_slice.ensures.is in
+    let few : length (listed image) < most_databases = subst (λ (n : ℕ). n < most_databases) c.count_databases.ensures c.if-count_databases-ge-MOST_DATABASES.false in
     rw (← c.self.view_is) (free, ((λ many. below_most image (few_listed image few) many), (tt, tt)))

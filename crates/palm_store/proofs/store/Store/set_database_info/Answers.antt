@@ -1,10 +1,11 @@
 -- What was found of the database and of the name, and what was written, is what a header that is set has.
-use Rattle.std.proofs.Common.{ℕ, List, sym, subst}
+use Rattle.std.proofs.Common.{ℕ, List, subst}
 use Rattle.heap_model.specs.Database.{IsDatabaseName, IsSpelled, database_in}
 use Rattle.heap_model.specs.Bytes.{overwritten}
 use Rattle.heap_model.specs.Store.{store_of}
 use Rattle.heap_model.specs.DatabaseSteps.{IsTaken}
 use Rattle.palm_store.proofs.MemoryCalls.{viewed}
+use Rattle.palm_store.proofs.Creation.{not_taken}
 use Rattle.palm_store.proofs.Numbers.{number_movable}
 use Rattle.palm_store.proofs.HeaderInfos.{with_info, set_spelled, set_step}
 use Rattle.palm_store.proofs.KnownIds.{nothing_known}
@@ -19,8 +20,7 @@ invariant_of-self c =
     let body = c.in_ok-header.ensures.is in
     let given = c.as_slice.ensures.is in
     let named : IsDatabaseName c.args.info.now.name = subst (λ (name : List ℕ). IsDatabaseName name) given c.in-Some.ensures.0 in
-    let free : IsTaken (store_of image) c.args.db.0 c.args.info.now.name → ⊥ = λ taken.
-    (let yes = c.has_other_name.ensures.1 (subst (λ (name : List ℕ). IsTaken (store_of image) c.args.db.0 name) (sym c.as_slice-2.ensures.is) taken) in absurd cc) in
+    let free : IsTaken (store_of image) c.args.db.0 c.args.info.now.name → ⊥ = not_taken image _ c.args.info.now.name c.args.db.0 _ c.has_other_name.ensures.1 c.if-has_other_name.false c.as_slice-2.ensures.is in
     let spelled = set_spelled c.in_ok-header.header.now c.to_bytes.result c.args.info.now c.read.result c.with_info-header.result c.in_ok-header.ensures.spelled c.read.ensures c.with_info-header.ensures.set c.with_info-header.ensures.keeps c.to_bytes.ensures.written in
     let does = set_step c.self.inside.heap c.sys_write.new.self c.args.db c.args.info.now c.self.invariant.accepted
     (record {
@@ -39,8 +39,7 @@ returns c =
     let body = c.in_ok-header.ensures.is in
     let given = c.as_slice.ensures.is in
     let named : IsDatabaseName c.args.info.now.name = subst (λ (name : List ℕ). IsDatabaseName name) given c.in-Some.ensures.0 in
-    let free : IsTaken (store_of image) c.args.db.0 c.args.info.now.name → ⊥ = λ taken.
-    (let yes = c.has_other_name.ensures.1 (subst (λ (name : List ℕ). IsTaken (store_of image) c.args.db.0 name) (sym c.as_slice-2.ensures.is) taken) in absurd cc) in
+    let free : IsTaken (store_of image) c.args.db.0 c.args.info.now.name → ⊥ = not_taken image _ c.args.info.now.name c.args.db.0 _ c.has_other_name.ensures.1 c.if-has_other_name.false c.as_slice-2.ensures.is in
     let spelled = set_spelled c.in_ok-header.header.now c.to_bytes.result c.args.info.now c.read.result c.with_info-header.result c.in_ok-header.ensures.spelled c.read.ensures c.with_info-header.ensures.set c.with_info-header.ensures.keeps c.to_bytes.ensures.written in
     let does = set_step c.self.inside.heap c.sys_write.new.self c.args.db c.args.info.now c.self.invariant.accepted
     (record {
