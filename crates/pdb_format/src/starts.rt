@@ -11,7 +11,7 @@ use std::alloc::AllocError;
 
 /// Where a block begins in a file, and its rank: 0 for the AppInfo block, 1 for the SortInfo block, and 2 more than its
 /// index for the data of an entry.
-#[derive(Clone, Copy, Debug, PartialEq, Eq)]
+#[derive(Clone, Copy)]
 pub(crate) struct Start {
     pub(crate) at: u32,
     pub(crate) rank: u32,

@@ -19,7 +19,7 @@ use heap_model::{Db, Name, RecordInfo, Refusal};
 use palm_store::Store;
 
 /// A record that is not deleted, and so has data.
-#[derive(Clone, Copy, Debug, PartialEq, Eq)]
+#[derive(Clone, Copy)]
 pub(crate) struct LiveRecord {
     pub(crate) attributes: u8,
     pub(crate) id: u32,

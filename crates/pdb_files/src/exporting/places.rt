@@ -13,7 +13,7 @@ use palm_store::Store;
 
 /// The offsets that a header has in a file, 0 where there is no block, and where the data of the entries
 /// begins.
-#[derive(Clone, Copy, Debug, PartialEq, Eq)]
+#[derive(Clone, Copy)]
 pub(crate) struct Places {
     pub(crate) app_info: u32,
     pub(crate) sort_info: u32,
