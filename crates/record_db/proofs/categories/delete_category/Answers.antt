@@ -1,16 +1,27 @@
-use Rattle.std.proofs.Common.{refl, map}
+use Rattle.std.proofs.Common.{refl, map, inl, inr}
 use Rattle.heap_model.specs.Store.{store_of}
 use Rattle.heap_model.specs.Categories.{deleted_category}
 use Rattle.heap_model.specs.RecordSteps.{category_deleted}
 use Rattle.heap_model.specs.declared.call.Call.TheVariants as calls
 use Rattle.heap_model.specs.declared.call.RecordCall.TheVariants.{DeleteCategory}
 use Rattle.heap_model.specs.declared.call.Reply.TheVariants.{Done}
-use Rattle.laws_store.proofs.CallSteps.{changes, kept_then}
+use Rattle.heap_model.specs.declared.refusal.Refusal.TheVariants.{ChunkLocked}
+use Rattle.laws_store.proofs.CallSteps.{refused, changes, kept_then}
 use Rattle.database_access.proofs.TwoChanges.{raised_after}
 use Rattle.database_access.proofs.SearchLaws.{number_read}
 use Rattle.record_db.proofs.CategoryTurns.{number_mid}
 use Rattle.database_access.proofs.Entries.{here}
 use Rattle.record_db.proofs.categories.delete_category.Goals as goal
+
+pub returns-then-has_locked_of-clause-does : goal.returns-then-has_locked_of-clause-does
+returns-then-has_locked_of-clause-does c =
+    let count = c.in_ok-count_entries.ensures in
+    let none = count.passes in
+    refused c.args.store.now (calls.Record (DeleteCategory c.args.db c.args.category)) ChunkLocked count.accepted
+    (inr (none.0, inr (none.1.0, inr (none.1.1.0, inr (c.in_ok-check_category.ensures.passes.0, inl (c.has_locked_of.ensures.0 c.if-has_locked_of.true, refl))))))
+
+pub returns-then-has_locked_of-clause-refused : goal.returns-then-has_locked_of-clause-refused
+returns-then-has_locked_of-clause-refused c = refl
 
 pub delete_all_of-requires-clause-unlocked : goal.delete_all_of-requires-clause-unlocked
 delete_all_of-requires-clause-unlocked c = λ is. (let found = c.has_locked_of.ensures.1 is in let none = c.if-has_locked_of.false in absurd cc)

@@ -29,3 +29,6 @@ returns-clause-does c =
     let leaves = c.entry_drop.ensures.dropped in
     changes c.args.store.now c.entry_drop.new.self (calls.Record (Remove c.args.db c.args.index)) Done _ found.accepted leaves
     ((none.0, (none.1.0, (none.1.1.0, (none.1.1.1.0, ((λ is. (let yes = c.has_locked.ensures.1 (locked.0 is) in let no = c.if-has_locked.false in absurd cc)), tt))))), (tt, leaves.same)) tt refl
+
+pub returns-then-has_locked-clause-refused : goal.returns-then-has_locked-clause-refused
+returns-then-has_locked-clause-refused c = refl
