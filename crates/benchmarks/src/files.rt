@@ -7,22 +7,40 @@
 //! words it alone is printed, of small files. bench/files.c does the same in plain C.
 
 mod shapes;
-mod work;
 
-use crate::timing::{Sum, Sums, Times, since};
+use crate::timing::{Sum, Sums, Times};
+use crate::work::{Field, NONE, Work};
 use anyhow::Result;
 use chunk_format::blank;
 use heap_model::{Bytes, Db};
 use palm_store::Store;
 use pdb_files::{exported, import};
 use shapes::{SHAPES, Shape, file_of};
+use std::alloc::Global;
 use std::rt::CpuClock;
-use std::time::Duration;
-pub(crate) use work::{LEAST, Work};
+
+/// What the words of a run say.
+pub(crate) const FIELDS: [Field; 5] = [
+    Field::Size,
+    Field::Slots,
+    Field::FileRecords,
+    Field::Bytes,
+    Field::Rounds,
+];
+
+/// The work of a run with no words.
+pub(crate) const LEAST: Work<'static> = Work {
+    size: 16384,
+    slots: 128,
+    file_records: 100,
+    bytes: 38,
+    rounds: 1,
+    ..NONE
+};
 
 /// Times each shape of file.
 #[inline(never)]
-pub(crate) fn run(rt: &(impl CpuClock + Print + AllocGlobal), work: Work) -> Result<()> {
+pub(crate) fn run(rt: &(impl CpuClock + Print + AllocGlobal), work: Work<'_>) -> Result<()> {
     let mut sums = Sums::new();
     for (import_name, export_name, shape) in SHAPES {
         time_shape(rt, work, (import_name, export_name), shape, &mut sums)?;
@@ -34,65 +52,71 @@ pub(crate) fn run(rt: &(impl CpuClock + Print + AllocGlobal), work: Work) -> Res
 /// Imports and exports a file of a shape in each round.
 fn time_shape(
     rt: &(impl CpuClock + Print + AllocGlobal),
-    work: Work,
+    work: Work<'_>,
     (import_name, export_name): (&str, &str),
     shape: Shape,
     sums: &mut Sums,
 ) -> Result<()> {
-    let file = file_of(rt.alloc(), shape, work)?;
     let (mut imports, mut exports) = (Times::new(rt.alloc()), Times::new(rt.alloc()));
+    time_rounds(rt, work, shape, (&mut imports, &mut exports), sums)?;
+    imports.print(rt, work, import_name, 1)?;
+    exports.print(rt, work, export_name, 1)?;
+    Ok(())
+}
+
+fn time_rounds(
+    rt: &(impl CpuClock + AllocGlobal),
+    work: Work<'_>,
+    shape: Shape,
+    (imports, exports): (&mut Times, &mut Times),
+    sums: &mut Sums,
+) -> Result<()> {
+    let file = file_of(rt.alloc(), shape, work)?;
     for _ in 0..work.rounds {
-        let mut store = blank_store(rt, work)?;
-        let (db, time) = time_import(rt, &mut store, &file)?;
-        imports.add(time)?;
-        exports.add(time_export(rt, store, db, sums)?)?;
-    }
-    if work.prints_times {
-        imports.print(rt, import_name, 1)?;
-        exports.print(rt, export_name, 1)?;
+        let mut store = blank_store(rt.alloc(), work)?;
+        let db = time_import(rt, &mut store, &file, imports)?;
+        let out = time_export(rt, &store, db, exports)?;
+        sum_up(sums, store, &out);
     }
     Ok(())
 }
 
-/// Imports a file, and answers how long that takes.
+/// Imports a file, and adds how long that takes.
 fn time_import(
     rt: &(impl CpuClock + AllocGlobal),
     store: &mut Store,
     file: &[u8],
-) -> Result<(Db, Duration)> {
+    times: &mut Times,
+) -> Result<Db> {
     let start = rt.thread_cpu_time()?;
     let db = import(rt.alloc(), store, file)?;
-    Ok((db, since(rt, start)?))
+    times.add_since(rt, start)?;
+    Ok(db)
 }
 
-/// How long it takes to export a database. The sums get what it leaves.
+/// Exports a database, and adds how long that takes.
 fn time_export(
     rt: &(impl CpuClock + AllocGlobal),
-    store: Store,
+    store: &Store,
     db: Db,
-    sums: &mut Sums,
-) -> Result<Duration> {
+    times: &mut Times,
+) -> Result<Bytes> {
     let start = rt.thread_cpu_time()?;
-    let out = exported(&rt.alloc(), &store, db)?;
-    let time = since(rt, start)?;
-    sum_up(sums, store, &out);
-    Ok(time)
+    let out = exported(&rt.alloc(), store, db)?;
+    times.add_since(rt, start)?;
+    Ok(out)
 }
 
 /// A store with nothing in it.
-fn blank_store(rt: &impl AllocGlobal, work: Work) -> Result<Store> {
-    let region = blank(rt.alloc(), work.size, work.slots)?;
-    Ok(Store::check(rt.alloc(), region)?)
+fn blank_store(alloc: Global, work: Work<'_>) -> Result<Store> {
+    let region = blank(alloc, work.size, work.slots)?;
+    Ok(Store::check(alloc, region)?)
 }
 
 /// Adds the length of an exported file, and the words of the image and of the file.
 fn sum_up(sums: &mut Sums, store: Store, out: &Bytes) {
     let out = out.as_slice();
-    sums.replies.add(out.len().min(u32::MAX as usize) as u32);
-    sums.words.add(Sum::of_words(&store.into_region()).0);
-    let mut words = Sum(0);
-    for word in out.as_chunks().0 {
-        words.add(u32::from_be_bytes(*word));
-    }
-    sums.words.add(words.0);
+    let length = Sum(out.len().min(u32::MAX as usize) as u32);
+    sums.add(length, store.into_region().as_slice());
+    sums.words.add(Sum::of_words(out).0);
 }

@@ -21,35 +21,42 @@ mod memory;
 mod records;
 mod stores;
 mod timing;
+mod work;
 
 use anyhow::Result;
 use std::env;
 use std::fs::Files;
 use std::process::ExitCode;
 use std::rt::{Clock, CpuClock};
+use work::{Field, Work};
 
 /// What is said of wrong words.
 const USAGE: &str = "usage: benchmarks [check [IMAGE REPEATS] | stores [REPEATS] \
     | memory [SIZE SLOTS PASSES ROUNDS] | records [SIZE SLOTS RECORDS CALLS PASSES ROUNDS] \
     | files [SIZE SLOTS RECORDS BYTES ROUNDS]]";
 
-/// A benchmark, and how much of it is done.
+/// A benchmark.
 #[derive(Clone, Copy)]
-enum Benchmark<'a> {
-    Check(check::Work<'a>),
-    Stores(stores::Work),
-    Memory(memory::Work),
-    Records(records::Work),
-    Files(files::Work),
+enum Benchmark {
+    Check,
+    Stores,
+    Memory,
+    Records,
+    Files,
 }
 
-/// Each with its least work.
-const LEAST: [Benchmark<'static>; 5] = [
-    Benchmark::Check(check::LEAST),
-    Benchmark::Stores(stores::LEAST),
-    Benchmark::Memory(memory::LEAST),
-    Benchmark::Records(records::LEAST),
-    Benchmark::Files(files::LEAST),
+/// The benchmarks by their names, each with what the words behind it say, and with its least work.
+const BENCHMARKS: [(&str, Benchmark, &[Field], Work<'static>); 5] = [
+    ("check", Benchmark::Check, &check::FIELDS, check::LEAST),
+    ("stores", Benchmark::Stores, &stores::FIELDS, stores::LEAST),
+    ("memory", Benchmark::Memory, &memory::FIELDS, memory::LEAST),
+    (
+        "records",
+        Benchmark::Records,
+        &records::FIELDS,
+        records::LEAST,
+    ),
+    ("files", Benchmark::Files, &files::FIELDS, files::LEAST),
 ];
 
 fn main(rt: HostRuntime) -> Result<ExitCode> {
@@ -58,43 +65,45 @@ fn main(rt: HostRuntime) -> Result<ExitCode> {
         run_each(&rt)?;
         return Ok(ExitCode::SUCCESS);
     }
-    let Some(benchmark) = Benchmark::of_words(&words) else {
+    let Some((benchmark, work)) = named(&words) else {
         eprintln!(rt; "{USAGE}")?;
         return Ok(ExitCode::from(2));
     };
-    benchmark.run(&rt)?;
+    benchmark.run(&rt, work)?;
     Ok(ExitCode::SUCCESS)
 }
 
 /// Runs each with its least work.
 fn run_each(rt: &(impl Clock + CpuClock + Files + Print + AllocGlobal)) -> Result<()> {
-    for benchmark in &LEAST {
-        benchmark.run(rt)?;
+    for (_, benchmark, _, least) in &BENCHMARKS {
+        benchmark.run(rt, *least)?;
     }
     Ok(())
 }
 
-impl Benchmark<'_> {
-    /// The benchmark that the words name, if they do.
-    fn of_words(words: &[String]) -> Option<Benchmark<'_>> {
-        let (name, words) = words.split_first()?;
-        match name.as_str() {
-            "check" => Some(Benchmark::Check(check::Work::of_words(words)?)),
-            "stores" => Some(Benchmark::Stores(stores::Work::of_words(words)?)),
-            "memory" => Some(Benchmark::Memory(memory::Work::of_words(words)?)),
-            "records" => Some(Benchmark::Records(records::Work::of_words(words)?)),
-            "files" => Some(Benchmark::Files(files::Work::of_words(words)?)),
-            _ => None,
+/// The benchmark that the words name, and how much of it is done, if they are right.
+fn named(words: &[String]) -> Option<(Benchmark, Work<'_>)> {
+    let (name, words) = words.split_first()?;
+    for (known, benchmark, fields, least) in &BENCHMARKS {
+        if name.as_str() == *known {
+            return Some((*benchmark, least.with_words(fields, words)?));
         }
     }
+    None
+}
 
-    fn run(self, rt: &(impl Clock + CpuClock + Files + Print + AllocGlobal)) -> Result<()> {
+impl Benchmark {
+    fn run(
+        self,
+        rt: &(impl Clock + CpuClock + Files + Print + AllocGlobal),
+        work: Work<'_>,
+    ) -> Result<()> {
         match self {
-            Benchmark::Check(work) => check::run(rt, work),
-            Benchmark::Stores(work) => stores::run(rt, work),
-            Benchmark::Memory(work) => memory::run(rt, work),
-            Benchmark::Records(work) => records::run(rt, work),
-            Benchmark::Files(work) => files::run(rt, work),
+            Benchmark::Check => check::run(rt, work),
+            Benchmark::Stores => stores::run(rt, work),
+            Benchmark::Memory => memory::run(rt, work),
+            Benchmark::Records => records::run(rt, work),
+            Benchmark::Files => files::run(rt, work),
         }
     }
 }

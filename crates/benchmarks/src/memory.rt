@@ -9,32 +9,49 @@
 //! The last line has the sum of all replies, and that of the words of the heaps at the end. With no
 //! words it alone is printed, of a small heap. bench/memory_calls.c does the same calls in plain C.
 
+mod heaps;
 mod load;
 mod numbers;
-mod one_class;
-mod scattered;
-mod work;
+mod walks;
 
-use crate::timing::{Sums, Times, since};
+use crate::timing::{Sums, Times};
+use crate::work::{Field, NONE, Work};
 use anyhow::Result;
 use chunk_format::blank;
+use heaps::{Original, full, one_class};
 use load::{Call, Load};
 use mem_manager::Heap;
-use one_class::{OneClass, Order};
-use scattered::{Scattered, Walk};
+use std::alloc::Global;
 use std::io;
 use std::rt::CpuClock;
-use std::time::Duration;
-use work::MOST_BYTES;
-pub(crate) use work::{LEAST, Work};
+use walks::Walk;
+
+/// What the words of a run say.
+pub(crate) const FIELDS: [Field; 4] = [Field::Size, Field::Slots, Field::Passes, Field::Rounds];
+
+/// The work of a run with no words.
+pub(crate) const LEAST: Work<'static> = Work {
+    size: 4096,
+    slots: 64,
+    passes: 2,
+    rounds: 2,
+    ..NONE
+};
+
+/// How many chunks are freed and made again in a round, at most.
+const MOST_MOVED: u16 = 2000;
+
+/// The most bytes of a chunk, where the heap isn't to be full.
+const MOST_BYTES: u16 = 64;
 
 /// The calls whose time doesn't depend on the heap, by what is printed of them.
-const CALLS: [(&str, Call); 5] = [
+const CALLS: [(&str, Call); 6] = [
     ("lock_and_unlock", Call::LockAndUnlock),
     ("size", Call::Size),
     ("owner", Call::Owner),
     ("locks", Call::Locks),
     ("read", Call::Read),
+    ("write", Call::Write),
 ];
 
 /// The calls that walk through all chunks or move them, by what is printed of them.
@@ -47,10 +64,10 @@ const WALKS: [(&str, Walk); 5] = [
 ];
 
 /// The orders for which lists help least, by what is printed of them.
-const ORDERS: [(&str, Order); 3] = [
-    ("handle_new_far_in_a_list", Order::FarInAList),
-    ("resize_in_turn", Order::ResizeInTurn),
-    ("handle_new_over_freed", Order::OverManyFreed),
+const ORDERS: [(&str, Walk); 3] = [
+    ("handle_new_far_in_a_list", Walk::FarInAList),
+    ("resize_in_turn", Walk::ResizeInTurn),
+    ("handle_new_over_freed", Walk::OverManyFreed),
 ];
 
 /// What is printed of the calls that free and make chunks.
@@ -60,82 +77,80 @@ const ANYWHERE: (&str, &str) = ("free_anywhere", "handle_new_anywhere");
 
 /// Times each kind of call.
 #[inline(never)]
-pub(crate) fn run(rt: &(impl CpuClock + Print + AllocGlobal), work: Work) -> Result<()> {
-    let mut sums = time_load(rt, work)?;
-    time_walks(rt, work, &mut sums)?;
-    time_orders(rt, work, &mut sums)?;
+pub(crate) fn run(rt: &(impl CpuClock + Print + AllocGlobal), work: Work<'_>) -> Result<()> {
+    let mut sums = Sums::new();
+    time_load(rt, work, &mut sums)?;
+    let full = full(rt.alloc(), blank_heap(rt.alloc(), work)?, work)?;
+    time_walks(rt, work, full, &WALKS, &mut sums)?;
+    let one_class = one_class(rt.alloc(), blank_heap(rt.alloc(), work)?, work.slots)?;
+    time_walks(rt, work, one_class, &ORDERS, &mut sums)?;
     sums.print(rt)?;
     Ok(())
 }
 
-/// Times the calls on a heap under load, and answers their sums.
-fn time_load(rt: &(impl CpuClock + Print + AllocGlobal), work: Work) -> Result<Sums> {
-    let mut load = blank_load(rt, work, MOST_BYTES)?;
-    fill(rt, &mut load, work)?;
-    move_chunks(rt, &mut load, work, AT_THE_END, work.moved())?;
-    move_chunks(rt, &mut load, work, ANYWHERE, work.slots)?;
-    time_calls(rt, &mut load, work)?;
-    Ok(load.into_sums())
+/// Times the calls on a heap under load.
+fn time_load(
+    rt: &(impl CpuClock + Print + AllocGlobal),
+    work: Work<'_>,
+    sums: &mut Sums,
+) -> Result<()> {
+    let mut load = Load::new(rt.alloc(), blank_heap(rt.alloc(), work)?, MOST_BYTES);
+    time_kinds(rt, &mut load, work)?;
+    load.add_to(sums);
+    Ok(())
 }
 
-/// Times the calls whose time doesn't depend on the heap.
-fn time_calls(
+/// Times the calls that free and make chunks, and those whose time doesn't depend on the heap.
+fn time_kinds(
     rt: &(impl CpuClock + Print + AllocGlobal),
     load: &mut Load,
-    work: Work,
+    work: Work<'_>,
 ) -> io::Result<()> {
+    fill(rt, load, work)?;
+    move_chunks(rt, load, work, AT_THE_END, moved(work))?;
+    move_chunks(rt, load, work, ANYWHERE, work.slots)?;
     load.shuffle(work.slots);
     load.find_wide()?;
     for (name, call) in CALLS {
+        load.prepare(call);
         repeat(rt, load, work, name, call)?;
     }
-    load.lock_wide();
-    repeat(rt, load, work, "write", Call::Write)
+    Ok(())
 }
 
-/// Times the calls that walk through all chunks or move them.
+/// Times calls on copies of a heap.
 fn time_walks(
     rt: &(impl CpuClock + Print + AllocGlobal),
-    work: Work,
+    work: Work<'_>,
+    original: Original,
+    walks: &[(&str, Walk)],
     sums: &mut Sums,
 ) -> Result<()> {
-    let load = blank_load(rt, work, work.most_when_full())?;
-    let scattered = Scattered::of(rt.alloc(), load, work.slots)?;
-    for (name, walk) in WALKS {
-        walk_through(rt, work, &scattered, name, walk, sums)?;
+    for (name, walk) in walks {
+        walk_through(rt, work, &original, name, *walk, sums)?;
     }
     Ok(())
 }
 
-/// Times the orders for which lists help least.
-fn time_orders(
-    rt: &(impl CpuClock + Print + AllocGlobal),
-    work: Work,
-    sums: &mut Sums,
-) -> Result<()> {
-    let blank = blank_heap(rt, work)?;
-    let one_class = OneClass::of(rt.alloc(), blank, work.slots)?;
-    for (name, order) in ORDERS {
-        run_order(rt, work, &one_class, name, order, sums)?;
-    }
-    Ok(())
-}
-
-/// A load on a blank heap, whose chunks are to be of 0 to so many bytes.
-fn blank_load(rt: &impl AllocGlobal, work: Work, most: u16) -> Result<Load> {
-    Ok(Load::new(rt.alloc(), blank_heap(rt, work)?, most))
-}
-
-fn blank_heap(rt: &impl AllocGlobal, work: Work) -> Result<Heap> {
-    let region = blank(rt.alloc(), work.size, work.slots)?;
+fn blank_heap(alloc: Global, work: Work<'_>) -> Result<Heap> {
+    let region = blank(alloc, work.size, work.slots)?;
     Ok(Heap::adopt(region)?)
 }
 
+/// How many chunks are freed and made again in a round.
+fn moved(work: Work<'_>) -> u16 {
+    MOST_MOVED.min(work.slots / 4)
+}
+
 /// Makes a chunk under each slot.
-fn fill(rt: &(impl CpuClock + Print + AllocGlobal), load: &mut Load, work: Work) -> io::Result<()> {
+fn fill(
+    rt: &(impl CpuClock + Print + AllocGlobal),
+    load: &mut Load,
+    work: Work<'_>,
+) -> io::Result<()> {
     let mut times = Times::new(rt.alloc());
-    times.add(time_to_make(rt, load, work.slots)?)?;
-    print_times(rt, work, "handle_new_filling", work.slots as u128, times)
+    time_to_make(rt, load, work.slots, &mut times)?;
+    times.print(rt, work, "handle_new_filling", work.slots as u128)
 }
 
 /// Frees chunks and makes as many, in each round. Those freed are taken from the last handles, so
@@ -143,140 +158,105 @@ fn fill(rt: &(impl CpuClock + Print + AllocGlobal), load: &mut Load, work: Work)
 fn move_chunks(
     rt: &(impl CpuClock + Print + AllocGlobal),
     load: &mut Load,
-    work: Work,
+    work: Work<'_>,
     (free, make): (&str, &str),
     among: u16,
 ) -> io::Result<()> {
     let (mut freed, mut made) = (Times::new(rt.alloc()), Times::new(rt.alloc()));
     for _ in 0..work.rounds {
         load.shuffle(among);
-        freed.add(time_to_free(rt, load, work.moved())?)?;
-        made.add(time_to_make(rt, load, work.moved())?)?;
+        time_to_move(rt, load, moved(work), &mut freed, &mut made)?;
     }
-    let calls = work.moved() as u128;
-    print_times(rt, work, free, calls, freed)?;
-    print_times(rt, work, make, calls, made)
+    freed.print(rt, work, free, moved(work) as u128)?;
+    made.print(rt, work, make, moved(work) as u128)
 }
 
-/// How long it takes to free the chunks of the last handles, so many of them.
-fn time_to_free(rt: &impl CpuClock, load: &mut Load, count: u16) -> io::Result<Duration> {
+/// Adds how long it takes to free the chunks of the last handles, so many of them, and to make as many.
+fn time_to_move(
+    rt: &impl CpuClock,
+    load: &mut Load,
+    count: u16,
+    freed: &mut Times,
+    made: &mut Times,
+) -> io::Result<()> {
     let start = rt.thread_cpu_time()?;
     load.free(count);
-    since(rt, start)
+    freed.add_since(rt, start)?;
+    time_to_make(rt, load, count, made)
 }
 
-/// How long it takes to make so many chunks.
-fn time_to_make(rt: &impl CpuClock, load: &mut Load, count: u16) -> io::Result<Duration> {
+/// Adds how long it takes to make so many chunks.
+fn time_to_make(
+    rt: &impl CpuClock,
+    load: &mut Load,
+    count: u16,
+    times: &mut Times,
+) -> io::Result<()> {
     let start = rt.thread_cpu_time()?;
     load.make(count)?;
-    since(rt, start)
+    times.add_since(rt, start)
 }
 
 /// Does calls of one kind in each round.
 fn repeat(
     rt: &(impl CpuClock + Print + AllocGlobal),
     load: &mut Load,
-    work: Work,
+    work: Work<'_>,
     name: &str,
     call: Call,
 ) -> io::Result<()> {
     let mut times = Times::new(rt.alloc());
     for _ in 0..work.rounds {
-        times.add(time_to_repeat(rt, load, call, work.passes)?)?;
+        time_to_repeat(rt, load, call, work.passes, &mut times)?;
     }
     let calls = load.calls(call).saturating_mul(work.passes as u128);
-    print_times(rt, work, name, calls, times)
+    times.print(rt, work, name, calls)
 }
 
-/// How long calls of one kind take.
+/// Adds how long calls of one kind take.
 fn time_to_repeat(
     rt: &impl CpuClock,
     load: &mut Load,
     call: Call,
     passes: u32,
-) -> io::Result<Duration> {
+    times: &mut Times,
+) -> io::Result<()> {
     let start = rt.thread_cpu_time()?;
     load.repeat(call, passes);
-    since(rt, start)
+    times.add_since(rt, start)
 }
 
 /// Does calls of one kind in each round, on a new copy of a heap.
 fn walk_through(
     rt: &(impl CpuClock + Print + AllocGlobal),
-    work: Work,
-    scattered: &Scattered,
+    work: Work<'_>,
+    original: &Original,
     name: &str,
     walk: Walk,
     sums: &mut Sums,
 ) -> Result<()> {
     let mut times = Times::new(rt.alloc());
     for _ in 0..work.rounds {
-        let mut heap = Heap::adopt(scattered.copy(rt.alloc())?)?;
-        scattered.prepare(&mut heap, walk);
-        times.add(time_walk(rt, scattered, walk, heap, sums)?)?;
+        let heap = original.copy(rt.alloc())?;
+        time_walk(rt, original, walk, heap, sums, &mut times)?;
     }
-    print_times(rt, work, name, scattered.calls(walk), times)?;
+    times.print(rt, work, name, original.calls(walk))?;
     Ok(())
 }
 
-/// How long calls of one kind take on a heap. The sums get what they leave.
+/// Adds how long calls of one kind take on a heap. The sums get what they leave.
 fn time_walk(
     rt: &impl CpuClock,
-    scattered: &Scattered,
+    original: &Original,
     walk: Walk,
     mut heap: Heap,
     sums: &mut Sums,
-) -> io::Result<Duration> {
-    let start = rt.thread_cpu_time()?;
-    let replies = scattered.walk(&mut heap, walk);
-    let time = since(rt, start)?;
-    sums.add(replies, &heap.into_region());
-    Ok(time)
-}
-
-/// Does calls in one order in each round, on a new copy of a heap.
-fn run_order(
-    rt: &(impl CpuClock + Print + AllocGlobal),
-    work: Work,
-    one_class: &OneClass,
-    name: &str,
-    order: Order,
-    sums: &mut Sums,
-) -> Result<()> {
-    let mut times = Times::new(rt.alloc());
-    for _ in 0..work.rounds {
-        let mut heap = Heap::adopt(one_class.copy(rt.alloc())?)?;
-        one_class.prepare(&mut heap, order);
-        times.add(time_order(rt, one_class, order, heap, sums)?)?;
-    }
-    print_times(rt, work, name, one_class.calls(order), times)?;
-    Ok(())
-}
-
-/// How long calls in one order take on a heap. The sums get what they leave.
-fn time_order(
-    rt: &impl CpuClock,
-    one_class: &OneClass,
-    order: Order,
-    mut heap: Heap,
-    sums: &mut Sums,
-) -> io::Result<Duration> {
-    let start = rt.thread_cpu_time()?;
-    let replies = one_class.run(&mut heap, order);
-    let time = since(rt, start)?;
-    sums.add(replies, &heap.into_region());
-    Ok(time)
-}
-
-fn print_times(
-    rt: &impl Print,
-    work: Work,
-    name: &str,
-    calls: u128,
-    times: Times,
+    times: &mut Times,
 ) -> io::Result<()> {
-    if work.prints_times {
-        times.print(rt, name, calls)?;
-    }
+    original.prepare(&mut heap, walk);
+    let start = rt.thread_cpu_time()?;
+    let replies = original.walk(&mut heap, walk);
+    times.add_since(rt, start)?;
+    sums.add(replies, heap.into_region().as_slice());
     Ok(())
 }

@@ -9,22 +9,44 @@
 
 mod load;
 mod resources;
-mod work;
 
-use crate::timing::{Times, since};
+use crate::timing::{Sums, Times};
+use crate::work::{Field, NONE, Work};
 use anyhow::Result;
 use chunk_format::blank;
 use heap_model::{Db, DbName};
 use load::{Call, Load};
 use palm_store::Store;
 use resources::ResourceLoad;
+use std::alloc::Global;
 use std::io;
 use std::rt::CpuClock;
-use std::time::Duration;
-pub(crate) use work::{LEAST, Work};
+
+/// What the words of a run say.
+pub(crate) const FIELDS: [Field; 6] = [
+    Field::Size,
+    Field::Slots,
+    Field::Records,
+    Field::Calls,
+    Field::Passes,
+    Field::Rounds,
+];
+
+/// The work of a run with no words.
+pub(crate) const LEAST: Work<'static> = Work {
+    size: 16384,
+    slots: 128,
+    records: 100,
+    calls: 8,
+    passes: 2,
+    rounds: 2,
+    ..NONE
+};
 
 /// The kinds of call, by what is printed of them.
-const CALLS: [(&str, Call); 14] = [
+const CALLS: [(&str, Call); 17] = [
+    ("new_record_filling", Call::Fill),
+    ("new_resource_filling", Call::FillResources),
     ("new_record_at_the_end", Call::NewAtTheEnd),
     ("remove_the_last", Call::RemoveTheLast),
     ("remove_the_first", Call::RemoveTheFirst),
@@ -39,6 +61,7 @@ const CALLS: [(&str, Call); 14] = [
     ("find_resource_of_the_last", Call::FindResource),
     ("find_type_of_the_last", Call::FindType),
     ("remove_the_first_resource", Call::RemoveResource),
+    ("delete_category", Call::DeleteCategory),
 ];
 
 /// The type of the database of records, `DATA`.
@@ -52,124 +75,64 @@ const CREATOR: u32 = 0x5465_7374;
 
 /// Times each kind of call on a new load, and prints the sums.
 #[inline(never)]
-pub(crate) fn run(rt: &(impl CpuClock + Print + AllocGlobal), work: Work) -> Result<()> {
-    let mut load = blank_load(rt, work)?;
-    time_load(rt, &mut load, work)?;
-    load.into_sums().print(rt)?;
+pub(crate) fn run(rt: &(impl CpuClock + Print + AllocGlobal), work: Work<'_>) -> Result<()> {
+    let mut load = blank_load(rt.alloc(), work)?;
+    for (name, call) in CALLS {
+        time_calls(rt, &mut load, work, name, call)?;
+    }
+    let mut sums = Sums::new();
+    load.add_to(&mut sums);
+    sums.print(rt)?;
     Ok(())
 }
 
-/// Times each kind of call.
-fn time_load(
-    rt: &(impl CpuClock + Print + AllocGlobal),
-    load: &mut Load,
-    work: Work,
-) -> io::Result<()> {
-    fill(rt, load, work)?;
-    fill_resources(rt, load, work)?;
-    for (name, call) in CALLS {
-        time_calls(rt, load, work, name, call)?;
-    }
-    time_deletion(rt, load, work)
-}
-
 /// A load on a database without records and on one without resources, each in an image with nothing else.
-fn blank_load(rt: &impl AllocGlobal, work: Work) -> Result<Load> {
-    let (store, db) = blank_store(rt, work, b"Resources", PROGRAM, true)?;
+fn blank_load(alloc: Global, work: Work<'_>) -> Result<Load> {
+    let (store, db) = blank_store(alloc, work, b"Resources", PROGRAM, true)?;
     let resources = ResourceLoad::new(store, db);
-    let (store, db) = blank_store(rt, work, b"Records", KIND, false)?;
+    let (store, db) = blank_store(alloc, work, b"Records", KIND, false)?;
     Ok(Load::new(store, db, resources))
 }
 
 /// A store with one database, which has no entries.
 fn blank_store(
-    rt: &impl AllocGlobal,
-    work: Work,
+    alloc: Global,
+    work: Work<'_>,
     name: &[u8],
     kind: u32,
     resources: bool,
 ) -> Result<(Store, Db)> {
-    let region = blank(rt.alloc(), work.size, work.slots)?;
-    let mut store = Store::check(rt.alloc(), region)?;
+    let mut store = Store::check(alloc, blank(alloc, work.size, work.slots)?)?;
     let db = store.create(&DbName::of(name), kind, CREATOR, resources, 0)?;
     Ok((store, db))
-}
-
-/// Makes the records.
-fn fill(rt: &(impl CpuClock + Print + AllocGlobal), load: &mut Load, work: Work) -> io::Result<()> {
-    let mut times = Times::new(rt.alloc());
-    let start = rt.thread_cpu_time()?;
-    load.make(work.records);
-    times.add(since(rt, start)?)?;
-    let calls = work.records as u128;
-    print_times(rt, work, "new_record_filling", calls, times)
-}
-
-/// Makes the resources.
-fn fill_resources(
-    rt: &(impl CpuClock + Print + AllocGlobal),
-    load: &mut Load,
-    work: Work,
-) -> io::Result<()> {
-    let mut times = Times::new(rt.alloc());
-    let start = rt.thread_cpu_time()?;
-    load.make_resources(work.records);
-    times.add(since(rt, start)?)?;
-    let calls = work.records as u128;
-    print_times(rt, work, "new_resource_filling", calls, times)
 }
 
 /// Does calls of one kind in each round.
 fn time_calls(
     rt: &(impl CpuClock + Print + AllocGlobal),
     load: &mut Load,
-    work: Work,
+    work: Work<'_>,
     name: &str,
     call: Call,
 ) -> io::Result<()> {
     let mut times = Times::new(rt.alloc());
-    for _ in 0..work.rounds {
-        times.add(time_to_repeat(rt, load, call, work)?)?;
+    for _ in 0..call.rounds(work) {
+        load.prepare(call);
+        time_to_repeat(rt, load, call, work, &mut times)?;
         load.even_out(call, work);
     }
-    print_times(rt, work, name, load.calls(call, work), times)
+    times.print(rt, work, name, load.calls(call, work))
 }
 
-/// How long calls of one kind take.
+/// Adds how long calls of one kind take.
 fn time_to_repeat(
     rt: &impl CpuClock,
     load: &mut Load,
     call: Call,
-    work: Work,
-) -> io::Result<Duration> {
+    work: Work<'_>,
+    times: &mut Times,
+) -> io::Result<()> {
     let start = rt.thread_cpu_time()?;
     load.repeat(call, work);
-    since(rt, start)
-}
-
-/// Deletes every second record by its category.
-fn time_deletion(
-    rt: &(impl CpuClock + Print + AllocGlobal),
-    load: &mut Load,
-    work: Work,
-) -> io::Result<()> {
-    load.categorize();
-    let mut times = Times::new(rt.alloc());
-    let start = rt.thread_cpu_time()?;
-    load.delete_categorized();
-    times.add(since(rt, start)?)?;
-    print_times(rt, work, "delete_category", 1, times)
-}
-
-fn print_times(
-    rt: &impl Print,
-    work: Work,
-    name: &str,
-    calls: u128,
-    times: Times,
-) -> io::Result<()> {
-    if work.prints_times {
-        times.print(rt, name, calls)?;
-    }
-    Ok(())
+    times.add_since(rt, start)
 }

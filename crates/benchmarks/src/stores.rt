@@ -6,36 +6,20 @@ mod image;
 
 use crate::check::time_heap_check;
 use crate::timing::Times;
+use crate::work::{Field, NONE, Work};
 use anyhow::Result;
 use image::{Flaw, Store};
 use raw_region::Region;
 use std::io;
 use std::rt::Clock;
-use std::time::{Duration, Instant};
+use std::time::Instant;
 use store_check::{StoreFault, StoreSummary, check_store};
 
-/// What a run does, by its words.
-#[derive(Clone, Copy)]
-pub(crate) struct Work {
-    /// How often each image is checked.
-    repeats: u16,
-}
+/// What the words of a run say: how often each image is checked.
+pub(crate) const FIELDS: [Field; 1] = [Field::Rounds];
 
 /// The work of a run with no words.
-pub(crate) const LEAST: Work = Work { repeats: 0 };
-
-impl Work {
-    /// The work of a run by its words, if they are right.
-    pub(crate) fn of_words(words: &[String]) -> Option<Work> {
-        match words {
-            [] => Some(LEAST),
-            [repeats] => Some(Work {
-                repeats: repeats.parse().ok()?,
-            }),
-            _ => None,
-        }
-    }
-}
+pub(crate) const LEAST: Work<'static> = NONE;
 
 /// The bytes of an image that has the most.
 const MOST: u32 = 16_777_208;
@@ -67,10 +51,10 @@ fn store(size: u32, databases: u16, records: u16) -> Store {
 
 /// Checks each of the images, and prints what is found, and the times of both checkers.
 #[inline(never)]
-pub(crate) fn run(rt: &(impl Clock + Print + AllocGlobal), work: Work) -> Result<()> {
+pub(crate) fn run(rt: &(impl Clock + Print + AllocGlobal), work: Work<'_>) -> Result<()> {
     for (name, store) in stores() {
         println!(rt; "image {name}")?;
-        time_store(rt, store, work.repeats)?;
+        time_store(rt, store, work.rounds)?;
     }
     Ok(())
 }
@@ -83,30 +67,35 @@ fn time_store(
 ) -> io::Result<()> {
     let region = store.image(rt.alloc())?;
     print_found(rt, check_store(rt.alloc(), &region))?;
-    let (heap, whole) = time_both(rt, &region, repeats)?;
-    heap.print_microseconds(rt, "heap")?;
-    whole.print_microseconds(rt, "store")
+    time_both(rt, &region, repeats)
 }
 
-/// The times of both checkers, which take turns.
+/// Lets both checkers take turns, and prints their times.
 fn time_both(
-    rt: &(impl Clock + AllocGlobal),
+    rt: &(impl Clock + Print + AllocGlobal),
     region: &Region,
     repeats: u16,
-) -> io::Result<(Times, Times)> {
+) -> io::Result<()> {
     let (mut heap, mut store) = (Times::new(rt.alloc()), Times::new(rt.alloc()));
     for _ in 0..repeats {
-        heap.add(time_heap_check(rt, region)?)?;
-        store.add(time_store_check(rt, region)?)?;
+        time_turn(rt, region, &mut heap, &mut store)?;
     }
-    Ok((heap, store))
+    heap.print_microseconds(rt, "heap")?;
+    store.print_microseconds(rt, "store")
 }
 
-/// How long a check takes, whose answer is thrown away.
-fn time_store_check(rt: &(impl Clock + AllocGlobal), region: &Region) -> io::Result<Duration> {
+/// Adds how long a check by either takes, whose answer is thrown away.
+fn time_turn(
+    rt: &(impl Clock + AllocGlobal),
+    region: &Region,
+    heap: &mut Times,
+    store: &mut Times,
+) -> io::Result<()> {
+    time_heap_check(rt, region, heap)?;
     let start = Instant::now(rt)?;
     let _ = check_store(rt.alloc(), region);
-    start.elapsed(rt)
+    store.add(start.elapsed(rt)?)?;
+    Ok(())
 }
 
 fn print_found(rt: &impl Print, found: Result<StoreSummary, StoreFault>) -> io::Result<()> {

@@ -5,6 +5,5 @@ mod clock;
 mod sums;
 mod times;
 
-pub(crate) use clock::since;
 pub(crate) use sums::{Sum, Sums};
 pub(crate) use times::Times;

@@ -1,6 +1,6 @@
 //! Files that are imported.
 
-use crate::files::Work;
+use crate::work::Work;
 use std::alloc::{AllocError, Global};
 
 /// What a file has.
@@ -34,27 +34,48 @@ const FIELDS: [u8; 44] =
     *b"\0\0\0\0\0\0\0\0\0\0\0\0\0\0\0\0\0\0\0\0\0\0\0\0\0\0\0\0DATATest\0\0\0\0\0\0\0\0";
 
 /// A file of a shape.
-pub(crate) fn file_of(alloc: Global, shape: Shape, work: Work) -> Result<Vec<u8>, AllocError> {
+pub(crate) fn file_of(alloc: Global, shape: Shape, work: Work<'_>) -> Result<Vec<u8>, AllocError> {
     let mut file = Vec::from_slice(alloc, &NAME)?;
+    put_file(&mut file, shape, work)?;
+    Ok(file)
+}
+
+/// What is behind the name.
+fn put_file(file: &mut Vec<u8>, shape: Shape, work: Work<'_>) -> Result<(), AllocError> {
+    let records = work.file_records as u32;
+    let start = HEADER_SIZE + ENTRY_SIZE * records + 2;
     file.extend_from_slice(&FIELDS)?;
-    file.extend_from_slice(&work.records.to_be_bytes())?;
-    let start = HEADER_SIZE + ENTRY_SIZE * work.records as u32 + 2;
-    for index in 0..work.records as u32 {
-        let at = match shape {
-            Shape::OneStart => start,
-            Shape::Rising | Shape::EqualIds => start.wrapping_add(index.wrapping_mul(work.bytes)),
-        };
-        let id = match shape {
-            Shape::EqualIds => 7,
-            Shape::Rising | Shape::OneStart => index + 1,
-        };
-        file.extend_from_slice(&at.to_be_bytes())?;
-        file.extend_from_slice(&((index % 16) << 24 | id).to_be_bytes())?;
+    file.extend_from_slice(&work.file_records.to_be_bytes())?;
+    for index in 0..records {
+        put_entry(
+            file,
+            shape,
+            start.wrapping_add(index.wrapping_mul(work.bytes)),
+            start,
+            index,
+        )?;
     }
     file.extend_from_slice(&[0, 0])?;
-    let end = start.saturating_add((work.records as u32).saturating_mul(work.bytes));
+    let end = start.saturating_add(records.saturating_mul(work.bytes));
     for at in start..end {
         file.push((at.wrapping_mul(31) % 256) as u8)?;
     }
-    Ok(file)
+    Ok(())
+}
+
+/// The entry of a record, whose bytes are here, unless all records begin at the start.
+fn put_entry(
+    file: &mut Vec<u8>,
+    shape: Shape,
+    here: u32,
+    start: u32,
+    index: u32,
+) -> Result<(), AllocError> {
+    let (at, id) = match shape {
+        Shape::Rising => (here, index.wrapping_add(1)),
+        Shape::EqualIds => (here, 7),
+        Shape::OneStart => (start, index.wrapping_add(1)),
+    };
+    file.extend_from_slice(&at.to_be_bytes())?;
+    file.extend_from_slice(&((index % 16) << 24 | id).to_be_bytes())
 }

@@ -1,9 +1,11 @@
 //! A heap that is under load: its chunks are made, freed and asked for in a fixed order.
 
+use crate::memory::heaps::Kept;
 use crate::memory::numbers::Numbers;
 use crate::timing::{Sum, Sums};
 use heap_model::{Name, Refusal};
 use mem_manager::{Heap, Locked};
+use raw_region::Region;
 use std::alloc::{AllocError, Global};
 
 /// The owner of all chunks.
@@ -96,8 +98,14 @@ impl Load {
         Ok(())
     }
 
-    /// Locks the chunks that have 16 bytes once more.
-    pub(crate) fn lock_wide(&mut self) {
+    /// Locks the chunks that have 16 bytes once more, where they are to be written.
+    pub(crate) fn prepare(&mut self, call: Call) {
+        if let Call::Write = call {
+            self.lock_wide();
+        }
+    }
+
+    fn lock_wide(&mut self) {
         for name in &self.wide {
             match self.heap.lock(*name) {
                 Ok(locked) => self.replies.add(locked.place.0),
@@ -172,17 +180,27 @@ impl Load {
         }
     }
 
-    /// The sum of all replies, and that of the words of the heap.
-    pub(crate) fn into_sums(self) -> Sums {
-        Sums {
-            replies: self.replies,
-            words: Sum::of_words(&self.heap.into_region()),
-        }
+    /// Adds the sum of all replies, and that of the words of the heap.
+    pub(crate) fn add_to(self, sums: &mut Sums) {
+        sums.add(self.replies, self.heap.into_region().as_slice());
     }
 
-    /// The heap, and the handles of the chunks that were made.
-    pub(crate) fn into_parts(self) -> (Heap, Vec<Name>) {
-        (self.heap, self.handles)
+    /// The chunks of every second handle, the second among them.
+    pub(crate) fn kept(&self, alloc: Global) -> Result<Vec<Kept>, AllocError> {
+        let mut kept = Vec::new(alloc);
+        for name in self.handles.iter().skip(1).step_by(2) {
+            if let Ok(length) = self.heap.size(*name) {
+                kept.push(Kept {
+                    name: *name,
+                    length,
+                })?;
+            }
+        }
+        Ok(kept)
+    }
+
+    pub(crate) fn into_region(self) -> Region {
+        self.heap.into_region()
     }
 }
 

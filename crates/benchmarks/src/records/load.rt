@@ -1,8 +1,8 @@
 //! Databases under load: their entries are made, moved, taken out and asked for in a fixed order.
 
-use crate::records::Work;
 use crate::records::resources::ResourceLoad;
 use crate::timing::{Sum, Sums};
+use crate::work::Work;
 use heap_model::{Db, Refusal};
 use palm_store::Store;
 use record_db::{
@@ -25,6 +25,10 @@ const DELETED_CATEGORY: u8 = 2;
 /// A kind of call on records, or on resources.
 #[derive(Clone, Copy)]
 pub(crate) enum Call {
+    /// All records are made, once.
+    Fill,
+    /// As many resources are made, once.
+    FillResources,
     /// New records behind the last.
     NewAtTheEnd,
     RemoveTheLast,
@@ -50,6 +54,18 @@ pub(crate) enum Call {
     FindType,
     /// The first resource is taken out.
     RemoveResource,
+    /// Every second record is deleted by its category, once.
+    DeleteCategory,
+}
+
+impl Call {
+    /// How often so many calls are done.
+    pub(crate) fn rounds(self, work: Work<'_>) -> u16 {
+        match self {
+            Call::Fill | Call::FillResources | Call::DeleteCategory => 1,
+            _ => work.rounds,
+        }
+    }
 }
 
 /// A store with a database, and the sum of all replies to the calls so far.
@@ -81,7 +97,7 @@ impl Load {
     }
 
     /// Makes so many records behind the last, of 0 to 64 bytes.
-    pub(crate) fn make(&mut self, count: u32) {
+    fn make(&mut self, count: u32) {
         for _ in 0..count {
             let size = self.made % (MOST_BYTES + 1);
             self.made = self.made.wrapping_add(1);
@@ -95,14 +111,10 @@ impl Load {
         }
     }
 
-    /// Makes so many resources behind the last.
-    pub(crate) fn make_resources(&mut self, count: u32) {
-        self.resources.make(count);
-    }
-
     /// How many calls of a kind `repeat` does.
-    pub(crate) fn calls(&self, call: Call, work: Work) -> u128 {
+    pub(crate) fn calls(&self, call: Call, work: Work<'_>) -> u128 {
         match call {
+            Call::Fill | Call::FillResources => work.records as u128,
             Call::Info => (self.count() as u128).saturating_mul(work.passes as u128),
             Call::SearchById
             | Call::FindTheLast
@@ -110,13 +122,23 @@ impl Load {
             | Call::MoveCategory
             | Call::FindResource
             | Call::FindType => work.passes as u128,
+            Call::DeleteCategory => 1,
             _ => work.calls as u128,
         }
     }
 
+    /// Gives every second record the category that is deleted, where one is.
+    pub(crate) fn prepare(&mut self, call: Call) {
+        if let Call::DeleteCategory = call {
+            self.categorize();
+        }
+    }
+
     /// Does calls of a kind.
-    pub(crate) fn repeat(&mut self, call: Call, work: Work) {
+    pub(crate) fn repeat(&mut self, call: Call, work: Work<'_>) {
         match call {
+            Call::Fill => self.make(work.records),
+            Call::FillResources => self.resources.make(work.records),
             Call::NewAtTheEnd => self.make(work.calls),
             Call::RemoveTheLast => self.remove_last(work.calls),
             Call::RemoveTheFirst => self.remove_first(work.calls),
@@ -131,11 +153,12 @@ impl Load {
             Call::FindResource => self.resources.find_last(work.passes),
             Call::FindType => self.resources.find_last_of_type(work.passes),
             Call::RemoveResource => self.resources.remove_first(work.calls),
+            Call::DeleteCategory => self.delete_categorized(),
         }
     }
 
     /// Brings the databases back to as many entries as they had before calls of a kind.
-    pub(crate) fn even_out(&mut self, call: Call, work: Work) {
+    pub(crate) fn even_out(&mut self, call: Call, work: Work<'_>) {
         match call {
             Call::NewAtTheEnd => self.remove_last(work.calls),
             Call::RemoveTheLast | Call::RemoveTheFirst => self.make(work.calls),
@@ -256,8 +279,7 @@ impl Load {
         attach(&mut self.store, self.db, END, name)
     }
 
-    /// Gives every second record the category that is deleted.
-    pub(crate) fn categorize(&mut self) {
+    fn categorize(&mut self) {
         for half in 0..self.count() / 2 {
             let done = set_record_info(&mut self.store, self.db, 2 * half + 1, DELETED_CATEGORY, 0);
             self.replies.add_done(done);
@@ -265,18 +287,14 @@ impl Load {
     }
 
     /// Deletes every second record by its category.
-    pub(crate) fn delete_categorized(&mut self) {
+    fn delete_categorized(&mut self) {
         let done = delete_category(&mut self.store, self.db, DELETED_CATEGORY);
         self.replies.add_done(done);
     }
 
-    /// The sums of all replies, and of the words of the images.
-    pub(crate) fn into_sums(self) -> Sums {
-        let mut sums = Sums {
-            replies: self.replies,
-            words: Sum::of_words(&self.store.into_region()),
-        };
-        self.resources.add_to(&mut sums);
-        sums
+    /// Adds the sums of all replies, and those of the words of the images.
+    pub(crate) fn add_to(self, sums: &mut Sums) {
+        sums.add(self.replies, self.store.into_region().as_slice());
+        self.resources.add_to(sums);
     }
 }

@@ -95,6 +95,6 @@ impl ResourceLoad {
 
     /// Adds the sum of all replies, and that of the words of the image.
     pub(crate) fn add_to(self, sums: &mut Sums) {
-        sums.add(self.replies, &self.store.into_region());
+        sums.add(self.replies, self.store.into_region().as_slice());
     }
 }

@@ -3,6 +3,9 @@
 use raw_region::Region;
 use std::alloc::{AllocError, Global};
 
+/// What an image begins with, `PHI1`.
+const MAGIC: u32 = 0x5048_4931;
+
 /// What the head takes: the slots begin behind it.
 const HEAD: u32 = 16;
 
@@ -83,14 +86,21 @@ impl Store {
     fn directory(self, alloc: Global) -> Result<Vec<u8>, AllocError> {
         let mut bytes = Vec::new(alloc);
         for database in 0..self.databases {
-            bytes.extend_from_slice(&slot(database as u32 + 1).to_be_bytes())?;
+            put_words(&mut bytes, &[slot(database as u32 + 1)])?;
         }
         Ok(bytes)
     }
 
-    /// The header of a database and its records. IDs go up from 1.
+    /// The header of a database and its records.
     fn database(self, alloc: Global, number: u16) -> Result<Vec<u8>, AllocError> {
-        let mut bytes = header(alloc, number, self.records)?;
+        let mut bytes = Vec::new(alloc);
+        put_header(&mut bytes, number, self.records)?;
+        self.put_entries(&mut bytes, number)?;
+        Ok(bytes)
+    }
+
+    /// The records of a database. IDs go up from 1.
+    fn put_entries(self, bytes: &mut Vec<u8>, number: u16) -> Result<(), AllocError> {
         let first = match self.flaw {
             Flaw::SharedData => self.first_data(),
             _ => (number as u32)
@@ -102,10 +112,9 @@ impl Store {
                 Flaw::OneId => 1,
                 _ => index + 1,
             };
-            bytes.extend_from_slice(&slot(first.wrapping_add(index)).to_be_bytes())?;
-            bytes.extend_from_slice(&id.to_be_bytes())?;
+            put_words(bytes, &[slot(first.wrapping_add(index)), id])?;
         }
-        Ok(bytes)
+        Ok(())
     }
 }
 
@@ -119,24 +128,20 @@ fn length(bytes: &[u8]) -> u32 {
     bytes.len().min(u32::MAX as usize) as u32
 }
 
-/// The head of an image of so many bytes and slots, which begin behind it.
-fn head(alloc: Global, size: u32, slots: u16) -> Result<Vec<u8>, AllocError> {
-    let mut bytes = Vec::from_slice(alloc, b"PHI1")?;
-    bytes.extend_from_slice(&size.to_be_bytes())?;
-    bytes.extend_from_slice(&slots.to_be_bytes())?;
-    bytes.extend_from_slice(&[0; 2])?;
-    bytes.extend_from_slice(&slot(0).to_be_bytes())?;
-    Ok(bytes)
+fn put_words(bytes: &mut Vec<u8>, words: &[u32]) -> Result<(), AllocError> {
+    for word in words {
+        bytes.extend_from_slice(&word.to_be_bytes())?;
+    }
+    Ok(())
 }
 
 /// The header of a database of so many records. Names are 31 bytes long and differ in the last two alone.
-fn header(alloc: Global, number: u16, records: u16) -> Result<Vec<u8>, AllocError> {
-    let mut bytes = vec![in alloc; b'n'; 29]?;
+fn put_header(bytes: &mut Vec<u8>, number: u16, records: u16) -> Result<(), AllocError> {
+    bytes.resize(29, b'n')?;
     bytes.push((number / 32 % 32) as u8 + b'A')?;
     bytes.push((number % 32) as u8 + b'A')?;
     bytes.resize(76, 0)?;
-    bytes.extend_from_slice(&records.to_be_bytes())?;
-    Ok(bytes)
+    bytes.extend_from_slice(&records.to_be_bytes())
 }
 
 impl Chunks {
@@ -160,28 +165,30 @@ impl Chunks {
         let size = length(body).wrapping_add(slack).wrapping_add(8);
         let distance = slot(length(&self.table) / 4).wrapping_sub(self.end());
         let body_at = self.end().wrapping_add(8);
-        self.table.extend_from_slice(&body_at.to_be_bytes())?;
-        self.area
-            .extend_from_slice(&(slack << 24 | size).to_be_bytes())?;
-        self.area
-            .extend_from_slice(&(owner << 24 | distance / 2 & 0xFF_FFFF).to_be_bytes())?;
+        put_words(&mut self.table, &[body_at])?;
+        let words = [slack << 24 | size, owner << 24 | distance / 2 & 0xFF_FFFF];
+        put_words(&mut self.area, &words)?;
         self.area.extend_from_slice(body)?;
-        self.area.extend_from_slice(&[0; 8][..slack as usize])?;
-        Ok(())
+        self.area.extend_from_slice(&[0; 8][..slack as usize])
     }
 
     /// The image of these chunks, with a free one behind them where there is room.
     fn into_region(self, alloc: Global, size: u32) -> Result<Region, AllocError> {
+        let mut bytes = Vec::new(alloc);
+        self.put_image(&mut bytes, size)?;
+        Region::from_bytes(alloc, bytes.as_slice())
+    }
+
+    fn put_image(&self, bytes: &mut Vec<u8>, size: u32) -> Result<(), AllocError> {
         let left = size.saturating_sub(self.end());
-        let slots = (self.table.len() / 4).min(u16::MAX as usize) as u16;
-        let mut bytes = head(alloc, size, slots)?;
+        let slots = (self.table.len() / 4).min(u16::MAX as usize) as u32;
+        put_words(bytes, &[MAGIC, size, slots << 16, slot(0)])?;
         bytes.extend_from_slice(&self.table)?;
         bytes.resize(self.start as usize, 0)?;
         bytes.extend_from_slice(&self.area)?;
         if left > 0 {
-            bytes.extend_from_slice(&(left | 0x8000_0000).to_be_bytes())?;
+            put_words(bytes, &[left | 0x8000_0000])?;
         }
-        bytes.resize(size as usize, 0)?;
-        Region::from_bytes(alloc, bytes.as_slice())
+        bytes.resize(size as usize, 0)
     }
 }

@@ -1,7 +1,6 @@
 //! Sums that tell whether two programs saw the same numbers in the same order.
 
 use heap_model::{Name, Refusal};
-use raw_region::Region;
 use std::io;
 
 /// The sum of the numbers seen so far. It is turned by 5 bits before each is added, so that their
@@ -65,11 +64,11 @@ impl Sum {
         }
     }
 
-    /// The sum of a region's words.
-    pub(crate) fn of_words(region: &Region) -> Sum {
+    /// The sum of the words of an image, or of a file.
+    pub(crate) fn of_words(bytes: &[u8]) -> Sum {
         let mut sum = Sum(0);
-        for number in 0..region.len() / 4 {
-            sum.add(region.get_u32(4 * number));
+        for word in bytes.as_chunks().0 {
+            sum.add(u32::from_be_bytes(*word));
         }
         sum
     }
@@ -91,10 +90,10 @@ impl Sums {
         }
     }
 
-    /// Adds the sum of some replies, and that of the words of the region that they left.
-    pub(crate) fn add(&mut self, replies: Sum, region: &Region) {
+    /// Adds the sum of some replies, and that of the words of the image that they left.
+    pub(crate) fn add(&mut self, replies: Sum, image: &[u8]) {
         self.replies.add(replies.0);
-        self.words.add(Sum::of_words(region).0);
+        self.words.add(Sum::of_words(image).0);
     }
 
     /// Prints both.

@@ -1,0 +1,127 @@
+//! Heaps of which calls that walk through all chunks get a copy.
+
+use crate::memory::load::{Load, OWNER};
+use crate::work::Work;
+use anyhow::Result;
+use heap_model::Name;
+use mem_manager::Heap;
+use raw_region::Region;
+use std::alloc::{AllocError, Global};
+
+/// What the small free chunks of one class and the large ones have in their bodies: with their headers 64 and 120
+/// bytes.
+pub(crate) const SMALL: u32 = 56;
+
+pub(crate) const LARGE: u32 = 112;
+
+/// How many free chunks of one class are large, at most.
+const MOST_LARGE: usize = 32;
+
+/// A chunk that was kept, and how many bytes it has.
+#[derive(Clone, Copy)]
+pub(crate) struct Kept {
+    pub(crate) name: Name,
+    pub(crate) length: u32,
+}
+
+/// A heap to be copied, and its chunks in order.
+#[derive(Drop)]
+pub(crate) struct Original {
+    pub(crate) region: Region,
+    pub(crate) kept: Vec<Kept>,
+    /// How many free chunks are large, where they are of one class.
+    pub(crate) large: usize,
+}
+
+impl Original {
+    /// A copy of the heap.
+    pub(crate) fn copy(&self, alloc: Global) -> Result<Heap> {
+        let region = Region::from_bytes(alloc, self.region.as_slice())?;
+        Ok(Heap::adopt(region)?)
+    }
+}
+
+/// A heap that chunks nearly fill, one under each slot, of which every second is free.
+pub(crate) fn full(alloc: Global, blank: Heap, work: Work<'_>) -> Result<Original, AllocError> {
+    let mut load = Load::new(alloc, blank, most_when_full(work));
+    load.make(work.slots)?;
+    load.free_every_second();
+    let kept = load.kept(alloc)?;
+    Ok(Original {
+        region: load.into_region(),
+        kept,
+        large: 0,
+    })
+}
+
+/// The most bytes of a chunk where a heap with one under each slot is nearly full: twice what is left
+/// to each of them on average, behind its header and what rounding adds.
+fn most_when_full(work: Work<'_>) -> u16 {
+    let slots = u32::from(work.slots.max(1));
+    let area = work.size.saturating_sub(16 + 4 * slots);
+    let body = (area / slots).saturating_sub(12);
+    body.saturating_mul(2).min(u16::MAX as u32) as u16
+}
+
+/// A heap whose free chunks are small, but for a few large ones in their middle. Between two of them stands a chunk
+/// of no bytes, which is kept, and nothing else is free. There is a chunk under each slot before half of them are
+/// freed.
+pub(crate) fn one_class(alloc: Global, blank: Heap, slots: u16) -> Result<Original, AllocError> {
+    let pairs = usize::from(slots / 2);
+    let mut original = OneClass {
+        heap: blank,
+        large: MOST_LARGE.min(pairs / 4),
+        freed: Vec::new(alloc),
+        kept: Vec::new(alloc),
+    };
+    original.make(pairs)?;
+    original.free_each();
+    Ok(original.into_original())
+}
+
+/// Such a heap while it is made, and its chunks: those that are to be free, and those of no bytes.
+#[derive(Drop)]
+struct OneClass {
+    heap: Heap,
+    large: usize,
+    freed: Vec<Name>,
+    kept: Vec<Kept>,
+}
+
+impl OneClass {
+    /// Makes so many chunks of either kind.
+    fn make(&mut self, pairs: usize) -> Result<(), AllocError> {
+        for number in 0..pairs {
+            let is_large = number >= pairs / 2 && number - pairs / 2 < self.large;
+            let size = if is_large { LARGE } else { SMALL };
+            if let Ok(name) = self.heap.handle_new(size, OWNER) {
+                self.freed.push(name)?;
+            }
+            if let Ok(name) = self.heap.handle_new(0, OWNER) {
+                self.kept.push(Kept { name, length: 0 })?;
+            }
+        }
+        Ok(())
+    }
+
+    /// Takes all that is free, and then frees the chunks that are to be free.
+    fn free_each(&mut self) {
+        let rest = self.heap.free_bytes().saturating_sub(8);
+        if self.heap.handle_new(rest, OWNER).is_err() {
+            return;
+        }
+        for name in &self.freed {
+            if self.heap.free(*name).is_err() {
+                return;
+            }
+        }
+    }
+
+    fn into_original(self) -> Original {
+        Original {
+            region: self.heap.into_region(),
+            kept: self.kept,
+            large: self.large,
+        }
+    }
+}

@@ -1,0 +1,142 @@
+//! Calls that walk through a heap whose room lies between its chunks, or move these, and orders of calls for which
+//! lists of free chunks help least.
+
+use crate::memory::heaps::{LARGE, Original, SMALL};
+use crate::memory::load::OWNER;
+use crate::timing::Sum;
+use mem_manager::Heap;
+
+/// How many stretches a heap is parted into.
+const STRETCHES: usize = 64;
+
+/// How many chunks are freed for one large one, at most.
+const MOST_FREED: usize = 2000;
+
+/// Calls on a copy of a heap: the first five on one that is full but for every second chunk, the others on one
+/// whose free chunks are all of one class.
+#[derive(Clone, Copy)]
+pub(crate) enum Walk {
+    LargestStretch,
+    Compact,
+    /// New chunks, for each of which one stretch of a parted heap is compacted.
+    HandleNew,
+    /// Each chunk gets 8 bytes more, and its own length again.
+    ResizeInPlace,
+    /// A chunk in the middle becomes a quarter of the heap.
+    ResizeByMoving,
+    /// New chunks, each of which needs a large free one. These stand far behind the first of their list, so that
+    /// the chunks are walked for each, and their list.
+    FarInAList,
+    /// A chunk of no bytes goes to a large free one, far behind the first of its list, and then a chunk is made, in
+    /// turns.
+    ResizeInTurn,
+    /// One chunk that takes all the room of many that were freed one by one, of which none are joined.
+    OverManyFreed,
+}
+
+impl Original {
+    /// Makes a copy of the heap ready: it is parted where stretches are to be compacted, and the chunks between the
+    /// first free ones are freed where they are to be taken by one.
+    pub(crate) fn prepare(&self, heap: &mut Heap, walk: Walk) {
+        match walk {
+            Walk::HandleNew => self.part(heap),
+            Walk::OverManyFreed => self.free_first(heap),
+            _ => {}
+        }
+    }
+
+    /// Locks chunks of a heap that part it into stretches of about as many chunks each.
+    fn part(&self, heap: &mut Heap) {
+        let step = (self.kept.len() / STRETCHES).max(1);
+        for kept in self.kept.iter().step_by(step) {
+            if heap.lock(kept.name).is_err() {
+                return;
+            }
+        }
+    }
+
+    fn free_first(&self, heap: &mut Heap) {
+        for kept in self.kept.iter().take(self.freed()) {
+            if heap.free(kept.name).is_err() {
+                return;
+            }
+        }
+    }
+
+    /// How many chunks are freed for one large one.
+    fn freed(&self) -> usize {
+        MOST_FREED.min(self.kept.len() / 4)
+    }
+
+    fn bytes(&self) -> u32 {
+        self.region.len().min(u32::MAX as usize) as u32
+    }
+
+    /// How many calls are made.
+    pub(crate) fn calls(&self, walk: Walk) -> u128 {
+        match walk {
+            Walk::HandleNew => STRETCHES as u128 / 2,
+            Walk::ResizeInPlace => 2 * self.kept.len() as u128,
+            Walk::FarInAList => self.large as u128,
+            Walk::ResizeInTurn => 2 * self.large as u128,
+            _ => 1,
+        }
+    }
+
+    /// Does the calls, and answers the sum of their replies.
+    pub(crate) fn walk(&self, heap: &mut Heap, walk: Walk) -> Sum {
+        let mut replies = Sum(0);
+        match walk {
+            Walk::LargestStretch => replies.add(heap.largest_stretch()),
+            Walk::Compact => replies.add(heap.compact()),
+            Walk::HandleNew => self.make_large(heap, &mut replies),
+            Walk::ResizeInPlace => self.resize_each(heap, &mut replies),
+            Walk::ResizeByMoving => self.resize_one(heap, &mut replies),
+            Walk::FarInAList => self.make_far(heap, &mut replies),
+            Walk::ResizeInTurn => self.resize_in_turn(heap, &mut replies),
+            Walk::OverManyFreed => self.make_over(heap, &mut replies),
+        }
+        replies
+    }
+
+    /// Makes chunks that take three quarters of the room of a stretch each.
+    fn make_large(&self, heap: &mut Heap, replies: &mut Sum) {
+        let size = self.bytes() / (2 * STRETCHES as u32) / 4 * 3;
+        for _ in 0..STRETCHES / 2 {
+            replies.add_name(heap.handle_new(size, OWNER));
+        }
+    }
+
+    fn resize_each(&self, heap: &mut Heap, replies: &mut Sum) {
+        for kept in &self.kept {
+            replies.add_done(heap.resize(kept.name, kept.length.saturating_add(8)));
+            replies.add_done(heap.resize(kept.name, kept.length));
+        }
+    }
+
+    fn resize_one(&self, heap: &mut Heap, replies: &mut Sum) {
+        if let Some(kept) = self.kept.get(self.kept.len() / 2) {
+            replies.add_done(heap.resize(kept.name, self.bytes() / 4));
+        }
+    }
+
+    fn make_far(&self, heap: &mut Heap, replies: &mut Sum) {
+        for _ in 0..self.large {
+            replies.add_name(heap.handle_new(LARGE, OWNER));
+        }
+    }
+
+    fn resize_in_turn(&self, heap: &mut Heap, replies: &mut Sum) {
+        for kept in self.kept.iter().take(self.large) {
+            replies.add_done(heap.resize(kept.name, LARGE));
+            replies.add_name(heap.handle_new(SMALL - 16, OWNER));
+        }
+    }
+
+    /// Makes a chunk that takes the room of those that were freed, and of the free ones beside them.
+    fn make_over(&self, heap: &mut Heap, replies: &mut Sum) {
+        let freed = self.freed().min(u32::MAX as usize) as u32;
+        let size = freed.saturating_mul(SMALL + 16);
+        replies.add_name(heap.handle_new(size.saturating_add(SMALL), OWNER));
+    }
+}
