@@ -1,6 +1,6 @@
 //! A line of a script, and scripts as lists of lines.
 
-ghost use Rattle.std.specs.Prelude.{◌≡◌, ◌≤◌, ◌++◌, ◌∷◌, ◌^◌, [], OnErr, OnOk, IfSome, count_by};
+ghost use Rattle.std.specs.Prelude.{◌≡◌, ◌≤◌, ◌++◌, ◌∷◌, ◌^◌, [], IfOk, IfSome, OnErr, OnOk, count_by};
 ghost use Rattle.script_lines.specs.Labels.{HasLabelsBelow, label_count};
 ghost use Rattle.script_lines.specs.Labels as labels;
 
@@ -119,17 +119,8 @@ impl Script {
         ensures ok { OnOk result (self.new ≡ self.old ++ (line ∷ [])) }
         ensures short { OnErr result (A.is_short memory.now) }
     {
-        let Some(chunk_end) = line.chunk_label_end() else {
-            return Err(refused_growth(memory, usize::MAX));
-        };
-        let Some(database_end) = line.database_label_end() else {
-            return Err(refused_growth(memory, usize::MAX));
-        };
-        memory.grant()?;
-        match self.lines.push(line) {
-            Ok(()) => {}
-            Err(_) => return memory.outcome(Err(AllocError)),
-        }
+        let (chunk_end, database_end) = label_ends(memory, &line)?;
+        push_behind(memory, &mut self.lines, line)?;
         self.chunk_label_count = self.chunk_label_count.max(chunk_end);
         self.database_label_count = self.database_label_count.max(database_end);
         Ok(())
@@ -163,6 +154,35 @@ impl Script {
         ensures { result ≡ count_by labels.is_export self.now }
     {
         count_exports(&self.lines)
+    }
+}
+
+/// Puts an item behind the others, which stay as they are where the growth is refused.
+fn push_behind<A: Allowance, T: Drop>(
+    memory: &A,
+    items: &mut Vec<T>,
+    item: T,
+) -> Result<(), AllocError>
+    ensures ok { OnOk result (items.new.items ≡ items.old.items ++ (item ∷ [])) }
+    ensures same { OnErr result (items.new.items ≡ items.old.items) }
+    ensures short { OnErr result (A.is_short memory.now) }
+{
+    memory.grant()?;
+    match items.push(item) {
+        Ok(()) => Ok(()),
+        Err(_) => memory.outcome(Err(AllocError)),
+    }
+}
+
+/// One more than the number of the label of a chunk that a line binds, and the same of a database.
+fn label_ends<A: Allowance>(memory: &A, line: &Line) -> Result<(usize, usize), AllocError>
+    ensures chunk { IfOk result (λ ends. ends.0 ≡ labels.chunk_label_end line.now) }
+    ensures database { IfOk result (λ ends. ends.1 ≡ labels.database_label_end line.now) }
+    ensures short { OnErr result (A.is_short memory.now) }
+{
+    match (line.chunk_label_end(), line.database_label_end()) {
+        (Some(chunk), Some(database)) => Ok((chunk, database)),
+        _ => Err(refused_growth(memory, usize::MAX)),
     }
 }
 
