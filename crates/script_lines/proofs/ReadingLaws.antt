@@ -6,11 +6,11 @@ use Rattle.std.specs.Option.{option_to_list}
 use Rattle.std.specs.Str.Lines.{lines}
 use Rattle.script_lines.specs.declared.fault.LineFault.{LineFault}
 use Rattle.script_lines.specs.declared.fault.ScriptFault.{ScriptFault}
-use Rattle.script_lines.specs.declared.line.Line.{Line}
+use Rattle.script_commands.specs.declared.line.Line.{Line}
 use Rattle.script_lines.specs.declared.fault.ScriptFault.TheVariants.{WrongCount, BadWord}
 use Rattle.script_lines.specs.declared.text.WordCut.{WordCut}
 use Rattle.script_lines.specs.declared.text.WordCut.TheVariants.{Absent, Broken, Word}
-use Rattle.script_lines.specs.declared.value.Kind.{Kind}
+use Rattle.script_commands.specs.declared.value.Kind.{Kind}
 use Rattle.script_lines.specs.Words.{is_passed_over, words_of, with_word, word_count}
 use Rattle.script_lines.specs.Cuts.{CutsWord}
 use Rattle.script_lines.specs.Kinds.{WordsRead, read_word, read_words}

@@ -3,10 +3,10 @@ use Rattle.std.specs.Prelude.{ℕ, ◌+◌, ◌^◌, if◌then◌else◌, List, 
 use Rattle.std.specs.Option.{option_map, option_map_or}
 use Rattle.script_lines.specs.declared.fault.ScriptFault.{ScriptFault}
 use Rattle.script_lines.specs.declared.fault.ScriptFault.TheVariants.{WrongCount, BadWord}
-use Rattle.script_lines.specs.declared.value.Kind.{Kind}
-use Rattle.script_lines.specs.declared.value.Kind.TheVariants.{Chunk, Database, Byte, Short, Number, Flag, Which, Bytes, Text, FourBytes}
-use Rattle.script_lines.specs.declared.value.Value.{Value}
-use Rattle.script_lines.specs.declared.value.Value.TheVariants.{Chunk as ChunkValue, Database as DatabaseValue, Byte as ByteValue, Short as ShortValue, Number as NumberValue, Flag as FlagValue, Which as WhichValue, FourBytes as FourBytesValue}
+use Rattle.script_commands.specs.declared.value.Kind.{Kind}
+use Rattle.script_commands.specs.declared.value.Kind.TheVariants.{Chunk, Database, Byte, Short, Number, Flag, Which, Bytes, Text, FourBytes}
+use Rattle.script_commands.specs.declared.value.Value.{Value}
+use Rattle.script_commands.specs.declared.value.Value.TheVariants.{Chunk as ChunkValue, Database as DatabaseValue, Byte as ByteValue, Short as ShortValue, Number as NumberValue, Flag as FlagValue, Which as WhichValue, FourBytes as FourBytesValue}
 use Rattle.script_lines.specs.Numbering.{Numberings, label_number, with_chunk_label, with_database_label}
 use Rattle.script_lines.specs.Spellings.{is_label, number_below, spelled_bytes, spelled_text, spelled_flag, spelled_which, spelled_four}
 

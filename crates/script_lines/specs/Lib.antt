@@ -1,10 +1,11 @@
-pub mod Labels
 pub mod Words
 pub mod Cuts
 pub mod Numbering
 pub mod Spellings
 pub mod Kinds
-pub mod Commands
 pub mod Views
 pub mod Reading
 pub mod Laws
+pub use Rattle.script_commands.specs.Commands
+pub use Rattle.script_commands.specs.Labels
+pub use Rattle.script_commands.specs.Places

@@ -6,13 +6,13 @@ use Rattle.std.specs.Str.Lines.{lines}
 use Rattle.script_lines.specs.declared.fault.LineFault.{LineFault}
 use Rattle.script_lines.specs.declared.fault.ScriptFault.{ScriptFault}
 use Rattle.script_lines.specs.declared.fault.ScriptFault.TheVariants.{UnknownCommand, WrongCount, BadWord}
-use Rattle.script_lines.specs.declared.line.Line.{Line}
-use Rattle.script_lines.specs.declared.command.Command.{Command}
-use Rattle.script_lines.specs.declared.value.Kind.{Kind}
+use Rattle.script_commands.specs.declared.line.Line.{Line}
+use Rattle.script_commands.specs.declared.command.Command.{Command}
+use Rattle.script_commands.specs.declared.value.Kind.{Kind}
 use Rattle.script_lines.specs.Numbering.{Numberings, none_numbered}
 use Rattle.script_lines.specs.Words.{is_passed_over, words_of}
 use Rattle.script_lines.specs.Kinds.{WordsRead, read_words}
-use Rattle.script_lines.specs.Commands.{kinds_of, line_of, command_of}
+use Rattle.script_commands.specs.Commands.{kinds_of, line_of, command_of}
 
 -- what a line is: none, where it is passed over; and the labels that have appeared up to its end
 pub record LineRead : Type 0 where

@@ -7,13 +7,12 @@ ghost use Rattle.script_lines.specs.Reading.{read_script, words_in};
 ghost use Rattle.script_lines.specs.Views.{numberings, words_read};
 ghost use Rattle.script_lines.specs.Words.{words_of};
 
-use crate::command::{find_command, make_line, row_of};
 use crate::fault::{LineFault, ScriptFault};
 use crate::label::LabelTables;
-use crate::line::{Line, Script};
 use crate::text::{WordCut, count_words, cut_line, cut_word, is_passed_over};
-use crate::value::{Kind, Values};
+use crate::value::Values;
 use allowance::Allowance;
+use script_commands::{Kind, Line, Script, find_command, make_line, row_of};
 use std::alloc::Global;
 
 /// What the words of a text stand for, by kind, or the number of the first that isn't of its kind;
@@ -80,7 +79,7 @@ fn read_command<'a, A: Allowance>(
         Ok(values) => values,
         Err(fault) => return Err(fault),
     };
-    Ok(make_line(command, &values, bytes).unwrap())
+    Ok(make_line(command, &values, bytes))
 }
 
 /// A line, read from its text; none, where it is passed over.

@@ -5,52 +5,13 @@ ghost use Rattle.script_lines.specs.Kinds.{read_word};
 ghost use Rattle.script_lines.specs.Views.{Adds, words_read};
 
 use crate::label::LabelTables;
-use crate::line::{ChunkLabel, DatabaseLabel};
 use crate::spelling::{
     byte_of, bytes_of, flag_of, four_bytes_of, number_of, short_of, text_of, which_of,
 };
 use allowance::Allowance;
-use heap_model::{Bytes, Which};
+use heap_model::Bytes;
+use script_commands::{ChunkLabel, DatabaseLabel, Kind, Value};
 use std::alloc::{AllocError, Global};
-
-/// What a word of a command is to be.
-#[derive(Clone, Copy, Debug, PartialEq, Eq)]
-pub(crate) enum Kind {
-    /// A chunk's label: a letter, then letters, digits or `_`, at most 31 characters.
-    Chunk,
-    /// A database's label, likewise.
-    Database,
-    /// A number below 2^8.
-    Byte,
-    /// A number below 2^16.
-    Short,
-    /// A number below 2^32.
-    Number,
-    /// `0` or `1`.
-    Flag,
-    /// `app` or `sort`.
-    Which,
-    /// A type or a creator: a text of four bytes.
-    FourBytes,
-    /// An even number of hex digits, at least two, or `-` for no bytes.
-    Bytes,
-    /// Bytes in quotes, or `x:` and an even number of hex digits.
-    Text,
-}
-
-/// What a word stands for, other than bytes.
-#[derive(Clone, Copy, Debug, PartialEq, Eq)]
-pub(crate) enum Value {
-    Chunk(ChunkLabel),
-    Database(DatabaseLabel),
-    Byte(u8),
-    Short(u16),
-    Number(u32),
-    Flag(bool),
-    Which(Which),
-    /// The four bytes as a number.
-    FourBytes(u32),
-}
 
 /// What the words behind a command stand for: their values in order, but the bytes of a word of
 /// bytes or text stand apart, since no line has two such words.

@@ -1,5 +1,5 @@
 use Rattle.std.proofs.Common.{◌≡◌, ◌+◌, [], drop, ◌∙◌, arith}
-use Rattle.script_lines.specs.declared.value.Kind.TheVariants.{Chunk}
+use Rattle.script_commands.specs.declared.value.Kind.TheVariants.{Chunk}
 use Rattle.script_lines.specs.Kinds.{read_words}
 use Rattle.script_lines.specs.Reading.{words_in}
 use Rattle.script_lines.specs.Views.{words_read}

@@ -1,0 +1,3 @@
+pub mod LabelLaws
+pub mod CommandLaws
+mod TableLaws

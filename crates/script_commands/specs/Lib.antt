@@ -1,0 +1,3 @@
+pub mod Labels
+pub mod Commands
+pub mod Places

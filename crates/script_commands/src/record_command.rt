@@ -1,0 +1,252 @@
+//! The commands of records.
+
+ghost use Rattle.std.specs.Prelude.{◌≡◌, ◌<◌, ℕ, List, length};
+ghost use Rattle.script_commands.specs.Commands as tables;
+ghost use Rattle.script_commands.specs.Commands.{command_of, on_records};
+ghost use Rattle.script_commands.specs.Places.{record_line};
+ghost use Rattle.script_commands.specs.declared.line.Line.TheVariants.{Print, BindChunk};
+ghost use Rattle.script_commands.specs.declared.command.Command.TheVariants.{Record as OfRecords};
+
+use crate::command::{Command, CommandRow, row};
+use crate::line::{ChunkLabel, DatabaseLabel, Line};
+use crate::place::{byte_at, chunk_at, database_at, flag_at, number_at};
+use crate::value::{Kind, Value};
+use heap_model::{Call, RecordCall};
+
+/// A command of records.
+#[derive(Clone, Copy)]
+pub enum RecordCommand {
+    New,
+    Delete,
+    Archive,
+    Remove,
+    Move,
+    Get,
+    Query,
+    Release,
+    Info,
+    Resize,
+    Count,
+    Attach,
+    AttachReplacing,
+    Detach,
+    SetInfo,
+    Find,
+    CountInCategory,
+    NextInCategory,
+    PositionInCategory,
+    MoveCategory,
+    DeleteCategory,
+}
+
+/// Every one of them.
+pub(crate) const RECORD_COMMANDS: [Command; 21] = [
+    Command::Record(RecordCommand::New),
+    Command::Record(RecordCommand::Delete),
+    Command::Record(RecordCommand::Archive),
+    Command::Record(RecordCommand::Remove),
+    Command::Record(RecordCommand::Move),
+    Command::Record(RecordCommand::Get),
+    Command::Record(RecordCommand::Query),
+    Command::Record(RecordCommand::Release),
+    Command::Record(RecordCommand::Info),
+    Command::Record(RecordCommand::Resize),
+    Command::Record(RecordCommand::Count),
+    Command::Record(RecordCommand::Attach),
+    Command::Record(RecordCommand::AttachReplacing),
+    Command::Record(RecordCommand::Detach),
+    Command::Record(RecordCommand::SetInfo),
+    Command::Record(RecordCommand::Find),
+    Command::Record(RecordCommand::CountInCategory),
+    Command::Record(RecordCommand::NextInCategory),
+    Command::Record(RecordCommand::PositionInCategory),
+    Command::Record(RecordCommand::MoveCategory),
+    Command::Record(RecordCommand::DeleteCategory),
+];
+
+// What the words behind a command may be.
+const DATABASE: &[Kind] = &[Kind::Database];
+
+const DATABASE_BYTE: &[Kind] = &[Kind::Database, Kind::Byte];
+
+const DATABASE_TWO_BYTES_FLAG: &[Kind] = &[Kind::Database, Kind::Byte, Kind::Byte, Kind::Flag];
+
+const DATABASE_NUMBER: &[Kind] = &[Kind::Database, Kind::Number];
+
+const DATABASE_NUMBER_BYTE: &[Kind] = &[Kind::Database, Kind::Number, Kind::Byte];
+
+const DATABASE_NUMBER_BYTE_NUMBER: &[Kind] = &[
+    Kind::Database,
+    Kind::Number,
+    Kind::Byte,
+    Kind::Number,
+];
+
+const DATABASE_NUMBER_BYTE_CHUNK: &[Kind] = &[
+    Kind::Database,
+    Kind::Number,
+    Kind::Byte,
+    Kind::Chunk,
+];
+
+const DATABASE_NUMBER_CHUNK: &[Kind] = &[Kind::Database, Kind::Number, Kind::Chunk];
+
+const DATABASE_NUMBER_CHUNK_BYTE_CHUNK: &[Kind] = &[
+    Kind::Database,
+    Kind::Number,
+    Kind::Chunk,
+    Kind::Byte,
+    Kind::Chunk,
+];
+
+const DATABASE_NUMBER_FLAG: &[Kind] = &[Kind::Database, Kind::Number, Kind::Flag];
+
+const DATABASE_TWO_NUMBERS: &[Kind] = &[Kind::Database, Kind::Number, Kind::Number];
+
+const DATABASE_TWO_NUMBERS_CHUNK: &[Kind] = &[
+    Kind::Database,
+    Kind::Number,
+    Kind::Number,
+    Kind::Chunk,
+];
+
+/// The row of a command.
+pub(crate) fn record_row(command: RecordCommand) -> CommandRow
+    ensures word { result.word.now ≡ tables.word_of (OfRecords command) }
+    ensures found { command_of result.word.now ≡ Some (OfRecords command) }
+    ensures kinds { result.kinds.now ≡ tables.kinds_of (OfRecords command) }
+    ensures few { length result.kinds.now < 16 }
+{
+    match command {
+        RecordCommand::New => row(b"recnew", DATABASE_TWO_NUMBERS_CHUNK),
+        RecordCommand::Delete => row(b"recdelete", DATABASE_NUMBER),
+        RecordCommand::Archive => row(b"recarchive", DATABASE_NUMBER),
+        RecordCommand::Remove => row(b"recremove", DATABASE_NUMBER),
+        RecordCommand::Move => row(b"recmove", DATABASE_TWO_NUMBERS),
+        RecordCommand::Get => row(b"recget", DATABASE_NUMBER_CHUNK),
+        RecordCommand::Query => row(b"recquery", DATABASE_NUMBER_CHUNK),
+        RecordCommand::Release => row(b"recrelease", DATABASE_NUMBER_FLAG),
+        RecordCommand::Info => row(b"recinfo", DATABASE_NUMBER),
+        RecordCommand::Resize => row(b"recresize", DATABASE_TWO_NUMBERS),
+        RecordCommand::Count => row(b"reccount", DATABASE),
+        RecordCommand::Attach => row(b"recattach", DATABASE_NUMBER_CHUNK),
+        RecordCommand::AttachReplacing => row(b"recreplace", DATABASE_NUMBER_CHUNK_BYTE_CHUNK),
+        RecordCommand::Detach => row(b"recdetach", DATABASE_NUMBER_BYTE_CHUNK),
+        RecordCommand::SetInfo => row(b"recset", DATABASE_NUMBER_BYTE_NUMBER),
+        RecordCommand::Find => row(b"recfind", DATABASE_NUMBER),
+        RecordCommand::CountInCategory => row(b"catcount", DATABASE_BYTE),
+        RecordCommand::NextInCategory => row(b"catnext", DATABASE_NUMBER_BYTE),
+        RecordCommand::PositionInCategory => row(b"catpos", DATABASE_NUMBER_BYTE),
+        RecordCommand::MoveCategory => row(b"catmove", DATABASE_TWO_BYTES_FLAG),
+        RecordCommand::DeleteCategory => row(b"catdelete", DATABASE_BYTE),
+    }
+}
+
+/// The line of a call on records whose answer is printed.
+fn print(call: RecordCall<ChunkLabel, DatabaseLabel>) -> Line
+    ensures { result ≡ Print (on_records call) }
+{
+    Line::Print(Call::Record(call))
+}
+
+/// The line of a call on records that answers a chunk.
+fn bind(label: ChunkLabel, call: RecordCall<ChunkLabel, DatabaseLabel>) -> Line
+    ensures { result ≡ BindChunk label (on_records call) }
+{
+    Line::BindChunk(label, Call::Record(call))
+}
+
+/// The line of a command and what its words stand for.
+pub(crate) fn make_record_line(command: RecordCommand, values: &[Value]) -> Line
+    ensures { (bytes : List ℕ) → result ≡ record_line command values.now bytes }
+{
+    let db = database_at(values, 0);
+    match command {
+        RecordCommand::New => bind(
+            chunk_at(values, 3),
+            RecordCall::New {
+                db,
+                at: number_at(values, 1),
+                size: number_at(values, 2),
+            },
+        ),
+        RecordCommand::Delete => print(RecordCall::Delete(db, number_at(values, 1))),
+        RecordCommand::Archive => print(RecordCall::Archive(db, number_at(values, 1))),
+        RecordCommand::Remove => print(RecordCall::Remove(db, number_at(values, 1))),
+        RecordCommand::Move => print(RecordCall::Move {
+            db,
+            from: number_at(values, 1),
+            to: number_at(values, 2),
+        }),
+        RecordCommand::Get => bind(
+            chunk_at(values, 2),
+            RecordCall::Get(db, number_at(values, 1)),
+        ),
+        RecordCommand::Query => bind(
+            chunk_at(values, 2),
+            RecordCall::Query(db, number_at(values, 1)),
+        ),
+        RecordCommand::Release => print(RecordCall::Release {
+            db,
+            index: number_at(values, 1),
+            dirty: flag_at(values, 2),
+        }),
+        RecordCommand::Info => print(RecordCall::Info(db, number_at(values, 1))),
+        RecordCommand::Resize => print(RecordCall::Resize {
+            db,
+            index: number_at(values, 1),
+            size: number_at(values, 2),
+        }),
+        RecordCommand::Count => print(RecordCall::Count(db)),
+        RecordCommand::Attach => print(RecordCall::Attach {
+            db,
+            at: number_at(values, 1),
+            name: chunk_at(values, 2),
+        }),
+        RecordCommand::AttachReplacing => bind(
+            chunk_at(values, 4),
+            RecordCall::AttachReplacing {
+                db,
+                index: number_at(values, 1),
+                name: chunk_at(values, 2),
+                owner: byte_at(values, 3),
+            },
+        ),
+        RecordCommand::Detach => bind(
+            chunk_at(values, 3),
+            RecordCall::Detach {
+                db,
+                index: number_at(values, 1),
+                owner: byte_at(values, 2),
+            },
+        ),
+        RecordCommand::SetInfo => print(RecordCall::SetInfo {
+            db,
+            index: number_at(values, 1),
+            attributes: byte_at(values, 2),
+            id: number_at(values, 3),
+        }),
+        RecordCommand::Find => print(RecordCall::FindById(db, number_at(values, 1))),
+        RecordCommand::CountInCategory => print(RecordCall::CountInCategory(
+            db,
+            byte_at(values, 1),
+        )),
+        RecordCommand::NextInCategory => print(RecordCall::NextInCategory {
+            db,
+            from: number_at(values, 1),
+            category: byte_at(values, 2),
+        }),
+        RecordCommand::PositionInCategory => print(RecordCall::PositionInCategory {
+            db,
+            index: number_at(values, 1),
+            category: byte_at(values, 2),
+        }),
+        RecordCommand::MoveCategory => print(RecordCall::MoveCategory {
+            db,
+            to: byte_at(values, 1),
+            from: byte_at(values, 2),
+            dirty: flag_at(values, 3),
+        }),
+        RecordCommand::DeleteCategory => print(RecordCall::DeleteCategory(db, byte_at(values, 1))),
+    }
+}

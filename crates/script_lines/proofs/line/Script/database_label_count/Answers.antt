@@ -1,8 +1,0 @@
-use Rattle.std.proofs.Common.{sym}
-use Rattle.script_lines.specs.Labels.{database_label_end}
-use Rattle.script_lines.proofs.LabelLaws.{below_count}
-use Rattle.script_lines.proofs.line.Script.database_label_count.Goals as goal
-
--- the value that contracts see is the list of the lines, of which the invariant speaks
-pub returns-clause-below : goal.returns-clause-below
-returns-clause-below c = rw (sym c.self.view_is) (below_count database_label_end c.self.inside.lines.items c.self.inside.database_label_count c.self.invariant.1)

@@ -1,7 +1,0 @@
-use Rattle.std.proofs.Common.{◌≡◌, take}
-use Rattle.std.specs.Prelude.{count_by}
-use Rattle.script_lines.specs.Labels.{is_export}
-use Rattle.script_lines.proofs.line.count_exports.Given as goal
-
-abbrev pub invariant-loop-line : goal.invariant-loop-line
-invariant-loop-line l = l.count ≡ count_by is_export (take l.line-index l.lines)
