@@ -1,77 +1,51 @@
-//! Runs of the program `palmheap`: what each prints, its status and its standard error, and the files that
-//! are no more what they were. The file `stdout` has what must come of each.
+//! Runs of the program `palmheap`, and images that came of stores by changes. The file `stdout` has what must come of
+//! all of them.
 //!
-//! The runs stand in `CASES`, and the files that each of them finds in `INPUTS`: start there.
+//! Of a run it has what the run prints, its status and its standard error, and the files that are no more what they
+//! were. The runs stand in `CASES`, and the files that each of them finds in `INPUTS`: start there.
+//!
+//! Of the images, with one to three changes each, it has how many of them are what. The changes are drawn so that they
+//! meet what holds an image together. The check of stores says of each what the plain model says, and lists of calls
+//! on those that are accepted are answered as by the model.
+//!
+//! `test_program STORES` leaves out the runs, and checks 250 images of each of so many stores. With no word there are
+//! 40 stores. Seeds are fixed, so that more stores are those and further ones.
 #![tactic(auto)]
 
 mod cases;
+mod changes;
 mod folder;
+mod images;
 mod inputs;
 mod recorder;
+mod runs;
 
-use cases::{CASES, Output};
-use folder::{enter, fill, leave, show_changes};
-use palmheap_program::run;
-use program_io::Status;
-use recorder::{Kept, Recorder};
-use std::alloc::{AllocError, Global};
-use std::rt::Files;
+use images::check_stores;
+use runs::show_runs;
+use std::env;
 use std::test::Fail;
 
+/// How many stores there are where no word says so.
+const STORES: u64 = 40;
+
 fn main(rt: HostRuntime) -> Result<(), Fail> {
-    enter(&rt)?;
-    for (line, output) in &CASES {
-        show(&rt, line, *output)?;
+    let words = env::args(&rt)?.skip(1).collect::<Vec<_>>(rt.alloc())?;
+    match words.as_slice() {
+        [] => {
+            show_runs(&rt)?;
+            show_verdicts(&rt, STORES)
+        }
+        [stores] => show_verdicts(&rt, stores.parse()?),
+        _ => Err(Fail::new("usage: test_program [STORES]")),
     }
-    leave(&rt)
 }
 
-/// Does a run in a folder that is as each finds it, and shows what comes of it.
-fn show<R: Files + Print + AllocGlobal + Clone + Drop>(
-    rt: &R,
-    line: &str,
-    output: Output,
-) -> Result<(), Fail> {
-    fill(rt)?;
-    println!(rt; "$ palmheap {line}")?;
-    let (printed, complained) = (Kept::new(rt.alloc()), Kept::new(rt.alloc()));
-    let status = run_recorded(rt, line, output, &printed, &complained)?;
-    rt.write_all(printed.into_bytes().as_slice())?;
-    println!(rt; "status {}", status.code())?;
-    let complained = complained.into_bytes();
-    if !complained.is_empty() {
-        println!(rt; "standard error:")?;
-        rt.write_all(complained.as_slice())?;
-    }
-    show_changes(rt)?;
-    println!(rt; "")?;
+/// Shows how many images of so many stores are what.
+fn show_verdicts<R: Print + AllocGlobal>(rt: &R, stores: u64) -> Result<(), Fail> {
+    let counts = check_stores(rt.alloc(), stores)?;
+    println!(rt;
+        "no heap {} no store {} accepted {}",
+        counts.no_heap, counts.no_store, counts.accepted
+    )?;
     Ok(())
-}
-
-/// Runs the program with these words, and keeps what it prints and what stands on standard error.
-fn run_recorded<R: Files + AllocGlobal>(
-    rt: &R,
-    line: &str,
-    output: Output,
-    printed: &Kept,
-    complained: &Kept,
-) -> Result<Status, Fail> {
-    let recorder = Recorder {
-        rt,
-        output,
-        printed,
-        complained,
-    };
-    let words = words_of(rt.alloc(), line)?;
-    Ok(run(&recorder, words.as_slice()))
-}
-
-/// The words of a command line, behind the program's own name.
-fn words_of(alloc: Global, line: &str) -> Result<Vec<String>, AllocError> {
-    let mut words = Vec::new(alloc);
-    words.push(String::from_str(alloc, "palmheap")?)?;
-    for word in line.split_ascii_whitespace() {
-        words.push(String::from_str(alloc, word)?)?;
-    }
-    Ok(words)
 }

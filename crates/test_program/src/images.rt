@@ -61,7 +61,7 @@ fn do_calls(alloc: Global, random: &mut Pcg32, image: Vec<u8>, spot: &str) -> Re
 }
 
 /// How many images were no heap, no store, and accepted.
-#[derive(Clone, Copy, Debug, Default, PartialEq, Eq)]
+#[derive(Default, Drop)]
 pub(crate) struct Verdicts {
     pub(crate) no_heap: u64,
     pub(crate) no_store: u64,

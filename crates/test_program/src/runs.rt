@@ -1,0 +1,71 @@
+//! Runs of the program `palmheap`.
+
+use crate::cases::{CASES, Output};
+use crate::folder::{enter, fill, leave, show_changes};
+use crate::recorder::{Kept, Recorder};
+use palmheap_program::run;
+use program_io::Status;
+use std::alloc::{AllocError, Global};
+use std::rt::{Env, Files};
+use std::test::Fail;
+
+/// Does each run, and shows what comes of it.
+pub(crate) fn show_runs<R: Files + Env + Print + AllocGlobal + Clone + Drop>(
+    rt: &R,
+) -> Result<(), Fail> {
+    enter(rt)?;
+    for (line, output) in &CASES {
+        show(rt, line, *output)?;
+    }
+    leave(rt)
+}
+
+/// Does a run in a folder that is as each finds it, and shows what comes of it.
+fn show<R: Files + Print + AllocGlobal + Clone + Drop>(
+    rt: &R,
+    line: &str,
+    output: Output,
+) -> Result<(), Fail> {
+    fill(rt)?;
+    println!(rt; "$ palmheap {line}")?;
+    let (printed, complained) = (Kept::new(rt.alloc()), Kept::new(rt.alloc()));
+    let status = run_recorded(rt, line, output, &printed, &complained)?;
+    rt.write_all(printed.into_bytes().as_slice())?;
+    println!(rt; "status {}", status.code())?;
+    let complained = complained.into_bytes();
+    if !complained.is_empty() {
+        println!(rt; "standard error:")?;
+        rt.write_all(complained.as_slice())?;
+    }
+    show_changes(rt)?;
+    println!(rt; "")?;
+    Ok(())
+}
+
+/// Runs the program with these words, and keeps what it prints and what stands on standard error.
+fn run_recorded<R: Files + AllocGlobal>(
+    rt: &R,
+    line: &str,
+    output: Output,
+    printed: &Kept,
+    complained: &Kept,
+) -> Result<Status, Fail> {
+    let recorder = Recorder {
+        rt,
+        output,
+        printed,
+        complained,
+    };
+    let words = words_of(rt.alloc(), line)?;
+    Ok(run(&recorder, words.as_slice()))
+}
+
+/// The words of a command line, behind the program's own name.
+fn words_of(alloc: Global, line: &str) -> Result<Vec<String>, AllocError> {
+    let mut words = Vec::new(alloc);
+    words.push(String::from_str(alloc, "palmheap")?)?;
+    for word in line.split_ascii_whitespace() {
+        words.push(String::from_str(alloc, word)?)?;
+    }
+    Ok(words)
+}
