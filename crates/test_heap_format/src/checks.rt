@@ -17,31 +17,44 @@ fn check_found(alloc: Global, spot: &str, region: &Region, text: &str) -> Result
 
 fn check_case(alloc: Global, listing: &str, changes: &str, text: &str) -> Result<(), Fail> {
     let region = image(alloc, listing, changes)?;
-    check_found(alloc, changes, &region, text)
+    let found = found(alloc, &region)?;
+    equal(
+        format_args!("{listing}, changed: {changes}"),
+        found.as_str(),
+        text,
+    )
 }
 
 /// Each case has changes of the listing's image, and the text of what the checker finds then.
-fn check_changed(rt: &impl AllocGlobal, listing: &str, cases: &[(&str, &str)]) -> Result<(), Fail> {
+fn check_changed(alloc: Global, listing: &str, cases: &[(&str, &str)]) -> Result<(), Fail> {
     for (changes, text) in cases {
-        check_case(rt.alloc(), listing, changes, text)?;
+        check_case(alloc, listing, changes, text)?;
     }
     Ok(())
 }
 
+/// Changes of a database, and what the checker finds.
+static COUNTED: [(&str, Result<Summary, HeapFault>); 2] = [
+    (
+        "",
+        Ok(Summary {
+            size: 208,
+            slots: 8,
+            movable: 4,
+            fixed: 0,
+            free: 8,
+        }),
+    ),
+    ("175: BA", Err(HeapFault::SlotMismatch(24))),
+];
+
 #[test]
 fn a_heap_has_its_counts(rt: HostRuntime) -> Result<(), Fail> {
-    let region = image(rt.alloc(), DATABASE, "")?;
-    let summary = Summary {
-        size: 208,
-        slots: 8,
-        movable: 4,
-        fixed: 0,
-        free: 8,
-    };
-    equal("the image", check_heap(&region), Ok(summary))?;
-    let region = image(rt.alloc(), DATABASE, "175: BA")?;
-    let fault = HeapFault::SlotMismatch(24);
-    equal("175: BA", check_heap(&region), Err(fault))
+    for (changes, wanted) in &COUNTED {
+        let region = image(rt.alloc(), DATABASE, changes)?;
+        equal(*changes, check_heap(&region), *wanted)?;
+    }
+    Ok(())
 }
 
 const OF_DATABASE: [(&str, &str); 14] = [
@@ -62,11 +75,6 @@ const OF_DATABASE: [(&str, &str); 14] = [
     // two chunks that name one slot: the one whose place it doesn't hold is without
     ("27: 00, 175: BA", "ChunkWithoutSlot 168"),
 ];
-
-#[test]
-fn a_database_is_checked(rt: HostRuntime) -> Result<(), Fail> {
-    check_changed(&rt, DATABASE, &OF_DATABASE)
-}
 
 #[test]
 fn every_shorter_prefix_is_too_short(rt: HostRuntime) -> Result<(), Fail> {
@@ -120,11 +128,6 @@ const OF_ONE_CHUNK: [(&str, &str); 18] = [
     ("15: 10, 36: 0F", "BadDirectory"),
 ];
 
-#[test]
-fn one_chunk_is_checked(rt: HostRuntime) -> Result<(), Fail> {
-    check_changed(&rt, ONE_CHUNK, &OF_ONE_CHUNK)
-}
-
 const OF_BLANK: [(&str, &str); 15] = [
     ("", "size 128 slots 4 movable 0 fixed 0 free 96"),
     // an odd count of slots, with padding
@@ -160,11 +163,7 @@ const OF_BLANK: [(&str, &str); 15] = [
     ("12: FFFFFFFF", "BadDirectory"),
 ];
 
-#[test]
-fn a_blank_image_is_checked(rt: HostRuntime) -> Result<(), Fail> {
-    check_changed(&rt, BLANK, &OF_BLANK)
-}
-
+/// Each image has two faults, neighbours in their order, or the same one twice.
 const WITH_TWO_FAULTS: [(&str, &str); 14] = [
     ("0: 00, 7: 88", "BadMagic"),
     ("0: 00, 7: 78", "BadMagic"),
@@ -197,14 +196,24 @@ const WITH_TWO_FAULTS: [(&str, &str); 14] = [
     ),
 ];
 
-/// Each image has two faults, neighbours in their order, or the same one twice.
+/// Images, and their cases.
+static CASES: [(&str, &[(&str, &str)]); 4] = [
+    (DATABASE, &OF_DATABASE),
+    (ONE_CHUNK, &OF_ONE_CHUNK),
+    (BLANK, &OF_BLANK),
+    (BLANK, &WITH_TWO_FAULTS),
+];
+
 #[test]
 fn the_first_fault_is_answered(rt: HostRuntime) -> Result<(), Fail> {
-    check_changed(&rt, BLANK, &WITH_TWO_FAULTS)
+    for (listing, cases) in &CASES {
+        check_changed(rt.alloc(), listing, cases)?;
+    }
+    Ok(())
 }
 
 /// Images whose lengths or slot counts stand at a limit, and what the checker finds.
-const LENGTHS: [(&str, &str); 11] = [
+static LENGTHS: [(&str, &str); 11] = [
     ("", "TooShort"),
     ("00*15", "TooShort"),
     ("00*16", "BadMagic"),
@@ -231,14 +240,9 @@ const LENGTHS: [(&str, &str); 11] = [
 #[test]
 fn lengths_have_their_limits(rt: HostRuntime) -> Result<(), Fail> {
     for (listing, text) in &LENGTHS {
-        check_length(rt.alloc(), listing, text)?;
+        check_case(rt.alloc(), listing, "", text)?;
     }
     Ok(())
-}
-
-fn check_length(alloc: Global, listing: &str, text: &str) -> Result<(), Fail> {
-    let region = image(alloc, listing, "")?;
-    check_found(alloc, listing, &region, text)
 }
 
 /// The greatest image is accepted, and one of the next length isn't.
@@ -247,11 +251,11 @@ fn the_greatest_length_is_16_777_208(rt: HostRuntime) -> Result<(), Fail> {
     let region = blank(rt.alloc(), 16_777_208, 65_535)?;
     let text = "size 16777208 slots 65535 movable 0 fixed 0 free 16515048";
     check_found(rt.alloc(), "the greatest", &region, text)?;
-    let region = greater(rt.alloc())?;
-    equal(
+    check_found(
+        rt.alloc(),
         "a greater one",
-        check_heap(&region),
-        Err(HeapFault::BadSize),
+        &greater(rt.alloc())?,
+        "BadSize",
     )
 }
 

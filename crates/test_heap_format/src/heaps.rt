@@ -72,26 +72,30 @@ impl CheckedSpace {
         self.space.free_bytes()
     }
 
-    pub(crate) fn find_room(&self, size: u32) -> Option<Room>
-        requires { 0 < size }
-    {
+    /// Where there is room for a size. None where there is none, and for no byte.
+    pub(crate) fn find_room(&self, size: u32) -> Option<Room> {
+        if size == 0 {
+            return None;
+        }
         self.space.find_room(size)
     }
 
-    /// Makes a movable chunk, under the first empty slot. None where there is no room or no slot.
-    pub(crate) fn make(&mut self, count: u32, owner: u8) -> Option<Name>
-        requires { owner < 16 }
-    {
+    /// Makes a movable chunk, under the first empty slot. None where there is no room or no slot, and for what is no
+    /// owner.
+    pub(crate) fn make(&mut self, count: u32, owner: u8) -> Option<u32> {
         let room = self.space.find_room(chunk_size(count)?)?;
         let slot = first_empty_slot(self.space.region(), 0)?.name;
+        if owner >= 16 {
+            return None;
+        }
         self.space.claim(room, slot, count, owner);
-        Some(slot)
+        Some(slot.0)
     }
 
     /// Makes a fixed chunk of a caller's. None where there is no room.
-    pub(crate) fn make_fixed(&mut self, count: u32) -> Option<Name> {
+    pub(crate) fn make_fixed(&mut self, count: u32) -> Option<u32> {
         let room = self.space.find_room(chunk_size(count)?)?;
-        Some(self.space.claim_fixed(room, count, 14))
+        Some(self.space.claim_fixed(room, count, 14).0)
     }
 
     /// Gives back the chunk of a name, and answers how many bytes are free there then. None where there is
@@ -104,34 +108,34 @@ impl CheckedSpace {
         Some(self.space.give_back(found))
     }
 
-    /// Gives the movable chunk of a name another lock count, and says whether it could: one of the manager's
-    /// has no locks.
-    pub(crate) fn relock(&mut self, name: Name, lock: u8) -> Option<()>
-        requires { lock < 15 }
-    {
+    /// Gives the movable chunk of a name another lock count, and answers it. None where it couldn't: one of the
+    /// manager's has no locks.
+    pub(crate) fn relock(&mut self, name: Name, lock: u8) -> Option<u32> {
         let found = self.space.find(name)?;
-        if found.lock >= 15 || found.owner == 0 {
+        if found.lock >= 15 || found.owner == 0 || lock >= 15 {
             return None;
         }
         self.space.relock(found, lock);
-        Some(())
+        Some(u32::from(lock))
     }
 
-    /// Gives back all chunks of an owner but the manager, and answers how many there were.
-    pub(crate) fn give_back_owned(&mut self, owner: u8) -> u32
-        requires { 0 < owner }
-    {
-        self.space.give_back_owned(owner)
-    }
-
-    /// Gives the chunk of a name `count` bytes, and says whether they fit into what it takes.
-    pub(crate) fn shrink(&mut self, name: Name, count: u32) -> Option<()> {
-        let found = self.space.find(name)?;
-        if chunk_size(count)? > chunk_size(found.length)? {
+    /// Gives back all chunks of an owner, and answers how many there were. None for the manager.
+    pub(crate) fn give_back_owned(&mut self, owner: u8) -> Option<u32> {
+        if owner == 0 {
             return None;
         }
+        Some(self.space.give_back_owned(owner))
+    }
+
+    /// Gives the chunk of a name `count` bytes, and says whether they fit into what it takes. None where there is
+    /// no such chunk.
+    pub(crate) fn shrink(&mut self, name: Name, count: u32) -> Option<bool> {
+        let found = self.space.find(name)?;
+        if chunk_size(count)? > chunk_size(found.length)? {
+            return Some(false);
+        }
         self.space.shrink(found, count);
-        Some(())
+        Some(true)
     }
 
     /// Gives the chunk of a name `count` bytes where it stands, and says whether it could. None where there is
@@ -141,13 +145,13 @@ impl CheckedSpace {
         Some(self.space.grow_in_place(found, count))
     }
 
-    /// Moves the movable chunk of a name, which has no locks, to the first room that has `count` bytes. None
-    /// where there is no such chunk or no such room.
-    pub(crate) fn relocate(&mut self, name: Name, count: u32) -> Option<()> {
+    /// Moves the chunk of a name to the first room that has `count` bytes, and says whether it could: one with locks
+    /// stays. None where there is no such chunk.
+    pub(crate) fn relocate(&mut self, name: Name, count: u32) -> Option<bool> {
         let found = self.space.find(name)?;
         if found.lock > 0 {
-            return None;
+            return Some(false);
         }
-        self.space.relocate(found, count).then_some(())
+        Some(self.space.relocate(found, count))
     }
 }

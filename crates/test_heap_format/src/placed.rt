@@ -1,17 +1,16 @@
 //! The bytes that are left where chunks are placed, claimed and given back.
 
 use crate::heaps::{CheckedSpace, heap, image};
-use crate::steps::{Step, Told, check, check_on, check_steps};
+use crate::steps::{Stage, Step, Told, Words, left_by};
 use heap_model::{Name, Place};
 use heap_place::{Found, Space};
 use std::test::*;
 use test_fakes::equal;
 
-type Words = &'static [(usize, u32)];
-
 /// A free chunk whose first word has other bits, and whose second word has some.
 const ONE_FREE: Words = &[(32, 0xFF00_0060), (36, 0x1234_5678)];
 
+/// The other bits of a free chunk's first word may be any, and finding room changes nothing.
 const ROOM_OF_ONE: &[Told] = &[
     (Step::RoomAt(8), Some(32)),
     (Step::RoomSize(8), Some(96)),
@@ -20,12 +19,6 @@ const ROOM_OF_ONE: &[Told] = &[
     (Step::RoomAt(104), None),
     (Step::RoomAt(0xFFFF_FFF8), None),
 ];
-
-/// The other bits of a free chunk's first word may be any, and finding room changes nothing.
-#[test]
-fn room_is_a_free_chunk(rt: HostRuntime) -> Result<(), Fail> {
-    check(&rt, ONE_FREE, ROOM_OF_ONE, ONE_FREE)
-}
 
 /// Free chunks of 24 bytes at 32, 80 and 104, and a live one of the first slot at 56.
 const PARTED: Words = &[
@@ -66,11 +59,6 @@ const CLAIMED_OF_PARTED: Words = &[
     (120, 0x8000_0008),
 ];
 
-#[test]
-fn a_live_chunk_ends_a_run(rt: HostRuntime) -> Result<(), Fail> {
-    check(&rt, PARTED, ROOM_OF_PARTED, CLAIMED_OF_PARTED)
-}
-
 const ONES: u32 = 0xFFFF_FFFF;
 
 const FREE_OF_ONES: Words = &[
@@ -82,6 +70,8 @@ const FREE_OF_ONES: Words = &[
     (60, ONES),
 ];
 
+/// What lay in the free chunk is gone from the body, and stays in the slack. What is left of it is the only
+/// one in its list.
 const MAKES_10: &[Told] = &[(
     Step::Make {
         count: 10,
@@ -98,13 +88,6 @@ const CLAIMED_OF_ONES: Words = &[
     (52, ONES),
     (56, 0x8000_0048),
 ];
-
-/// What lay in the free chunk is gone from the body, and stays in the slack. What is left of it is the only
-/// one in its list.
-#[test]
-fn a_claimed_chunk_is_zeros(rt: HostRuntime) -> Result<(), Fail> {
-    check(&rt, FREE_OF_ONES, MAKES_10, CLAIMED_OF_ONES)
-}
 
 /// Two chunks of 24 and 40 bytes, and 32 bytes behind them.
 const MAKES_TWO: &[Told] = &[
@@ -134,11 +117,6 @@ const TWO: Words = &[
     (96, 0x8000_0020),
 ];
 
-#[test]
-fn chunks_are_made_one_behind_the_other(rt: HostRuntime) -> Result<(), Fail> {
-    check(&rt, &[], MAKES_TWO, TWO)
-}
-
 const FROM_THE_BACK: &[Told] = &[
     (Step::GiveBack(20), Some(40)),
     (Step::GiveBack(16), Some(24)),
@@ -147,17 +125,16 @@ const FROM_THE_BACK: &[Told] = &[
 
 /// Each is a free chunk of its own. The second word of the back one is the offset of the free chunk behind
 /// it, which is of its class; that of the front one is 0, since it is the only one of its class.
-#[test]
-fn chunks_given_back_are_put_in_their_lists(rt: HostRuntime) -> Result<(), Fail> {
-    let after = [
-        (32, 0x8000_0018),
-        (56, 0x8000_0028),
-        (60, 96),
-        (96, 0x8000_0020),
-    ];
-    check(&rt, TWO, FROM_THE_BACK, &after)
-}
+const LEFT_FROM_THE_BACK: Words = &[
+    (32, 0x8000_0018),
+    (56, 0x8000_0028),
+    (60, 96),
+    (96, 0x8000_0020),
+];
 
+/// The front chunk is given back first: behind it stands a live chunk, and then a free one that isn't
+/// joined with it. Room that one of the free chunks has is the first of a list, with a free chunk in front of
+/// it or not; and they are one run for room that none of them has.
 const FROM_THE_FRONT: &[Told] = &[
     (Step::GiveBack(16), Some(24)),
     (Step::GiveBack(20), Some(40)),
@@ -173,15 +150,7 @@ const FROM_THE_FRONT: &[Told] = &[
     (Step::FreeBytes, Some(96)),
 ];
 
-/// The front chunk is given back first: behind it stands a live chunk, and then a free one that isn't
-/// joined with it. Room that one of the free chunks has is the first of a list, with a free chunk in front of
-/// it or not; and they are one run for room that none of them has.
-#[test]
-fn free_neighbours_are_found_as_one_run(rt: HostRuntime) -> Result<(), Fail> {
-    let mut space = heap(rt.alloc(), TWO)?;
-    check_steps(&mut space, FROM_THE_FRONT)
-}
-
+/// A fixed chunk of 10 bytes with a movable one behind it.
 const MAKES_FIXED: &[Told] = &[
     (Step::MakeFixed(10), Some(40)),
     (
@@ -202,6 +171,7 @@ const FIXED: Words = &[
     (80, 0x8000_0030),
 ];
 
+/// Then a free one stands behind it, which it isn't joined with.
 const GIVES_FIXED_BACK: &[Told] = &[
     (Step::GiveBack(40), Some(24)),
     (Step::MakeFixed(10), Some(40)),
@@ -209,14 +179,7 @@ const GIVES_FIXED_BACK: &[Told] = &[
     (Step::GiveBack(40), Some(24)),
 ];
 
-/// A fixed chunk of 10 bytes with a movable one behind it, and then with a free one, which it isn't joined with.
-#[test]
-fn a_fixed_chunk_is_given_back(rt: HostRuntime) -> Result<(), Fail> {
-    check(&rt, &[], MAKES_FIXED, FIXED)?;
-    let mut space = heap(rt.alloc(), FIXED)?;
-    check_steps(&mut space, GIVES_FIXED_BACK)
-}
-
+/// Four chunks take the four slots. A slot that is emptied is the next chunk's.
 const TAKES_SLOTS: &[Told] = &[
     (Step::Make { count: 8, owner: 1 }, Some(16)),
     (Step::Make { count: 8, owner: 2 }, Some(20)),
@@ -225,14 +188,44 @@ const TAKES_SLOTS: &[Told] = &[
     (Step::Make { count: 8, owner: 1 }, None),
     (Step::GiveBack(24), Some(16)),
     (Step::Make { count: 0, owner: 1 }, Some(24)),
+    (Step::AllBytes, Some(128)),
 ];
 
-/// Four chunks take the four slots. A slot that is emptied is the next chunk's.
+/// What examples are about, the words that they start from, and their stages.
+static EXAMPLES: [(&str, Words, &[Stage]); 9] = [
+    (
+        "room is a free chunk",
+        ONE_FREE,
+        &[(ROOM_OF_ONE, Some(ONE_FREE))],
+    ),
+    (
+        "a live chunk ends a run",
+        PARTED,
+        &[(ROOM_OF_PARTED, Some(CLAIMED_OF_PARTED))],
+    ),
+    (
+        "a claimed chunk is zeros",
+        FREE_OF_ONES,
+        &[(MAKES_10, Some(CLAIMED_OF_ONES))],
+    ),
+    ("one behind the other", &[], &[(MAKES_TWO, Some(TWO))]),
+    (
+        "put in their lists",
+        TWO,
+        &[(FROM_THE_BACK, Some(LEFT_FROM_THE_BACK))],
+    ),
+    ("neighbours are one run", TWO, &[(FROM_THE_FRONT, None)]),
+    ("a fixed chunk", &[], &[(MAKES_FIXED, Some(FIXED))]),
+    ("given back", FIXED, &[(GIVES_FIXED_BACK, None)]),
+    ("the first empty slot", &[], &[(TAKES_SLOTS, None)]),
+];
+
 #[test]
-fn the_first_empty_slot_is_taken(rt: HostRuntime) -> Result<(), Fail> {
-    let mut space = heap(rt.alloc(), &[])?;
-    check_steps(&mut space, TAKES_SLOTS)?;
-    equal("bytes", space.bytes().len(), 128)
+fn chunks_are_placed_and_given_back(rt: HostRuntime) -> Result<(), Fail> {
+    for (about, before, stages) in &EXAMPLES {
+        left_by(rt.alloc(), about, before, stages)?;
+    }
+    Ok(())
 }
 
 /// A space gives its region back as it was taken.
@@ -275,43 +268,41 @@ const RECORD: Found = Found {
     owner: 15,
 };
 
-const BY_NAME: [(u32, Option<Found>); 5] = [
-    (16, Some(DIRECTORY)),
-    (20, Some(RECORD)),
-    (24, None),
-    (40, None),
-    (0, None),
-];
+/// A chunk by its name, or by its place.
+#[derive(Clone, Copy)]
+enum By {
+    Name(u32),
+    Place(u32),
+}
 
-const BY_PLACE: [(u32, Option<Found>); 6] = [
-    (40, Some(DIRECTORY)),
-    (56, Some(RECORD)),
-    (64, None),
-    (80, None),
-    (4, None),
-    (0xFFFF_FFF8, None),
+static FOUND: [(By, Option<Found>); 11] = [
+    (By::Name(16), Some(DIRECTORY)),
+    (By::Name(20), Some(RECORD)),
+    (By::Name(24), None),
+    (By::Name(40), None),
+    (By::Name(0), None),
+    (By::Place(40), Some(DIRECTORY)),
+    (By::Place(56), Some(RECORD)),
+    (By::Place(64), None),
+    (By::Place(80), None),
+    (By::Place(4), None),
+    (By::Place(0xFFFF_FFF8), None),
 ];
 
 #[test]
 fn chunks_of_every_owner_are_found(rt: HostRuntime) -> Result<(), Fail> {
     let space = heap(rt.alloc(), WITH_DIRECTORY)?;
-    for (name, found) in &BY_NAME {
-        check_name(&space, *name, *found)?;
-    }
-    for (place, found) in &BY_PLACE {
-        check_place(&space, *place, *found)?;
+    for (by, found) in &FOUND {
+        check_found(&space, *by, *found)?;
     }
     Ok(())
 }
 
-fn check_name(space: &CheckedSpace, name: u32, wanted: Option<Found>) -> Result<(), Fail> {
-    let found = space.find(Name(name));
-    equal(format_args!("the name {name}"), found, wanted)
-}
-
-fn check_place(space: &CheckedSpace, place: u32, wanted: Option<Found>) -> Result<(), Fail> {
-    let found = space.find_at(Place(place));
-    equal(format_args!("the place {place}"), found, wanted)
+fn check_found(space: &CheckedSpace, by: By, wanted: Option<Found>) -> Result<(), Fail> {
+    match by {
+        By::Name(name) => equal(name, space.find(Name(name)), wanted),
+        By::Place(place) => equal(place, space.find_at(Place(place)), wanted),
+    }
 }
 
 /// The same with 14 locks on the record.
@@ -352,20 +343,16 @@ const GIVES_RECORDS_BACK: &[Told] = &[
     (Step::FreeBytes, Some(64)),
 ];
 
+const WITH_RECORD: &[Stage] = &[
+    (LOCKS_RECORD, Some(WITH_LOCKED)),
+    (REFUSED_OR_NONE, Some(WITH_LOCKED)),
+    (GIVES_RECORDS_BACK, None),
+];
+
 /// The directory word and the directory's chunk stay, whatever is done with the record.
 #[test]
 fn chunks_of_owner_15_change(rt: HostRuntime) -> Result<(), Fail> {
-    let mut space = heap(rt.alloc(), WITH_DIRECTORY)?;
-    check_on(rt.alloc(), &mut space, LOCKS_RECORD, WITH_LOCKED)?;
-    check_on(rt.alloc(), &mut space, REFUSED_OR_NONE, WITH_LOCKED)?;
-    check_steps(&mut space, GIVES_RECORDS_BACK)?;
-    check_found(&space)
-}
-
-/// Checks that the directory is there, and no record.
-fn check_found(space: &CheckedSpace) -> Result<(), Fail> {
-    if space.find(Name(16)) != Some(DIRECTORY) || space.find(Name(20)).is_some() {
-        return Err("not the directory alone")?;
-    }
-    Ok(())
+    let space = left_by(rt.alloc(), "with a directory", WITH_DIRECTORY, WITH_RECORD)?;
+    check_found(&space, By::Name(16), Some(DIRECTORY))?;
+    check_found(&space, By::Name(20), None)
 }

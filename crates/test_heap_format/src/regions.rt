@@ -1,7 +1,6 @@
 //! Numbers and bytes of a region.
 
 use raw_region::Region;
-use std::alloc::Global;
 use std::test::*;
 use test_fakes::equal;
 
@@ -14,9 +13,11 @@ fn copies_its_bytes(rt: HostRuntime) -> Result<(), Fail> {
 
 #[test]
 fn starts_as_zeros(rt: HostRuntime) -> Result<(), Fail> {
-    let region = Region::zeroed(rt.alloc(), 5)?;
-    let found = (region.len(), region.slice(0, 5));
-    equal("bytes", found, (5, b"\0\0\0\0\0".as_slice()))
+    for (size, bytes) in [(5, b"\0\0\0\0\0".as_slice()), (0, b"".as_slice())] {
+        let region = Region::zeroed(rt.alloc(), size)?;
+        equal(size, region.slice(0, region.len()), bytes)?;
+    }
+    Ok(())
 }
 
 #[test]
@@ -37,34 +38,37 @@ fn writes_in_place(rt: HostRuntime) -> Result<(), Fail> {
     equal("bytes", region.slice(0, 12), wanted)
 }
 
-/// Whence so many of the bytes `abcdefgh` slide, whither, and what stands there then.
-const SLIDES: [(usize, usize, usize, &str); 8] = [
-    (2, 0, 4, "cdefefgh"),
-    (0, 2, 4, "ababcdgh"),
-    (1, 0, 7, "bcdefghh"),
-    (0, 1, 7, "aabcdefg"),
-    (4, 0, 4, "efghefgh"),
-    (0, 4, 4, "abcdabcd"),
-    (5, 8, 0, "abcdefgh"),
-    (0, 0, 8, "abcdefgh"),
+/// Bytes; from where so many of them slide, and to where; and what stands there then.
+static SLIDES: [(&[u8], (usize, usize, usize), &[u8]); 11] = [
+    (b"abcdefgh", (2, 0, 4), b"cdefefgh"),
+    (b"abcdefgh", (0, 2, 4), b"ababcdgh"),
+    (b"abcdefgh", (1, 0, 7), b"bcdefghh"),
+    (b"abcdefgh", (0, 1, 7), b"aabcdefg"),
+    (b"abcdefgh", (4, 0, 4), b"efghefgh"),
+    (b"abcdefgh", (0, 4, 4), b"abcdabcd"),
+    (b"abcdefgh", (5, 8, 0), b"abcdefgh"),
+    (b"abcdefgh", (0, 0, 8), b"abcdefgh"),
+    // by one byte up and down
+    (&[0, 1, 2, 3], (0, 1, 3), &[0, 0, 1, 2]),
+    (&[0, 1, 2, 3], (1, 0, 3), &[1, 2, 3, 3]),
+    (b"", (0, 0, 0), b""),
 ];
 
 #[test]
 fn slides_bytes_where_they_overlap(rt: HostRuntime) -> Result<(), Fail> {
-    for (from, to, n, after) in &SLIDES {
-        check_slide(rt.alloc(), b"abcdefgh", (*from, *to, *n), after.as_bytes())?;
+    for (before, slide, after) in &SLIDES {
+        let region = Region::from_bytes(rt.alloc(), before)?;
+        check_slide(region, *slide, after)?;
     }
     Ok(())
 }
 
 /// Slides so many bytes from one offset to another.
 fn check_slide(
-    alloc: Global,
-    before: &[u8],
+    mut region: Region,
     (from, to, n): (usize, usize, usize),
     after: &[u8],
 ) -> Result<(), Fail> {
-    let mut region = Region::from_bytes(alloc, before)?;
     let most = region.len();
     if from > most || to > most || n > most - from || n > most - to {
         return Err("bytes beyond the end")?;
@@ -75,19 +79,4 @@ fn check_slide(
         region.as_slice(),
         after,
     )
-}
-
-#[test]
-fn slides_by_one_byte_up_and_down(rt: HostRuntime) -> Result<(), Fail> {
-    check_slide(rt.alloc(), &[0, 1, 2, 3], (0, 1, 3), &[0, 0, 1, 2])?;
-    check_slide(rt.alloc(), &[0, 1, 2, 3], (1, 0, 3), &[1, 2, 3, 3])
-}
-
-#[test]
-fn has_no_bytes(rt: HostRuntime) -> Result<(), Fail> {
-    let mut region = Region::zeroed(rt.alloc(), 0)?;
-    region.slide(0, 0, 0);
-    equal("bytes", region.len(), 0)?;
-    let region = Region::from_bytes(rt.alloc(), b"")?;
-    equal("bytes", region.as_slice(), b"".as_slice())
 }

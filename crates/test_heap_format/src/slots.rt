@@ -60,18 +60,22 @@ fn check_slot(alloc: Global, slot: u32, slots: u16, number: Option<u32>) -> Resu
         table.count(),
         table.number(slot),
         slots_before(&region, Name(slot)),
+        slot_of(table, number),
     );
     equal(
         format_args!("slot {slot} of {slots}"),
         found,
-        (u32::from(slots), number, number),
-    )?;
-    match number {
-        Some(number) if number < table.count() => {
-            equal(format_args!("number {number}"), table.slot(number), slot)
-        }
-        _ => Ok(()),
+        (u32::from(slots), number, number, number.and(Some(slot))),
+    )
+}
+
+/// The slot of a number, if the table has so many.
+fn slot_of(table: Table, number: Option<u32>) -> Option<u32> {
+    let number = number?;
+    if number >= table.count() {
+        return None;
     }
+    Some(table.slot(number))
 }
 
 /// A name, and the place that it resolves to.

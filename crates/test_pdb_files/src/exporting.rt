@@ -1,6 +1,6 @@
 //! Files of databases that were made by calls, byte for byte.
 
-use chunk_format::blank;
+use crate::stores::blank_store;
 use heap_model::{Db, DbName, Name, Refusal, Which};
 use palm_store::Store;
 use palm_text::Counted;
@@ -24,13 +24,6 @@ const RESOURCES: &str = "50 00*31 \
     0001 0000 00000005 00000005 00000000 00000002 00000000 00000000 6170706c 54657374 00000000 00000000 0002 \
     636f6465 0001 00000064 74535452 03e8 00000067 0000 \
     72756e";
-
-fn blank_store(alloc: Global) -> Result<Store, Fail> {
-    match Store::check(alloc, blank(alloc, 1024, 32)?) {
-        Ok(store) => Ok(store),
-        Err(_) => Err("no store")?,
-    }
-}
 
 /// Writes bytes over a chunk while it is locked.
 fn fill(store: &mut Store, name: Name, bytes: &[u8]) -> Result<(), Refusal> {
@@ -137,14 +130,14 @@ fn check_file(alloc: Global, store: &Store, db: Db, listing: &str) -> Result<(),
 
 #[test]
 fn records_have_their_file(rt: HostRuntime) -> Result<(), Fail> {
-    let mut store = blank_store(rt.alloc())?;
+    let mut store = blank_store(rt.alloc(), 1024, 32)?;
     let db = make_records(&mut store)?;
     check_file(rt.alloc(), &store, db, RECORDS)
 }
 
 #[test]
 fn resources_have_their_file(rt: HostRuntime) -> Result<(), Fail> {
-    let mut store = blank_store(rt.alloc())?;
+    let mut store = blank_store(rt.alloc(), 1024, 32)?;
     make_records(&mut store)?;
     let db = make_resources(&mut store)?;
     check_file(rt.alloc(), &store, db, RESOURCES)
@@ -170,7 +163,7 @@ fn check_no_file(alloc: Global, store: &Store, number: u32) -> Result<(), Fail> 
 /// A number of no database has no file, also where a chunk has it.
 #[test]
 fn no_database_has_no_file(rt: HostRuntime) -> Result<(), Fail> {
-    let mut store = blank_store(rt.alloc())?;
+    let mut store = blank_store(rt.alloc(), 1024, 32)?;
     let Name(chunk) = store.handle_new(200, 1)?;
     for number in &[0, chunk, 9_999] {
         check_no_file(rt.alloc(), &store, *number)?;
@@ -192,7 +185,7 @@ fn check_refused_without(
 
 #[test]
 fn a_file_takes_memory(rt: HostRuntime) -> Result<(), Fail> {
-    let mut store = blank_store(rt.alloc())?;
+    let mut store = blank_store(rt.alloc(), 1024, 32)?;
     let db = make_resources(&mut store)?;
     let none = Refusal::NoSuchDatabase;
     check_refused_without(rt.alloc(), &store, Db(0), none)?;

@@ -1,6 +1,6 @@
 //! Databases that are read from files, entry by entry and byte by byte.
 
-use chunk_format::blank;
+use crate::stores::blank_store;
 use heap_model::{Db, DbInfo, DbName, FileFault, Name, RecordInfo, Refusal, ResourceInfo, Which};
 use palm_store::Store;
 use pdb_files::import;
@@ -32,7 +32,7 @@ const ODD: &str = "4141414141414141414141414141414141414141414141414141414141414
 type Read = (u8, u32, Option<&'static str>);
 
 /// Files, and the records that are read from them.
-const RECORDS_READ: [(&str, &[Read]); 4] = [
+static RECORDS_READ: [(&str, &[Read]); 4] = [
     (EMPTY_FILE, &[]),
     (
         ORDER_FILE,
@@ -58,13 +58,6 @@ const RECORDS_READ: [(&str, &[Read]); 4] = [
     ),
 ];
 
-fn blank_store(alloc: Global, size: u32, slots: u16) -> Result<Store, Fail> {
-    match Store::check(alloc, blank(alloc, size, slots)?) {
-        Ok(store) => Ok(store),
-        Err(_) => Err("no store")?,
-    }
-}
-
 /// What reading a listed file answers.
 fn import_listed(
     alloc: Global,
@@ -74,23 +67,22 @@ fn import_listed(
     Ok(import(alloc, store, &bytes_of(alloc, listing)?))
 }
 
-/// Reading a listed file is refused.
-fn check_refused(
+/// A listed file is read, or its reading is refused.
+fn check_import(
     alloc: Global,
     store: &mut Store,
     listing: &str,
-    refusal: Refusal,
+    refusal: Option<Refusal>,
 ) -> Result<(), Fail> {
     let answer = import_listed(alloc, store, listing)?;
-    equal(listing, answer, Err(refusal))
+    equal(listing, answer.err(), refusal)
 }
 
 /// A listed file is read, and the records of its database are these.
 fn check_read(
     alloc: Global,
     store: &mut Store,
-    listing: &str,
-    records: &[Read],
+    (listing, records): (&str, &[Read]),
 ) -> Result<(), Fail> {
     let db = import_listed(alloc, store, listing)??;
     check_records(alloc, store, db, records)
@@ -144,44 +136,46 @@ fn check_bytes(alloc: Global, store: &Store, name: Name, listing: &str) -> Resul
     )
 }
 
-/// An info block has these bytes.
-fn check_block(
-    alloc: Global,
-    store: &Store,
-    db: Db,
-    which: Which,
-    listing: &str,
-) -> Result<(), Fail> {
-    check_bytes(alloc, store, store.info_block(db, which)?, listing)
-}
-
-/// A listed file is read, and its info blocks have these bytes.
+/// A listed file is read, and info blocks of its database have these bytes.
 fn check_blocks(
     alloc: Global,
     store: &mut Store,
-    listing: &str,
-    app: &str,
-    sort: &str,
+    (listing, blocks): (&str, &[(Which, &str)]),
 ) -> Result<(), Fail> {
     let db = import_listed(alloc, store, listing)??;
-    check_block(alloc, store, db, Which::App, app)?;
-    check_block(alloc, store, db, Which::Sort, sort)
+    for (which, bytes) in blocks {
+        check_bytes(alloc, store, store.info_block(db, *which)?, bytes)?;
+    }
+    Ok(())
 }
 
 #[test]
 fn records_are_read(rt: HostRuntime) -> Result<(), Fail> {
     let mut store = blank_store(rt.alloc(), 2048, 64)?;
-    for (listing, records) in &RECORDS_READ {
-        check_read(rt.alloc(), &mut store, listing, records)?;
+    for row in &RECORDS_READ {
+        check_read(rt.alloc(), &mut store, *row)?;
     }
     equal("databases", store.count(), 4)
 }
 
+/// A file of no records whose AppInfo block begins where it ends.
+const EMPTY_BLOCK: &str = "456d707479 00*27 0000 0000 00*16 0000004E 00000000 \
+    44415441 54657374 00000000 00000000 0000";
+
+/// Files, and their info blocks.
+static BLOCKS_READ: [(&str, &[(Which, &str)]); 3] = [
+    (BACKWARD, &[(Which::App, "07"), (Which::Sort, "05 06")]),
+    (ODD, &[(Which::App, ""), (Which::Sort, "")]),
+    (EMPTY_BLOCK, &[(Which::App, "")]),
+];
+
 #[test]
 fn info_blocks_are_read(rt: HostRuntime) -> Result<(), Fail> {
     let mut store = blank_store(rt.alloc(), 1024, 32)?;
-    check_blocks(rt.alloc(), &mut store, BACKWARD, "07", "05 06")?;
-    check_blocks(rt.alloc(), &mut store, ODD, "", "")
+    for row in &BLOCKS_READ {
+        check_blocks(rt.alloc(), &mut store, *row)?;
+    }
+    Ok(())
 }
 
 /// What the header of `ODD` says.
@@ -275,30 +269,8 @@ fn check_second(store: &Store, db: Db) -> Result<(), Fail> {
     equal("data", bytes, b"Yo\0".as_slice())
 }
 
-/// A file of no records with other words: where its AppInfo and SortInfo blocks are, and its list goes on.
-fn empty_with(alloc: Global, app: u8, sort: u8, next: u8) -> Result<Vec<u8>, Fail> {
-    let mut bytes = bytes_of(alloc, EMPTY_FILE)?;
-    put_byte(&mut bytes, 55, app);
-    put_byte(&mut bytes, 59, sort);
-    put_byte(&mut bytes, 75, next);
-    Ok(bytes)
-}
-
-fn put_byte(bytes: &mut [u8], at: usize, byte: u8) {
-    if let Some(place) = bytes.get_mut(at) {
-        *place = byte;
-    }
-}
-
-/// Where such a file says that its AppInfo and SortInfo blocks are, and that its list goes on; and its fault.
-const BAD_WORDS: [(u8, u8, u8, FileFault); 3] = [
-    (0x10, 0, 0, FileFault::BadInfo(Which::App)),
-    (0, 0x4F, 0, FileFault::BadInfo(Which::Sort)),
-    (0x10, 0x4F, 1, FileFault::ChainedList),
-];
-
-/// Other files, and their faults.
-const BAD_FILES: [(&str, FileFault); 4] = [
+/// Files with faults.
+static BAD_FILES: [(&str, FileFault); 7] = [
     ("", FileFault::Truncated),
     ("456d707479 00*72", FileFault::Truncated),
     ("00*78", FileFault::EmptyName),
@@ -307,58 +279,38 @@ const BAD_FILES: [(&str, FileFault); 4] = [
          74535452 03e8 00000000 74535452 03e9 00000067 0000 486900 596f00",
         FileFault::BadOffset(0),
     ),
+    // an AppInfo block in front of all that can be one, a SortInfo block behind the end, and both where the list
+    // goes on
+    (
+        "456d707479 00*27 0000 0000 00*16 00000010 00000000 44415441 54657374 00000000 00000000 0000",
+        FileFault::BadInfo(Which::App),
+    ),
+    (
+        "456d707479 00*27 0000 0000 00*16 00000000 0000004F 44415441 54657374 00000000 00000000 0000",
+        FileFault::BadInfo(Which::Sort),
+    ),
+    (
+        "456d707479 00*27 0000 0000 00*16 00000010 0000004F 44415441 54657374 00000000 00000001 0000",
+        FileFault::ChainedList,
+    ),
 ];
-
-fn check_words(
-    alloc: Global,
-    store: &mut Store,
-    app: u8,
-    sort: u8,
-    next: u8,
-    fault: FileFault,
-) -> Result<(), Fail> {
-    let file = empty_with(alloc, app, sort, next)?;
-    let answer = import(alloc, store, &file);
-    equal(
-        format_args!("{app} {sort} {next}"),
-        answer,
-        Err(Refusal::BadFile(fault)),
-    )
-}
-
-#[test]
-fn files_with_a_bad_word_are_refused(rt: HostRuntime) -> Result<(), Fail> {
-    let mut store = blank_store(rt.alloc(), 1024, 16)?;
-    for (app, sort, next, fault) in &BAD_WORDS {
-        check_words(rt.alloc(), &mut store, *app, *sort, *next, *fault)?;
-    }
-    equal("databases", store.count(), 0)
-}
 
 #[test]
 fn files_with_a_fault_are_refused(rt: HostRuntime) -> Result<(), Fail> {
     let mut store = blank_store(rt.alloc(), 1024, 16)?;
     for (listing, fault) in &BAD_FILES {
         let refusal = Refusal::BadFile(*fault);
-        check_refused(rt.alloc(), &mut store, listing, refusal)?;
+        check_import(rt.alloc(), &mut store, listing, Some(refusal))?;
     }
     equal("databases", store.count(), 0)
 }
 
 #[test]
-fn an_info_block_may_begin_where_the_file_ends(rt: HostRuntime) -> Result<(), Fail> {
-    let mut store = blank_store(rt.alloc(), 1024, 16)?;
-    let file = empty_with(rt.alloc(), 0x4E, 0, 0)?;
-    let db = import(rt.alloc(), &mut store, &file)?;
-    check_block(rt.alloc(), &store, db, Which::App, "")
-}
-
-#[test]
 fn a_name_is_taken_once(rt: HostRuntime) -> Result<(), Fail> {
     let mut store = blank_store(rt.alloc(), 1024, 16)?;
-    import_listed(rt.alloc(), &mut store, EMPTY_FILE)??;
-    let taken = Refusal::AlreadyExists;
-    check_refused(rt.alloc(), &mut store, EMPTY_FILE, taken)?;
+    for refusal in [None, Some(Refusal::AlreadyExists)] {
+        check_import(rt.alloc(), &mut store, EMPTY_FILE, refusal)?;
+    }
     equal("databases", store.count(), 1)
 }
 
@@ -366,8 +318,8 @@ fn a_name_is_taken_once(rt: HostRuntime) -> Result<(), Fail> {
 fn check_short(alloc: Global, size: u32, slots: u16) -> Result<(), Fail> {
     let mut store = blank_store(alloc, size, slots)?;
     let free = store.free_bytes();
-    let no_room = Refusal::NotEnoughSpace;
-    check_refused(alloc, &mut store, ORDER_FILE, no_room)?;
+    let no_room = Some(Refusal::NotEnoughSpace);
+    check_import(alloc, &mut store, ORDER_FILE, no_room)?;
     let left = (store.count(), store.free_bytes());
     equal(format_args!("{size} {slots}"), left, (0, free))?;
     take_four_slots(&mut store)
@@ -380,9 +332,12 @@ fn take_four_slots(store: &mut Store) -> Result<(), Fail> {
     Ok(())
 }
 
+/// Sizes and counts of slots that are too small.
+static SHORT: [(u32, u16); 3] = [(128, 4), (256, 4), (240, 16)];
+
 #[test]
 fn nothing_is_left_where_room_is_short(rt: HostRuntime) -> Result<(), Fail> {
-    for (size, slots) in &[(128, 4), (256, 4), (240, 16)] {
+    for (size, slots) in &SHORT {
         check_short(rt.alloc(), *size, *slots)?;
     }
     Ok(())

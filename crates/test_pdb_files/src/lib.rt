@@ -7,3 +7,5 @@
 mod exporting;
 #[cfg(test)]
 mod importing;
+#[cfg(test)]
+mod stores;

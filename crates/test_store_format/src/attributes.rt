@@ -20,18 +20,10 @@ fn attributes_have_their_bits() -> Result<(), Fail> {
         RecordAttrs::CATEGORY.bits(),
         (RecordAttrs::DIRTY | RecordAttrs::BUSY).bits(),
         of_bits(0xF3).with_category(5).bits(),
+        of_bits(0xD5).category(),
+        u8::from(of_bits(0xD5).is_deleted()),
+        u8::from(of_bits(0x75).is_deleted()),
     ];
-    equal("bits", found, [0x80, 0x40, 0x20, 0x10, 0x0F, 0x60, 0xF5])
-}
-
-#[test]
-fn attributes_are_asked_for() -> Result<(), Fail> {
-    let attributes = of_bits(0xD5);
-    let is_deleted = attributes.is_deleted();
-    let found = (
-        attributes.category(),
-        is_deleted,
-        of_bits(0x75).is_deleted(),
-    );
-    equal("category, deleted", found, (5, true, false))
+    let wanted = [0x80, 0x40, 0x20, 0x10, 0x0F, 0x60, 0xF5, 5, 1, 0];
+    equal("bits, a category, deleted or not", found, wanted)
 }

@@ -19,7 +19,7 @@ const ODD: &str = "4141414141414141414141414141414141414141414141414141414141414
     0909 0102030405060708090a";
 
 /// Files, and where their blocks stand: AppInfo, SortInfo, and the data of the entries.
-const BLOCKS: [(&str, &[Option<Block>]); 4] = [
+static BLOCKS: [(&str, &[Option<Block>]); 4] = [
     (
         ORDER_FILE,
         &[
@@ -109,15 +109,15 @@ fn blocks_of(alloc: Global, file: &[u8]) -> Result<Vec<Option<Block>>, Fail> {
     }
 }
 
-fn check_blocks(alloc: Global, listing: &str, blocks: &[Option<Block>]) -> Result<(), Fail> {
+fn check_blocks(alloc: Global, (listing, blocks): (&str, &[Option<Block>])) -> Result<(), Fail> {
     let found = blocks_of(alloc, &bytes_of(alloc, listing)?)?;
     equal(listing, found.as_slice(), blocks)
 }
 
 #[test]
 fn blocks_end_where_the_next_begins(rt: HostRuntime) -> Result<(), Fail> {
-    for (listing, blocks) in &BLOCKS {
-        check_blocks(rt.alloc(), listing, blocks)?;
+    for row in &BLOCKS {
+        check_blocks(rt.alloc(), *row)?;
     }
     Ok(())
 }

@@ -1,20 +1,26 @@
 //! Each fault, the order of faults, and what is accepted.
 
-use crate::found::found;
+use crate::found::text_of;
 use std::alloc::Global;
 use std::test::*;
+use store_check::check_store;
 use test_fakes::equal;
 use test_images::{DATABASE, image};
 
 fn check_case(alloc: Global, listing: &str, changes: &str, text: &str) -> Result<(), Fail> {
-    let found = found(alloc, &image(alloc, listing, changes)?)?;
-    equal(changes, found.as_str(), text)
+    let region = image(alloc, listing, changes)?;
+    let found = text_of(alloc, check_store(alloc, &region))?;
+    equal(
+        format_args!("{listing}, changed: {changes}"),
+        found.as_str(),
+        text,
+    )
 }
 
 /// Each case has changes of the listing's image, and the text of what the checker finds then.
-fn check_changed(rt: &impl AllocGlobal, listing: &str, cases: &[(&str, &str)]) -> Result<(), Fail> {
+fn check_changed(alloc: Global, listing: &str, cases: &[(&str, &str)]) -> Result<(), Fail> {
     for (changes, text) in cases {
-        check_case(rt.alloc(), listing, changes, text)?;
+        check_case(alloc, listing, changes, text)?;
     }
     Ok(())
 }
@@ -61,11 +67,6 @@ const OF_DATABASE: [(&str, &str); 31] = [
     ("104: 0002, 154: 20FFFFFF", "movable 4 free 8 databases 1"),
 ];
 
-#[test]
-fn a_database_is_checked(rt: HostRuntime) -> Result<(), Fail> {
-    check_changed(&rt, DATABASE, &OF_DATABASE)
-}
-
 /// One database with two resources.
 const RESOURCES: &str =
     "50484931 000000D8 0008 0000 00000010 00000038 00000048 000000B8 000000C8 00*16 \
@@ -81,11 +82,6 @@ const OF_RESOURCES: [(&str, &str); 5] = [
     ("156: 00000014", "BadEntry 0 0"),
     ("166: 00000018", "SharedChunk 24"),
 ];
-
-#[test]
-fn resources_are_checked(rt: HostRuntime) -> Result<(), Fail> {
-    check_changed(&rt, RESOURCES, &OF_RESOURCES)
-}
 
 /// Two databases with a record each.
 const TWO_DATABASES: &str =
@@ -113,7 +109,17 @@ const OF_TWO: [(&str, &str); 10] = [
     ("72: 4200, 168: 00", "BadName 1"),
 ];
 
+/// Images, and their cases.
+static CASES: [(&str, &[(&str, &str)]); 3] = [
+    (DATABASE, &OF_DATABASE),
+    (RESOURCES, &OF_RESOURCES),
+    (TWO_DATABASES, &OF_TWO),
+];
+
 #[test]
-fn two_databases_are_checked(rt: HostRuntime) -> Result<(), Fail> {
-    check_changed(&rt, TWO_DATABASES, &OF_TWO)
+fn the_first_fault_is_answered(rt: HostRuntime) -> Result<(), Fail> {
+    for (listing, cases) in &CASES {
+        check_changed(rt.alloc(), listing, cases)?;
+    }
+    Ok(())
 }

@@ -7,8 +7,11 @@ use std::test::*;
 use test_fakes::equal;
 use test_images::{EMPTY_FILE, ORDER_FILE, TINY_FILE, bytes_of};
 
+/// A listing, where bytes stand in its file instead, and what is wrong with it then.
+type Changed = (&'static str, usize, &'static [u8], Result<(), FileFault>);
+
 /// Files with some bytes changed from an offset on, and what is wrong with them.
-const CHANGED: [(&str, usize, &[u8], Result<(), FileFault>); 22] = [
+static CHANGED: [Changed; 22] = [
     (EMPTY_FILE, 0, &[], Ok(())),
     (EMPTY_FILE, 0, &[0], Err(FileFault::EmptyName)),
     (
@@ -93,17 +96,21 @@ fn check_changed(
     equal(format_args!("{at}: {bytes:?}"), check_file(file), fault)
 }
 
+fn check_row(alloc: Global, (listing, at, bytes, fault): Changed) -> Result<(), Fail> {
+    let mut file = bytes_of(alloc, listing)?;
+    check_changed(&mut file, at, bytes, fault)
+}
+
 #[test]
 fn the_first_fault_is_answered(rt: HostRuntime) -> Result<(), Fail> {
-    for (listing, at, bytes, fault) in &CHANGED {
-        let mut file = bytes_of(rt.alloc(), listing)?;
-        check_changed(&mut file, *at, bytes, *fault)?;
+    for row in &CHANGED {
+        check_row(rt.alloc(), *row)?;
     }
     Ok(())
 }
 
 /// Changes that each make a fault which comes before those of the changes above it.
-const EARLIER: [(usize, &[u8], FileFault); 6] = [
+static EARLIER: [(usize, &[u8], FileFault); 6] = [
     (78, &[0, 0, 0, 0], FileFault::BadOffset(0)),
     (56, &[0, 0, 0, 1], FileFault::BadInfo(Which::Sort)),
     (52, &[0, 0, 0, 1], FileFault::BadInfo(Which::App)),

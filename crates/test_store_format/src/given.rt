@@ -1,6 +1,6 @@
 //! The IDs that the records of files are given, with some seeds and IDs in the files.
 
-use crate::ids::{database, nth_behind};
+use crate::ids::{database, header_of, nth_behind};
 use file_ids::{GivenIds, give_ids, give_ids_from};
 use pdb_format::check_file;
 use std::alloc::{AllocError, Global};
@@ -28,7 +28,7 @@ fn given_by(alloc: Global, file: &[u8]) -> Option<GivenIds> {
 }
 
 /// The field of a seed and the IDs of a file, and then the IDs that are given and the seed that is left.
-const GIVEN: [(u32, &[u32], &[u32], u32); 16] = [
+static GIVEN: [(u32, &[u32], &[u32], u32); 16] = [
     (7, &[], &[], 7),
     (0xFF00_0009, &[], &[], 9),
     (3, &[4, 1, 2], &[4, 1, 2], 3),
@@ -63,10 +63,7 @@ fn check_ids(alloc: Global, spot: u32, file: &[u8], ids: Vec<u32>, seed: u32) ->
 
 fn check_given(
     alloc: Global,
-    seed: u32,
-    ids: &[u32],
-    given: &[u32],
-    last: u32,
+    (seed, ids, given, last): (u32, &[u32], &[u32], u32),
 ) -> Result<(), Fail> {
     let file = file_of(alloc, seed, ids)?;
     check_ids(alloc, seed, &file, Vec::from_slice(alloc, given)?, last)
@@ -74,8 +71,8 @@ fn check_given(
 
 #[test]
 fn the_first_of_each_id_is_kept(rt: HostRuntime) -> Result<(), Fail> {
-    for (seed, ids, given, last) in &GIVEN {
-        check_given(rt.alloc(), *seed, ids, given, *last)?;
+    for row in &GIVEN {
+        check_given(rt.alloc(), *row)?;
     }
     Ok(())
 }
@@ -105,9 +102,12 @@ fn check_largest(alloc: Global, seed: u32, last: u32) -> Result<(), Fail> {
     check_ids(alloc, seed, &file, all_behind(alloc, seed)?, last)
 }
 
+/// The field of a seed, and the seed that is left.
+static LARGEST: [(u32, u32); 3] = [(0, 65_535), (0x00FF_FF00, 65_280), (0x00FF_FFFF, 65_535)];
+
 #[test]
 fn as_many_records_as_there_may_be(rt: HostRuntime) -> Result<(), Fail> {
-    for (seed, last) in &[(0, 65_535), (0x00FF_FF00, 65_280), (0x00FF_FFFF, 65_535)] {
+    for (seed, last) in &LARGEST {
         check_largest(rt.alloc(), *seed, *last)?;
     }
     Ok(())
@@ -133,15 +133,8 @@ fn one_of_as_many_keeps_the_id_of_all(rt: HostRuntime) -> Result<(), Fail> {
 
 /// The bytes of a file of two resources without bytes, with this field of a seed.
 fn file_of_resources(alloc: Global, seed: u32) -> Result<Vec<u8>, AllocError> {
-    let mut bytes = Vec::new(alloc);
-    bytes.push(b'A')?;
-    bytes.extend_from_slice(&[0; 32])?;
-    bytes.push(1)?;
-    bytes.extend_from_slice(&[0; 34])?;
-    bytes.extend_from_slice(&seed.to_be_bytes())?;
-    bytes.extend_from_slice(&[0, 0, 0, 0, 0, 2])?;
-    bytes.extend_from_slice(b"code\x00\x00\x00\x00\x00\x62")?;
-    bytes.extend_from_slice(b"code\x00\x01\x00\x00\x00\x62")?;
+    let mut bytes = Vec::from_slice(alloc, &header_of(1, seed, 2))?;
+    bytes.extend_from_slice(b"code\x00\x00\x00\x00\x00\x62code\x00\x01\x00\x00\x00\x62")?;
     Ok(bytes)
 }
 
@@ -160,21 +153,18 @@ fn is_given(alloc: Global, file: &[u8], granted: u32) -> bool {
     }
 }
 
-#[test]
-fn refused_memory_is_told(rt: HostRuntime) -> Result<(), Fail> {
-    let file = file_of(rt.alloc(), 0, &[5, 0])?;
-    for (granted, given) in &[(0, false), (1, false), (2, true)] {
-        equal(
-            format_args!("{granted} growths"),
-            is_given(rt.alloc(), &file, *granted),
-            *given,
-        )?;
+/// IDs are given where no less than so many growths are granted.
+fn check_needed(alloc: Global, file: &[u8], needed: u32) -> Result<(), Fail> {
+    for granted in 0..3 {
+        let is_given = is_given(alloc, file, granted);
+        equal(granted, is_given, granted >= needed)?;
     }
     Ok(())
 }
 
+/// Those of records take two growths, and resources none.
 #[test]
-fn resources_take_no_memory(rt: HostRuntime) -> Result<(), Fail> {
-    let file = file_of_resources(rt.alloc(), 0)?;
-    equal("no growth", is_given(rt.alloc(), &file, 0), true)
+fn refused_memory_is_told(rt: HostRuntime) -> Result<(), Fail> {
+    check_needed(rt.alloc(), &file_of(rt.alloc(), 0, &[5, 0])?, 2)?;
+    check_needed(rt.alloc(), &file_of_resources(rt.alloc(), 0)?, 0)
 }

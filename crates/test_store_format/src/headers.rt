@@ -6,7 +6,7 @@ use db_format::{
     has_resources, is_name, is_whole, name_in,
 };
 use std::test::*;
-use test_fakes::{equal, holds};
+use test_fakes::equal;
 use test_images::bytes_of;
 
 /// A file of records without their data: each number of the header is another one.
@@ -96,18 +96,21 @@ fn check_records(file: &[u8]) -> Result<(), Fail> {
         id: 0xFF_FFFF,
         slot: 0x70,
     };
-    let found = (RecordEntry::read(file, 1), last.to_bytes());
-    equal(
-        "the last",
-        (found.0, found.1.as_slice()),
-        (last, &file[86..]),
-    )?;
+    equal("the last", RecordEntry::read(file, 1), last)?;
+    equal("its bytes", last.to_bytes().as_slice(), &file[86..])?;
+    check_first(file, 0x6C, &file[78..86])
+}
+
+/// The first entry of a file has this slot, and is written back as these bytes.
+fn check_first(file: &[u8], slot: u32, bytes: &[u8]) -> Result<(), Fail> {
+    if !is_whole(file) || entry_count(file) != 2 {
+        return Err("not two entries")?;
+    }
     let first = DbEntry::read(file, 0);
-    let bytes = first.to_bytes();
     equal(
         "the first",
-        (first.slot(), bytes.as_slice()),
-        (0x6C, &file[78..86]),
+        (first.slot(), first.to_bytes().as_slice()),
+        (slot, bytes),
     )
 }
 
@@ -120,31 +123,18 @@ fn check_resources(file: &[u8]) -> Result<(), Fail> {
     if file.len() != 98 || !is_whole(file) || !has_resources(file) {
         return Err("not two resources")?;
     }
-    if entry_count(file) != 2 {
-        return Err("not two entries")?;
-    }
     let last = ResourceEntry {
         kind: 0x7453_5452,
         id: 1001,
         slot: 0x67,
     };
-    let found = (ResourceEntry::read(file, 1), last.to_bytes());
-    equal(
-        "the last",
-        (found.0, found.1.as_slice()),
-        (last, &file[88..]),
-    )?;
-    let first = DbEntry::read(file, 0);
-    let bytes = first.to_bytes();
-    equal(
-        "the first",
-        (first.slot(), bytes.as_slice()),
-        (0x64, &file[78..88]),
-    )
+    equal("the last", ResourceEntry::read(file, 1), last)?;
+    equal("its bytes", last.to_bytes().as_slice(), &file[88..])?;
+    check_first(file, 0x64, &file[78..88])
 }
 
 /// Names, and whether a database may have them.
-const NAMES: [(&str, bool); 5] = [
+static NAMES: [(&str, bool); 5] = [
     ("", false),
     ("N", true),
     ("A name of thirty-one bytes, 0123", false),
@@ -160,17 +150,19 @@ fn names_have_1_to_31_bytes() -> Result<(), Fail> {
     Ok(())
 }
 
-#[test]
-fn zeros_stand_behind_a_name(rt: HostRuntime) -> Result<(), Fail> {
-    let mut file = bytes_of(rt.alloc(), RECORDS)?;
+/// Whether only zeros stand behind the name in the file of records, where this is the last byte of its field.
+fn check_padding(file: &mut [u8], last: u8, is_right: bool) -> Result<(), Fail> {
     if file.len() != 94 {
         return Err("not two records")?;
     }
-    holds("zeros behind it", has_name(&file))?;
-    file[31] = 1;
-    equal(
-        "another byte",
-        (has_name(&file), name_in(&file)),
-        (false, b"Orders".as_slice()),
-    )
+    file[31] = last;
+    let found = (has_name(file), name_in(file));
+    equal(last, found, (is_right, b"Orders".as_slice()))
+}
+
+#[test]
+fn zeros_stand_behind_a_name(rt: HostRuntime) -> Result<(), Fail> {
+    let mut file = bytes_of(rt.alloc(), RECORDS)?;
+    check_padding(&mut file, 0, true)?;
+    check_padding(&mut file, 1, false)
 }

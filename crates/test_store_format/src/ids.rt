@@ -6,17 +6,22 @@ use std::alloc::{AllocError, Global};
 use std::test::*;
 use test_fakes::equal;
 
+/// The header of a database with this field of a seed, and so many entries.
+pub(crate) fn header_of(attributes: u8, seed: u32, count: u16) -> [u8; 78] {
+    let mut header = [0; 78];
+    header[0] = b'A';
+    header[33] = attributes;
+    header[68..72].copy_from_slice(&seed.to_be_bytes());
+    header[76..78].copy_from_slice(&count.to_be_bytes());
+    header
+}
+
 /// The bytes of a database of records with this field of a seed, and these IDs.
 pub(crate) fn database(alloc: Global, seed: u32, ids: &[u32]) -> Result<Vec<u8>, AllocError> {
-    let mut bytes = Vec::new(alloc);
-    bytes.push(b'A')?;
-    bytes.extend_from_slice(&[0; 67])?;
-    bytes.extend_from_slice(&seed.to_be_bytes())?;
-    bytes.extend_from_slice(&[0; 4])?;
-    bytes.extend_from_slice(&((ids.len() % 65536) as u16).to_be_bytes())?;
+    let count = (ids.len() % 65536) as u16;
+    let mut bytes = Vec::from_slice(alloc, &header_of(0, seed, count))?;
     for id in ids {
-        bytes.extend_from_slice(&[0; 4])?;
-        bytes.extend_from_slice(&id.to_be_bytes())?;
+        bytes.extend_from_slice(&u64::from(*id).to_be_bytes())?;
     }
     Ok(bytes)
 }
@@ -60,7 +65,7 @@ pub(crate) fn nth_behind(seed: u32, steps: u32) -> u32 {
 }
 
 /// The field of a seed, the IDs of a database, and the fresh one.
-const FRESH: [(u32, &[u32], u32); 11] = [
+static FRESH: [(u32, &[u32], u32); 11] = [
     (0, &[], 1),
     (5, &[1, 2, 3, 4, 5], 6),
     (5, &[7, 6, 9], 8),
@@ -74,7 +79,7 @@ const FRESH: [(u32, &[u32], u32); 11] = [
     (0x00FF_FFFD, &[0, 0x00FF_FFFE, 0x00FF_FFFF], 1),
 ];
 
-fn check_fresh(alloc: Global, seed: u32, ids: &[u32], fresh: u32) -> Result<(), Fail> {
+fn check_fresh(alloc: Global, (seed, ids, fresh): (u32, &[u32], u32)) -> Result<(), Fail> {
     let bytes = database(alloc, seed, ids)?;
     equal(
         format_args!("{seed}: {ids:?}"),
@@ -85,8 +90,8 @@ fn check_fresh(alloc: Global, seed: u32, ids: &[u32], fresh: u32) -> Result<(), 
 
 #[test]
 fn the_first_that_no_record_has(rt: HostRuntime) -> Result<(), Fail> {
-    for (seed, ids, fresh) in &FRESH {
-        check_fresh(rt.alloc(), *seed, ids, *fresh)?;
+    for row in &FRESH {
+        check_fresh(rt.alloc(), *row)?;
     }
     Ok(())
 }
@@ -101,8 +106,13 @@ fn check_run(alloc: Global, seed: u32, count: u32) -> Result<(), Fail> {
     )
 }
 
+/// How many IDs there are behind a seed.
+static COUNTS: [u32; 5] = [1023, 1024, 1025, 40_000, 65_534];
+
+static SEEDS: [u32; 3] = [0, 0x00FF_8000, 0x00FF_FFFF];
+
 fn check_runs(alloc: Global, seed: u32) -> Result<(), Fail> {
-    for count in &[1023, 1024, 1025, 40_000, 65_534] {
+    for count in &COUNTS {
         check_run(alloc, seed, *count)?;
     }
     Ok(())
@@ -110,14 +120,14 @@ fn check_runs(alloc: Global, seed: u32) -> Result<(), Fail> {
 
 #[test]
 fn runs_behind_the_seed_are_passed(rt: HostRuntime) -> Result<(), Fail> {
-    for seed in &[0, 0x00FF_8000, 0x00FF_FFFF] {
+    for seed in &SEEDS {
         check_runs(rt.alloc(), *seed)?;
     }
     Ok(())
 }
 
 /// The field of a seed, the IDs of a database, and the first of those that are free and behind the last.
-const FREE: [(u32, &[u32], u32, u32); 7] = [
+static FREE: [(u32, &[u32], u32, u32); 7] = [
     (0, &[], 1, 0x0100_0000),
     (5, &[1, 2, 9, 7], 6, 7),
     (5, &[5, 12, 9], 6, 9),
@@ -127,7 +137,7 @@ const FREE: [(u32, &[u32], u32, u32); 7] = [
     (0x00FF_FFFE, &[3], 0x00FF_FFFF, 0x0100_0000),
 ];
 
-fn check_free(alloc: Global, seed: u32, ids: &[u32], first: u32, end: u32) -> Result<(), Fail> {
+fn check_free(alloc: Global, (seed, ids, first, end): (u32, &[u32], u32, u32)) -> Result<(), Fail> {
     let bytes = database(alloc, seed, ids)?;
     equal(
         format_args!("{seed}: {ids:?}"),
@@ -138,16 +148,19 @@ fn check_free(alloc: Global, seed: u32, ids: &[u32], first: u32, end: u32) -> Re
 
 #[test]
 fn the_ids_behind_are_free_up_to_the_next_record(rt: HostRuntime) -> Result<(), Fail> {
-    for (seed, ids, first, end) in &FREE {
-        check_free(rt.alloc(), *seed, ids, *first, *end)?;
+    for row in &FREE {
+        check_free(rt.alloc(), *row)?;
     }
     Ok(())
 }
 
+/// An ID that is taken, and the first that is free then.
+static TAKEN: [(u32, u32); 5] = [(5, 6), (6, 7), (8, 9), (9, 10), (10, 6)];
+
 #[test]
 fn one_id_is_taken() -> Result<(), Fail> {
     let free = FreeIds { first: 6, end: 10 };
-    for (id, first) in &[(5, 6), (6, 7), (8, 9), (9, 10), (10, 6)] {
+    for (id, first) in &TAKEN {
         let left = FreeIds {
             first: *first,
             end: 10,

@@ -1,9 +1,10 @@
 //! Images as large as they come.
 
-use crate::found::found;
+use crate::found::text_of;
 use raw_region::Region;
 use std::alloc::Global;
 use std::test::*;
+use store_check::check_store;
 use test_fakes::equal;
 
 /// Writes a word, if it lies in the region.
@@ -21,7 +22,7 @@ fn put_all(region: &mut Region, at: u32, words: &[u32]) -> Result<(), Fail> {
     let mut next = at;
     for word in words {
         put(region, next, *word)?;
-        next = next.checked_add(4).ok_or("an offset above 32 bits")?;
+        next = next.saturating_add(4);
     }
     Ok(())
 }
@@ -44,7 +45,7 @@ const CHUNKS: u32 = 786_528;
 
 /// The frame, the directory and the header of an image of the most bytes and slots, with one database that has a
 /// record for each slot but two. Behind the chunks of these a free one takes what is left.
-const HEADS: [(u32, &[u32]); 6] = [
+static HEADS: [(u32, &[u32]); 6] = [
     (0, &[0x5048_4931, MOST, 0xFFFF_0000, 16]),
     (16, &[262_168, 262_184]),
     (262_160, &[0x0400_0010, 0x00FE_0000, 20]),
@@ -56,13 +57,18 @@ const HEADS: [(u32, &[u32]); 6] = [
 /// An image with these, and records without a byte.
 fn many_records(alloc: Global) -> Result<Region, Fail> {
     let mut region = Region::zeroed(alloc, MOST)?;
-    for (at, words) in &HEADS {
-        put_all(&mut region, *at, words)?;
-    }
+    put_heads(&mut region)?;
     for index in 0..65_533 {
         put_record(&mut region, index)?;
     }
     Ok(region)
+}
+
+fn put_heads(region: &mut Region) -> Result<(), Fail> {
+    for (at, words) in &HEADS {
+        put_all(region, *at, words)?;
+    }
+    Ok(())
 }
 
 /// The record behind so many others: its entry, its slot and its chunk.
@@ -79,7 +85,7 @@ fn put_record(region: &mut Region, index: u32) -> Result<(), Fail> {
 }
 
 /// Words that are changed, and what is found then. The last entry stands at 786,518.
-const OF_MANY_RECORDS: [(&[(u32, u32)], &str); 4] = [
+static OF_MANY_RECORDS: [(&[(u32, u32)], &str); 4] = [
     (&[], "movable 65535 free 15466416 databases 1"),
     // the last record names the data of the first
     (&[(786_518, 24)], "SharedChunk 24"),
@@ -93,20 +99,24 @@ const OF_MANY_RECORDS: [(&[(u32, u32)], &str); 4] = [
 fn check_found(
     alloc: Global,
     mut region: Region,
-    changes: &[(u32, u32)],
-    text: &str,
+    (changes, text): (&[(u32, u32)], &str),
 ) -> Result<(), Fail> {
-    for (at, word) in changes {
-        put(&mut region, *at, *word)?;
-    }
-    let found = found(alloc, &region)?;
+    change(&mut region, changes)?;
+    let found = text_of(alloc, check_store(alloc, &region))?;
     equal(format_args!("{changes:?}"), found.as_str(), text)
+}
+
+fn change(region: &mut Region, changes: &[(u32, u32)]) -> Result<(), Fail> {
+    for (at, word) in changes {
+        put(region, *at, *word)?;
+    }
+    Ok(())
 }
 
 #[test]
 fn many_records_are_checked(rt: HostRuntime) -> Result<(), Fail> {
-    for (changes, text) in &OF_MANY_RECORDS {
-        check_found(rt.alloc(), many_records(rt.alloc())?, changes, text)?;
+    for row in &OF_MANY_RECORDS {
+        check_found(rt.alloc(), many_records(rt.alloc())?, *row)?;
     }
     Ok(())
 }
@@ -146,7 +156,7 @@ fn put_database(region: &mut Region, headers: u32, index: u32) -> Result<(), Fai
 
 /// How many databases there are, words that are changed, and what is found then. With 1,024 of them the
 /// name of the last stands at 98,256.
-const OF_MANY_DATABASES: [(u16, &[(u32, u32)], &str); 7] = [
+static OF_MANY_DATABASES: [(u16, &[(u32, u32)], &str); 7] = [
     (1, &[], "movable 2 free 0 databases 1"),
     (1_000, &[], "movable 1001 free 0 databases 1000"),
     (1_001, &[], "movable 1002 free 0 databases 1001"),
@@ -159,13 +169,15 @@ const OF_MANY_DATABASES: [(u16, &[(u32, u32)], &str); 7] = [
 
 #[test]
 fn many_databases_are_checked(rt: HostRuntime) -> Result<(), Fail> {
-    for (count, changes, text) in &OF_MANY_DATABASES {
-        check_found(
-            rt.alloc(),
-            many_databases(rt.alloc(), *count)?,
-            changes,
-            text,
-        )?;
+    for row in &OF_MANY_DATABASES {
+        check_databases(rt.alloc(), *row)?;
     }
     Ok(())
+}
+
+fn check_databases(
+    alloc: Global,
+    (count, changes, text): (u16, &[(u32, u32)], &str),
+) -> Result<(), Fail> {
+    check_found(alloc, many_databases(alloc, count)?, (changes, text))
 }

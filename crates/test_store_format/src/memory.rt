@@ -1,7 +1,8 @@
 //! Memory that is refused.
 
+use crate::found::text_of;
 use raw_region::Region;
-use std::alloc::Global;
+use std::alloc::{AllocError, Global};
 use std::test::*;
 use store_check::check_store_from;
 use test_fakes::{RefusesOne, equal};
@@ -9,7 +10,9 @@ use test_images::{DATABASE, image};
 
 /// How many growths are granted, changes of the image, and what is found: marks for slots come first,
 /// and then a set of IDs.
-const GRANTED: [(u32, &str, &str); 8] = [
+type Granted = (u32, &'static str, &'static str);
+
+static GRANTED: [Granted; 8] = [
     (0, "3: 33", "BadMagic"),
     (0, "59: 10", "OutOfMemory"),
     (1, "59: 10", "BadDirectorySlot 0"),
@@ -17,20 +20,19 @@ const GRANTED: [(u32, &str, &str); 8] = [
     (1, "72: 00", "OutOfMemory"),
     (2, "72: 00", "BadName 0"),
     (1, "", "OutOfMemory"),
-    (2, "", "accepted"),
+    (2, "", "movable 4 free 8 databases 1"),
 ];
 
 /// What is found where so many growths are granted.
-fn found_with(alloc: Global, granted: u32, region: &Region) -> Result<String, Fail> {
+fn found_with(alloc: Global, granted: u32, region: &Region) -> Result<String, AllocError> {
     let memory = RefusesOne::behind(alloc, granted);
-    match check_store_from(&memory, region) {
-        Ok(_) => Ok(String::from_str(alloc, "accepted")?),
-        Err(fault) => Ok(format!(in alloc; "{fault}")?),
-    }
+    let found = check_store_from(&memory, region);
+    text_of(alloc, found)
 }
 
-fn check_granted(alloc: Global, granted: u32, changes: &str, text: &str) -> Result<(), Fail> {
-    let found = found_with(alloc, granted, &image(alloc, DATABASE, changes)?)?;
+fn check_granted(alloc: Global, (granted, changes, text): Granted) -> Result<(), Fail> {
+    let region = image(alloc, DATABASE, changes)?;
+    let found = found_with(alloc, granted, &region)?;
     equal(
         format_args!("{granted} growths, changed: {changes}"),
         found.as_str(),
@@ -40,8 +42,8 @@ fn check_granted(alloc: Global, granted: u32, changes: &str, text: &str) -> Resu
 
 #[test]
 fn refused_memory_is_told(rt: HostRuntime) -> Result<(), Fail> {
-    for (granted, changes, text) in &GRANTED {
-        check_granted(rt.alloc(), *granted, changes, text)?;
+    for row in &GRANTED {
+        check_granted(rt.alloc(), *row)?;
     }
     Ok(())
 }

@@ -2,11 +2,12 @@
 
 use heap_check::HeapFault;
 use std::alloc::Global;
+use std::fmt::Display;
 use std::test::*;
 use store_check::StoreFault;
 use test_fakes::equal;
 
-const OF_HEAPS: [(HeapFault, &str); 11] = [
+static OF_HEAPS: [(HeapFault, &str); 11] = [
     (HeapFault::TooShort, "TooShort"),
     (HeapFault::BadMagic, "BadMagic"),
     (HeapFault::BadSize, "BadSize"),
@@ -24,23 +25,18 @@ const OF_HEAPS: [(HeapFault, &str); 11] = [
 #[test]
 fn faults_of_heaps_have_texts(rt: HostRuntime) -> Result<(), Fail> {
     for (fault, text) in &OF_HEAPS {
-        check_heap_text(rt.alloc(), *fault, text)?;
+        check_text(rt.alloc(), *fault, text)?;
         check_text(rt.alloc(), StoreFault::Heap(*fault), text)?;
     }
     Ok(())
 }
 
-fn check_heap_text(alloc: Global, fault: HeapFault, text: &str) -> Result<(), Fail> {
+fn check_text<T: Display + Drop>(alloc: Global, fault: T, text: &str) -> Result<(), Fail> {
     let said = format!(in alloc; "{fault}")?;
-    equal("of a heap", said.as_str(), text)
+    equal("its text", said.as_str(), text)
 }
 
-fn check_text(alloc: Global, fault: StoreFault, text: &str) -> Result<(), Fail> {
-    let said = format!(in alloc; "{fault}")?;
-    equal("of a store", said.as_str(), text)
-}
-
-const OF_STORES: [(StoreFault, &str); 9] = [
+static OF_STORES: [(StoreFault, &str); 9] = [
     (StoreFault::BadDirectorySlot(3), "BadDirectorySlot 3"),
     (StoreFault::BadHeader(4), "BadHeader 4"),
     (StoreFault::BadEntry(5, 6), "BadEntry 5 6"),
