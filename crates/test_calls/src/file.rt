@@ -117,17 +117,20 @@ fn any_header(
     file.resize(32, 0)?;
     file.extend_from_slice(&any_attributes(random, resources).to_be_bytes())?;
     file.extend_from_slice(&below_u16(random, u16::MAX).to_be_bytes())?;
-    for _ in 0..4u32 {
-        put_any_word(random, &mut file)?;
+    for word in [
+        any_word(random),
+        any_word(random),
+        any_word(random),
+        any_word(random),
+        area.any_of_info(random),
+        area.any_of_info(random),
+        any_word(random),
+        any_word(random),
+        *SEEDS.choose(random).unwrap_or(&0),
+        u32::from(below(random, 40) == 0),
+    ] {
+        file.extend_from_slice(&word.to_be_bytes())?;
     }
-    file.extend_from_slice(&area.any_of_info(random).to_be_bytes())?;
-    file.extend_from_slice(&area.any_of_info(random).to_be_bytes())?;
-    put_any_word(random, &mut file)?;
-    put_any_word(random, &mut file)?;
-    let seed = SEEDS.choose(random).map_or(0, |seed| *seed);
-    file.extend_from_slice(&seed.to_be_bytes())?;
-    let chained = u32::from(below(random, 40) == 0);
-    file.extend_from_slice(&chained.to_be_bytes())?;
     Ok(file)
 }
 
@@ -137,13 +140,9 @@ fn any_attributes(random: &mut Pcg32, resources: bool) -> u16 {
     below_u16(random, 16).wrapping_mul(16) | read_only | u16::from(resources)
 }
 
-fn put_any_word(random: &mut Pcg32, file: &mut Vec<u8>) -> Result<(), AllocError> {
-    file.extend_from_slice(&any_word(random).to_be_bytes())
-}
-
 /// Adds the entry of a record; one that is deleted often has no data.
 fn put_record(random: &mut Pcg32, file: &mut Vec<u8>, area: Area) -> Result<(), AllocError> {
-    let id = IDS.choose(random).map_or(0, |id| *id);
+    let id = *IDS.choose(random).unwrap_or(&0);
     let attributes = below(random, 128);
     let (start, deleted) = match below(random, 5) {
         0 => (0, 0x80),

@@ -6,7 +6,7 @@ use crate::memory::{any_name, any_owner, any_size};
 use heap_model::{Db, RecordCall};
 use rand::seq::IndexedRandom;
 use rand_pcg::Pcg32;
-use test_model::{Database, Entries, Image};
+use test_model::{Database, Image};
 
 /// An index: most often one below a count, else the count, one above it, or a very large one.
 pub(crate) fn any_index(random: &mut Pcg32, count: u32) -> u32 {
@@ -31,13 +31,11 @@ pub(crate) fn entries_of(databases: &[Database], db: Db) -> u32 {
 /// The ID of a record of some database, 0 where that has none.
 fn known_id(random: &mut Pcg32, databases: &[Database]) -> u32 {
     match databases.choose(random) {
-        Some(
-            Database {
-                entries: Entries::Records(records),
-                ..
-            },
-        ) => records.choose(random).map_or(0, |record| record.id),
-        _ => 0,
+        Some(database) => match database.records.choose(random) {
+            Some(record) => record.id,
+            None => 0,
+        },
+        None => 0,
     }
 }
 

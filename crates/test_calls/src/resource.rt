@@ -7,7 +7,7 @@ use crate::record::{any_index, entries_of};
 use heap_model::{Db, ResourceCall};
 use rand::seq::IndexedRandom;
 use rand_pcg::Pcg32;
-use test_model::{Database, Entries, Image, Resource};
+use test_model::{Database, Image, Resource};
 
 /// Types, few enough that many resources have the same, and alike but for one byte.
 const TYPES: [u32; 4] = [0x636F_6465, 0x636F_6466, 0x646F_6465, 0x7453_5452];
@@ -15,10 +15,8 @@ const TYPES: [u32; 4] = [0x636F_6465, 0x636F_6466, 0x646F_6465, 0x7453_5452];
 /// The resources of a database, none where there is none of this number, or it has records.
 fn resources_of(databases: &[Database], db: Db) -> &[Resource] {
     for database in databases {
-        if database.db == db
-            && let Entries::Resources(resources) = &database.entries
-        {
-            return resources;
+        if database.db == db {
+            return &database.resources;
         }
     }
     &[]
@@ -37,7 +35,7 @@ fn any_resource_db(random: &mut Pcg32, image: &Image, databases: &[Database]) ->
 
 /// A type and an ID: often those of a resource, or one of both, else any of a few.
 fn any_kind_and_id(random: &mut Pcg32, resources: &[Resource]) -> (u32, u16) {
-    let kind = TYPES.choose(random).map_or(0, |kind| *kind);
+    let kind = *TYPES.choose(random).unwrap_or(&0);
     let id = match below(random, 8) {
         0 => u16::MAX,
         _ => below_u16(random, 4),

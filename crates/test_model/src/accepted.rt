@@ -1,7 +1,7 @@
 //! Which heaps are accepted with their databases, and the databases that these have (docs/FORMAT.md).
 
-use crate::database::{DELETED, Database, Entries};
-use crate::image::Image;
+use crate::database::{DELETED, Database};
+use crate::image::{Image, u32_at};
 use heap_model::{Db, Name};
 use std::alloc::{AllocError, Global};
 
@@ -9,7 +9,7 @@ use std::alloc::{AllocError, Global};
 pub(crate) const MOST_DATABASES: usize = 1024;
 
 /// Why an accepted heap is no accepted store, or that memory was refused.
-#[derive(Clone, Copy, Debug, PartialEq, Eq)]
+#[derive(Clone, Copy, Debug)]
 pub enum Unaccepted {
     Memory,
     /// The directory isn't a list of slots of headers, each once.
@@ -57,7 +57,9 @@ fn database_of(
     header: Name,
     others: &[Database],
 ) -> Result<Database, Unaccepted> {
-    let body = managers_body(image, header).ok_or(Unaccepted::Directory)?;
+    let Some(body) = image.managers_body(header) else {
+        return Err(Unaccepted::Directory);
+    };
     let database = Database::decode(alloc, Db(header.0), body)?;
     check_database(alloc, &database, others)?;
     Ok(database)
@@ -77,44 +79,32 @@ fn check_database(
     check_entries(alloc, database)
 }
 
-/// The body of a chunk of the manager's.
-fn managers_body<'a>(image: &Image<'a>, name: Name) -> Option<&'a [u8]> {
-    let live = image.live(name)?;
-    (live.owner == 0).then_some(live.bytes)
-}
-
 /// The slots that the directory lists.
 fn headers_of(alloc: Global, image: &Image) -> Result<Vec<Name>, Unaccepted> {
     let Some(directory) = image.directory() else {
         return Ok(Vec::new(alloc));
     };
-    let mut left = managers_body(image, directory).ok_or(Unaccepted::Directory)?;
+    let Some(body) = image.managers_body(directory) else {
+        return Err(Unaccepted::Directory);
+    };
+    if body.len() % 4 != 0 || body.len() / 4 > MOST_DATABASES {
+        return Err(Unaccepted::Directory);
+    }
     let mut headers = Vec::new(alloc);
-    for _ in 0..MOST_DATABASES {
-        let Some((front, behind)) = left.split_first_chunk() else {
-            break;
-        };
-        let header = Name(u32::from_be_bytes(*front));
+    for index in 0..body.len() / 4 {
+        let header = Name(u32_at(body, 4 * index));
         if header == directory || headers.contains(&header) {
             return Err(Unaccepted::Directory);
         }
         headers.push(header).map_err(AllocError::from)?;
-        left = behind;
     }
-    if left.is_empty() {
-        Ok(headers)
-    } else {
-        Err(Unaccepted::Directory)
-    }
+    Ok(headers)
 }
 
 /// Whether each record has data, if it isn't deleted, and an ID that no other one has.
 fn check_entries(alloc: Global, database: &Database) -> Result<(), Unaccepted> {
-    let Entries::Records(records) = &database.entries else {
-        return Ok(());
-    };
     let mut ids = Vec::new(alloc);
-    for record in records {
+    for record in &database.records {
         if record.data.is_none() && record.attributes & DELETED == 0 {
             return Err(Unaccepted::Record(database.db));
         }
@@ -172,5 +162,11 @@ fn check_chunks(image: &Image, headers: &[Name], named: &[Name]) -> Result<(), U
 
 /// How often a name stands among others.
 fn count_of(names: &[Name], name: Name) -> usize {
-    names.iter().filter(|other| **other == name).count()
+    let mut count = 0usize;
+    for other in names {
+        if *other == name {
+            count = count.saturating_add(1);
+        }
+    }
+    count
 }

@@ -1,11 +1,11 @@
 //! The calls on categories of records.
 
-use crate::database::{DELETED, Record};
-use crate::memory_calls::number;
+use crate::database::{DELETED, Database, Record};
+use crate::heap::PlainHeap;
+use crate::memory_calls::{no_memory, number};
 use crate::record_calls::DIRTY;
-use crate::store::PlainStore;
-use heap_model::{Db, Refusal, Reply};
-use std::alloc::Global;
+use heap_model::{Name, Refusal, Reply};
+use std::alloc::{AllocError, Global};
 
 /// The last category.
 const LAST: u8 = 15;
@@ -13,21 +13,16 @@ const LAST: u8 = 15;
 /// What stands for all categories, where records are counted.
 const ALL: u8 = 0xFF;
 
-impl PlainStore {
+impl Database {
     /// How many records are of a category.
-    pub(crate) fn count_in_category(&self, db: Db, category: u8) -> Result<Reply, Refusal> {
-        let records = self.records_to_count(db, category)?;
+    pub(crate) fn count_in_category(&self, category: u8) -> Result<Reply, Refusal> {
+        let records = self.records_to_count(category)?;
         Ok(number(count_of(records, category)))
     }
 
     /// The first record of a category from an index on.
-    pub(crate) fn next_in_category(
-        &self,
-        db: Db,
-        from: u32,
-        category: u8,
-    ) -> Result<Reply, Refusal> {
-        let records = self.records_to_count(db, category)?;
+    pub(crate) fn next_in_category(&self, from: u32, category: u8) -> Result<Reply, Refusal> {
+        let records = self.records_to_count(category)?;
         for (index, record) in records.iter().enumerate() {
             if index >= from as usize && is_of(record, category) {
                 return Ok(number(index));
@@ -37,35 +32,26 @@ impl PlainStore {
     }
 
     /// How many records of a category stand in front of one.
-    pub(crate) fn position_in_category(
-        &self,
-        db: Db,
-        index: u32,
-        category: u8,
-    ) -> Result<Reply, Refusal> {
-        let records = self.records_to_count(db, category)?;
-        let Some(_record) = records.get(index as usize) else {
-            return Err(Refusal::IndexOutOfRange);
-        };
+    pub(crate) fn position_in_category(&self, index: u32, category: u8) -> Result<Reply, Refusal> {
+        let records = self.records_to_count(category)?;
         match records.get(..index as usize) {
-            Some(front) => Ok(number(count_of(front, category))),
-            None => Err(Refusal::IndexOutOfRange),
+            Some(front) if front.len() < records.len() => Ok(number(count_of(front, category))),
+            _ => Err(Refusal::IndexOutOfRange),
         }
     }
 
     /// The records of a category go to another, dirty where that is asked.
     pub(crate) fn move_category(
         &mut self,
-        db: Db,
         to: u8,
         from: u8,
         dirty: bool,
     ) -> Result<Reply, Refusal> {
-        self.check_written(db)?;
+        self.check_writable()?;
         if to > LAST || from > LAST {
             return Err(Refusal::InvalidCategory);
         }
-        for record in self.records_mut(db)? {
+        for record in &mut self.records {
             if is_of(record, from) {
                 record.attributes = record.attributes & !LAST | to;
                 if dirty {
@@ -73,45 +59,39 @@ impl PlainStore {
                 }
             }
         }
-        self.count_change(db)
+        self.count_change();
+        Ok(Reply::Done)
     }
 
     /// The records of a category are deleted, all of them or, where the data of one is locked, none.
     pub(crate) fn delete_category(
         &mut self,
         alloc: Global,
-        db: Db,
+        heap: &mut PlainHeap,
         category: u8,
     ) -> Result<Reply, Refusal> {
-        self.check_written(db)?;
+        self.check_writable()?;
         if category > LAST {
             return Err(Refusal::InvalidCategory);
         }
-        let mut names = Vec::new(alloc);
-        for record in self.records(db)? {
-            if is_of(record, category)
-                && let Some(name) = record.data
-            {
-                names.push(name).map_err(|_| Refusal::OutOfMemory)?;
-            }
-        }
-        self.heap.free_all(&names)?;
-        for record in self.records_mut(db)? {
+        let names = data_of(alloc, &self.records, category).map_err(no_memory)?;
+        heap.free_all(&names)?;
+        for record in &mut self.records {
             if is_of(record, category) {
                 record.data = None;
                 record.attributes |= DELETED;
             }
         }
-        self.count_change(db)
+        self.count_change();
+        Ok(Reply::Done)
     }
 
     /// The records of a database that are counted for a category, or for all.
-    fn records_to_count(&self, db: Db, category: u8) -> Result<&[Record], Refusal> {
-        let records = self.records(db)?;
+    fn records_to_count(&self, category: u8) -> Result<&[Record], Refusal> {
         if category > LAST && category != ALL {
             return Err(Refusal::InvalidCategory);
         }
-        Ok(records)
+        Ok(&self.records)
     }
 }
 
@@ -122,8 +102,24 @@ fn is_of(record: &Record, category: u8) -> bool {
 
 /// How many records are of a category.
 fn count_of(records: &[Record], category: u8) -> usize {
-    records
-        .iter()
-        .filter(|record| is_of(record, category))
-        .count()
+    let mut count = 0usize;
+    for record in records {
+        if is_of(record, category) {
+            count = count.saturating_add(1);
+        }
+    }
+    count
+}
+
+/// The data of the records of a category.
+fn data_of(alloc: Global, records: &[Record], category: u8) -> Result<Vec<Name>, AllocError> {
+    let mut names = Vec::new(alloc);
+    for record in records {
+        if is_of(record, category)
+            && let Some(name) = record.data
+        {
+            names.push(name)?;
+        }
+    }
+    Ok(names)
 }

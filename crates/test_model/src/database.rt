@@ -1,7 +1,7 @@
 //! A database, as the body of its header's chunk spells it (docs/FORMAT.md).
 
 use crate::accepted::Unaccepted;
-use crate::image::{are_zeros, up_to_zero};
+use crate::image::{are_zeros, byte_at, u16_at, u32_at, up_to_zero};
 use heap_model::{Db, Name};
 use std::alloc::{AllocError, Global};
 
@@ -14,8 +14,17 @@ pub(crate) const OF_RESOURCES: u16 = 0x0001;
 /// The bit of a record's attributes that says that it is deleted.
 pub(crate) const DELETED: u8 = 0x80;
 
+/// The greatest unique ID.
+pub(crate) const GREATEST_ID: u32 = 0xFF_FFFF;
+
+/// What the entry of a record takes, in bytes.
+pub(crate) const RECORD_LENGTH: u32 = 8;
+
+/// What the entry of a resource takes, in bytes.
+pub(crate) const RESOURCE_LENGTH: u32 = 10;
+
 /// The fields of a header, but the info blocks and the number of entries.
-#[derive(Drop, Debug, PartialEq, Eq)]
+#[derive(Drop, PartialEq, Eq)]
 pub struct Header {
     pub name: Vec<u8>,
     pub attributes: u16,
@@ -30,7 +39,7 @@ pub struct Header {
 }
 
 /// A record, and the chunk of its data, which a deleted one may do without.
-#[derive(Clone, Copy, Debug, PartialEq, Eq)]
+#[derive(Clone, Copy, PartialEq, Eq)]
 pub struct Record {
     pub data: Option<Name>,
     pub attributes: u8,
@@ -38,85 +47,75 @@ pub struct Record {
 }
 
 /// A resource, and the chunk of its data.
-#[derive(Clone, Copy, Debug, PartialEq, Eq)]
+#[derive(Clone, Copy, PartialEq, Eq)]
 pub struct Resource {
     pub kind: u32,
     pub id: u16,
     pub data: Name,
 }
 
-/// The entries, of one kind or the other.
-#[derive(Drop, Debug, PartialEq, Eq)]
-pub enum Entries {
-    Records(Vec<Record>),
-    Resources(Vec<Resource>),
-}
-
-/// A database. Its number is the offset of the slot of its header.
-#[derive(Drop, Debug, PartialEq, Eq)]
+/// A database. Its number is the offset of the slot of its header. It has records or resources, by its attributes, and
+/// none of the others.
+#[derive(Drop, PartialEq, Eq)]
 pub struct Database {
     pub db: Db,
     pub header: Header,
     pub app_info: Option<Name>,
     pub sort_info: Option<Name>,
-    pub entries: Entries,
+    pub records: Vec<Record>,
+    pub resources: Vec<Resource>,
 }
 
 impl Database {
     /// The database that a body spells. Which chunks there are is not looked at.
     pub(crate) fn decode(alloc: Global, db: Db, body: &[u8]) -> Result<Database, Unaccepted> {
-        let shape = Unaccepted::Header(db);
-        let Some((front, listed)) = body.split_first_chunk::<HEADER_LENGTH>() else {
-            return Err(shape);
-        };
-        let count = number_in(&front[76..]);
-        if number_in(&front[72..76]) != 0 {
-            return Err(shape);
+        if body.len() < HEADER_LENGTH || u32_at(body, 72) != 0 {
+            return Err(Unaccepted::Header(db));
         }
-        let name = name_in(alloc, db, &front[..32])?;
-        let entries = entries_in(alloc, attributes_in(front), count, listed)?.ok_or(shape)?;
-        Ok(Database::of(db, name, front, entries))
+        let name = name_in(alloc, db, body.get(..32).unwrap_or(body))?;
+        if body.len() != length_of(body) {
+            return Err(Unaccepted::Header(db));
+        }
+        Ok(Database::of(alloc, db, name, body)?)
     }
 
-    /// The database of a number, a name and entries, of which all else is spelled in front of the entries.
+    /// The database of a number and a name, of which all else is spelled by a header and its entries.
     pub(crate) fn of(
+        alloc: Global,
         db: Db,
         name: Vec<u8>,
-        front: &[u8; HEADER_LENGTH],
-        entries: Entries,
-    ) -> Database {
-        Database {
+        bytes: &[u8],
+    ) -> Result<Database, AllocError> {
+        let count = u16_at(bytes, 76);
+        let (records, resources) = if are_resources(u16_at(bytes, 32)) {
+            (0, count)
+        } else {
+            (count, 0)
+        };
+        Ok(Database {
             db,
-            header: Header::of(name, front),
-            app_info: name_of(number_in(&front[52..56])),
-            sort_info: name_of(number_in(&front[56..60])),
-            entries,
-        }
+            header: Header::of(name, bytes),
+            app_info: name_of(u32_at(bytes, 52)),
+            sort_info: name_of(u32_at(bytes, 56)),
+            records: records_in(alloc, records, bytes)?,
+            resources: resources_in(alloc, resources, bytes)?,
+        })
     }
 
     /// How many entries there are.
     pub fn entry_count(&self) -> usize {
-        match &self.entries {
-            Entries::Records(records) => records.len(),
-            Entries::Resources(resources) => resources.len(),
-        }
+        self.records.len().saturating_add(self.resources.len())
     }
 
     /// Adds the names of all its chunks but its header: of its info blocks, and of the data of its entries.
     pub(crate) fn put_names(&self, names: &mut Vec<Name>) -> Result<(), AllocError> {
         put_name(names, self.app_info)?;
         put_name(names, self.sort_info)?;
-        match &self.entries {
-            Entries::Records(records) => {
-                for record in records {
-                    put_name(names, record.data)?;
-                }
-            }
-            Entries::Resources(resources) => {
-                for resource in resources {
-                    names.push(resource.data)?;
-                }
-            }
+        for record in &self.records {
+            put_name(names, record.data)?;
+        }
+        for resource in &self.resources {
+            names.push(resource.data)?;
         }
         Ok(())
     }
@@ -148,36 +147,43 @@ pub(crate) fn is_name(name: &[u8]) -> bool {
     !name.is_empty() && name.len() <= 31 && !name.contains(&0)
 }
 
-/// The attributes of a database, in front of the entries.
-pub(crate) fn attributes_in(front: &[u8; HEADER_LENGTH]) -> u16 {
-    u16::from_be_bytes([front[32], front[33]])
-}
-
 impl Header {
-    /// The header of a name, of which all else is spelled in front of the entries.
-    fn of(name: Vec<u8>, front: &[u8; HEADER_LENGTH]) -> Header {
+    /// The header of a name, of which all else is spelled.
+    fn of(name: Vec<u8>, bytes: &[u8]) -> Header {
         Header {
             name,
-            attributes: attributes_in(front),
-            version: u16::from_be_bytes([front[34], front[35]]),
-            creation_date: number_in(&front[36..40]),
-            modification_date: number_in(&front[40..44]),
-            backup_date: number_in(&front[44..48]),
-            modification_number: number_in(&front[48..52]),
-            kind: number_in(&front[60..64]),
-            creator: number_in(&front[64..68]),
-            seed: number_in(&front[68..72]),
+            attributes: u16_at(bytes, 32),
+            version: u16_at(bytes, 34),
+            creation_date: u32_at(bytes, 36),
+            modification_date: u32_at(bytes, 40),
+            backup_date: u32_at(bytes, 44),
+            modification_number: u32_at(bytes, 48),
+            kind: u32_at(bytes, 60),
+            creator: u32_at(bytes, 64),
+            seed: u32_at(bytes, 68),
         }
     }
 }
 
-/// The number that bytes spell, the first of them the highest; of more than four bytes the last four count.
-pub(crate) fn number_in(bytes: &[u8]) -> u32 {
-    let mut number = 0u32;
-    for byte in bytes {
-        number = number.wrapping_mul(256).wrapping_add(u32::from(*byte));
-    }
-    number
+/// Whether the entries of a database are resources, by its attributes.
+pub(crate) fn are_resources(attributes: u16) -> bool {
+    attributes & OF_RESOURCES != 0
+}
+
+/// What so many entries take, by the attributes of their database.
+pub(crate) fn entries_length(attributes: u16, count: usize) -> usize {
+    let length = if are_resources(attributes) {
+        RESOURCE_LENGTH
+    } else {
+        RECORD_LENGTH
+    };
+    count.saturating_mul(length as usize)
+}
+
+/// What a header takes with its entries, as it says.
+pub(crate) fn length_of(bytes: &[u8]) -> usize {
+    let count = usize::from(u16_at(bytes, 76));
+    HEADER_LENGTH.saturating_add(entries_length(u16_at(bytes, 32), count))
 }
 
 /// The chunk that a word names, none where it is 0.
@@ -185,55 +191,33 @@ fn name_of(word: u32) -> Option<Name> {
     if word == 0 { None } else { Some(Name(word)) }
 }
 
-/// So many entries, which take all of the bytes; none where they take others.
-pub(crate) fn entries_in(
-    alloc: Global,
-    attributes: u16,
-    count: u32,
-    listed: &[u8],
-) -> Result<Option<Entries>, AllocError> {
-    let count = count as usize;
-    if attributes & OF_RESOURCES == 0 {
-        let records = records_in(alloc, count, listed)?;
-        Ok((listed.len() == 8 * count).then_some(Entries::Records(records)))
-    } else {
-        let resources = resources_in(alloc, count, listed)?;
-        Ok((listed.len() == 10 * count).then_some(Entries::Resources(resources)))
-    }
-}
-
-/// The records at the front of the bytes, so many at most.
-fn records_in(alloc: Global, count: usize, listed: &[u8]) -> Result<Vec<Record>, AllocError> {
+/// The first entries behind a header, as records.
+fn records_in(alloc: Global, count: u16, bytes: &[u8]) -> Result<Vec<Record>, AllocError> {
     let mut records = Vec::new(alloc);
-    let mut left = listed;
+    let mut at = HEADER_LENGTH;
     for _ in 0..count {
-        let Some((front, behind)) = left.split_first_chunk::<8>() else {
-            break;
-        };
+        let behind = at.saturating_add(4);
         records.push(Record {
-            data: name_of(number_in(&front[..4])),
-            attributes: front[4],
-            id: number_in(&front[5..]),
+            data: name_of(u32_at(bytes, at)),
+            attributes: byte_at(bytes, behind),
+            id: u32_at(bytes, behind) & GREATEST_ID,
         })?;
-        left = behind;
+        at = at.saturating_add(8);
     }
     Ok(records)
 }
 
-/// The resources at the front of the bytes, so many at most.
-fn resources_in(alloc: Global, count: usize, listed: &[u8]) -> Result<Vec<Resource>, AllocError> {
+/// The same as resources.
+fn resources_in(alloc: Global, count: u16, bytes: &[u8]) -> Result<Vec<Resource>, AllocError> {
     let mut resources = Vec::new(alloc);
-    let mut left = listed;
+    let mut at = HEADER_LENGTH;
     for _ in 0..count {
-        let Some((front, behind)) = left.split_first_chunk::<10>() else {
-            break;
-        };
         resources.push(Resource {
-            kind: number_in(&front[..4]),
-            id: u16::from_be_bytes([front[4], front[5]]),
-            data: Name(number_in(&front[6..])),
+            kind: u32_at(bytes, at),
+            id: u16_at(bytes, at.saturating_add(4)),
+            data: Name(u32_at(bytes, at.saturating_add(6))),
         })?;
-        left = behind;
+        at = at.saturating_add(10);
     }
     Ok(resources)
 }

@@ -2,11 +2,11 @@
 //! and what it answers.
 
 use crate::accepted::MOST_DATABASES;
-use crate::database::{Database, Entries, HEADER_LENGTH, Header, OF_RESOURCES, is_name};
+use crate::database::{Database, Header, OF_RESOURCES, is_name};
 use crate::image::Image;
-use crate::memory_calls::number;
+use crate::memory_calls::{no_memory, number};
 use crate::parts::{Part, can_run_out};
-use crate::store::PlainStore;
+use crate::store::{PlainStore, numbered};
 use heap_model::{DatabaseCall, Db, DbInfo, DbName, Name, Refusal, Reply};
 use std::alloc::{AllocError, Global};
 
@@ -27,11 +27,11 @@ impl PlainStore {
                 resources,
                 date,
             } => {
-                let db = self.number_for(alloc, name.as_slice(), &[HEADER_LENGTH], before, reply)?;
-                match Database::new(alloc, db, name, *kind, *creator, *resources, *date) {
-                    Ok(database) => self.add(database),
-                    Err(_) => Err(Refusal::OutOfMemory),
-                }
+                let mut database = Database::new(
+                    alloc, name, *kind, *creator, *resources, *date,
+                ).map_err(no_memory)?;
+                database.db = self.number_for(alloc, &database, &[], before, reply)?;
+                self.add(database)
             }
             DatabaseCall::Delete(db) => self.delete(alloc, *db),
             DatabaseCall::Find(name) => self.find(name.as_slice()),
@@ -39,32 +39,40 @@ impl PlainStore {
             DatabaseCall::Count => Ok(number(self.databases.len())),
             DatabaseCall::Info(db) => Ok(Reply::Info(self.database(*db)?.info())),
             DatabaseCall::SetInfo(db, info) => self.set_info(alloc, *db, info),
-            DatabaseCall::SetInfoBlock { db, which, name } => { self.set_block(*db, *which, *name) }
-            DatabaseCall::TakeInfoBlock { db, which, owner } => {
-                self.take_block(*db, *which, *owner)
+            DatabaseCall::SetInfoBlock { db, which, name } => {
+                numbered(&mut self.databases, *db)?.set_block(&mut self.heap, *which, *name)
             }
-            DatabaseCall::InfoBlock(db, which) => self.ask_block(*db, *which),
+            DatabaseCall::TakeInfoBlock { db, which, owner } => {
+                numbered(&mut self.databases, *db)?.take_block(&mut self.heap, *which, *owner)
+            }
+            DatabaseCall::InfoBlock(db, which) => self.database(*db)?.ask_block(*which),
         }
     }
 
     /// The number of a database that is made, which is that of a free slot. There may be no room for its chunks,
-    /// its header and then what it names, of these sizes.
+    /// its header and then these blocks.
     pub(crate) fn number_for(
         &self,
         alloc: Global,
-        name: &[u8],
-        sizes: &[usize],
+        database: &Database,
+        blocks: &[&[u8]],
         before: &Image,
         reply: &Reply,
     ) -> Result<Db, Refusal> {
-        self.check_name(name, Db(0))?;
+        self.check_name(&database.header.name, Db(0))?;
         if self.databases.len() >= MOST_DATABASES {
             return Err(Refusal::TooManyEntries);
         }
-        let first = before.first_free_slot().ok_or(Refusal::NotEnoughSpace)?;
+        let Some(first) = before.first_free_slot() else {
+            return Err(Refusal::NotEnoughSpace);
+        };
         match reply {
-            Reply::Refused(Refusal::NotEnoughSpace) if may_lack_room(alloc, sizes, before)? => {
-                Err(Refusal::NotEnoughSpace)
+            Reply::Refused(Refusal::NotEnoughSpace) => {
+                match may_lack_room(alloc, database.header_length(), blocks, before) {
+                    Ok(true) => Err(Refusal::NotEnoughSpace),
+                    Ok(false) => Ok(Db(first.0)),
+                    Err(_) => Err(Refusal::OutOfMemory),
+                }
             }
             Reply::Database(db) if before.is_free_slot(Name(db.0)) => Ok(*db),
             _ => Ok(Db(first.0)),
@@ -90,9 +98,8 @@ impl PlainStore {
     }
 
     fn find(&self, name: &[u8]) -> Result<Reply, Refusal> {
-        let named = |database: &&Database| database.header.name.as_slice() == name;
-        match self.databases.iter().find(named) {
-            Some(database) => Ok(Reply::Database(database.db)),
+        match self.named(name) {
+            Some(db) => Ok(Reply::Database(db)),
             None => Err(Refusal::NoSuchDatabase),
         }
     }
@@ -110,9 +117,10 @@ impl PlainStore {
         self.database(db)?;
         let name = info.name.as_slice();
         self.check_name(name, db)?;
-        let header = &mut self.database_mut(db)?.header;
+        let name = Vec::from_slice(alloc, name).map_err(no_memory)?;
+        let header = &mut numbered(&mut self.databases, db)?.header;
         let kept = header.attributes & OF_RESOURCES;
-        header.name = Vec::from_slice(alloc, name).map_err(no_memory)?;
+        header.name = name;
         header.attributes = info.attributes & !OF_RESOURCES | kept;
         header.version = info.version;
         header.creation_date = info.creation_date;
@@ -129,51 +137,34 @@ impl PlainStore {
         if !is_name(name) {
             return Err(Refusal::InvalidName);
         }
-        let has_it = |other: &Database| other.db != db && other.header.name.as_slice() == name;
-        if self.databases.iter().any(has_it) {
-            return Err(Refusal::AlreadyExists);
+        match self.named(name) {
+            Some(other) if other != db => Err(Refusal::AlreadyExists),
+            _ => Ok(()),
         }
-        Ok(())
+    }
+
+    /// The number of the database of a name.
+    fn named(&self, name: &[u8]) -> Option<Db> {
+        for database in &self.databases {
+            if database.header.name.as_slice() == name {
+                return Some(database.db);
+            }
+        }
+        None
     }
 }
 
 impl Database {
-    /// A database that is made: it has no entries.
+    /// A database that is made: it has no entries, and no number yet.
     fn new(
         alloc: Global,
-        db: Db,
         name: &DbName,
         kind: u32,
         creator: u32,
         resources: bool,
         date: u32,
     ) -> Result<Database, AllocError> {
-        let header = Header::new(alloc, name, kind, creator, resources, date)?;
-        let entries = if resources {
-            Entries::Resources(Vec::new(alloc))
-        } else {
-            Entries::Records(Vec::new(alloc))
-        };
-        Ok(Database {
-            db,
-            header,
-            app_info: None,
-            sort_info: None,
-            entries,
-        })
-    }
-}
-
-impl Header {
-    fn new(
-        alloc: Global,
-        name: &DbName,
-        kind: u32,
-        creator: u32,
-        resources: bool,
-        date: u32,
-    ) -> Result<Header, AllocError> {
-        Ok(Header {
+        let header = Header {
             name: Vec::from_slice(alloc, name.as_slice())?,
             attributes: if resources { OF_RESOURCES } else { 0 },
             version: 0,
@@ -184,11 +175,17 @@ impl Header {
             kind,
             creator,
             seed: 0,
+        };
+        Ok(Database {
+            db: Db(0),
+            header,
+            app_info: None,
+            sort_info: None,
+            records: Vec::new(alloc),
+            resources: Vec::new(alloc),
         })
     }
-}
 
-impl Database {
     /// What its header says, and how many entries it has.
     fn info(&self) -> DbInfo {
         DbInfo {
@@ -207,25 +204,27 @@ impl Database {
     }
 }
 
-/// Whether a new database may find no slot or no room: for chunks of these sizes, and for the directory, which is
-/// made with one slot or takes one more.
-fn may_lack_room(alloc: Global, sizes: &[usize], before: &Image) -> Result<bool, Refusal> {
+/// Whether a new database may find no slot or no room: for its header of so many bytes, for its blocks, and for the
+/// directory, which is made with one slot or takes one more.
+fn may_lack_room(
+    alloc: Global,
+    header: usize,
+    blocks: &[&[u8]],
+    before: &Image,
+) -> Result<bool, AllocError> {
     let mut parts = Vec::new(alloc);
-    for size in sizes {
-        let size = u32::try_from(*size).unwrap_or(u32::MAX);
-        parts.push(Part::making(size)).map_err(no_memory)?;
+    parts.push(Part::making(header))?;
+    for block in blocks {
+        parts.push(Part::making(block.len()))?;
     }
-    let (slots, listing) = match before.directory() {
+    let slots = parts.len();
+    let (more, listing) = match before.directory() {
         None => (1, Part::making(4)),
         Some(directory) => (0, Part::growth(before, directory, 4)),
     };
-    parts.push(listing).map_err(no_memory)?;
-    if before.free_slots() < sizes.len().saturating_add(slots) {
+    parts.push(listing)?;
+    if before.free_slots() < slots.saturating_add(more) {
         return Ok(true);
     }
-    can_run_out(alloc, before, &parts).map_err(no_memory)
-}
-
-pub(crate) fn no_memory<E: Drop>(_: E) -> Refusal {
-    Refusal::OutOfMemory
+    can_run_out(alloc, before, &parts)
 }

@@ -4,55 +4,36 @@
 //! has are the offsets of its blocks.
 
 use crate::database::{
-    DELETED, Database, Entries, HEADER_LENGTH, Header, OF_RESOURCES, Record, Resource,
-    attributes_in, entries_in, number_in,
+    DELETED, Database, GREATEST_ID, HEADER_LENGTH, Header, Record, Resource, entries_length,
+    length_of,
 };
-use crate::database_calls::no_memory;
-use crate::image::up_to_zero;
-use crate::record_calls::{BUSY, GREATEST_ID, next_id};
+use crate::image::{u32_at, up_to_zero};
+use crate::memory_calls::no_memory;
+use crate::record_calls::{BUSY, next_id};
 use heap_model::{Db, FileFault, Name, Refusal, Which};
 use std::alloc::{AllocError, Global};
 use std::slice::Iter;
 
 /// The database of a file, with the IDs and the attributes that the file has. Refused where the file has a fault.
 pub(crate) fn database_in(alloc: Global, file: &[u8]) -> Result<Database, Refusal> {
-    let truncated = Refusal::BadFile(FileFault::Truncated);
-    let (front, listed) = fronts(file).ok_or(truncated)?;
-    if number_in(&front[72..76]) != 0 {
+    if file.len() < length_of(file) {
+        return Err(Refusal::BadFile(FileFault::Truncated));
+    }
+    if u32_at(file, 72) != 0 {
         return Err(Refusal::BadFile(FileFault::ChainedList));
     }
-    let name = up_to_zero(&front[..31]);
+    let name = up_to_zero(file.get(..31).unwrap_or(file));
     if name.is_empty() {
         return Err(Refusal::BadFile(FileFault::EmptyName));
     }
     let name = Vec::from_slice(alloc, name).map_err(no_memory)?;
-    let count = number_in(&front[76..]);
-    let entries = entries_in(alloc, attributes_in(front), count, listed).map_err(no_memory)?;
-    let database = Database::of(Db(0), name, front, entries.ok_or(truncated)?);
+    let database = Database::of(alloc, Db(0), name, file).map_err(no_memory)?;
     let area = Area {
-        from: HEADER_LENGTH.saturating_add(listed.len()),
+        from: length_of(file),
         to: file.len(),
     };
     area.check(&database).map_err(Refusal::BadFile)?;
     Ok(database)
-}
-
-/// The header of a file, and the bytes of its entries.
-fn fronts(file: &[u8]) -> Option<(&[u8; HEADER_LENGTH], &[u8])> {
-    let (front, behind) = file.split_first_chunk::<HEADER_LENGTH>()?;
-    let count = number_in(&front[76..]) as usize;
-    let length = count.saturating_mul(entry_length(attributes_in(front)));
-    let listed = behind.get(..length)?;
-    Some((front, listed))
-}
-
-/// What an entry takes, by the attributes of its database.
-fn entry_length(attributes: u16) -> usize {
-    if attributes & OF_RESOURCES == 0 {
-        8
-    } else {
-        10
-    }
 }
 
 /// Where blocks may begin: from the end of the entries up to the end of the file.
@@ -70,7 +51,10 @@ impl Area {
 
     /// Whether there is no block, or it begins here.
     fn may_have(self, start: Option<Name>) -> bool {
-        start.is_none_or(|start| self.has(start))
+        match start {
+            Some(start) => self.has(start),
+            None => true,
+        }
     }
 
     /// Whether all blocks begin here, and there are none but of deleted records that have no data.
@@ -81,30 +65,21 @@ impl Area {
         if !self.may_have(database.sort_info) {
             return Err(FileFault::BadInfo(Which::Sort));
         }
-        let bad = match &database.entries {
-            Entries::Records(records) => self.bad_record(records),
-            Entries::Resources(resources) => self.bad_resource(resources),
-        };
-        match bad {
+        match self.bad_entry(database) {
             None => Ok(()),
             Some(index) => Err(FileFault::BadOffset(u32::try_from(index).unwrap_or(u32::MAX))),
         }
     }
 
-    /// The index of the first record whose data doesn't begin here.
-    fn bad_record(self, records: &[Record]) -> Option<usize> {
-        for (index, record) in records.iter().enumerate() {
+    /// The index of the first entry whose data doesn't begin here.
+    fn bad_entry(self, database: &Database) -> Option<usize> {
+        for (index, record) in database.records.iter().enumerate() {
             let may_lack = record.attributes & DELETED != 0;
             if !self.may_have(record.data) || record.data.is_none() && !may_lack {
                 return Some(index);
             }
         }
-        None
-    }
-
-    /// The index of the first resource whose data doesn't begin here.
-    fn bad_resource(self, resources: &[Resource]) -> Option<usize> {
-        for (index, resource) in resources.iter().enumerate() {
+        for (index, resource) in database.resources.iter().enumerate() {
             if !self.has(resource.data) {
                 return Some(index);
             }
@@ -146,29 +121,6 @@ fn next_start(starts: &[Name], start: Name, length: usize) -> usize {
     next
 }
 
-/// No record is in use, and each has an ID of its own: the first that has one keeps it, and the others get those
-/// behind the seed, which is answered as it is then.
-pub(crate) fn settle(alloc: Global, records: &mut [Record], seed: u32) -> Result<u32, AllocError> {
-    let mut taken: Vec<u32> = Vec::new(alloc);
-    for record in records.iter_mut() {
-        record.attributes &= !BUSY;
-        if taken.contains(&record.id) {
-            record.id = 0;
-        } else {
-            taken.push(record.id)?;
-        }
-    }
-    let mut last = seed & GREATEST_ID;
-    for record in records.iter_mut() {
-        if record.id == 0 {
-            last = free_id(&taken, last);
-            taken.push(last)?;
-            record.id = last;
-        }
-    }
-    Ok(seed & !GREATEST_ID | last)
-}
-
 /// The first ID behind another that isn't taken.
 fn free_id(taken: &[u32], behind: u32) -> u32 {
     let mut id = next_id(behind);
@@ -184,13 +136,16 @@ fn free_id(taken: &[u32], behind: u32) -> u32 {
 fn replaced(name: Option<Name>, names: &mut Iter<Name>) -> Option<Name> {
     match name {
         None => None,
-        Some(_) => Some(names.next().map_or(Name(0), |name| *name)),
+        Some(_) => Some(*names.next().unwrap_or(&Name(0))),
     }
 }
 
 /// The word of a name, 0 for none.
 fn word(name: Option<Name>) -> u32 {
-    name.map_or(0, |name| name.0)
+    match name {
+        Some(name) => name.0,
+        None => 0,
+    }
 }
 
 impl Database {
@@ -199,18 +154,36 @@ impl Database {
         let mut names = names.iter();
         self.app_info = replaced(self.app_info, &mut names);
         self.sort_info = replaced(self.sort_info, &mut names);
-        match &mut self.entries {
-            Entries::Records(records) => {
-                for record in records {
-                    record.data = replaced(record.data, &mut names);
-                }
-            }
-            Entries::Resources(resources) => {
-                for (resource, name) in resources.iter_mut().zip(names) {
-                    resource.data = *name;
-                }
+        for record in &mut self.records {
+            record.data = replaced(record.data, &mut names);
+        }
+        for resource in &mut self.resources {
+            resource.data = *names.next().unwrap_or(&resource.data);
+        }
+    }
+
+    /// No record is in use, and each has an ID of its own: the first that has one keeps it, and the others get those
+    /// behind the seed, which has the last of these then.
+    pub(crate) fn settle(&mut self, alloc: Global) -> Result<(), AllocError> {
+        let mut taken = Vec::new(alloc);
+        for record in &mut self.records {
+            record.attributes &= !BUSY;
+            if taken.contains(&record.id) {
+                record.id = 0;
+            } else {
+                taken.push(record.id)?;
             }
         }
+        let mut last = self.header.seed & GREATEST_ID;
+        for record in &mut self.records {
+            if record.id == 0 {
+                last = free_id(&taken, last);
+                taken.push(last)?;
+                record.id = last;
+            }
+        }
+        self.header.seed = self.header.seed & !GREATEST_ID | last;
+        Ok(())
     }
 
     /// Where the blocks of its file begin: behind the header, the entries and two zeros.
@@ -220,8 +193,7 @@ impl Database {
 
     /// What its header takes with the entries.
     pub(crate) fn header_length(&self) -> usize {
-        let entry = entry_length(self.header.attributes);
-        HEADER_LENGTH.saturating_add(self.entry_count().saturating_mul(entry))
+        HEADER_LENGTH.saturating_add(entries_length(self.header.attributes, self.entry_count()))
     }
 
     /// The header and the entries of its file, whose blocks begin at these offsets, and the two zeros.
@@ -232,10 +204,8 @@ impl Database {
         let mut file = self.header.to_bytes(alloc, app_info, sort_info)?;
         let count = u16::try_from(self.entry_count()).unwrap_or(u16::MAX);
         file.extend_from_slice(&count.to_be_bytes())?;
-        match &self.entries {
-            Entries::Records(records) => put_records(&mut file, records, starts)?,
-            Entries::Resources(resources) => put_resources(&mut file, resources, starts)?,
-        }
+        put_records(&mut file, &self.records, &mut starts)?;
+        put_resources(&mut file, &self.resources, &mut starts)?;
         file.extend_from_slice(&[0, 0])?;
         Ok(file)
     }
@@ -275,10 +245,10 @@ impl Header {
 fn put_records(
     file: &mut Vec<u8>,
     records: &[Record],
-    mut starts: Iter<Name>,
+    starts: &mut Iter<Name>,
 ) -> Result<(), AllocError> {
     for record in records {
-        let start = word(replaced(record.data, &mut starts));
+        let start = word(replaced(record.data, starts));
         let attributes = u32::from(record.attributes & !BUSY);
         file.extend_from_slice(&start.to_be_bytes())?;
         file.extend_from_slice(&(attributes << 24 | record.id).to_be_bytes())?;
@@ -290,12 +260,13 @@ fn put_records(
 fn put_resources(
     file: &mut Vec<u8>,
     resources: &[Resource],
-    starts: Iter<Name>,
+    starts: &mut Iter<Name>,
 ) -> Result<(), AllocError> {
-    for (resource, start) in resources.iter().zip(starts) {
+    for resource in resources {
+        let start = word(replaced(Some(resource.data), starts));
         file.extend_from_slice(&resource.kind.to_be_bytes())?;
         file.extend_from_slice(&resource.id.to_be_bytes())?;
-        file.extend_from_slice(&start.0.to_be_bytes())?;
+        file.extend_from_slice(&start.to_be_bytes())?;
     }
     Ok(())
 }

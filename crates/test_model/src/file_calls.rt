@@ -1,15 +1,14 @@
 //! The calls on files, each by the words of docs/FORMAT.md: its refusals in their order, what it does and what it
 //! answers.
 
-use crate::database::{Database, Entries};
-use crate::database_calls::no_memory;
-use crate::entry_calls::DATA_OWNER;
-use crate::file::{blocks_in, database_in, settle};
+use crate::database::Database;
+use crate::file::{blocks_in, database_in};
 use crate::heap::Chunk;
-use crate::image::{Image, Kind};
+use crate::image::Image;
+use crate::memory_calls::{DATA_OWNER, no_memory};
 use crate::store::PlainStore;
 use heap_model::{Bytes, Db, FileCall, Name, Refusal, Reply};
-use std::alloc::Global;
+use std::alloc::{AllocError, Global};
 
 impl PlainStore {
     /// Does a call on files. The names that an import gives stand in the image after it.
@@ -37,28 +36,25 @@ impl PlainStore {
         reply: &Reply,
     ) -> Result<Reply, Refusal> {
         let mut database = database_in(alloc, file)?;
-        let blocks = blocks_of(alloc, &database, file)?;
-        let sizes = sizes_of(alloc, &database, &blocks)?;
-        database.db = self.number_for(alloc, &database.header.name, &sizes, before, reply)?;
-        if let Entries::Records(records) = &mut database.entries {
-            database.header.seed = settle(alloc, records, database.header.seed).map_err(no_memory)?;
-        }
-        let names = names_given(alloc, database.db, before, after)?;
-        for (block, name) in blocks.iter().zip(names.iter()) {
-            self.add_data(alloc, *name, block)?;
-        }
+        let blocks = blocks_of(alloc, &database, file).map_err(no_memory)?;
+        database.db = self.number_for(alloc, &database, &blocks, before, reply)?;
+        let names = names_given(alloc, database.db, before, after).map_err(no_memory)?;
+        self.add_data(alloc, &names, &blocks)?;
+        database.settle(alloc).map_err(no_memory)?;
         database.rename(&names);
         self.add(database)
     }
 
-    /// A chunk of a database's data, without a lock.
-    fn add_data(&mut self, alloc: Global, name: Name, block: &[u8]) -> Result<(), Refusal> {
-        let chunk = Chunk {
-            kind: Kind::Movable { locks: 0 },
-            owner: DATA_OWNER,
-            bytes: Vec::from_slice(alloc, block).map_err(no_memory)?,
-        };
-        self.heap.chunks.insert(name.0, chunk).map_err(no_memory)?;
+    /// Blocks of a database's data become chunks without a lock, each under a name.
+    fn add_data(&mut self, alloc: Global, names: &[Name], blocks: &[&[u8]]) -> Result<(), Refusal> {
+        for (name, block) in names.iter().zip(blocks) {
+            let chunk = Chunk {
+                lock: 0,
+                owner: DATA_OWNER,
+                bytes: Vec::from_slice(alloc, block).map_err(no_memory)?,
+            };
+            self.heap.add(*name, chunk)?;
+        }
         Ok(())
     }
 
@@ -87,29 +83,24 @@ fn blocks_of<'a>(
     alloc: Global,
     database: &Database,
     file: &'a [u8],
-) -> Result<Vec<&'a [u8]>, Refusal> {
+) -> Result<Vec<&'a [u8]>, AllocError> {
     let mut starts = Vec::new(alloc);
-    database.put_names(&mut starts).map_err(no_memory)?;
-    blocks_in(alloc, file, &starts).map_err(no_memory)
-}
-
-/// The sizes of the chunks that a database takes: of its header, and of its blocks.
-fn sizes_of(alloc: Global, database: &Database, blocks: &[&[u8]]) -> Result<Vec<usize>, Refusal> {
-    let mut sizes = Vec::new(alloc);
-    sizes.push(database.header_length()).map_err(no_memory)?;
-    for block in blocks {
-        sizes.push(block.len()).map_err(no_memory)?;
-    }
-    Ok(sizes)
+    database.put_names(&mut starts)?;
+    blocks_in(alloc, file, &starts)
 }
 
 /// The names that the new database of a number has in an image: those of them that were free.
-fn names_given(alloc: Global, db: Db, before: &Image, after: &Image) -> Result<Vec<Name>, Refusal> {
+fn names_given(
+    alloc: Global,
+    db: Db,
+    before: &Image,
+    after: &Image,
+) -> Result<Vec<Name>, AllocError> {
     let mut names = Vec::new(alloc);
     if let Some(live) = after.live(Name(db.0))
         && let Ok(database) = Database::decode(alloc, db, live.bytes)
     {
-        database.put_names(&mut names).map_err(no_memory)?;
+        database.put_names(&mut names)?;
     }
     names.retain(|name| before.is_free_slot(*name));
     Ok(names)

@@ -1,14 +1,15 @@
 //! A heap: chunks by their names.
 
-use crate::image::{Image, Kind, Live};
+use crate::image::{FIXED, Image};
 use heap_model::{Name, Refusal};
 use std::alloc::{AllocError, Global};
 use std::collections::BTreeMap;
 
 /// A live chunk.
-#[derive(Drop, PartialEq, Eq)]
+#[derive(Drop)]
 pub struct Chunk {
-    pub kind: Kind,
+    /// 0 to 14 is a movable chunk's, and counts its locks; 15 is a fixed chunk's.
+    pub lock: u8,
     /// 0 is the manager, 1 to 14 are callers, 15 is a database.
     pub owner: u8,
     pub bytes: Vec<u8>,
@@ -38,7 +39,7 @@ impl PlainHeap {
                 && live.owner >= least
             {
                 let chunk = Chunk {
-                    kind: live.kind,
+                    lock: live.lock,
                     owner: live.owner,
                     bytes: Vec::from_slice(alloc, live.bytes)?,
                 };
@@ -65,7 +66,7 @@ impl PlainHeap {
     pub fn difference(&self, image: &Image) -> Option<Name> {
         for (name, chunk) in &self.chunks {
             match image.live(Name(*name)) {
-                Some(live) if chunk.is(live) => {}
+                Some(live) if chunk.is(live.lock, live.owner, live.bytes) => {}
                 _ => return Some(Name(*name)),
             }
         }
@@ -79,16 +80,12 @@ impl PlainHeap {
         None
     }
 
-    /// A name under which this heap and another have different chunks, or only one of them has one.
+    /// The name of a chunk that another heap doesn't have just so.
     pub(crate) fn other_chunk(&self, other: &PlainHeap) -> Option<Name> {
         for (name, chunk) in &self.chunks {
-            if other.chunks.get(name) != Some(chunk) {
-                return Some(Name(*name));
-            }
-        }
-        for (name, _) in &other.chunks {
-            if !self.chunks.contains_key(name) {
-                return Some(Name(*name));
+            match other.chunks.get(name) {
+                Some(other) if chunk.is(other.lock, other.owner, &other.bytes) => {}
+                _ => return Some(Name(*name)),
             }
         }
         None
@@ -97,13 +94,8 @@ impl PlainHeap {
     /// Whether the chunk of a name has a lock count above 0.
     pub(crate) fn is_locked(&self, name: Name) -> bool {
         match self.chunks.get(&name.0) {
-            Some(
-                Chunk {
-                    kind: Kind::Movable { locks },
-                    ..
-                },
-            ) => *locks > 0,
-            _ => false,
+            Some(chunk) => chunk.lock > 0 && chunk.lock < FIXED,
+            None => false,
         }
     }
 
@@ -122,10 +114,17 @@ impl PlainHeap {
             _ => Err(Refusal::InvalidHandle),
         }
     }
+
+    /// The chunk of a name gets another owner.
+    pub(crate) fn give(&mut self, name: Name, owner: u8) -> Result<(), Refusal> {
+        self.chunk_mut(name)?.owner = owner;
+        Ok(())
+    }
 }
 
 impl Chunk {
-    fn is(&self, live: Live) -> bool {
-        self.kind == live.kind && self.owner == live.owner && self.bytes.as_slice() == live.bytes
+    /// Whether it has this lock, this owner and these bytes.
+    fn is(&self, lock: u8, owner: u8, bytes: &[u8]) -> bool {
+        self.lock == lock && self.owner == owner && self.bytes.as_slice() == bytes
     }
 }

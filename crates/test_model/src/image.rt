@@ -4,7 +4,7 @@ use heap_model::{Name, Place};
 use std::alloc::{AllocError, Global};
 
 /// Why bytes are no accepted heap, or that memory was refused.
-#[derive(Clone, Copy, Debug, PartialEq, Eq)]
+#[derive(Clone, Copy, Debug)]
 pub enum Unreadable {
     Memory,
     /// What stands in front of the slots, or the padding behind them.
@@ -22,18 +22,14 @@ impl From<AllocError> for Unreadable {
     }
 }
 
-/// What a live chunk is: movable with a lock count, or fixed.
-#[derive(Clone, Copy, Debug, PartialEq, Eq)]
-pub enum Kind {
-    Movable { locks: u8 },
-    Fixed,
-}
+/// The lock of a fixed chunk. That of a movable one is its lock count.
+pub(crate) const FIXED: u8 = 15;
 
 /// A live chunk: its name, and what its header and its body have.
 #[derive(Clone, Copy)]
 pub struct Live<'a> {
     pub name: Name,
-    pub kind: Kind,
+    pub lock: u8,
     pub owner: u8,
     pub bytes: &'a [u8],
 }
@@ -51,8 +47,17 @@ impl<'a> Piece<'a> {
     /// Whether it is a chunk that is locked or fixed.
     pub fn stays(&self) -> bool {
         match self.live {
-            Some(live) => live.kind != (Kind::Movable { locks: 0 }),
+            Some(live) => live.lock > 0,
             None => false,
+        }
+    }
+
+    /// The name of a chunk that is live in an image after its own, and not where it was.
+    pub(crate) fn moved_name(&self, after: &Image) -> Option<Name> {
+        let name = self.live?.name;
+        match after.piece(name) {
+            Some(now) if now.place != self.place => Some(name),
+            _ => None,
         }
     }
 }
@@ -64,36 +69,27 @@ struct Slot {
     holds: u32,
 }
 
-/// A longest run of neighbouring free chunks: the place of the first one's body, and their sizes
-/// together.
-#[derive(Clone, Copy)]
-struct Run {
-    place: Place,
-    size: u32,
-}
-
 /// The bytes of an accepted heap, and its parts in order.
 #[derive(Drop)]
 pub struct Image<'a> {
     pub bytes: &'a [u8],
     pub pieces: Vec<Piece<'a>>,
     slots: Vec<Slot>,
-    runs: Vec<Run>,
 }
 
 impl<'a> Image<'a> {
     /// Takes an image apart. Refused where it is no accepted heap.
     pub fn decode(alloc: Global, bytes: &'a [u8]) -> Result<Image<'a>, Unreadable> {
-        let slot_count = framed_slots(bytes).ok_or(Unreadable::Frame)?;
-        let area = padded_end(bytes, slot_count).ok_or(Unreadable::Frame)?;
-        let pieces = pieces_of(alloc, bytes, area)?;
-        let runs = runs_of(alloc, &pieces)?;
-        let slots = slots_of(alloc, bytes, slot_count)?;
+        let Some(slot_count) = framed_slots(bytes) else {
+            return Err(Unreadable::Frame);
+        };
+        let Some(area) = padded_end(bytes, slot_count) else {
+            return Err(Unreadable::Frame);
+        };
         let image = Image {
             bytes,
-            pieces,
-            slots,
-            runs,
+            pieces: pieces_of(alloc, bytes, area)?,
+            slots: slots_of(alloc, bytes, slot_count)?,
         };
         image.check_ties()?;
         Ok(image)
@@ -108,40 +104,47 @@ impl<'a> Image<'a> {
             }
         }
         for slot in &self.slots {
-            let named = self.piece(Name(slot.at)).map(|piece| piece.place.0);
-            if slot.holds != 0 && named != Some(slot.holds) {
+            if slot.holds != 0 && !self.is_named_at(slot) {
                 return Err(Unreadable::Slot(slot.at));
             }
         }
-        match u32_at(self.bytes, 12) {
-            Some(0) => Ok(()),
-            Some(word) if self.is_managers(Name(word)) => Ok(()),
-            _ => Err(Unreadable::Directory),
+        match self.directory() {
+            Some(name) if self.managers_body(name).is_none() => Err(Unreadable::Directory),
+            _ => Ok(()),
         }
     }
 
     /// Whether a chunk that is movable stands under its slot.
     fn is_tied(&self, piece: &Piece) -> bool {
         match piece.live {
-            Some(
-                Live {
-                    name,
-                    kind: Kind::Movable { .. },
-                    ..
-                },
-            ) => self
-                .slots
-                .iter()
-                .any(|slot| slot.at == name.0 && slot.holds == piece.place.0),
+            Some(live) if live.lock < FIXED => self.held_by(live.name) == Some(piece.place.0),
             _ => true,
         }
     }
 
-    /// Whether a name is that of a chunk of the manager's.
-    fn is_managers(&self, name: Name) -> bool {
-        match self.live(name) {
-            Some(live) => live.owner == 0,
+    /// Whether a slot holds the place of the chunk that it names.
+    fn is_named_at(&self, slot: &Slot) -> bool {
+        match self.piece(Name(slot.at)) {
+            Some(piece) => piece.place.0 == slot.holds,
             None => false,
+        }
+    }
+
+    /// What the slot of a name holds, none where there is no such slot.
+    fn held_by(&self, name: Name) -> Option<u32> {
+        for slot in &self.slots {
+            if slot.at == name.0 {
+                return Some(slot.holds);
+            }
+        }
+        None
+    }
+
+    /// The body of a chunk of the manager's.
+    pub(crate) fn managers_body(&self, name: Name) -> Option<&'a [u8]> {
+        match self.live(name) {
+            Some(live) if live.owner == 0 => Some(live.bytes),
+            _ => None,
         }
     }
 
@@ -176,7 +179,7 @@ impl<'a> Image<'a> {
 
     /// The name of the directory, none where there is none.
     pub fn directory(&self) -> Option<Name> {
-        match u32_at(self.bytes, 12)? {
+        match u32_at(self.bytes, 12) {
             0 => None,
             slot => Some(Name(slot)),
         }
@@ -185,8 +188,10 @@ impl<'a> Image<'a> {
     /// The sizes of the free chunks together.
     pub fn free_bytes(&self) -> u32 {
         let mut all = 0u32;
-        for run in &self.runs {
-            all = all.saturating_add(run.size);
+        for piece in &self.pieces {
+            if piece.live.is_none() {
+                all = all.saturating_add(piece.size);
+            }
         }
         all
     }
@@ -230,11 +235,15 @@ impl<'a> Image<'a> {
 
     /// The index among these of the stretch that has the chunk of a name.
     pub(crate) fn stretch_of(&self, name: Name) -> usize {
-        self.pieces
-            .iter()
-            .take_while(|piece| piece.live.is_none_or(|live| live.name != name))
-            .filter(|piece| piece.stays())
-            .count()
+        let mut stretch = 0usize;
+        for piece in &self.pieces {
+            match piece.live {
+                Some(live) if live.name == name => break,
+                Some(live) if live.lock > 0 => stretch = stretch.saturating_add(1),
+                _ => {}
+            }
+        }
+        stretch
     }
 
     /// What the chunk of a name takes, 0 where there is none.
@@ -247,14 +256,15 @@ impl<'a> Image<'a> {
 
     /// What the chunk of a name takes with the free chunks directly behind it, 0 where there is none.
     pub(crate) fn size_with_behind(&self, name: Name) -> u64 {
-        let Some(piece) = self.piece(name) else {
-            return 0;
-        };
-        let size = u64::from(piece.size);
-        let behind = u64::from(piece.place.0) + size;
-        for run in &self.runs {
-            if u64::from(run.place.0) == behind {
-                return size + u64::from(run.size);
+        let mut size = 0u64;
+        let mut is_behind = false;
+        for piece in &self.pieces {
+            is_behind = match piece.live {
+                Some(live) => live.name == name,
+                None => is_behind,
+            };
+            if is_behind {
+                size = size.saturating_add(u64::from(piece.size));
             }
         }
         size
@@ -264,10 +274,7 @@ impl<'a> Image<'a> {
     pub fn moved_bytes(&self, after: &Image) -> u32 {
         let mut moved = 0u32;
         for piece in &self.pieces {
-            if let Some(live) = piece.live
-                && let Some(now) = after.piece(live.name)
-                && now.place != piece.place
-            {
+            if piece.moved_name(after).is_some() {
                 moved = moved.saturating_add(piece.size);
             }
         }
@@ -288,7 +295,13 @@ impl<'a> Image<'a> {
 
     /// How many slots are free.
     pub fn free_slots(&self) -> usize {
-        self.slots.iter().filter(|slot| slot.holds == 0).count()
+        let mut count = 0usize;
+        for slot in &self.slots {
+            if slot.holds == 0 {
+                count = count.saturating_add(1);
+            }
+        }
+        count
     }
 
     /// The name of the first free slot.
@@ -303,39 +316,46 @@ impl<'a> Image<'a> {
 
     /// Whether a name is that of a free slot.
     pub(crate) fn is_free_slot(&self, name: Name) -> bool {
-        self.slots
-            .iter()
-            .any(|slot| slot.at == name.0 && slot.holds == 0)
+        self.held_by(name) == Some(0)
     }
 
     /// Whether a run of neighbouring free chunks has so many bytes, headers included.
     pub(crate) fn has_run(&self, need: u64) -> bool {
-        self.runs.iter().any(|run| need <= u64::from(run.size))
+        let mut run = 0u64;
+        for piece in &self.pieces {
+            run = match piece.live {
+                Some(_) => 0,
+                None => run.saturating_add(u64::from(piece.size)),
+            };
+            if need <= run {
+                return true;
+            }
+        }
+        false
     }
 }
 
 /// The number of slots, where the words in front of them are right.
 fn framed_slots(bytes: &[u8]) -> Option<u16> {
-    let size = u32_at(bytes, 4)?;
-    let slot_count = u16_at(bytes, 8)?;
-    let reserved = u16_at(bytes, 10)?;
+    let size = u32_at(bytes, 4);
+    let slot_count = u16_at(bytes, 8);
     let is_framed = bytes.starts_with(b"PHI1")
         && size as usize == bytes.len()
         && size % 8 == 0
         && size >= 64
         && size <= 16_777_208
         && slot_count > 0
-        && reserved == 0;
+        && u16_at(bytes, 10) == 0;
     if is_framed { Some(slot_count) } else { None }
 }
 
 /// The slots, in order.
-fn slots_of(alloc: Global, bytes: &[u8], slot_count: u16) -> Result<Vec<Slot>, Unreadable> {
+fn slots_of(alloc: Global, bytes: &[u8], slot_count: u16) -> Result<Vec<Slot>, AllocError> {
     let mut slots = Vec::new(alloc);
     for number in 0..slot_count {
         let at = 16 + 4 * u32::from(number);
-        let holds = u32_at(bytes, at as usize).ok_or(Unreadable::Frame)?;
-        slots.push(Slot { at, holds }).map_err(AllocError::from)?;
+        let holds = u32_at(bytes, at as usize);
+        slots.push(Slot { at, holds })?;
     }
     Ok(slots)
 }
@@ -357,66 +377,57 @@ fn pieces_of<'a>(alloc: Global, bytes: &'a [u8], area: u32) -> Result<Vec<Piece<
         if at as usize == bytes.len() {
             break;
         }
-        let piece = piece_at(bytes, at).ok_or(Unreadable::Chunk(at))?;
-        at = at.checked_add(piece.size).ok_or(Unreadable::Chunk(at))?;
+        let Some(piece) = piece_at(bytes, at) else {
+            return Err(Unreadable::Chunk(at));
+        };
         pieces.push(piece).map_err(AllocError::from)?;
+        at = at.saturating_add(piece.size);
     }
     Ok(pieces)
 }
 
 /// The chunk at an offset, none where it is out of shape.
 fn piece_at(bytes: &[u8], at: u32) -> Option<Piece<'_>> {
-    let header = u64_at(bytes, at as usize)?;
-    let size = (header >> 32 & 0xFF_FFFF) as u32;
-    let chunk = bytes.get(at as usize..)?.get(..size as usize)?;
-    let body = chunk.get(8..)?;
+    let start = at as usize;
+    let (first, second) = (u32_at(bytes, start), u32_at(bytes, start + 4));
+    let size = first & 0xFF_FFFF;
+    let body = bytes.get(start + 8..start + size as usize)?;
     if size % 8 != 0 {
         return None;
     }
-    let place = Place(at.checked_add(8)?);
-    if header >> 63 == 1 {
-        return Some(Piece {
-            place,
-            size,
-            live: None,
-        });
-    }
-    let live = live_of(header, body, at)?;
-    Some(Piece {
-        place,
-        size,
-        live: Some(live),
-    })
+    let live = if first >> 31 == 1 {
+        None
+    } else {
+        Some(live_of(first, second, body, at)?)
+    };
+    let place = Place(at.saturating_add(8));
+    Some(Piece { place, size, live })
 }
 
-/// A chunk that isn't free, by its header and what follows that.
-fn live_of(header: u64, body: &[u8], at: u32) -> Option<Live<'_>> {
-    let slack = (header >> 56 & 0xF) as usize;
-    let lock = (header >> 28 & 0xF) as u8;
-    let owner = (header >> 24 & 0xF) as u8;
-    let distance = (header & 0xFF_FFFF) as u32;
-    if header >> 60 != 0 || slack > 7 {
+/// A chunk that isn't free, by the two words of its header and what follows them.
+fn live_of(first: u32, second: u32, body: &[u8], at: u32) -> Option<Live<'_>> {
+    let slack = (first >> 24 & 0xF) as usize;
+    let lock = (second >> 28 & 0xF) as u8;
+    let owner = (second >> 24 & 0xF) as u8;
+    let distance = second & 0xFF_FFFF;
+    let is_right = match lock {
+        0 => true,
+        FIXED => distance == 0 && owner > 0 && owner < 15,
+        _ => owner > 0,
+    };
+    if !is_right || first >> 28 != 0 || slack > 7 || slack > body.len() {
         return None;
     }
-    let bytes = body.get(..body.len().checked_sub(slack)?)?;
-    if lock == 15 {
-        let is_callers = distance == 0 && owner > 0 && owner < 15;
-        let name = Name(at.checked_add(8)?);
-        return is_callers.then_some(Live {
-            name,
-            kind: Kind::Fixed,
-            owner,
-            bytes,
-        });
-    }
-    if lock > 0 && owner == 0 {
-        return None;
-    }
+    let name = if lock == FIXED {
+        at.saturating_add(8)
+    } else {
+        slot_at_distance(at, distance)?
+    };
     Some(Live {
-        name: Name(slot_at_distance(at, distance)?),
-        kind: Kind::Movable { locks: lock },
+        name: Name(name),
+        lock,
         owner,
-        bytes,
+        bytes: body.get(..body.len() - slack)?,
     })
 }
 
@@ -430,48 +441,44 @@ fn slot_at_distance(at: u32, distance: u32) -> Option<u32> {
     }
 }
 
-/// The longest runs of neighbouring free chunks.
-fn runs_of(alloc: Global, pieces: &[Piece]) -> Result<Vec<Run>, AllocError> {
-    let mut runs: Vec<Run> = Vec::new(alloc);
-    let mut goes_on = false;
-    for piece in pieces {
-        if piece.live.is_some() {
-            goes_on = false;
-            continue;
-        }
-        match runs.last_mut() {
-            Some(run) if goes_on => run.size = run.size.saturating_add(piece.size),
-            _ => runs.push(Run {
-                place: piece.place,
-                size: piece.size,
-            })?,
-        }
-        goes_on = true;
-    }
-    Ok(runs)
-}
-
 /// The bytes in front of the first zero byte, all if there is none.
 pub(crate) fn up_to_zero(bytes: &[u8]) -> &[u8] {
-    let length = bytes.iter().take_while(|byte| **byte != 0).count();
-    bytes.get(..length).unwrap_or(bytes)
+    for (at, byte) in bytes.iter().enumerate() {
+        if *byte == 0 {
+            return bytes.get(..at).unwrap_or(bytes);
+        }
+    }
+    bytes
 }
 
 pub(crate) fn are_zeros(bytes: &[u8]) -> bool {
-    bytes.iter().all(|byte| *byte == 0)
+    for byte in bytes {
+        if *byte != 0 {
+            return false;
+        }
+    }
+    true
 }
 
-fn u16_at(bytes: &[u8], at: usize) -> Option<u16> {
-    let number = bytes.get(at..)?.first_chunk()?;
-    Some(u16::from_be_bytes(*number))
+/// The byte at an offset, 0 behind the last.
+pub(crate) fn byte_at(bytes: &[u8], at: usize) -> u8 {
+    match bytes.get(at) {
+        Some(byte) => *byte,
+        None => 0,
+    }
 }
 
-pub(crate) fn u32_at(bytes: &[u8], at: usize) -> Option<u32> {
-    let number = bytes.get(at..)?.first_chunk()?;
-    Some(u32::from_be_bytes(*number))
+/// The number that two bytes spell from an offset on, the first of them the higher.
+pub(crate) fn u16_at(bytes: &[u8], at: usize) -> u16 {
+    u16::from_be_bytes([byte_at(bytes, at), byte_at(bytes, at.saturating_add(1))])
 }
 
-fn u64_at(bytes: &[u8], at: usize) -> Option<u64> {
-    let number = bytes.get(at..)?.first_chunk()?;
-    Some(u64::from_be_bytes(*number))
+/// The same of four bytes.
+pub(crate) fn u32_at(bytes: &[u8], at: usize) -> u32 {
+    u32::from_be_bytes([
+        byte_at(bytes, at),
+        byte_at(bytes, at.saturating_add(1)),
+        byte_at(bytes, at.saturating_add(2)),
+        byte_at(bytes, at.saturating_add(3)),
+    ])
 }

@@ -30,8 +30,8 @@ mod rules;
 mod store;
 
 pub use accepted::Unaccepted;
-pub use database::{Database, Entries, Header, Record, Resource};
+pub use database::{Database, Header, Record, Resource};
 pub use heap::{Chunk, PlainHeap};
-pub use image::{Image, Kind, Live, Piece, Unreadable};
+pub use image::{Image, Live, Piece, Unreadable};
 pub use rules::{Rule, broken_rule, broken_store_rule};
 pub use store::{Difference, PlainStore};

@@ -2,12 +2,15 @@
 //! what it does and what it answers.
 
 use crate::heap::{Chunk, PlainHeap};
-use crate::image::{Image, Kind, up_to_zero};
+use crate::image::{FIXED, Image, up_to_zero};
 use heap_model::{Bytes, MemoryCall, Name, Place, Refusal, Reply};
 use std::alloc::Global;
 
 /// The most locks that a chunk can have.
 const MOST_LOCKS: u8 = 14;
+
+/// The owner of what a database names.
+pub(crate) const DATA_OWNER: u8 = 15;
 
 impl PlainHeap {
     /// Does a call, and answers what the reply to it must be.
@@ -64,13 +67,15 @@ impl PlainHeap {
         reply: &Reply,
     ) -> Result<Reply, Refusal> {
         check_owner(owner)?;
-        let first = before.first_free_slot().ok_or(Refusal::NotEnoughSpace)?;
+        let Some(first) = before.first_free_slot() else {
+            return Err(Refusal::NotEnoughSpace);
+        };
         check_room(need(size), before.largest_room())?;
         let name = match reply {
             Reply::Named(name) if before.is_free_slot(*name) => *name,
             _ => first,
         };
-        self.make(alloc, name, Kind::Movable { locks: 0 }, size, owner)
+        self.make(alloc, name, 0, size, owner)
     }
 
     /// A fixed chunk of zeros, whose name is where it was made.
@@ -88,7 +93,7 @@ impl PlainHeap {
             Reply::Named(name) if !self.chunks.contains_key(&name.0) => *name,
             _ => Name(0),
         };
-        self.make(alloc, name, Kind::Fixed, size, owner)
+        self.make(alloc, name, FIXED, size, owner)
     }
 
     /// A chunk of zeros.
@@ -96,12 +101,16 @@ impl PlainHeap {
         &mut self,
         alloc: Global,
         name: Name,
-        kind: Kind,
+        lock: u8,
         size: u32,
         owner: u8,
     ) -> Result<Reply, Refusal> {
-        let bytes = vec![in alloc; 0; size as usize].map_err(|_| Refusal::OutOfMemory)?;
-        let chunk = Chunk { kind, owner, bytes };
+        let bytes = vec![in alloc; 0; size as usize].map_err(no_memory)?;
+        self.add(name, Chunk { lock, owner, bytes })
+    }
+
+    /// A chunk comes under a name.
+    pub(crate) fn add(&mut self, name: Name, chunk: Chunk) -> Result<Reply, Refusal> {
         match self.chunks.insert(name.0, chunk) {
             Ok(_) => Ok(Reply::Named(name)),
             Err(_) => Err(Refusal::OutOfMemory),
@@ -109,13 +118,11 @@ impl PlainHeap {
     }
 
     fn resize(&mut self, name: Name, size: u32, before: &Image) -> Result<Reply, Refusal> {
-        self.chunk(name)?.check_callers()?;
+        self.check_callers(name)?;
         self.set_length(name, size, before)
     }
 
-    /// Another length: bytes at the end go, or zeros come. A locked chunk grows in its place alone, over
-    /// the free chunks directly behind it. One without a lock grows wherever a stretch has room, its own
-    /// size being room in its own stretch.
+    /// Another length: bytes at the end go, or zeros come.
     pub(crate) fn set_length(
         &mut self,
         name: Name,
@@ -123,13 +130,7 @@ impl PlainHeap {
         before: &Image,
     ) -> Result<Reply, Refusal> {
         let chunk = self.chunk_mut(name)?;
-        let is_locked = *chunk.locks_mut()? > 0;
-        if need(size) > before.size_with_behind(name) && is_locked {
-            return Err(Refusal::ChunkLocked);
-        }
-        if need(size) > before.size_of(name) && !is_locked {
-            check_room(need(size), before.largest_room_without(name))?;
-        }
+        check_length(chunk.lock, name, need(size), before)?;
         match chunk.bytes.resize(size as usize, 0) {
             Ok(()) => Ok(Reply::Done),
             Err(_) => Err(Refusal::OutOfMemory),
@@ -137,24 +138,19 @@ impl PlainHeap {
     }
 
     fn free(&mut self, name: Name) -> Result<Reply, Refusal> {
-        let chunk = self.chunk(name)?;
-        chunk.check_callers()?;
-        match chunk.kind {
-            Kind::Movable { locks } if locks > 0 => return Err(Refusal::ChunkLocked),
-            _ => {}
-        }
-        self.chunks.remove(&name.0);
+        self.check_callers(name)?;
+        self.free_all(&[name])?;
         Ok(Reply::Done)
     }
 
     fn lock(&mut self, name: Name, after: &Image) -> Result<Reply, Refusal> {
         let chunk = self.chunk_mut(name)?;
-        let locks = chunk.locks_mut()?;
-        if *locks >= MOST_LOCKS {
-            return Err(Refusal::LockOverflow);
+        match chunk.lock {
+            FIXED => return Err(Refusal::ChunkFixed),
+            MOST_LOCKS => return Err(Refusal::LockOverflow),
+            lock => chunk.lock = lock.saturating_add(1),
         }
-        *locks += 1;
-        let count = *locks;
+        let count = chunk.lock;
         let place = match after.piece(name) {
             Some(piece) => piece.place,
             None => Place(0),
@@ -164,12 +160,12 @@ impl PlainHeap {
 
     fn unlock(&mut self, name: Name) -> Result<Reply, Refusal> {
         let chunk = self.chunk_mut(name)?;
-        let locks = chunk.locks_mut()?;
-        if *locks == 0 {
-            return Err(Refusal::ChunkNotLocked);
+        match chunk.lock {
+            FIXED => return Err(Refusal::ChunkFixed),
+            0 => return Err(Refusal::ChunkNotLocked),
+            lock => chunk.lock = lock - 1,
         }
-        *locks -= 1;
-        Ok(Reply::Number(u32::from(*locks)))
+        Ok(Reply::Number(u32::from(chunk.lock)))
     }
 
     fn size(&self, name: Name) -> Result<Reply, Refusal> {
@@ -182,18 +178,14 @@ impl PlainHeap {
 
     /// The lock count; that of a fixed chunk is 15.
     fn locks(&self, name: Name) -> Result<Reply, Refusal> {
-        match self.chunk(name)?.kind {
-            Kind::Movable { locks } => Ok(Reply::Number(u32::from(locks))),
-            Kind::Fixed => Ok(Reply::Number(15)),
-        }
+        Ok(Reply::Number(u32::from(self.chunk(name)?.lock)))
     }
 
     fn read(&self, alloc: Global, name: Name, at: u32, count: u32) -> Result<Reply, Refusal> {
-        let bytes = self.chunk(name)?.bytes.as_slice();
-        let part = bytes
-            .get(at as usize..)
-            .and_then(|behind| behind.get(..count as usize))
-            .ok_or(Refusal::OutOfBounds)?;
+        let end = at as usize + count as usize;
+        let Some(part) = self.chunk(name)?.bytes.as_slice().get(at as usize..end) else {
+            return Err(Refusal::OutOfBounds);
+        };
         match Vec::from_slice(alloc, part) {
             Ok(copy) => Ok(Reply::Data(Bytes::of(copy))),
             Err(_) => Err(Refusal::OutOfMemory),
@@ -202,40 +194,40 @@ impl PlainHeap {
 
     fn write(&mut self, name: Name, at: u32, bytes: &[u8]) -> Result<Reply, Refusal> {
         let part = self.chunk_mut(name)?.part_mut(at, bytes.len())?;
-        copy(part, bytes);
+        if part.len() == bytes.len() {
+            part.copy_from_slice(bytes);
+        }
         Ok(Reply::Done)
     }
 
     fn set(&mut self, name: Name, at: u32, count: u32, byte: u8) -> Result<Reply, Refusal> {
-        let part = self.chunk_mut(name)?.part_mut(at, count as usize)?;
-        part.fill(byte);
+        self.chunk_mut(name)?
+            .part_mut(at, count as usize)?
+            .fill(byte);
         Ok(Reply::Done)
     }
 
     /// Writes the bytes in front of the first zero byte, all if there is none, and one zero byte.
     fn str_copy(&mut self, name: Name, at: u32, text: &[u8]) -> Result<Reply, Refusal> {
         let text = up_to_zero(text);
-        let part = self
-            .chunk_mut(name)?
-            .part_mut(at, text.len().saturating_add(1))?;
-        part.fill(0);
-        copy(part, text);
-        Ok(Reply::Done)
+        let length = u32::try_from(text.len()).unwrap_or(u32::MAX);
+        self.set(name, at, length.saturating_add(1), 0)?;
+        self.write(name, at, text)
     }
 
     fn set_owner(&mut self, name: Name, owner: u8) -> Result<Reply, Refusal> {
-        let chunk = self.chunk_mut(name)?;
-        chunk.check_callers()?;
+        self.check_callers(name)?;
         check_owner(owner)?;
-        chunk.owner = owner;
+        self.give(name, owner)?;
         Ok(Reply::Done)
     }
 
     /// The name of the chunk whose body begins at a place.
     fn recover(&self, place: Place, before: &Image) -> Result<Reply, Refusal> {
-        let name = before.name_at(place).ok_or(Refusal::InvalidHandle)?;
-        self.chunk(name)?;
-        Ok(Reply::Named(name))
+        match before.name_at(place) {
+            Some(name) if self.chunk(name).is_ok() => Ok(Reply::Named(name)),
+            _ => Err(Refusal::InvalidHandle),
+        }
     }
 
     /// Frees all chunks of an owner, locked and fixed ones too.
@@ -245,44 +237,45 @@ impl PlainHeap {
         self.chunks.retain(|_, chunk| chunk.owner != owner);
         Ok(number(before.saturating_sub(self.chunks.len())))
     }
-}
 
-impl Chunk {
-    /// Refuses a chunk of a database's.
-    fn check_callers(&self) -> Result<(), Refusal> {
-        if self.owner == 15 {
+    /// Refuses a name of no chunk, and of a database's.
+    pub(crate) fn check_callers(&self, name: Name) -> Result<(), Refusal> {
+        if self.chunk(name)?.owner == DATA_OWNER {
             return Err(Refusal::OwnedByDatabase);
         }
         Ok(())
     }
+}
 
-    /// The lock count of a chunk that has one.
-    fn locks_mut(&mut self) -> Result<&mut u8, Refusal> {
-        match &mut self.kind {
-            Kind::Movable { locks } => Ok(locks),
-            Kind::Fixed => Err(Refusal::ChunkFixed),
-        }
-    }
-
+impl Chunk {
     /// So many bytes from an offset on, to be written over, which a chunk without a lock doesn't allow.
     /// A fixed chunk counts as locked.
     fn part_mut(&mut self, at: u32, count: usize) -> Result<&mut [u8], Refusal> {
-        if self.kind == (Kind::Movable { locks: 0 }) {
+        if self.lock == 0 {
             return Err(Refusal::ChunkNotLocked);
         }
-        let behind = match self.bytes.as_mut_slice().get_mut(at as usize..) {
-            Some(behind) => behind,
-            None => return Err(Refusal::OutOfBounds),
-        };
-        behind.get_mut(..count).ok_or(Refusal::OutOfBounds)
+        let end = (at as usize).saturating_add(count);
+        match self.bytes.as_mut_slice().get_mut(at as usize..end) {
+            Some(part) => Ok(part),
+            None => Err(Refusal::OutOfBounds),
+        }
     }
 }
 
-/// Writes bytes over as many others.
-fn copy(to: &mut [u8], from: &[u8]) {
-    for (to, from) in to.iter_mut().zip(from) {
-        *to = *from;
+/// Refuses a length of so many bytes with the header. A locked chunk grows in its place alone, over the free chunks
+/// directly behind it. One without a lock grows wherever a stretch has room, its own size being room in its own
+/// stretch.
+fn check_length(lock: u8, name: Name, need: u64, before: &Image) -> Result<(), Refusal> {
+    if lock == FIXED {
+        return Err(Refusal::ChunkFixed);
     }
+    if lock > 0 && need > before.size_with_behind(name) {
+        return Err(Refusal::ChunkLocked);
+    }
+    if lock == 0 && need > before.size_of(name) {
+        return check_room(need, before.largest_room_without(name));
+    }
+    Ok(())
 }
 
 /// Refuses an owner that callers may not give: theirs are 1 to 14.
@@ -308,4 +301,8 @@ pub(crate) fn need(size: u32) -> u64 {
 
 pub(crate) fn number(count: usize) -> Reply {
     Reply::Number(u32::try_from(count).unwrap_or(u32::MAX))
+}
+
+pub(crate) fn no_memory<E: Drop>(_: E) -> Refusal {
+    Refusal::OutOfMemory
 }

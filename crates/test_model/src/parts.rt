@@ -15,16 +15,19 @@ pub(crate) struct Part {
 
 impl Part {
     /// A chunk of so many bytes is made.
-    pub(crate) fn making(size: u32) -> Part {
+    pub(crate) fn making(size: usize) -> Part {
         Part {
-            need: need(size),
+            need: need(u32::try_from(size).unwrap_or(u32::MAX)),
             leaves: None,
         }
     }
 
     /// The chunk of a name, which doesn't stay, gets so many bytes more.
     pub(crate) fn growth(image: &Image, name: Name, more: u32) -> Part {
-        let length = image.live(name).map_or(0, |live| live.bytes.len());
+        let length = match image.live(name) {
+            Some(live) => live.bytes.len(),
+            None => 0,
+        };
         let size = u32::try_from(length).unwrap_or(0).saturating_add(more);
         Part {
             need: need(size),
@@ -46,13 +49,10 @@ pub(crate) fn can_run_out(
     let mut choices = Vec::new(alloc);
     choices.push(image.rooms(alloc)?)?;
     for part in parts {
-        let mut next = Vec::new(alloc);
-        for rooms in &choices {
-            if !place(alloc, rooms, part, &mut next)? {
-                return Ok(true);
-            }
+        match place(alloc, &choices, part)? {
+            Some(next) => choices = next,
+            None => return Ok(true),
         }
-        choices = next;
     }
     Ok(false)
 }
@@ -61,14 +61,31 @@ pub(crate) fn can_run_out(
 fn needed(parts: &[Part]) -> u64 {
     let mut all = 0u64;
     for part in parts {
-        let left = part.leaves.map_or(0, |(_, size)| size);
-        all = all.saturating_add(part.need.saturating_sub(left));
+        all = all.saturating_add(match part.leaves {
+            Some((_, size)) => part.need.saturating_sub(size),
+            None => part.need,
+        });
     }
     all
 }
 
-/// Adds the rooms that are left behind each choice of a stretch for a part. Answers whether there is one.
+/// The rooms that are left behind each choice of a stretch for a part, none where some rooms have no stretch for it.
 fn place(
+    alloc: Global,
+    choices: &[Vec<u64>],
+    part: &Part,
+) -> Result<Option<Vec<Vec<u64>>>, AllocError> {
+    let mut next = Vec::new(alloc);
+    for rooms in choices {
+        if !place_in(alloc, rooms, part, &mut next)? {
+            return Ok(None);
+        }
+    }
+    Ok(Some(next))
+}
+
+/// Adds those that are left of some rooms. Answers whether there is a stretch for the part.
+fn place_in(
     alloc: Global,
     rooms: &[u64],
     part: &Part,

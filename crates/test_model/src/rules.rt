@@ -1,6 +1,6 @@
 //! What a call leaves alone, whatever it answers.
 
-use crate::image::{Image, Piece, u32_at};
+use crate::image::{Image, u32_at};
 use crate::memory_calls::need;
 use heap_model::{
     Call, DatabaseCall, FileCall, MemoryCall, Name, RecordCall, Refusal, Reply, ResourceCall,
@@ -174,7 +174,7 @@ fn first_moved(moves: Moves, before: &Image, after: &Image) -> Option<Name> {
         if piece.stays() {
             stretch = stretch.saturating_add(1);
         }
-        let Some(name) = moved_name(piece, after) else {
+        let Some(name) = piece.moved_name(after) else {
             continue;
         };
         let may_move = match moves {
@@ -189,13 +189,6 @@ fn first_moved(moves: Moves, before: &Image, after: &Image) -> Option<Name> {
     None
 }
 
-/// The name of a chunk that is live in an image after its own, and not where it was.
-fn moved_name(piece: &Piece, after: &Image) -> Option<Name> {
-    let name = piece.live?.name;
-    let now = after.piece(name)?;
-    (now.place != piece.place).then_some(name)
-}
-
 /// The place of the first free chunk whose header's first word was written, and has more than the free
 /// bit and the size.
 fn odd_free_header(before: &Image, after: &Image) -> Option<u32> {
@@ -204,7 +197,7 @@ fn odd_free_header(before: &Image, after: &Image) -> Option<u32> {
         let word = u32_at(after.bytes, at);
         if piece.live.is_none()
             && word != u32_at(before.bytes, at)
-            && word != Some(0x8000_0000 | piece.size)
+            && word != 0x8000_0000 | piece.size
         {
             return Some(piece.place.0);
         }

@@ -42,6 +42,9 @@ impl PlainStore {
         if let Some(name) = self.heap.other_chunk(&other.heap) {
             return Some(Difference::Chunk(name));
         }
+        if let Some(name) = other.heap.other_chunk(&self.heap) {
+            return Some(Difference::Chunk(name));
+        }
         let longer = if self.databases.len() < other.databases.len() {
             &other.databases
         } else {
@@ -68,36 +71,33 @@ impl PlainStore {
         after: &Image,
         reply: &Reply,
     ) -> Reply {
-        match call {
-            Call::Memory(call) => self.heap.call(alloc, call, before, after, reply),
-            Call::Database(call) => self
-                .database_call(alloc, call, before, reply)
-                .unwrap_or_else(Reply::Refused),
-            Call::Record(call) => self
-                .record_call(alloc, call, before, reply)
-                .unwrap_or_else(Reply::Refused),
-            Call::Resource(call) => self
-                .resource_call(alloc, call, before, reply)
-                .unwrap_or_else(Reply::Refused),
-            Call::File(call) => self
-                .file_call(alloc, call, before, after, reply)
-                .unwrap_or_else(Reply::Refused),
-        }
+        let answer = match call {
+            Call::Memory(call) => Ok(self.heap.call(alloc, call, before, after, reply)),
+            Call::Database(call) => self.database_call(alloc, call, before, reply),
+            Call::Record(call) => self.record_call(alloc, call, before, reply),
+            Call::Resource(call) => self.resource_call(alloc, call, before, reply),
+            Call::File(call) => self.file_call(alloc, call, before, after, reply),
+        };
+        answer.unwrap_or_else(Reply::Refused)
     }
 
     /// The database of a number.
     pub(crate) fn database(&self, db: Db) -> Result<&Database, Refusal> {
-        self.databases
-            .iter()
-            .find(|database| database.db == db)
-            .ok_or(Refusal::NoSuchDatabase)
+        for database in &self.databases {
+            if database.db == db {
+                return Ok(database);
+            }
+        }
+        Err(Refusal::NoSuchDatabase)
     }
+}
 
-    /// The same, to change it.
-    pub(crate) fn database_mut(&mut self, db: Db) -> Result<&mut Database, Refusal> {
-        self.databases
-            .iter_mut()
-            .find(|database| database.db == db)
-            .ok_or(Refusal::NoSuchDatabase)
+/// The database of a number among others, to change it.
+pub(crate) fn numbered(databases: &mut [Database], db: Db) -> Result<&mut Database, Refusal> {
+    for database in databases {
+        if database.db == db {
+            return Ok(database);
+        }
     }
+    Err(Refusal::NoSuchDatabase)
 }
