@@ -10,7 +10,7 @@ use palmheap_commands::{cmd_check_from, cmd_new_from, cmd_run_from};
 use program_io::{Status, say_bad, say_line_fault};
 use std::alloc::Global;
 use std::test::*;
-use test_fakes::{RefusesOne, equal};
+use test_fakes::{RefusesOne, holds};
 use test_images::{BLANK, DATABASE, bytes_of};
 
 /// What takes memory and prints.
@@ -144,11 +144,10 @@ fn check_behind(
     is_refused: bool,
 ) -> Result<(), Fail> {
     let memory = RefusesOne::behind(alloc, before);
-    let came = tried(&memory, alloc, trial)?;
-    equal(
-        format_args!("trial {number}, after {before}"),
-        (came, memory.has_refused()),
-        ((wanted, is_refused), is_refused),
+    let (status, is_empty) = tried(&memory, alloc, trial)?;
+    holds(
+        format_args!("trial {number}, after {before}: {status:?}"),
+        status == wanted && is_empty == is_refused && memory.has_refused() == is_refused,
     )
 }
 

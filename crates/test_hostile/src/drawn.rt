@@ -57,14 +57,18 @@ impl Drawn {
 
     /// Does a call, and adds it to the list.
     fn add(&mut self, alloc: Global, counts: &mut Counts, call: Call) -> Result<(), Fail> {
-        let spot = format!(in alloc; "call {}", self.calls.len())?;
-        let reply = self
-            .beside
-            .call_on(alloc, &mut self.store, spot.as_str(), &call)?;
+        let reply = self.reply(alloc, &call)?;
         counts.add(&call, &reply)?;
-        self.calls.push(call)?;
         self.replies.push(reply)?;
+        self.calls.push(call)?;
         Ok(())
+    }
+
+    /// The reply to a call on the store, which must be the model's.
+    fn reply(&mut self, alloc: Global, call: &Call) -> Result<Reply, Fail> {
+        let spot = format!(in alloc; "call {}", self.calls.len())?;
+        self.beside
+            .call_on(alloc, &mut self.store, spot.as_str(), call)
     }
 
     /// Forgets the chunks that are gone, or may move now.

@@ -1,6 +1,6 @@
 //! Each front of a script.
 
-use palm_script::{LineFault, ScriptFault, parse};
+use palm_script::{ScriptFault, parse};
 use std::alloc::Global;
 use std::test::*;
 use test_fakes::holds;
@@ -11,46 +11,26 @@ const SCRIPT: &str = "create d \"Notes\" \"DATA\" \"Test\" 0 5\nrecnew d 0 4 r\n
     catcount d 3\ncatcount d 16\ncatnext d 0 3\ncatpos d 1 255\nrecget d 0 h\ncatmove d 5 3 1\n\
     recinfo d 1\ncatdelete d 5\nrecinfo d 1\ndbinfo d\n";
 
-/// What a front of the script reads as, by its whole lines and the one that it breaks off: how many lines there are,
-/// or the line of its fault.
-#[derive(Clone, Copy, Debug, PartialEq, Eq)]
-enum Front {
-    Lines(usize),
-    BadLine(usize),
-    NoMemory,
-}
-
-fn front_of(alloc: Global, text: &[u8]) -> Front {
-    match parse(alloc, text) {
-        Ok(script) => Front::Lines(script.lines().len()),
-        Err(
-            LineFault {
-                fault: ScriptFault::OutOfMemory,
-                ..
-            },
-        ) => Front::NoMemory,
-        Err(fault) => Front::BadLine(fault.line),
-    }
-}
-
-/// Whether this is read of a front of the script.
-fn is_read(front: &[u8], read: Front) -> bool {
+/// Whether a front of the script is read, by its whole lines and the one that it breaks off.
+fn is_read(alloc: Global, front: &[u8]) -> bool {
     let whole = front.iter().filter(|byte| **byte == b'\n').count();
     let is_whole = front.is_empty() || front.ends_with(b"\n");
-    let broken = whole.saturating_add(1);
-    if is_whole {
-        return read == Front::Lines(whole);
+    let lines = if is_whole {
+        whole
+    } else {
+        whole.saturating_add(1)
+    };
+    match parse(alloc, front) {
+        Ok(script) => script.lines().len() == lines,
+        Err(fault) => {
+            !is_whole && fault.line == lines && fault.fault != ScriptFault::OutOfMemory
+        }
     }
-    read == Front::Lines(broken) || read == Front::BadLine(broken)
 }
 
 fn check_front(alloc: Global, length: usize) -> Result<(), Fail> {
     let front = SCRIPT.as_bytes().get(..length).ok_or("no front")?;
-    let read = front_of(alloc, front);
-    holds(
-        format_args!("{length} bytes: {read:?}"),
-        is_read(front, read),
-    )
+    holds(format_args!("{length} bytes"), is_read(alloc, front))
 }
 
 /// What is in front of the line that breaks off is read, and that line alone may be bad.

@@ -15,10 +15,10 @@ use palm_store::{Store, StoreFault};
 use palm_text::Counted;
 use raw_region::Region;
 use script_lines::parse_from;
-use std::alloc::{AllocError, Global};
+use std::alloc::Global;
 use std::test::*;
 use test_beside::{image_of, store_of};
-use test_fakes::{RefusesOne, equal, holds};
+use test_fakes::{RefusesOne, holds};
 use test_images::{
     BLANK, DATABASE, EMPTY_FILE, ONE_CHUNK, ORDER_FILE, TINY_FILE, TWO_DATABASES, WIDE, bytes_of,
 };
@@ -51,7 +51,7 @@ enum Trial {
 }
 
 /// What came of a call.
-#[derive(Clone, Copy, Debug, PartialEq, Eq)]
+#[derive(Drop)]
 enum Came {
     /// Want of memory. A growth was refused, and all is as it was.
     NoMemory,
@@ -268,25 +268,22 @@ const TRIALS: [(Trial, u32); 23] = [
     (Trial::Export(TINY_FILE), 1),
 ];
 
-/// The number of growths of a call: behind so many none is refused.
-fn growths_of(alloc: Global, trial: &Trial, number: usize) -> Result<u32, Fail> {
-    for before in 0..64 {
-        let came = tried_behind(alloc, trial, before)?;
-        if came == Came::Done {
-            return Ok(before);
-        }
-        equal(
-            format_args!("trial {number}, after {before}"),
-            came,
-            Came::NoMemory,
-        )?;
+/// Whether none is refused behind so many growths; else there must be want of memory.
+fn is_done(alloc: Global, number: usize, trial: &Trial, before: u32) -> Result<bool, Fail> {
+    match tried_behind(alloc, trial, before)? {
+        Came::Done => Ok(true),
+        Came::NoMemory => Ok(false),
+        Came::Odd => Err(Fail::new(format_args!("trial {number}, after {before}"))),
     }
-    Ok(64)
 }
 
+/// A call has so many growths: behind these none is refused.
 fn check_growths(alloc: Global, number: usize, trial: &Trial, growths: u32) -> Result<(), Fail> {
-    let found = growths_of(alloc, trial, number)?;
-    equal(format_args!("trial {number}"), found, growths)
+    for before in 0..=growths {
+        let is_right = is_done(alloc, number, trial, before)? == (before == growths);
+        holds(format_args!("trial {number}, after {before}"), is_right)?;
+    }
+    Ok(())
 }
 
 #[test]
@@ -343,7 +340,10 @@ fn check_carried(alloc: Global, before: u32, text: &str) -> Result<(), Fail> {
 fn check_not_begun(alloc: Global, before: u32) -> Result<(), Fail> {
     let memory = RefusesOne::behind(alloc, before);
     let came = run_with(&memory, alloc, WIDE, CARRIED)?;
-    equal(format_args!("after {before}"), came, Came::NoMemory)
+    holds(
+        format_args!("after {before}"),
+        matches!(came, Came::NoMemory),
+    )
 }
 
 /// In a run, an import or an export for which memory is refused is refused, and the lines behind it follow.
@@ -408,18 +408,19 @@ const LISTED: [(u32, [u8; 4]); 13] = [
     (13, [0, 0, 0, 0]),
 ];
 
-/// The numbers of the refusals among replies.
-fn numbers_of(alloc: Global, replies: &[Reply]) -> Result<Vec<u8>, AllocError> {
-    let mut numbers = Vec::new(alloc);
-    for reply in replies {
-        numbers.push(number_of(reply))?;
+/// Whether replies have these numbers of refusals.
+fn have_numbers(replies: &[Reply], numbers: &[u8]) -> bool {
+    for (reply, number) in replies.iter().zip(numbers) {
+        if number_of(reply) != *number {
+            return false;
+        }
     }
-    Ok(numbers)
+    replies.len() == numbers.len()
 }
 
 fn check_listed(alloc: Global, before: u32, numbers: &[u8]) -> Result<(), Fail> {
-    let said = numbers_of(alloc, &listed(alloc, before)?)?;
-    equal(format_args!("after {before}"), said.as_slice(), numbers)
+    let is_right = have_numbers(&listed(alloc, before)?, numbers);
+    holds(format_args!("after {before}"), is_right)
 }
 
 /// In a list of calls the same, and of a read.

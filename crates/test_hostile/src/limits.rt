@@ -95,10 +95,9 @@ const OWNERS: [(u32, Status, &str); 4] = [
 
 fn check_owner(alloc: Global, owner: u32, status: Status, text: &str) -> Result<(), Fail> {
     let (found, said) = said_of_owned(alloc, owner)?;
-    equal(
-        format_args!("owner {owner}"),
-        (found, said.as_str()),
-        (status, text),
+    holds(
+        format_args!("owner {owner}: {said}"),
+        found == status && said.as_str() == text,
     )
 }
 
@@ -141,7 +140,7 @@ fn the_largest_chunk_is_read_in_a_list(rt: HostRuntime) -> Result<(), Fail> {
     let mut store = with_largest(rt.alloc())?;
     let replies = run_calls(rt.alloc(), &mut store, &[READ])?;
     let length = replies.first().and_then(length_of);
-    equal("bytes", (replies.len(), length), (1, Some(16_777_176)))
+    holds("bytes", replies.len() == 1 && length == Some(16_777_176))
 }
 
 /// How many bytes were read.
@@ -214,9 +213,9 @@ fn fixed_chunks(alloc: Global, size: u32) -> Result<Vec<u8>, Fail> {
 fn an_image_has_nothing_but_fixed_chunks(rt: HostRuntime) -> Result<(), Fail> {
     let store = store_of(rt.alloc(), &fixed_chunks(rt.alloc(), MOST)?)?;
     let StoreSummary { heap, databases } = store.summary();
-    equal(
+    let is_right = heap.fixed == (MOST - 24) / 8 && heap.free == 0 && heap.movable == 0;
+    holds(
         "fixed, free, movable, databases",
-        (heap.fixed, heap.free, heap.movable, databases),
-        ((MOST - 24) / 8, 0, 0, 0),
+        is_right && databases == 0,
     )
 }

@@ -1,11 +1,12 @@
 //! Stores behind scripts and files, and the scripts and files.
 
 use heap_model::{Bytes, Db};
-use palm_script::{parse, run};
+use palm_script::{RunFault, parse, run};
 use palm_store::Store;
 use palm_text::Counted;
 use pdb_files::import;
 use std::alloc::Global;
+use std::io::Write;
 use std::test::*;
 use test_beside::{image_of, store_of};
 use test_images::{EMPTY_FILE, ORDER_FILE, TINY_FILE, WIDE, bytes_of};
@@ -45,11 +46,23 @@ pub(crate) fn store_behind(
 
 /// What a script prints that is run on a store.
 fn printed(alloc: Global, store: &mut Store, text: &str) -> Result<Vec<u8>, Fail> {
+    let mut out = Counted::new(Vec::new(alloc));
+    match ran(alloc, store, text, &mut out)? {
+        None => Ok(out.into_inner()),
+        Some(fault) => Err(fault)?,
+    }
+}
+
+/// Runs a script on a store, and answers why the run ended early, if it did.
+pub(crate) fn ran<W: Write>(
+    alloc: Global,
+    store: &mut Store,
+    text: &str,
+    out: &mut Counted<W>,
+) -> Result<Option<RunFault>, Fail> {
     let script = parse(alloc, text.as_bytes())?;
     let inputs = input_files(alloc)?;
-    let mut out = Counted::new(Vec::new(alloc));
-    run(alloc, store, &script, &inputs, &mut out)?;
-    Ok(out.into_inner())
+    Ok(run(alloc, store, &script, &inputs, out).err())
 }
 
 /// A store with the database of a file, and the number of that.
