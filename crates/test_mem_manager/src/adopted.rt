@@ -54,9 +54,11 @@ fn check_bits(alloc: Global, listing: &str) -> Result<(), Fail> {
     Ok(())
 }
 
+static IMAGES: [&str; 3] = [BLANK, FIVE, ODD];
+
 #[test]
 fn images_with_a_flipped_bit(rt: HostRuntime) -> Result<(), Fail> {
-    for listing in [BLANK, FIVE, ODD] {
+    for listing in &IMAGES {
         check_bits(rt.alloc(), listing)?;
     }
     Ok(())

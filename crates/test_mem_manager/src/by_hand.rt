@@ -4,43 +4,46 @@
 use crate::beside::Beside;
 use crate::notation::{call_of, check_reply, sides_of};
 use std::alloc::Global;
-use std::test::Fail;
+use std::test::*;
 use test_images::image;
 
+/// What an example is about, the listing of the image that it starts from, and its lines.
+pub(crate) type Example = (&'static str, &'static str, &'static str);
+
 /// Does the call of a line.
-fn check_line(alloc: Global, beside: &mut Beside, line: &str) -> Result<(), Fail> {
+fn check_line(alloc: Global, beside: &mut Beside, about: &str, line: &str) -> Result<(), Fail> {
+    let spot = format!(in alloc; "{about}: {line}")?;
     let (call, right) = sides_of(line)?;
-    let reply = beside.call(alloc, line, &call_of(alloc, call)?)?;
-    check_reply(alloc, line, &reply, right)
+    let reply = beside.call(alloc, spot.as_str(), &call_of(alloc, call)?)?;
+    check_reply(alloc, spot.as_str(), &reply, right)
 }
 
-/// Does the calls of some lines, one after the other, each on a heap that is adopted anew, and answers what
-/// they leave.
-pub(crate) fn left_by(alloc: Global, listing: &str, lines: &str) -> Result<Beside, Fail> {
-    let mut beside = Beside::new(alloc, image(alloc, listing, "")?)?;
+/// Does the calls of some lines, one after the other: each on a heap that is adopted for it, if `anew`, and else on
+/// one heap, which may have had calls before.
+pub(crate) fn check_on(
+    alloc: Global,
+    beside: &mut Beside,
+    (about, lines): (&str, &str),
+    anew: bool,
+) -> Result<(), Fail> {
     for line in lines.lines() {
-        beside.adopt_anew(alloc)?;
-        check_line(alloc, &mut beside, line.trim())?;
-    }
-    Ok(beside)
-}
-
-/// Does the calls of some lines, one after the other, each on a heap that is adopted anew.
-pub(crate) fn check_anew(alloc: Global, listing: &str, lines: &str) -> Result<(), Fail> {
-    left_by(alloc, listing, lines)?;
-    Ok(())
-}
-
-/// Does the calls of some lines on a heap that may have had calls before.
-pub(crate) fn check_on(alloc: Global, beside: &mut Beside, lines: &str) -> Result<(), Fail> {
-    for line in lines.lines() {
-        check_line(alloc, beside, line.trim())?;
+        if anew {
+            beside.adopt_anew(alloc)?;
+        }
+        check_line(alloc, beside, about, line.trim())?;
     }
     Ok(())
 }
 
-/// Does the calls of some lines on one heap from end to end.
-pub(crate) fn check_on_one(alloc: Global, listing: &str, lines: &str) -> Result<(), Fail> {
-    let mut beside = Beside::new(alloc, image(alloc, listing, "")?)?;
-    check_on(alloc, &mut beside, lines)
+/// Does the calls of examples, each from its own image.
+pub(crate) fn check_all(
+    rt: &impl AllocGlobal,
+    examples: &[Example],
+    anew: bool,
+) -> Result<(), Fail> {
+    for (about, listing, lines) in examples {
+        let mut beside = Beside::new(rt.alloc(), image(rt.alloc(), listing, "")?)?;
+        check_on(rt.alloc(), &mut beside, (about, lines), anew)?;
+    }
+    Ok(())
 }

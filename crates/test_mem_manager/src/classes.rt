@@ -1,7 +1,7 @@
 //! Free chunks of many sizes, on one heap from end to end, whose image is checked behind each call.
 
 use crate::beside::Beside;
-use crate::by_hand::{check_on, check_on_one};
+use crate::by_hand::{Example, check_all, check_on};
 use crate::images::EIGHT_SLOTS;
 use heap_model::{MemoryCall, Name, Reply};
 use std::alloc::Global;
@@ -155,6 +155,8 @@ fn chunks_grow_over_any_of_a_list(rt: HostRuntime) -> Result<(), Fail> {
     Ok(())
 }
 
+/// A chunk grows over two that were freed, which are not joined. The next one that is freed finds the others in
+/// their lists.
 const GROWN_OVER_TWO: &str = "handle_new 24 1 = named 16
     handle_new 24 1 = named 20
     handle_new 24 1 = named 24
@@ -170,13 +172,7 @@ const GROWN_OVER_TWO: &str = "handle_new 24 1 = named 16
     handle_new 24 1 = named 20
     free_bytes = 48";
 
-/// A chunk grows over two that were freed, which are not joined. The next one that is freed finds the others in
-/// their lists.
-#[test]
-fn a_chunk_grows_over_two(rt: HostRuntime) -> Result<(), Fail> {
-    check_on_one(rt.alloc(), EIGHT_SLOTS, GROWN_OVER_TWO)
-}
-
+/// The room of one stretch is opened behind a chunk; the free chunk of another is in its list behind the next call.
 const OPENED: &str = "handle_new 24 1 = named 16
     handle_new 24 1 = named 20
     handle_new 24 1 = named 24
@@ -192,12 +188,6 @@ const OPENED: &str = "handle_new 24 1 = named 16
     handle_new 24 1 = named 20
     free_bytes = 48";
 
-/// The room of one stretch is opened behind a chunk; the free chunk of another is in its list behind the next call.
-#[test]
-fn room_is_opened_behind_a_chunk(rt: HostRuntime) -> Result<(), Fail> {
-    check_on_one(rt.alloc(), EIGHT_SLOTS, OPENED)
-}
-
 const GROWN_OVER_THE_LAST: &str = "resize 16 8 = done
     free 24 = done
     free_bytes = 576
@@ -211,5 +201,20 @@ fn a_chunk_grows_over_one_far_in_a_list(rt: HostRuntime) -> Result<(), Fail> {
     let mut beside = blank(rt.alloc(), 16 + 4 * 144 + 144 * 8, 144)?;
     make_all(rt.alloc(), &mut beside, 0, 144)?;
     free_odd(rt.alloc(), &mut beside, 72)?;
-    check_on(rt.alloc(), &mut beside, GROWN_OVER_THE_LAST)
+    check_on(
+        rt.alloc(),
+        &mut beside,
+        ("grown over the last", GROWN_OVER_THE_LAST),
+        false,
+    )
+}
+
+static EXAMPLES: [Example; 2] = [
+    ("a chunk grows over two", EIGHT_SLOTS, GROWN_OVER_TWO),
+    ("room is opened behind a chunk", EIGHT_SLOTS, OPENED),
+];
+
+#[test]
+fn chunks_of_classes(rt: HostRuntime) -> Result<(), Fail> {
+    check_all(&rt, &EXAMPLES, false)
 }

@@ -1,6 +1,6 @@
 //! Calls with the replies that they must have, each on a heap that is adopted for it.
 
-use crate::by_hand::check_anew;
+use crate::by_hand::{Example, check_all};
 use crate::images::{FIVE, ONE_SLOT};
 use std::test::*;
 use test_images::BLANK;
@@ -18,11 +18,7 @@ const MADE_AND_FREED: &str = "handle_new 10 1 = named 16
     handle_new 88 1 = named 16
     free_bytes = 0";
 
-#[test]
-fn chunks_are_made_and_freed(rt: HostRuntime) -> Result<(), Fail> {
-    check_anew(rt.alloc(), BLANK, MADE_AND_FREED)
-}
-
+/// A chunk that moves overlaps where it goes to; where nothing is free in front of it, none moves.
 const COMPACTED: &str = "handle_new 0 1 = named 16
     handle_new 24 1 = named 20
     handle_new 8 1 = named 24
@@ -41,12 +37,7 @@ const COMPACTED: &str = "handle_new 0 1 = named 16
     read 20 0 10 = x4142434445464748494a
     lock 24 = at 72 locks 1";
 
-/// A chunk that moves overlaps where it goes to; where nothing is free in front of it, none moves.
-#[test]
-fn chunks_are_compacted(rt: HostRuntime) -> Result<(), Fail> {
-    check_anew(rt.alloc(), BLANK, COMPACTED)
-}
-
+/// A slot in front that was freed is found again.
 const OUT_OF_SLOTS: &str = "handle_new 0 1 = named 16
     handle_new 0 1 = named 20
     handle_new 0 1 = named 24
@@ -59,12 +50,6 @@ const OUT_OF_SLOTS: &str = "handle_new 0 1 = named 16
     handle_new 0 1 = named 20
     handle_new 0 1 = refused NotEnoughSpace";
 
-/// A slot in front that was freed is found again.
-#[test]
-fn slots_run_out_before_bytes(rt: HostRuntime) -> Result<(), Fail> {
-    check_anew(rt.alloc(), BLANK, OUT_OF_SLOTS)
-}
-
 const FREED: &str = "handle_new 0 2 = named 28
     free 28 = done
     size 28 = refused InvalidHandle
@@ -74,11 +59,8 @@ const FREED: &str = "handle_new 0 2 = named 28
     free 72 = refused InvalidHandle
     free_bytes = 48";
 
-#[test]
-fn a_freed_name_names_nothing(rt: HostRuntime) -> Result<(), Fail> {
-    check_anew(rt.alloc(), FIVE, FREED)
-}
-
+/// The manager's own chunk, an empty slot, an offset between slots, places that no name is, and what
+/// lies outside.
 const OTHER_NAMES: &str = "size 24 = refused InvalidHandle
     size 28 = refused InvalidHandle
     size 0 = refused InvalidHandle
@@ -94,13 +76,8 @@ const OTHER_NAMES: &str = "size 24 = refused InvalidHandle
     size 4294967292 = refused InvalidHandle
     size 4294967295 = refused InvalidHandle";
 
-/// The manager's own chunk, an empty slot, an offset between slots, places that no name is, and what
-/// lies outside.
-#[test]
-fn other_names_are_refused(rt: HostRuntime) -> Result<(), Fail> {
-    check_anew(rt.alloc(), FIVE, OTHER_NAMES)
-}
-
+/// The manager's own chunk has no name for callers; a database's may be locked, read and written, and
+/// keeps its owner.
 const NOT_A_CALLERS: &str = "free 24 = refused InvalidHandle
     lock 24 = refused InvalidHandle
     unlock 24 = refused InvalidHandle
@@ -124,13 +101,7 @@ const NOT_A_CALLERS: &str = "free 24 = refused InvalidHandle
     locks 20 = 2
     free_by_owner 14 = 1";
 
-/// The manager's own chunk has no name for callers; a database's may be locked, read and written, and
-/// keeps its owner.
-#[test]
-fn chunks_of_the_manager_and_of_databases(rt: HostRuntime) -> Result<(), Fail> {
-    check_anew(rt.alloc(), FIVE, NOT_A_CALLERS)
-}
-
+/// An owner that is none of a caller's comes before want of room.
 const NEVER_GIVEN: &str = "handle_new 8 0 = refused InvalidOwner
     handle_new 8 15 = refused InvalidOwner
     handle_new 80 16 = refused InvalidOwner
@@ -145,12 +116,6 @@ const NEVER_GIVEN: &str = "handle_new 8 0 = refused InvalidOwner
     free_by_owner 15 = refused InvalidOwner
     free_by_owner 16 = refused InvalidOwner";
 
-/// An owner that is none of a caller's comes before want of room.
-#[test]
-fn what_no_heap_gives(rt: HostRuntime) -> Result<(), Fail> {
-    check_anew(rt.alloc(), FIVE, NEVER_GIVEN)
-}
-
 const NO_BYTES: &str = "handle_new 0 1 = named 16
     size 16 = 0
     read 16 0 0 = x
@@ -163,11 +128,7 @@ const NO_BYTES: &str = "handle_new 0 1 = named 16
     str_copy 16 0 = refused OutOfBounds
     free_bytes = 88";
 
-#[test]
-fn a_body_of_no_bytes(rt: HostRuntime) -> Result<(), Fail> {
-    check_anew(rt.alloc(), BLANK, NO_BYTES)
-}
-
+/// Ranges that end at the length and just behind it, and sums that 32 bits can't hold.
 const ENDS: &str = "handle_new 10 1 = named 16
     lock 16 = at 40 locks 1
     write 16 9: 41 = done
@@ -191,12 +152,6 @@ const ENDS: &str = "handle_new 10 1 = named 16
     set 16 1 4294967295 1 = refused OutOfBounds
     set 16 4294967295 4294967295 1 = refused OutOfBounds";
 
-/// Ranges that end at the length and just behind it, and sums that 32 bits can't hold.
-#[test]
-fn bytes_end_at_the_length(rt: HostRuntime) -> Result<(), Fail> {
-    check_anew(rt.alloc(), BLANK, ENDS)
-}
-
 const WITH_FIXED: &str = "handle_new 0 1 = named 16
     handle_new 0 1 = refused NotEnoughSpace
     ptr_new 0 1 = named 40
@@ -214,11 +169,8 @@ const WITH_FIXED: &str = "handle_new 0 1 = named 16
     free 48 = done
     free_bytes = 88";
 
-#[test]
-fn a_fixed_chunk_has_no_lock_count(rt: HostRuntime) -> Result<(), Fail> {
-    check_anew(rt.alloc(), ONE_SLOT, WITH_FIXED)
-}
-
+/// Locked and fixed chunks go too. The slots of freed chunks are found again, the lowest first, and the
+/// room behind the first of them.
 const OF_OWNERS: &str = "handle_new 8 5 = named 16
     lock 16 = at 40 locks 1
     handle_new 8 6 = named 20
@@ -239,13 +191,8 @@ const OF_OWNERS: &str = "handle_new 8 5 = named 16
     free_by_owner 1 = 0
     free_bytes = 96";
 
-/// Locked and fixed chunks go too. The slots of freed chunks are found again, the lowest first, and the
-/// room behind the first of them.
-#[test]
-fn all_chunks_of_an_owner_go(rt: HostRuntime) -> Result<(), Fail> {
-    check_anew(rt.alloc(), BLANK, OF_OWNERS)
-}
-
+/// Bytes of a body that spell the header of a movable chunk that names the caller's slot, and of a
+/// fixed chunk.
 const PLACES: &str = "handle_new 32 1 = named 16
     lock 16 = at 40 locks 1
     write 16 0: 0000001001fffff4 = done
@@ -265,9 +212,27 @@ const PLACES: &str = "handle_new 32 1 = named 16
     recover 128 = refused InvalidHandle
     recover 4294967295 = refused InvalidHandle";
 
-/// Bytes of a body that spell the header of a movable chunk that names the caller's slot, and of a
-/// fixed chunk.
+/// Each is about what it is called.
+static EXAMPLES: [Example; 12] = [
+    ("chunks are made and freed", BLANK, MADE_AND_FREED),
+    ("chunks are compacted", BLANK, COMPACTED),
+    ("slots run out before bytes", BLANK, OUT_OF_SLOTS),
+    ("a freed name names nothing", FIVE, FREED),
+    ("other names are refused", FIVE, OTHER_NAMES),
+    (
+        "chunks of the manager and of databases",
+        FIVE,
+        NOT_A_CALLERS,
+    ),
+    ("what no heap gives", FIVE, NEVER_GIVEN),
+    ("a body of no bytes", BLANK, NO_BYTES),
+    ("bytes end at the length", BLANK, ENDS),
+    ("a fixed chunk has no lock count", ONE_SLOT, WITH_FIXED),
+    ("all chunks of an owner go", BLANK, OF_OWNERS),
+    ("a place gives its name back", BLANK, PLACES),
+];
+
 #[test]
-fn a_place_gives_its_name_back(rt: HostRuntime) -> Result<(), Fail> {
-    check_anew(rt.alloc(), BLANK, PLACES)
+fn examples_are_done(rt: HostRuntime) -> Result<(), Fail> {
+    check_all(&rt, &EXAMPLES, true)
 }

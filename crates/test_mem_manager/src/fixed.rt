@@ -1,10 +1,11 @@
 //! Fixed chunks that are named again and again on one heap, which remembers their names.
 
-use crate::by_hand::check_on_one;
+use crate::by_hand::{Example, check_all};
 use crate::images::{FIVE, SPACIOUS};
 use std::test::*;
 use test_images::BLANK;
 
+/// The names are 512 bytes apart, so that each takes the other's place among those that are remembered.
 const TURNS: &str = "ptr_new 8 1 = named 40
     ptr_new 488 1 = named 56
     ptr_new 8 1 = named 552
@@ -21,12 +22,7 @@ const TURNS: &str = "ptr_new 8 1 = named 40
     recover 40 = named 40
     recover 56 = named 56";
 
-/// The names are 512 bytes apart, so that each takes the other's place among those that are remembered.
-#[test]
-fn names_take_turns(rt: HostRuntime) -> Result<(), Fail> {
-    check_on_one(rt.alloc(), SPACIOUS, TURNS)
-}
-
+/// A movable chunk stands where the fixed one was that was freed.
 const FORGOTTEN: &str = "ptr_new 88 1 = named 40
     write 40 0: 4142 = done
     lock 40 = refused ChunkFixed
@@ -38,12 +34,6 @@ const FORGOTTEN: &str = "ptr_new 88 1 = named 40
     recover 40 = named 16
     free 40 = refused InvalidHandle";
 
-/// A movable chunk stands where the fixed one was that was freed.
-#[test]
-fn a_freed_chunk_is_forgotten(rt: HostRuntime) -> Result<(), Fail> {
-    check_on_one(rt.alloc(), BLANK, FORGOTTEN)
-}
-
 const OWNER_FORGOTTEN: &str = "ptr_new 8 1 = named 40
     ptr_new 8 2 = named 56
     write 40 0: 41 = done
@@ -54,11 +44,7 @@ const OWNER_FORGOTTEN: &str = "ptr_new 8 1 = named 40
     ptr_new 8 3 = named 40
     owner 40 = 3";
 
-#[test]
-fn chunks_of_an_owner_are_forgotten(rt: HostRuntime) -> Result<(), Fail> {
-    check_on_one(rt.alloc(), BLANK, OWNER_FORGOTTEN)
-}
-
+/// A fixed chunk of an image that is adopted: another owner and other chunks that move leave it known.
 const FOUND: &str = "write 72 0: 4142 = done
     set_owner 72 5 = done
     owner 72 = 5
@@ -67,8 +53,14 @@ const FOUND: &str = "write 72 0: 4142 = done
     free_by_owner 5 = 1
     read 72 0 2 = refused InvalidHandle";
 
-/// A fixed chunk of an image that is adopted: another owner and other chunks that move leave it known.
+static EXAMPLES: [Example; 4] = [
+    ("names take turns", SPACIOUS, TURNS),
+    ("a freed chunk is forgotten", BLANK, FORGOTTEN),
+    ("chunks of an owner are forgotten", BLANK, OWNER_FORGOTTEN),
+    ("a chunk that was found stays known", FIVE, FOUND),
+];
+
 #[test]
-fn a_chunk_that_was_found_stays_known(rt: HostRuntime) -> Result<(), Fail> {
-    check_on_one(rt.alloc(), FIVE, FOUND)
+fn fixed_chunks_are_named(rt: HostRuntime) -> Result<(), Fail> {
+    check_all(&rt, &EXAMPLES, false)
 }

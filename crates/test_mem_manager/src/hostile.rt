@@ -76,7 +76,7 @@ fn unjoined(alloc: Global, second: u32) -> Result<Region, Fail> {
 }
 
 /// What a second word may be: behind the end, a header, the offset of a chunk or within one, and none.
-const SECONDS: [u32; 7] = [0xFFFF_FFFF, 0x8000_0020, 32, 40, 248, 36, 0];
+static SECONDS: [u32; 7] = [0xFFFF_FFFF, 0x8000_0020, 32, 40, 248, 36, 0];
 
 const MADE_AND_FREED: &str = "free_bytes = 224
     handle_new 100 1 = named 16
@@ -93,13 +93,13 @@ const MADE_AND_FREED: &str = "free_bytes = 224
 
 fn check_unjoined(alloc: Global, second: u32) -> Result<(), Fail> {
     let mut beside = Beside::new(alloc, unjoined(alloc, second)?)?;
-    check_on(alloc, &mut beside, MADE_AND_FREED)
+    check_on(alloc, &mut beside, ("unjoined", MADE_AND_FREED), false)
 }
 
 #[test]
 fn second_words_of_an_adopted_image_lead_nowhere(rt: HostRuntime) -> Result<(), Fail> {
-    for second in SECONDS {
-        check_unjoined(rt.alloc(), second)?;
+    for second in &SECONDS {
+        check_unjoined(rt.alloc(), *second)?;
     }
     Ok(())
 }
@@ -143,5 +143,10 @@ fn free_chunks_of_8_bytes(rt: HostRuntime) -> Result<(), Fail> {
     make_all(rt.alloc(), &mut beside, 0, 16)?;
     lock_all(rt.alloc(), &mut beside)?;
     free_even(rt.alloc(), &mut beside)?;
-    check_on(rt.alloc(), &mut beside, ONE_MORE_FREED)
+    check_on(
+        rt.alloc(),
+        &mut beside,
+        ("one more freed", ONE_MORE_FREED),
+        false,
+    )
 }

@@ -13,7 +13,7 @@ use test_model::Image;
 const CLASSES: u32 = 21;
 
 /// How many chunks of a list are looked at, at most, for one that a chunk grows over.
-const PROBES: usize = 64;
+const PROBES: u32 = 64;
 
 /// A free chunk: where its header stands, the class of its size, and its second word.
 #[derive(Clone, Copy)]
@@ -53,7 +53,12 @@ pub(crate) fn are_built(
 
 /// Whether no chunk stays where it is.
 fn is_one_stretch(image: &Image) -> bool {
-    image.pieces.iter().all(|piece| !piece.stays())
+    for piece in &image.pieces {
+        if piece.stays() {
+            return false;
+        }
+    }
+    true
 }
 
 /// Whether the chunk of a name went to the front of one free chunk that has the room, and not of several. None
@@ -79,18 +84,18 @@ fn free_where_it_went(before: &Image, after: &Image, name: Name) -> Option<bool>
 
 /// Whether at most one free chunk stands directly behind that of a name, and few at all.
 fn takes_one_at_most(image: &Image, name: Name) -> bool {
-    let behind = image
-        .pieces
-        .iter()
-        .skip_while(|piece| piece.live.is_none_or(|live| live.name != name))
-        .skip(1)
-        .take_while(|piece| piece.live.is_none())
-        .count();
-    let free = image
-        .pieces
-        .iter()
-        .filter(|piece| piece.live.is_none())
-        .count();
+    let mut free = 0u32;
+    let mut behind = 0u32;
+    let mut is_behind = false;
+    for piece in &image.pieces {
+        match piece.live {
+            Some(live) => is_behind = live.name == name,
+            None => {
+                free = free.saturating_add(1);
+                behind = behind.saturating_add(u32::from(is_behind));
+            }
+        }
+    }
     behind <= 1 && free <= PROBES
 }
 
@@ -151,7 +156,12 @@ fn are_linked(chunks: &[FreeChunk], class: u32) -> bool {
 
 /// Whether a chunk is the next one of another of its class.
 fn is_named(chunks: &[FreeChunk], chunk: FreeChunk) -> bool {
-    chunks.iter().any(|other| other.class == chunk.class && other.next == chunk.at)
+    for other in chunks {
+        if other.class == chunk.class && other.next == chunk.at {
+            return true;
+        }
+    }
+    false
 }
 
 /// What follows the chunk of a class at an offset, if one stands there.

@@ -1,11 +1,12 @@
 //! Calls that may move chunks, with the replies and the words that they must leave.
 
-use crate::by_hand::{check_anew, left_by};
+use crate::beside::Beside;
+use crate::by_hand::{Example, check_all, check_on};
 use crate::images::{FIVE, OVERLAPPING};
 use crate::linked::word_at;
 use std::test::*;
 use test_fakes::equal;
-use test_images::THREE_CHUNKS;
+use test_images::{THREE_CHUNKS, image};
 
 const ROOM_LEFT: &str = "free 16 = done
     free 24 = done
@@ -13,7 +14,7 @@ const ROOM_LEFT: &str = "free 16 = done
     compact = 0";
 
 /// The words that compaction leaves.
-const PACKED: [(usize, u32); 4] = [
+static PACKED: [(usize, u32); 4] = [
     (20, 40),
     (32, 0x0000_0020),
     (36, 0x01FF_FFFA),
@@ -22,24 +23,21 @@ const PACKED: [(usize, u32); 4] = [
 
 #[test]
 fn compaction_leaves_the_room_behind(rt: HostRuntime) -> Result<(), Fail> {
-    let left = left_by(rt.alloc(), THREE_CHUNKS, ROOM_LEFT)?;
-    for (at, word) in PACKED {
-        equal(at, word_at(left.image(), at), Some(word))?;
+    let mut beside = Beside::new(rt.alloc(), image(rt.alloc(), THREE_CHUNKS, "")?)?;
+    check_on(rt.alloc(), &mut beside, ("packed", ROOM_LEFT), true)?;
+    for (at, word) in &PACKED {
+        equal(*at, word_at(beside.image(), *at), Some(*word))?;
     }
     Ok(())
 }
 
+/// The chunk of 88 bytes goes down by 8.
 const OVERLAP_KEPT: &str = "compact = 88
     lock 16 = at 40 locks 1
     read 16 0 40 = x000102030405060708090a0b0c0d0e0f101112131415161718191a1b1c1d1e1f2021222324252627
     read 16 40 40 = x28292a2b2c2d2e2f303132333435363738393a3b3c3d3e3f404142434445464748494a4b4c4d4e4f";
 
-/// The chunk of 88 bytes goes down by 8.
-#[test]
-fn compaction_keeps_bytes_that_overlap(rt: HostRuntime) -> Result<(), Fail> {
-    check_anew(rt.alloc(), OVERLAPPING, OVERLAP_KEPT)
-}
-
+/// Two free chunks of one stretch make room together; two of different stretches don't.
 const ROOM_MADE: &str = "free 16 = done
     free 24 = done
     lock 20 = at 72 locks 1
@@ -54,12 +52,7 @@ const ROOM_MADE: &str = "free 16 = done
     handle_new 56 1 = named 16
     free_bytes = 0";
 
-/// Two free chunks of one stretch make room together; two of different stretches don't.
-#[test]
-fn a_stretch_is_compacted_for_a_new_chunk(rt: HostRuntime) -> Result<(), Fail> {
-    check_anew(rt.alloc(), THREE_CHUNKS, ROOM_MADE)
-}
-
+/// The order of refusals, and that a locked chunk grows in its place alone.
 const LENGTHS: &str = "resize 24 8 = refused InvalidHandle
     resize 0 8 = refused InvalidHandle
     resize 16 4294967295 = refused OwnedByDatabase
@@ -72,12 +65,7 @@ const LENGTHS: &str = "resize 24 8 = refused InvalidHandle
     resize 20 25 = refused NotEnoughSpace
     free_bytes = 32";
 
-/// The order of refusals, and that a locked chunk grows in its place alone.
-#[test]
-fn lengths_that_a_chunk_cannot_have(rt: HostRuntime) -> Result<(), Fail> {
-    check_anew(rt.alloc(), FIVE, LENGTHS)
-}
-
+/// In its place, where a locked chunk stays too, and then in another stretch.
 const ZEROS: &str = "write 20 0: 4142434445464748 = done
     resize 20 3 = done
     resize 20 8 = done
@@ -95,8 +83,22 @@ const ZEROS: &str = "write 20 0: 4142434445464748 = done
     read 20 0 24 = x414243444546474800000000000000000000000000000000
     free_bytes = 16";
 
-/// In its place, where a locked chunk stays too, and then in another stretch.
+static EXAMPLES: [Example; 4] = [
+    (
+        "compaction keeps bytes that overlap",
+        OVERLAPPING,
+        OVERLAP_KEPT,
+    ),
+    (
+        "a stretch is compacted for a new chunk",
+        THREE_CHUNKS,
+        ROOM_MADE,
+    ),
+    ("lengths that a chunk cannot have", FIVE, LENGTHS),
+    ("bytes that come are zero", FIVE, ZEROS),
+];
+
 #[test]
-fn bytes_that_come_are_zero(rt: HostRuntime) -> Result<(), Fail> {
-    check_anew(rt.alloc(), FIVE, ZEROS)
+fn chunks_are_moved(rt: HostRuntime) -> Result<(), Fail> {
+    check_all(&rt, &EXAMPLES, true)
 }
