@@ -1,6 +1,6 @@
 //! Calls with the replies that they must have, by hand: what lists seldom meet.
 
-use crate::steps::{Example, Step, check_all};
+use crate::steps::{Step, check_listed};
 use heap_model::{Call, DatabaseCall, Db, MemoryCall, Name, Place, RecordCall, Refusal, Reply};
 use std::test::*;
 use test_beside::MIXED;
@@ -11,7 +11,6 @@ const LOCKED: Reply = Reply::Refused(Refusal::ChunkLocked);
 
 /// The first database is deleted once one of its info blocks isn't locked, and the other once an info block and
 /// the data of two records aren't.
-/// The info blocks of a database are locked, and of the entries none.
 const DELETED: [Step; 10] = [
     Step::Does(
         Call::Memory(MemoryCall::Lock(Name(56))),
@@ -37,16 +36,25 @@ const DELETED: [Step; 10] = [
     Step::Does(Call::Database(DatabaseCall::Delete(Db(36))), Reply::Done),
 ];
 
-/// The header of a database has room, and behind it the longer directory has none.
+/// The info blocks of a database are locked, and of the entries none.
+#[test]
+fn locked_info_blocks_keep_a_database(rt: HostRuntime) -> Result<(), Fail> {
+    check_listed(rt.alloc(), MIXED, &DELETED)
+}
+
 const NOT_LISTED: [Step; 3] = [
     Step::Creates(b"C", Reply::Refused(Refusal::NotEnoughSpace)),
     Step::Does(Call::Memory(MemoryCall::FreeBytes), Reply::Number(88)),
     Step::Does(Call::Database(DatabaseCall::Count), Reply::Number(2)),
 ];
 
+/// The header of a database has room, and behind it the longer directory has none.
+#[test]
+fn a_header_that_is_not_listed_is_given_back(rt: HostRuntime) -> Result<(), Fail> {
+    check_listed(rt.alloc(), TWO_DATABASES, &NOT_LISTED)
+}
+
 /// All records come into one category, which is deleted.
-/// All records are of one category, and the data of the first has two locks: while it has them nothing is
-/// deleted.
 const CATEGORY_DELETED: [Step; 7] = [
     Step::Does(
         Call::Record(RecordCall::MoveCategory {
@@ -82,21 +90,9 @@ const CATEGORY_DELETED: [Step; 7] = [
     ),
 ];
 
-static EXAMPLES: [Example; 3] = [
-    ("locked info blocks keep a database", MIXED, &DELETED),
-    (
-        "a header that is not listed is given back",
-        TWO_DATABASES,
-        &NOT_LISTED,
-    ),
-    (
-        "a locked record keeps its category",
-        MIXED,
-        &CATEGORY_DELETED,
-    ),
-];
-
+/// All records are of one category, and the data of the first has two locks: while it has them nothing is
+/// deleted.
 #[test]
-fn examples_are_done(rt: HostRuntime) -> Result<(), Fail> {
-    check_all(&rt, &EXAMPLES)
+fn a_locked_record_keeps_its_category(rt: HostRuntime) -> Result<(), Fail> {
+    check_listed(rt.alloc(), MIXED, &CATEGORY_DELETED)
 }

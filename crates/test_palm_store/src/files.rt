@@ -1,6 +1,6 @@
 //! Files of databases that are read and written, by hand.
 
-use crate::steps::{Example, Step, check_all};
+use crate::steps::{Step, check_listed};
 use heap_model::{
     Call, DatabaseCall, Db, FileCall, FileFault, MemoryCall, Name, RecordCall, RecordInfo, Refusal,
     Reply, ResourceCall, Which,
@@ -40,12 +40,17 @@ const FIRST: Db = Db(16);
 /// It is read.
 const IS_FIRST: Reply = Reply::Database(FIRST);
 
-/// What is written of one has the two zeros too.
 const READ_ONCE: [Step; 3] = [
     Step::Reads(EMPTY_FILE, IS_FIRST),
     Step::Writes(FIRST, EMPTY_WRITTEN),
     Step::Reads(EMPTY_FILE, Reply::Refused(Refusal::AlreadyExists)),
 ];
+
+/// What is written of one has the two zeros too.
+#[test]
+fn a_database_without_entries_is_read_once(rt: HostRuntime) -> Result<(), Fail> {
+    check_listed(rt.alloc(), WIDE, &READ_ONCE)
+}
 
 const RECORDS: [Step; 5] = [
     Step::Reads(ORDER_FILE, IS_FIRST),
@@ -55,7 +60,11 @@ const RECORDS: [Step; 5] = [
     Step::Writes(FIRST, ORDER_WRITTEN),
 ];
 
-/// The last ID is taken, and the first behind it.
+#[test]
+fn records_are_read_in_their_order(rt: HostRuntime) -> Result<(), Fail> {
+    check_listed(rt.alloc(), WIDE, &RECORDS)
+}
+
 const NEXT_ID: [Step; 3] = [
     Step::Reads(IDS, IS_FIRST),
     Step::Does(
@@ -79,6 +88,12 @@ const NEXT_ID: [Step; 3] = [
     ),
 ];
 
+/// The last ID is taken, and the first behind it.
+#[test]
+fn a_record_gets_an_id_behind_those_of_the_file(rt: HostRuntime) -> Result<(), Fail> {
+    check_listed(rt.alloc(), WIDE, &NEXT_ID)
+}
+
 const RESOURCES: [Step; 4] = [
     Step::Reads(TINY_FILE, IS_FIRST),
     Step::Does(
@@ -93,7 +108,11 @@ const RESOURCES: [Step; 4] = [
     Step::Writes(FIRST, TINY_WRITTEN),
 ];
 
-/// The block begins where the file ends.
+#[test]
+fn resources_are_read_and_written(rt: HostRuntime) -> Result<(), Fail> {
+    check_listed(rt.alloc(), WIDE, &RESOURCES)
+}
+
 const EMPTY_BLOCK: [Step; 4] = [
     Step::Reads(
         "456d707479 00*27 0000 0000 00*16 0000004e 00*4 44415441 54657374 00*8 0000",
@@ -110,7 +129,12 @@ const EMPTY_BLOCK: [Step; 4] = [
     ),
 ];
 
-/// What stands in the file at the offset 0 isn't the data of a deleted record.
+/// The block begins where the file ends.
+#[test]
+fn an_info_block_may_be_empty(rt: HostRuntime) -> Result<(), Fail> {
+    check_listed(rt.alloc(), WIDE, &EMPTY_BLOCK)
+}
+
 const NO_DATA: [Step; 2] = [
     Step::Reads(ODD, IS_FIRST),
     Step::Does(
@@ -122,6 +146,12 @@ const NO_DATA: [Step; 2] = [
         }),
     ),
 ];
+
+/// What stands in the file at the offset 0 isn't the data of a deleted record.
+#[test]
+fn a_deleted_record_may_have_no_data(rt: HostRuntime) -> Result<(), Fail> {
+    check_listed(rt.alloc(), WIDE, &NO_DATA)
+}
 
 /// Files that have no database, and why.
 const FAULTS: [Step; 7] = [
@@ -152,13 +182,22 @@ const FAULTS: [Step; 7] = [
     ),
 ];
 
-/// All parts of it that were made are given back.
+#[test]
+fn files_without_a_database_are_refused(rt: HostRuntime) -> Result<(), Fail> {
+    check_listed(rt.alloc(), WIDE, &FAULTS)
+}
+
 const GIVEN_BACK: [Step; 2] = [
     Step::Reads(ORDER_FILE, Reply::Refused(Refusal::NotEnoughSpace)),
     Step::Does(Call::Memory(MemoryCall::FreeBytes), Reply::Number(96)),
 ];
 
-/// No database has the number of a chunk.
+/// All parts of it that were made are given back.
+#[test]
+fn a_database_that_finds_no_room_is_given_back(rt: HostRuntime) -> Result<(), Fail> {
+    check_listed(rt.alloc(), BLANK, &GIVEN_BACK)
+}
+
 const CHUNK_WRITTEN: [Step; 2] = [
     Step::Does(
         Call::Memory(MemoryCall::HandleNew { size: 78, owner: 1 }),
@@ -170,27 +209,8 @@ const CHUNK_WRITTEN: [Step; 2] = [
     ),
 ];
 
-static EXAMPLES: [Example; 9] = [
-    ("a database without entries is read once", WIDE, &READ_ONCE),
-    ("records are read in their order", WIDE, &RECORDS),
-    (
-        "a record gets an id behind those of the file",
-        WIDE,
-        &NEXT_ID,
-    ),
-    ("resources are read and written", WIDE, &RESOURCES),
-    ("an info block may be empty", WIDE, &EMPTY_BLOCK),
-    ("a deleted record may have no data", WIDE, &NO_DATA),
-    ("files without a database are refused", WIDE, &FAULTS),
-    (
-        "a database that finds no room is given back",
-        BLANK,
-        &GIVEN_BACK,
-    ),
-    ("a chunk is not written as a file", WIDE, &CHUNK_WRITTEN),
-];
-
+/// No database has the number of a chunk.
 #[test]
-fn files_are_read_and_written(rt: HostRuntime) -> Result<(), Fail> {
-    check_all(&rt, &EXAMPLES)
+fn a_chunk_is_not_written_as_a_file(rt: HostRuntime) -> Result<(), Fail> {
+    check_listed(rt.alloc(), WIDE, &CHUNK_WRITTEN)
 }

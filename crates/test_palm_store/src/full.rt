@@ -1,7 +1,7 @@
 //! As many databases as there may be, as many records, and as many resources as there are slots for.
 
 use crate::images::{crowded_program, full_database, with_databases};
-use crate::steps::{Step, check_steps};
+use crate::steps::{Step, check_anew};
 use heap_model::{
     Call, DatabaseCall, Db, MemoryCall, Name, RecordCall, Refusal, Reply, ResourceCall,
 };
@@ -15,7 +15,7 @@ use test_fakes::equal;
 const TOO_MANY: Reply = Reply::Refused(Refusal::TooManyEntries);
 
 /// The last of 1,024 databases is made, and no other; then the first goes, and another gets its number.
-static LAST_DATABASES: [Step; 9] = [
+const LAST_DATABASES: [Step; 9] = [
     Step::Creates(b"1024", Reply::Database(Db(4112))),
     Step::Creates(b"1025", TOO_MANY),
     Step::Does(
@@ -37,13 +37,7 @@ static LAST_DATABASES: [Step; 9] = [
 #[test]
 fn databases_are_at_most_1024(rt: HostRuntime) -> Result<(), Fail> {
     let store = with_databases(rt.alloc(), 1_023)?;
-    let image = image_of(rt.alloc(), &store)?;
-    check_steps(
-        rt.alloc(),
-        image,
-        ("databases are at most 1024", &LAST_DATABASES),
-        true,
-    )
+    check_anew(rt.alloc(), image_of(rt.alloc(), &store)?, &LAST_DATABASES)
 }
 
 /// The number of the database of `full_database`.
@@ -59,7 +53,6 @@ const NEW_IN_FRONT: Call = Call::Record(RecordCall::New {
     size: 0,
 });
 
-/// Of 65,535 records one has to go before another is made.
 const LAST_RECORDS: [Step; 4] = [
     Step::Does(NEW_IN_FRONT, TOO_MANY),
     LAST_GOES,
@@ -73,7 +66,12 @@ const LAST_RECORDS: [Step; 4] = [
     Step::Does(NEW_IN_FRONT, TOO_MANY),
 ];
 
-/// The same where a caller's chunk is to become the data.
+/// Of 65,535 records one has to go before another is made.
+#[test]
+fn records_are_at_most_65535(rt: HostRuntime) -> Result<(), Fail> {
+    check_anew(rt.alloc(), full_database(rt.alloc())?, &LAST_RECORDS)
+}
+
 const CHUNK_LEFT: [Step; 4] = [
     LAST_GOES,
     Step::Does(
@@ -97,8 +95,13 @@ const CHUNK_LEFT: [Step; 4] = [
     ),
 ];
 
+/// The same where a caller's chunk is to become the data.
+#[test]
+fn a_full_database_takes_no_chunk(rt: HostRuntime) -> Result<(), Fail> {
+    check_anew(rt.alloc(), full_database(rt.alloc())?, &CHUNK_LEFT)
+}
+
 /// The ID of the last record has its index, and is taken.
-/// An ID is searched for up to the last of 65,535 records.
 const LAST_FOUND: [Step; 2] = [
     Step::Does(
         Call::Record(RecordCall::FindById(DB, 65_535)),
@@ -107,19 +110,10 @@ const LAST_FOUND: [Step; 2] = [
     Step::Sets(DB, 65_535, Reply::Refused(Refusal::DuplicateId)),
 ];
 
-/// What examples that start from `full_database` are about, and their steps.
-static OF_FULL: [(&str, &[Step]); 3] = [
-    ("records are at most 65535", &LAST_RECORDS),
-    ("a full database takes no chunk", &CHUNK_LEFT),
-    ("the last of 65535 records is found", &LAST_FOUND),
-];
-
+/// An ID is searched for up to the last of 65,535 records.
 #[test]
-fn records_are_at_most_65535(rt: HostRuntime) -> Result<(), Fail> {
-    for (about, steps) in &OF_FULL {
-        check_steps(rt.alloc(), full_database(rt.alloc())?, (about, steps), true)?;
-    }
-    Ok(())
+fn the_last_of_65535_records_is_found(rt: HostRuntime) -> Result<(), Fail> {
+    check_anew(rt.alloc(), full_database(rt.alloc())?, &LAST_FOUND)
 }
 
 /// The type `code`.

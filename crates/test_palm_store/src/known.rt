@@ -1,11 +1,10 @@
 //! IDs of new records on one store, which knows of some that are free.
 
-use crate::steps::{Step, check_steps};
+use crate::steps::{Step, check_on_one};
 use heap_model::{Call, DatabaseCall, Db, Refusal, Reply};
 use std::test::*;
 use test_beside::blank_image;
 
-/// A record gets the next ID but one, and then the last ID is taken.
 const SET: [Step; 12] = [
     Step::Creates(b"A", Reply::Database(Db(16))),
     Step::Numbers(Db(16), 1),
@@ -21,8 +20,13 @@ const SET: [Step; 12] = [
     Step::Numbers(Db(16), 9),
 ];
 
+/// A record gets the next ID but one, and then the last ID is taken.
+#[test]
+fn ids_that_are_set_are_not_given(rt: HostRuntime) -> Result<(), Fail> {
+    check_on_one(rt.alloc(), blank_image(rt.alloc(), 4_000, 40)?, &SET)
+}
+
 /// The second database is `B`. The first is deleted, and another gets its number.
-/// What is known of a database is nothing to one that gets its number.
 const GIVEN_AGAIN: [Step; 13] = [
     Step::Creates(b"A", Reply::Database(Db(16))),
     Step::Creates(b"B", Reply::Database(Db(24))),
@@ -39,16 +43,12 @@ const GIVEN_AGAIN: [Step; 13] = [
     Step::Numbers(Db(24), 2),
 ];
 
-static EXAMPLES: [(&str, &[Step]); 2] = [
-    ("ids that are set are not given", &SET),
-    ("a number is given again", &GIVEN_AGAIN),
-];
-
+/// What is known of a database is nothing to one that gets its number.
 #[test]
-fn ids_are_given_on_one_store(rt: HostRuntime) -> Result<(), Fail> {
-    for (about, steps) in &EXAMPLES {
-        let image = blank_image(rt.alloc(), 4_000, 40)?;
-        check_steps(rt.alloc(), image, (about, steps), false)?;
-    }
-    Ok(())
+fn a_number_is_given_again(rt: HostRuntime) -> Result<(), Fail> {
+    check_on_one(
+        rt.alloc(),
+        blank_image(rt.alloc(), 4_000, 40)?,
+        &GIVEN_AGAIN,
+    )
 }

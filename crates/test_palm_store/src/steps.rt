@@ -6,7 +6,7 @@ use heap_model::{
 };
 use palm_store::Store;
 use std::alloc::Global;
-use std::test::*;
+use std::test::Fail;
 use test_beside::{Beside, store_of};
 use test_fakes::equal;
 use test_images::bytes_of as listed;
@@ -29,20 +29,16 @@ pub(crate) enum Step {
     Unlocks(Name, u32),
 }
 
-/// What an example is about, the listing of the image that it starts from, and its steps.
-pub(crate) type Example = (&'static str, &'static str, &'static [Step]);
-
 /// Does a call, which must be answered by this reply.
 fn check(
     alloc: Global,
     store: &mut Store,
     beside: &mut Beside,
-    spot: &str,
     call: &Call,
     reply: &Reply,
 ) -> Result<(), Fail> {
-    let said = beside.call_on(alloc, store, spot, call)?;
-    equal(format_args!("{spot}: {call:?}"), &said, reply)
+    let said = beside.call_on(alloc, store, "by hand", call)?;
+    equal(format_args!("{call:?}"), &said, reply)
 }
 
 fn creation(name: &[u8]) -> Call {
@@ -74,15 +70,14 @@ fn check_id(
     alloc: Global,
     store: &mut Store,
     beside: &mut Beside,
-    spot: &str,
     db: Db,
     id: u32,
 ) -> Result<(), Fail> {
     let new = Call::Record(RecordCall::New { db, at: 0, size: 0 });
-    beside.call_on(alloc, store, spot, &new)?;
+    beside.call_on(alloc, store, "made", &new)?;
     let ask = Call::Record(RecordCall::Info(db, 0));
-    match beside.call_on(alloc, store, spot, &ask)? {
-        Reply::Record(RecordInfo { id: found, .. }) => equal(spot, found, id),
+    match beside.call_on(alloc, store, "asked", &ask)? {
+        Reply::Record(RecordInfo { id: found, .. }) => equal("its ID", found, id),
         _ => Err("no record")?,
     }
 }
@@ -92,13 +87,12 @@ fn unlock(
     alloc: Global,
     store: &mut Store,
     beside: &mut Beside,
-    spot: &str,
     name: Name,
     count: u32,
 ) -> Result<(), Fail> {
     let call = Call::Memory(MemoryCall::Unlock(name));
     for left in (0..count).rev() {
-        check(alloc, store, beside, spot, &call, &Reply::Number(left))?;
+        check(alloc, store, beside, &call, &Reply::Number(left))?;
     }
     Ok(())
 }
@@ -107,50 +101,52 @@ fn check_step(
     alloc: Global,
     store: &mut Store,
     beside: &mut Beside,
-    spot: &str,
     step: &Step,
 ) -> Result<(), Fail> {
     match step {
-        Step::Does(call, reply) => check(alloc, store, beside, spot, call, reply),
-        Step::Creates(name, reply) => check(alloc, store, beside, spot, &creation(name), reply),
+        Step::Does(call, reply) => check(alloc, store, beside, call, reply),
+        Step::Creates(name, reply) => check(alloc, store, beside, &creation(name), reply),
         Step::Reads(listing, reply) => {
             let import = Call::File(FileCall::Import(file(alloc, listing)?));
-            check(alloc, store, beside, spot, &import, reply)
+            check(alloc, store, beside, &import, reply)
         }
         Step::Writes(db, listing) => {
             let export = Call::File(FileCall::Export(*db));
-            let written = Reply::Data(file(alloc, listing)?);
-            check(alloc, store, beside, spot, &export, &written)
+            check(
+                alloc,
+                store,
+                beside,
+                &export,
+                &Reply::Data(file(alloc, listing)?),
+            )
         }
-        Step::Numbers(db, id) => check_id(alloc, store, beside, spot, *db, *id),
-        Step::Sets(db, id, reply) => check(alloc, store, beside, spot, &setting(*db, *id), reply),
-        Step::Unlocks(name, count) => unlock(alloc, store, beside, spot, *name, *count),
+        Step::Numbers(db, id) => check_id(alloc, store, beside, *db, *id),
+        Step::Sets(db, id, reply) => check(alloc, store, beside, &setting(*db, *id), reply),
+        Step::Unlocks(name, count) => unlock(alloc, store, beside, *name, *count),
     }
 }
 
-/// Does steps, one after the other: each on a store that is checked for it, if `anew`, and else on one store.
-pub(crate) fn check_steps(
-    alloc: Global,
-    image: Vec<u8>,
-    (about, steps): (&str, &[Step]),
-    anew: bool,
-) -> Result<(), Fail> {
-    let mut store = store_of(alloc, &image)?;
+/// Does steps, each on a store that is checked anew.
+pub(crate) fn check_anew(alloc: Global, image: Vec<u8>, steps: &[Step]) -> Result<(), Fail> {
     let mut beside = Beside::new(alloc, image)?;
     for step in steps {
-        if anew {
-            store = store_of(alloc, &beside.image)?;
-        }
-        check_step(alloc, &mut store, &mut beside, about, step)?;
+        let mut store = store_of(alloc, &beside.image)?;
+        check_step(alloc, &mut store, &mut beside, step)?;
     }
     Ok(())
 }
 
-/// Does the steps of examples, each from its own image.
-pub(crate) fn check_all(rt: &impl AllocGlobal, examples: &[Example]) -> Result<(), Fail> {
-    for (about, listing, steps) in examples {
-        let image = listed(rt.alloc(), listing)?;
-        check_steps(rt.alloc(), image, (about, steps), true)?;
+/// The same from the image of a listing.
+pub(crate) fn check_listed(alloc: Global, listing: &str, steps: &[Step]) -> Result<(), Fail> {
+    check_anew(alloc, listed(alloc, listing)?, steps)
+}
+
+/// Does steps on one store from end to end.
+pub(crate) fn check_on_one(alloc: Global, image: Vec<u8>, steps: &[Step]) -> Result<(), Fail> {
+    let mut store = store_of(alloc, &image)?;
+    let mut beside = Beside::new(alloc, image)?;
+    for step in steps {
+        check_step(alloc, &mut store, &mut beside, step)?;
     }
     Ok(())
 }
