@@ -39,7 +39,7 @@ fn the_words_of_a_frame_are_read(rt: HostRuntime) -> Result<(), Fail> {
 }
 
 /// How many slots there are, where they end, and where the chunks begin.
-const HEADS: [(u16, u32, u32); 5] = [
+static HEADS: [(u16, u32, u32); 5] = [
     (1, 20, 24),
     (2, 24, 24),
     (4, 32, 32),
@@ -72,7 +72,7 @@ fn a_blank_image_has_one_free_chunk(rt: HostRuntime) -> Result<(), Fail> {
 }
 
 /// The least size and the greatest, each with as many slots as it may have.
-const SIZES: [(u32, u16); 2] = [(64, 10), (16_777_208, 65_535)];
+static SIZES: [(u32, u16); 2] = [(64, 10), (16_777_208, 65_535)];
 
 #[test]
 fn a_blank_image_has_its_size(rt: HostRuntime) -> Result<(), Fail> {
@@ -84,7 +84,7 @@ fn a_blank_image_has_its_size(rt: HostRuntime) -> Result<(), Fail> {
 }
 
 /// A size and a slot count that no image has, and the fault.
-const LIMITS: [(u32, u16, BlankFault); 7] = [
+static LIMITS: [(u32, u16, BlankFault); 7] = [
     (66, 4, BlankFault::BadSize),
     (56, 1, BlankFault::BadSize),
     (0, 0, BlankFault::BadSize),
@@ -117,7 +117,7 @@ fn check_fault(
 }
 
 /// A size and a slot count, and the fault where no memory is granted.
-const WITHOUT_MEMORY: [(u32, u16, BlankFault); 3] = [
+static WITHOUT_MEMORY: [(u32, u16, BlankFault); 3] = [
     (66, 4, BlankFault::BadSize),
     (64, 11, BlankFault::BadSlotCount),
     (128, 4, BlankFault::OutOfMemory),
@@ -137,7 +137,7 @@ fn a_blank_image_asks_for_memory_last(rt: HostRuntime) -> Result<(), Fail> {
     Ok(())
 }
 
-const NAMES: [(BlankFault, &str); 3] = [
+static NAMES: [(BlankFault, &str); 3] = [
     (BlankFault::BadSize, "BadSize"),
     (BlankFault::BadSlotCount, "BadSlotCount"),
     (BlankFault::OutOfMemory, "OutOfMemory"),

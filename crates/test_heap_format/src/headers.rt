@@ -50,7 +50,7 @@ fn header_by(alloc: Global, first: u32, second: u32) -> Result<Option<Header>, F
 }
 
 /// The two words of a header, and the header that is read there.
-const WORDS: [(u32, u32, Option<Header>); 19] = [
+static WORDS: [(u32, u32, Option<Header>); 19] = [
     (0x8000_0028, 0, Some(Header::Free { size: 40 })),
     (0xFF00_0008, 0xFFFF_FFFF, Some(Header::Free { size: 8 })),
     (
@@ -223,7 +223,7 @@ fn walks_over_chunks(rt: HostRuntime) -> Result<(), Fail> {
     check_walk(rt.alloc(), 0xF100_0001, &CHUNKS[..2])
 }
 
-const CHUNKS: [(Place, Header); 4] = [
+static CHUNKS: [(Place, Header); 4] = [
     (Place(32), Header::Free { size: 8 }),
     (
         Place(40),

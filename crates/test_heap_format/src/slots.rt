@@ -31,7 +31,7 @@ fn table(alloc: Global, words: [u32; 4]) -> Result<Region, Fail>
 }
 
 /// An offset, how many slots there are, and the number of the slot that stands there.
-const SLOTS: [(u32, u16, Option<u32>); 10] = [
+static SLOTS: [(u32, u16, Option<u32>); 10] = [
     (16, 4, Some(0)),
     (28, 4, Some(3)),
     (262_152, 65_535, Some(65_534)),
@@ -79,7 +79,7 @@ fn slot_of(table: Table, number: Option<u32>) -> Option<u32> {
 }
 
 /// A name, and the place that it resolves to.
-const PLACES: [(u32, Option<Place>); 11] = [
+static PLACES: [(u32, Option<Place>); 11] = [
     (16, Some(Place(40))),
     (24, Some(Place(0xFFFF_FFFF))),
     (28, Some(Place(64))),
@@ -105,7 +105,7 @@ fn a_slot_resolves_to_its_place(rt: HostRuntime) -> Result<(), Fail> {
 }
 
 /// The words of the slots, the first empty one, and how many there are.
-const FREE_SLOTS: [([u32; 4], Option<EmptySlot>, u32); 5] = [
+static FREE_SLOTS: [([u32; 4], Option<EmptySlot>, u32); 5] = [
     (
         [0, 0, 0, 0],
         Some(EmptySlot {

@@ -13,7 +13,7 @@ use test_images::{DATABASE, bytes_of};
 /// Calls on chunks, databases, records and resources, each with its reply on the image as it is. They ask of the
 /// database, its records and their data, change them and delete it, and then make another, of
 /// resources, with chunks of callers beside it.
-const CALLS: [(&str, &str); 82] = [
+static CALLS: [(&str, &str); 82] = [
     ("find d \"R\"", "ok"),
     ("nth d 0", "ok"),
     ("dbcount", "ok 1"),
@@ -158,7 +158,7 @@ fn calls_are_answered_on_the_image_as_it_is(rt: HostRuntime) -> Result<(), Fail>
 
 /// Ranges of bytes, and with how many values of each byte of a range the image is accepted, by what
 /// docs/FORMAT.md says of these bytes. Every other byte has one.
-const VALUES: [(usize, usize, usize); 22] = [
+static VALUES: [(usize, usize, usize); 22] = [
     // 8 slots or 7, where the place of the eighth has the zeros behind them
     (9, 10, 2),
     // what is behind the number in the directory

@@ -118,7 +118,7 @@ fn run_with(
 }
 
 /// How many growths each has, and its status where none is refused.
-const TRIALS: [(Trial, u32, Status); 9] = [
+static TRIALS: [(Trial, u32, Status); 9] = [
     (Trial::New(128), 1, Status::Done),
     (Trial::New(100), 2, Status::BadWords),
     (Trial::Check(DATABASE), 5, Status::Done),

@@ -296,7 +296,7 @@ fn each_growth_is_refused_in_turn(rt: HostRuntime) -> Result<(), Fail> {
 
 /// The growths of the run of the lines that import and export a file are refused in turn: behind how many, and
 /// what is printed then. Want of memory in front of the first line is none of these.
-const CARRIED_SAID: [(u32, &str); 6] = [
+static CARRIED_SAID: [(u32, &str); 6] = [
     (3, WITHOUT_IMPORT),
     (4, WITHOUT_IMPORT),
     (5, WITHOUT_IMPORT),
@@ -392,7 +392,7 @@ fn listed(alloc: Global, before: u32) -> Result<Vec<Reply>, Fail> {
 }
 
 /// How many growths of that list are granted before one is refused, and the numbers of the refusals then.
-const LISTED: [(u32, [u8; 4]); 13] = [
+static LISTED: [(u32, [u8; 4]); 13] = [
     (1, [26, 10, 1, 0]),
     (2, [26, 10, 1, 0]),
     (3, [26, 10, 1, 0]),

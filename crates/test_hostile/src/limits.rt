@@ -78,7 +78,7 @@ fn said_of_owned(alloc: Global, owner: u32) -> Result<(Status, String), Fail> {
 }
 
 /// Owners of a chunk in the last slot, and what `check` says of it.
-const OWNERS: [(u32, Status, &str); 4] = [
+static OWNERS: [(u32, Status, &str); 4] = [
     (
         1,
         Status::Done,

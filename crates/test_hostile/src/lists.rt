@@ -31,13 +31,13 @@ enum Start {
     Listed(&'static str),
 }
 
-const BLANKS: [Start; 3] = [
+static BLANKS: [Start; 3] = [
     Start::Blank(256, 8),
     Start::Blank(512, 6),
     Start::Blank(4096, 40),
 ];
 
-const FILLED: [Start; 3] = [
+static FILLED: [Start; 3] = [
     Start::Listed(DATABASE),
     Start::Listed(TWO_DATABASES),
     Start::Listed(MIXED),
@@ -65,7 +65,7 @@ fn check_lists(
 }
 
 /// Lists of 40 calls, of which each front from 30 calls on is run, so that what holds behind one call is seen.
-const LAST_FRONTS: [u32; 11] = [30, 1, 1, 1, 1, 1, 1, 1, 1, 1, 1];
+static LAST_FRONTS: [u32; 11] = [30, 1, 1, 1, 1, 1, 1, 1, 1, 1, 1];
 
 #[test]
 fn fronts_from_blank_images(rt: HostRuntime) -> Result<(), Fail> {
@@ -80,7 +80,7 @@ fn fronts_from_images_with_databases(rt: HostRuntime) -> Result<(), Fail> {
 }
 
 /// Lists of 3,000 calls, whose fronts of one, ten, a hundred and a thousand calls are run too.
-const PARTS: [u32; 5] = [1, 9, 90, 900, 2_000];
+static PARTS: [u32; 5] = [1, 9, 90, 900, 2_000];
 
 /// The list that a seed gives, from each image.
 fn check_seed(alloc: Global, counts: &mut Counts, seed: u64) -> Result<(), Fail> {

@@ -24,7 +24,7 @@ use test_images::{
 /// How a writer takes bytes, and what it does when it has no room left.
 type Way = (usize, WhenFull);
 
-const WAYS: [Way; 3] = [
+static WAYS: [Way; 3] = [
     (1, WhenFull::TakesNothing),
     (1, WhenFull::Fails(ErrorKind::StorageFull)),
     (50, WhenFull::Fails(ErrorKind::Interrupted)),
@@ -134,7 +134,7 @@ fn an_image_is_cut_behind_each_byte(rt: HostRuntime) -> Result<(), Fail> {
 }
 
 /// Files of databases, and what is written of these.
-const FILES: [(&str, &str); 3] = [
+static FILES: [(&str, &str); 3] = [
     (EMPTY_FILE, EMPTY_WRITTEN),
     (ORDER_FILE, ORDER_WRITTEN),
     (TINY_FILE, TINY_FILE),
@@ -219,7 +219,7 @@ fn image_behind(alloc: Global, listing: &str, text: &str) -> Result<Vec<u8>, Fai
 const BOTH_WAYS: &str = "import d 2\nrecinfo d 0\nexport d\nimport e 3\nresremove e 0\nexport e\n\
     dbcount\nexport d\n";
 
-const RUNS: [(&str, &str); 3] = [(BLANK, WRITTEN), (WIDE, CARRIED), (WIDE, BOTH_WAYS)];
+static RUNS: [(&str, &str); 3] = [(BLANK, WRITTEN), (WIDE, CARRIED), (WIDE, BOTH_WAYS)];
 
 /// Cuts the output of a script behind each byte. The line whose reply breaks off was done, and none behind it.
 fn check_run(alloc: Global, listing: &str, text: &str) -> Result<(), Fail> {

@@ -100,7 +100,7 @@ fn check_without(alloc: Global, before: u32, wanted: (&str, u32)) -> Result<(), 
     )
 }
 
-const WITHOUT: [(u32, (&str, u32)); 3] = [
+static WITHOUT: [(u32, (&str, u32)); 3] = [
     (0, ("nothing; ", 96)),
     (1, ("name 16; refused 26; 2; ", 80)),
     (2, ("name 16; [0, 0]; 2; ", 80)),

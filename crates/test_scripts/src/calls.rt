@@ -94,7 +94,7 @@ fn refused(reply: &Reply) -> u8 {
 
 /// How many growths are granted, whether a read from a chunk of 2 bytes names the chunk, how many bytes it asks
 /// for, and the number of its refusal.
-const READS: [(u32, bool, u32, u8); 6] = [
+static READS: [(u32, bool, u32, u8); 6] = [
     (0, true, 2, 26),
     (0, true, 0, 26),
     (0, true, 3, 9),
@@ -146,7 +146,7 @@ fn check_count(alloc: Global, store: &mut Store, name: Name, count: u32) -> Resu
     equal("bytes", length, Some(count as usize))
 }
 
-const COUNTS: [u32; 6] = [0, 1, 4096, 65_536, 100_001, 16_777_168];
+static COUNTS: [u32; 6] = [0, 1, 4096, 65_536, 100_001, 16_777_168];
 
 /// Where memory isn't refused, a read of any size from the greatest chunk is answered.
 #[test]

@@ -65,7 +65,7 @@ fn new_writes_a_blank_image(rt: HostRuntime) -> Result<(), Fail> {
 }
 
 /// Sizes and slot counts, and what `new` says of them.
-const NO_IMAGES: [((u32, u16), &str); 7] = [
+static NO_IMAGES: [((u32, u16), &str); 7] = [
     ((66, 4), "bad BadSize\n"),
     ((56, 4), "bad BadSize\n"),
     ((16_777_216, 4), "bad BadSize\n"),
@@ -116,7 +116,7 @@ pub(crate) fn check_changed(
 }
 
 /// Listings, what is changed in them, and what `check` comes to and prints.
-const CHECKS: [(&str, &str, (Status, &str)); 19] = [
+static CHECKS: [(&str, &str, (Status, &str)); 19] = [
     (
         BLANK,
         "",

@@ -16,7 +16,7 @@ const TWO_ROOMS: &str = "50484931 00000090 0004 0000 00000000 00000080 00*12 800
     00000008 11FFFFCC 80000010 00*12";
 
 /// What is changed in an image, and what `check` says of it.
-const FAULTS: [(&str, &str, &str); 15] = [
+static FAULTS: [(&str, &str, &str); 15] = [
     (DATABASE, "59: 10", "bad BadDirectorySlot 0\n"),
     (DATABASE, "149: 03", "bad BadHeader 0\n"),
     (DATABASE, "147: 01", "bad BadHeader 0\n"),

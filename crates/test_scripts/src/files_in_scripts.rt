@@ -227,7 +227,7 @@ fn check_carried(alloc: Global, read: &str, written: &str) -> Result<(), Fail> {
 }
 
 /// Files, and what is written of them.
-const CARRIED: [(&str, &str); 4] = [
+static CARRIED: [(&str, &str); 4] = [
     (EMPTY_FILE, EMPTY_WRITTEN),
     (ORDER_FILE, ORDER_WRITTEN),
     (TINY_FILE, TINY_FILE),

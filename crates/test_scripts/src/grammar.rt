@@ -48,7 +48,7 @@ fn scripts_that_are_no_text_are_read(rt: HostRuntime) -> Result<(), Fail> {
 }
 
 /// Lines, and behind ` => ` what each reads as, as a script of its own.
-const LINES: [&str; 35] = [
+static LINES: [&str; 35] = [
     // commands
     "bind a 16 => bind 0 16;
     new a 8 1 => new 0 8 1;
@@ -429,7 +429,7 @@ const LINES: [&str; 35] = [
 ];
 
 /// Scripts of several lines or none, or with blanks and other characters at their ends, and what they read as.
-const SCRIPTS: [(&str, &str); 45] = [
+static SCRIPTS: [(&str, &str); 45] = [
     // labels are numbered in the order in which they first appear, each case apart
     (
         "free b\nfree a\nfree b\nfree B\nfree a",
@@ -523,7 +523,7 @@ const SCRIPTS: [(&str, &str); 45] = [
 ];
 
 /// Scripts that are no text, and what they read as.
-const NO_TEXTS: [(&[u8], &str); 2] = [
+static NO_TEXTS: [(&[u8], &str); 2] = [
     (b"free \xe4", "line 1 BadWord 2"),
     (b"strcopy a 0 \"\xe4\"", "line 1 BadWord 4"),
 ];
@@ -564,7 +564,7 @@ fn check_count(alloc: Global, what: What, script: &str, wanted: Option<usize>) -
 }
 
 /// What is counted, scripts, and how many there are.
-const COUNT_CASES: [(What, &str, Option<usize>); 18] = [
+static COUNT_CASES: [(What, &str, Option<usize>); 18] = [
     (What::ChunkLabels, "", Some(0)),
     (What::ChunkLabels, "freebytes", Some(0)),
     (

@@ -13,7 +13,7 @@ const BYTES: [u8; 33] = [
 ];
 
 /// Every kind of piece, and the text of them.
-const PIECES: [Piece<'static>; 18] = [
+static PIECES: [Piece<'static>; 18] = [
     Piece::Text(b"ok "),
     Piece::Number(0),
     Piece::Text(b" "),

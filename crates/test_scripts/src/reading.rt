@@ -40,7 +40,7 @@ fn reads_what_is_there(rt: HostRuntime) -> Result<(), Fail> {
 }
 
 /// How many bytes a source has, how many a read gives, and how many reads there are.
-const TO_THE_END: [(usize, usize, usize); 5] = [
+static TO_THE_END: [(usize, usize, usize); 5] = [
     (0, 1, 1),
     (1, 1, 2),
     (5, 2, 4),
@@ -137,7 +137,7 @@ fn check_too_long(alloc: Global, left: usize, step: usize, most: usize) -> Resul
 }
 
 /// How many bytes there are, how many a read gives, and how many reads there may be.
-const TOO_LONG: [(usize, usize, usize); 3] = [
+static TOO_LONG: [(usize, usize, usize); 3] = [
     (INPUT_LIMIT + 1, 65_536, INPUT_LIMIT / 65_536 + 1),
     (INPUT_LIMIT + 1, 60_001, INPUT_LIMIT / 60_001 + 1),
     (usize::MAX, 65_536, INPUT_LIMIT / 65_536 + 1),

@@ -124,7 +124,7 @@ fn check_runs(alloc: Global, runs: &[(&str, &str)]) -> Result<(), Fail> {
 }
 
 /// All tables of images and lines on them.
-const TABLES: [&[(&str, &str)]; 7] = [
+static TABLES: [&[(&str, &str)]; 7] = [
     &RUNS,
     &moving::RUNS,
     &databases::RUNS,
@@ -276,7 +276,7 @@ const RUNS: [(&str, &str); 7] = [
 
 /// Images and scripts, what the run answers and prints, and the image that it writes, none where one
 /// of them is refused.
-const OUTCOMES: [(&str, &str, (Status, &str), &str); 10] = [
+static OUTCOMES: [(&str, &str, (Status, &str), &str); 10] = [
     (BLANK, "new a 10 1\n", (Status::Done, "ok\n"), ONE_CHUNK),
     (ONE_CHUNK, "", (Status::Done, ""), ONE_CHUNK),
     (ONE_CHUNK, "\n", (Status::Done, ""), ONE_CHUNK),
@@ -392,7 +392,7 @@ fn nothing_follows_a_reply_that_is_not_taken(rt: HostRuntime) -> Result<(), Fail
 }
 
 /// Scripts, the room of the outputs for the image and for the text, and what of both is taken.
-const CUTS: [(&str, (usize, usize), (usize, &[u8])); 5] = [
+static CUTS: [(&str, (usize, usize), (usize, &[u8])); 5] = [
     (SCRIPT, (0, 1000), (0, REPLIES)),
     (SCRIPT, (1, 1000), (1, REPLIES)),
     (SCRIPT, (127, 1000), (127, REPLIES)),
@@ -421,7 +421,7 @@ fn check_behind_buffer(alloc: Global, capacity: usize, room: usize) -> Result<()
 }
 
 /// How many bytes the buffer has, and for how many there is room behind it.
-const BUFFERS: [(usize, usize); 5] = [(8, 0), (8, 1), (8, 20), (1000, 0), (1000, 20)];
+static BUFFERS: [(usize, usize); 5] = [(8, 0), (8, 1), (8, 20), (1000, 0), (1000, 20)];
 
 #[test]
 fn nothing_follows_a_buffer_that_is_not_taken(rt: HostRuntime) -> Result<(), Fail> {

@@ -50,7 +50,7 @@ fn with_files(mut line: String, files: &[&str]) -> Result<String, AllocError> {
 
 /// Words, and how what comes of them begins, and what stands in it: commands, words that are refused,
 /// and help.
-const CASES: [(&str, &str, &str); 22] = [
+static CASES: [(&str, &str, &str); 22] = [
     ("palmheap new 128 4 a.img", "new 128 4 a.img\n", ""),
     (
         "palmheap new 4294967295 65535 --  -a",

@@ -46,7 +46,7 @@ fn numbers_of(header: &DbHeader) -> [u32; 12] {
 }
 
 /// Those of the file of records.
-const NUMBERS: [u32; 12] = [
+static NUMBERS: [u32; 12] = [
     0x0008,
     0x0102,
     0xB100_0001,
