@@ -124,7 +124,7 @@ fn check_runs(alloc: Global, runs: &[(&str, &str)]) -> Result<(), Fail> {
 }
 
 /// All tables of images and lines on them.
-static TABLES: [&[(&str, &str)]; 7] = [
+const TABLES: [&[(&str, &str)]; 7] = [
     &RUNS,
     &moving::RUNS,
     &databases::RUNS,
