@@ -1,6 +1,6 @@
 -- A database that was made: its header is written into the chunk that was listed last.
 use Rattle.std.proofs.Common.{◌≡◌, ◌≢◌, ℕ, ◌+◌, ◌^◌, ◌<◌, ◌≤◌, Bool, true, false, List, [], ◌∷◌, ◌++◌, length, get_or, replicate, Option, Some, None, refl, sym, ap, subst, ◌∙◌, arith, length-append, inl, inr}
-use Rattle.std.proofs.lemmas.Bool.{cases_eq}
+use Rattle.std.proofs.lemmas.Bool.{both_ways, cases_eq}
 use Rattle.std.proofs.lemmas.List.{append-nil, map-append, get_or-map, length-map}
 use Rattle.std.proofs.lemmas.List.Elements.{All-nil}
 use Rattle.std.proofs.lemmas.List.Quantifiers.{all_pairs_push}
@@ -78,7 +78,7 @@ header_put old mid new slot bytes h l w long =
 -- ---- what was found of a name
 
 pub not_taken : (image given name : List ℕ) (db : ℕ) (found : Bool) → (IsTaken (store_of image) db given → IsTrue found) → found ≡ false → given ≡ name → IsTaken (store_of image) db name → ⊥
-not_taken image given name db found finds none is taken = let there = finds (subst (λ (n : List ℕ). IsTaken (store_of image) db n) (sym is) taken) in absurd cc
+not_taken image given name db found finds none is taken = both_ways found none (finds (subst (λ (n : List ℕ). IsTaken (store_of image) db n) (sym is) taken))
 
 -- ---- the database that came
 

@@ -1,6 +1,5 @@
 mod MemoryCalls
 pub mod Numbers
-pub mod Outcomes
 pub mod Lookups
 pub mod Maps
 pub mod ListedSlots

@@ -1,6 +1,6 @@
 -- A slot listed last in the directory, and a chunk that was made for a header.
 use Rattle.std.proofs.Common.{◌≡◌, ◌≢◌, ℕ, ◌+◌, ◌-◌, ◌*◌, ◌/◌, ◌<◌, ◌≤◌, Bool, true, false, List, [], ◌∷◌, ◌++◌, length, take, drop, replicate, Option, Some, None, refl, sym, ap, subst, ◌∙◌, arith, length-append, inl, inr}
-use Rattle.std.proofs.lemmas.Bool.{cases_eq, eq-eqb, ne_eqb}
+use Rattle.std.proofs.lemmas.Bool.{both_ways, cases_eq, eq-eqb, ne_eqb}
 use Rattle.std.proofs.lemmas.List.FromFn.{length-map-range_with_len}
 use Rattle.std.specs.Prelude.{◌⊎◌, ◌==◌, if◌then◌else◌}
 use Rattle.std.proofs.lemmas.List.{append-nil, take_all, drop_all, length-replicate}
@@ -216,14 +216,11 @@ given_back old mid new slot size m g = record {
 
 -- ---- why there was no room
 
-not_both : (b : Bool) → b ≡ true → b ≡ false → ⊥
-not_both b e f = cc
-
 pub is_zero : (n : ℕ) → (n == 0) ≡ true → n ≡ 0
-is_zero n e = elim (cases_eq n 0) [ inl z ↦ z | inr ne ↦ absurd (not_both (n == 0) e (ne_eqb n 0 ne)) ]
+is_zero n e = elim (cases_eq n 0) [ inl z ↦ z | inr ne ↦ absurd (both_ways (n == 0) (ne_eqb n 0 ne) e) ]
 
 pub is_some_number : (n : ℕ) → (n == 0) ≡ false → 0 < n
-is_some_number n e = elim (cases_eq n 0) [ inl z ↦ absurd (not_both (n == 0) (eq-eqb n 0 z) e) | inr ne ↦ omega arith ]
+is_some_number n e = elim (cases_eq n 0) [ inl z ↦ absurd (both_ways (n == 0) e (eq-eqb n 0 z)) | inr ne ↦ omega arith ]
 
 abbrev slots_if : Bool → ℕ
 slots_if none = if none then 2 else 1

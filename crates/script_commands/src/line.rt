@@ -117,6 +117,7 @@ impl Script {
     /// than memory has bytes: such a line asks for that table, and the growth is refused.
     pub fn push<A: Allowance>(&mut self, memory: &A, line: Line) -> Result<(), AllocError>
         ensures ok { OnOk result (self.new ≡ self.old ++ (line ∷ [])) }
+        ensures same { OnErr result (self.new ≡ self.old) }
         ensures short { OnErr result (A.is_short memory.now) }
     {
         let (chunk_end, database_end) = label_ends(memory, &line)?;

@@ -1,5 +1,5 @@
-//! The values of a line's words by their places: the value at each place is of the kind that the line's
-//! command has there.
+//! The values of a line's words by their places. A line is made of values of its command's kinds alone, so that
+//! what is answered where no value of a kind stands, the least of that kind, is never asked for.
 
 ghost use Rattle.std.specs.Prelude.{◌≡◌, slice_get};
 ghost use Rattle.script_commands.specs.Places as places;

@@ -1,10 +1,10 @@
 use Rattle.std.proofs.Common.{ℕ, List, sym, ap, ◌∙◌}
+use Rattle.std.proofs.lemmas.Bool.{both_ways}
 use Rattle.heap_model.specs.Database.{database_in}
 use Rattle.heap_model.specs.DatabaseSteps.{info_block}
 use Rattle.palm_store.proofs.EntriesHere.{attributes_in_store}
 use Rattle.palm_store.proofs.InfoBlocks.{block_here}
 use Rattle.palm_store.proofs.BlockCalls.{may_be_written, may_not_be_written}
-use Rattle.palm_store.proofs.Outcomes.{not_both}
 use Rattle.palm_store.proofs.databases.blocks.find_writable_block.Goals as goal
 
 pub returns-then-is_read_only-clause-refused : goal.returns-then-is_read_only-clause-refused
@@ -19,4 +19,4 @@ returns-clause-is c =
 pub returns-clause-passes : goal.returns-clause-passes
 returns-clause-passes c =
     may_be_written c.args.heap.now.bytes c.args.db c.attributes.result (attributes_in_store c.args.heap.now.bytes c.in_ok-header.header.now c.args.db c.attributes.result c.in_ok-header.ensures.known c.in_ok-header.ensures.is c.attributes.ensures)
-    (λ set. not_both _ (c.is_read_only.ensures ∙ set) c.if-is_read_only.false)
+    (λ set. both_ways _ c.if-is_read_only.false (c.is_read_only.ensures ∙ set))

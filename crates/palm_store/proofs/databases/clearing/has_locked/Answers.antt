@@ -1,12 +1,12 @@
 -- A slot that a database has is that of a chunk for data, which callers may name.
 use Rattle.std.proofs.Common.{refl, ap, sym, subst, ◌∙◌, arith, ℕ, List, length, Option, false, below_more}
+use Rattle.std.proofs.lemmas.Bool.{both_ways}
 use Rattle.heap_model.specs.Database.{database_in, data_in}
 use Rattle.heap_model.specs.Maps.{callers_map}
 use Rattle.heap_model.specs.Meaning.{LiveChunk}
 use Rattle.heap_model.specs.MemorySteps.{Of, IsLocked}
 use Rattle.palm_store.specs.Databases.{named_under}
 use Rattle.palm_store.proofs.NamedChunks.{named_at, slot_movable, slot_shown, any_at, none_of}
-use Rattle.palm_store.proofs.Outcomes.{not_both}
 use Rattle.palm_store.proofs.databases.clearing.has_locked.Goals as goal
 
 pub is_locked-requires-clause-movable : goal.is_locked-requires-clause-movable
@@ -29,9 +29,9 @@ loop-index-preserved c =
     c.loop-index-test.true c.slot_at.ensures in
     let shown = slot_shown c.args.heap.now.bytes c.args.db.0 c.loop-index.index c.slot_at.result.0 c.requires.accepted c.requires.number at in
     below_more _ _ c.loop-index.invariant (λ locked.
-    not_both _ (c.is_locked.ensures.1 (subst (λ (o : Option LiveChunk). Of o IsLocked) shown (subst (λ (name : ℕ). Of (callers_map c.args.heap.now.bytes name) IsLocked) (sym at.is) locked))) c.if-is_locked.false)
+    both_ways _ c.if-is_locked.false (c.is_locked.ensures.1 (subst (λ (o : Option LiveChunk). Of o IsLocked) shown (subst (λ (name : ℕ). Of (callers_map c.args.heap.now.bytes name) IsLocked) (sym at.is) locked))))
 
 pub returns : goal.returns
 returns c =
     let count = c.slot_count-index-end.ensures ∙ ap (λ (body : List ℕ). length (data_in (database_in body))) c.header_of-body.ensures.is in
-    (λ locked. absurd (not_both false locked refl), λ any. absurd (none_of (λ (name : ℕ). Of (callers_map c.args.heap.now.bytes name) IsLocked) (named_under c.args.heap.now.bytes c.args.db.0) (λ k below. c.loop-index.invariant k (omega arith)) any))
+    (λ locked. absurd (both_ways false refl locked), λ any. absurd (none_of (λ (name : ℕ). Of (callers_map c.args.heap.now.bytes name) IsLocked) (named_under c.args.heap.now.bytes c.args.db.0) (λ k below. c.loop-index.invariant k (omega arith)) any))

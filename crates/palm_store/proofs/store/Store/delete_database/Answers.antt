@@ -1,7 +1,7 @@
 -- Where nothing is locked, all that goes is freed before the slot is taken out of the directory.
+use Rattle.std.proofs.lemmas.Bool.{both_ways}
 use Rattle.palm_store.proofs.MemoryCalls.{viewed, ask_viewed}
 use Rattle.palm_store.proofs.Deleted.{header_left, header_other, all_freed, lists_still, deleted, not_deleted}
-use Rattle.palm_store.proofs.Outcomes.{not_both}
 use Rattle.palm_store.proofs.KnownIds.{nothing_known}
 use Rattle.palm_store.proofs.store.Store.delete_database.Goals as goal
 
@@ -27,12 +27,12 @@ pub invariant_of-self : goal.invariant_of-self
 invariant_of-self c =
     let freed = all_freed c.self.inside.heap.bytes c.free_data.new.heap.bytes c.sys_free.new.self.bytes c.args.db.0 c.free_data.ensures.leaves c.sys_free.ensures.leaves in
     let does = deleted c.self.inside.heap c.sys_free.new.self c.unlist.new.heap c.args.db c.index_of-index.result c.self.invariant.accepted c.in_ok-find_header.ensures.known c.index_of-index.ensures
-    (λ locked. not_both _ (c.has_locked.ensures.1 locked) c.if-has_locked.false) freed c.unlist.ensures.unlists in
+    (λ locked. both_ways _ c.if-has_locked.false (c.has_locked.ensures.1 locked)) freed c.unlist.ensures.unlists in
     nothing_known _ does.accepted
 
 pub returns : goal.returns
 returns c =
     let freed = all_freed c.self.inside.heap.bytes c.free_data.new.heap.bytes c.sys_free.new.self.bytes c.args.db.0 c.free_data.ensures.leaves c.sys_free.ensures.leaves in
     let does = deleted c.self.inside.heap c.sys_free.new.self c.unlist.new.heap c.args.db c.index_of-index.result c.self.invariant.accepted c.in_ok-find_header.ensures.known c.index_of-index.ensures
-    (λ locked. not_both _ (c.has_locked.ensures.1 locked) c.if-has_locked.false) freed c.unlist.ensures.unlists in
+    (λ locked. both_ways _ c.if-has_locked.false (c.has_locked.ensures.1 locked)) freed c.unlist.ensures.unlists in
     viewed c.self.inside.heap c.args.self.now c.unlist.new.heap _ _ c.self.view_is does
