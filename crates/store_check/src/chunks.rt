@@ -12,7 +12,7 @@ use crate::owners::is_our_owner;
 use master_table::Table;
 use raw_region::Region;
 
-/// Whether one of the marks is 2. It goes over all of them, which takes less time than to stop at the first.
+/// Whether one of the marks is 2. It goes over all of them, which is faster than to stop at the first.
 fn has_mark_two(marks: &[u8]) -> bool
     ensures { IsTrue result ↔ HasMarkTwo marks.now }
 {
