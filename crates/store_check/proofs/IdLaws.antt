@@ -1,5 +1,6 @@
 -- Sets of unique IDs, and walks over the records of databases.
 use Rattle.std.proofs.Common.{◌≡◌, ℕ, ◌+◌, ◌/◌, ◌^◌, ◌<◌, ◌≤◌, List, Some, sym, ap, subst, ◌∙◌, arith, inl, inr, lit<}
+use Rattle.std.specs.Prelude.{◌⊎◌}
 use Rattle.std.proofs.lemmas.Bool.{cases_lt}
 use Rattle.heap_model.specs.Lists.{Least, LeastPair}
 use Rattle.store_check.specs.Listing.{listed_count, header_at}
@@ -90,3 +91,11 @@ bad_more image bytes seen new db is none empty n = record {
         none index (subst (λ (b : List ℕ). HasBadId b index) (sym is) here.1)
   ];
 }
+
+-- ---- rising IDs
+
+-- the IDs of the records so far rise, the last of them is the greatest, and 0 stands for the last of none
+pub record Risen (bytes : List ℕ) (index last : ℕ) : Type 0 where
+  pub above : (later id : ℕ) → later < index → id_at bytes later ≡ Some id → (0 < id) × ((earlier other : ℕ) → earlier < later → id_at bytes earlier ≡ Some other → other < id)
+  pub greatest : (earlier id : ℕ) → earlier < index → id_at bytes earlier ≡ Some id → id ≤ last
+  pub reached : (last ≡ 0) ⊎ ((earlier : ℕ) × (earlier < index) × (id_at bytes earlier ≡ Some last))

@@ -3,6 +3,7 @@ use Rattle.std.proofs.Common.{◌≡◌, ℕ, suc, ◌+◌, List, [], ◌∷◌,
 use Rattle.std.proofs.lemmas.List.{map-append, append-nil}
 use Rattle.std.proofs.lemmas.Grind.{flat_map-append}
 use Rattle.std.specs.List.{flat_map}
+use Rattle.std.specs.Prelude.{Option, Some, None, IfNone}
 use Rattle.heap_model.specs.Bytes.{u32_at}
 use Rattle.heap_model.specs.Lists.{numbered}
 use Rattle.heap_model.specs.Database.{entry_data, data_in, entry_in, entry_count_in, database_in}
@@ -13,6 +14,11 @@ use Rattle.store_check.specs.Listing.{listed_at, listed_count, header_at, entrie
 -- one number more
 one_more : {X : Type 0} (each : ℕ → X) (n : ℕ) → numbered each (n + 1) ≡ numbered each n ++ each n ∷ []
 one_more each n = let e : n + 1 ≡ suc n = omega arith in ap (numbered each) e ∙ numbered_more each n
+
+-- what follows where there is no value
+pub none_maps : {A : Type 0} {P Q : Type 0} (found : Option A) → (P → Q) → IfNone found P → IfNone found Q
+none_maps None f p = f p
+none_maps (Some value) f p = tt
 
 -- ---- entries
 

@@ -24,3 +24,7 @@ HasIdsBefore bytes seen index = (id : ℕ) → (HasNumber seen id ↔ ((earlier 
 -- no other IDs are in the set than those of the records from one index up to another
 abbrev pub HasIdsWithin : List ℕ → List ℕ → ℕ → ℕ → Type 0
 HasIdsWithin bytes seen from to = (id : ℕ) → HasNumber seen id → (index : ℕ) × (from ≤ index) × (index < to) × (id_at bytes index ≡ Some id)
+
+-- the ID of each record is above 0 and above those in front
+abbrev pub HasRisingIds : List ℕ → Type 0
+HasRisingIds bytes = (index id : ℕ) → index < entry_count_in bytes → id_at bytes index ≡ Some id → (0 < id) × ((earlier other : ℕ) → earlier < index → id_at bytes earlier ≡ Some other → other < id)

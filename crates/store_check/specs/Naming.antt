@@ -1,12 +1,12 @@
 -- How often slots are listed and named.
-use Rattle.std.specs.Prelude.{◌≡◌, ◌≢◌, ◌<◌, ◌≤◌, ◌++◌, ℕ, List, [], ◌∷◌, slice_index, min, All}
+use Rattle.std.specs.Prelude.{◌≡◌, ◌≢◌, ◌<◌, ◌≤◌, ◌++◌, ℕ, List, [], ◌∷◌, length, slice_index, min, All}
 use Rattle.heap_model.specs.Chunk.{data_owner}
 use Rattle.heap_model.specs.Slots.{StandsBehind}
 use Rattle.heap_model.specs.Heap.{HeapAccepted, directory_of}
 use Rattle.heap_model.specs.Lists.{times, Distinct, numbered}
 use Rattle.heap_model.specs.Store.{owner_under, listed, named, IsHeaderSlot}
 use Rattle.store_check.specs.Listing.{listed_at}
-use Rattle.store_check.specs.Owners.{IsOurs}
+use Rattle.store_check.specs.Owners.{IsOurOwner, IsOurs}
 
 -- Each header that is listed is a chunk of the manager's and listed once, and all that databases name
 -- are chunks for data: what is known where no slot of the directory, no header and no entry is bad.
@@ -49,3 +49,13 @@ IsMarkedTwice image marks number = (slot : ℕ) × StandsBehind image slot numbe
 abbrev pub IsUnmarked : List ℕ → List ℕ → ℕ → Type 0
 IsUnmarked image marks number =
     (slot : ℕ) × StandsBehind image slot number × (slice_index marks number ≡ 0) × IsOurs image slot
+
+-- one of the marks is 2
+abbrev pub HasMarkTwo : List ℕ → Type 0
+HasMarkTwo marks = (number : ℕ) × (number < length marks) × (2 ≤ slice_index marks number)
+
+-- a number has no mark, and yet the owner of a chunk for data or of one of the manager's
+abbrev pub HasUnmarked : List ℕ → List ℕ → Type 0
+HasUnmarked marks owners =
+    (number : ℕ) × (number < length marks) × (number < length owners) × (slice_index marks number ≡ 0)
+    × IsOurOwner (slice_index owners number)

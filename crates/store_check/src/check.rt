@@ -9,7 +9,7 @@ ghost use Rattle.heap_check.specs.Faults.{FirstBrought};
 ghost use Rattle.heap_check.specs.Owners.{NoneMarked, HasOwners};
 ghost use Rattle.store_check.specs.Listing.{IsListing, HaveHeaders};
 ghost use Rattle.store_check.specs.Faults.{store_faults, NoneBrought};
-ghost use Rattle.store_check.specs.Naming.{AreNamed, managers_slots, accounted, AreMarks};
+ghost use Rattle.store_check.specs.Naming.{AreNamed, accounted, AreMarks};
 ghost use Rattle.bit_sets.specs.Sets.{HasNone};
 ghost use Rattle.store_check.specs.Ids.{HasRoomForAll};
 ghost use Rattle.store_check.specs.Names.{name_numbers};
@@ -25,7 +25,6 @@ use crate::marks::{mark, no_marks};
 use crate::names::{NAME_NUMBERS, find_bad_name, find_same_name};
 use crate::slots::find_bad_slot;
 use crate::summary::StoreSummary;
-use crate::uses::mark_databases;
 use crate::words::listed_count;
 use allowance::Allowance;
 use chunk_format::slot_count;
@@ -152,12 +151,11 @@ fn check_with_marks(
 {
     mark(region, chunk_format::directory(region), marks);
     check_listed(region, directory, owners, marks)?;
-    mark_databases(region, directory, marks);
     check_chunks(region, owners, marks)
 }
 
-/// Looks for the faults of what the directory lists, whose own slot is marked. All that it lists is then
-/// marked too.
+/// Looks for the faults of what the directory lists, whose own slot is marked. All that must be named is
+/// then marked too.
 fn check_listed(
     region: &Region,
     directory: &[u8],
@@ -175,7 +173,7 @@ fn check_listed(
     ensures headers { OnOk result (HaveHeaders region.now.bytes) }
     ensures named { OnOk result (AreNamed region.now.bytes) }
     ensures marked { OnOk result (AreMarks region.now.bytes
-        (managers_slots region.now.bytes) marks.new) }
+        (accounted region.now.bytes) marks.new) }
 {
     if let Some(fault) = find_bad_slot(region, directory, owners, marks) {
         return Err(fault);
@@ -183,7 +181,7 @@ fn check_listed(
     if let Some(fault) = find_bad_header(region, directory, owners) {
         return Err(fault);
     }
-    match find_bad_entry(region, directory, owners) {
+    match find_bad_entry(region, directory, owners, marks) {
         Some(fault) => Err(fault),
         None => Ok(()),
     }

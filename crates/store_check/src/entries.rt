@@ -1,22 +1,25 @@
 //! The entries of databases, and the chunks of their data.
 
-ghost use Rattle.std.specs.Prelude.{◌<◌, ◌↔◌, IsTrue, IfSome, IfNone};
+ghost use Rattle.std.specs.Prelude.{◌≤◌, ◌<◌, ◌↔◌, length, IsTrue, IfSome, IfNone};
+ghost use Rattle.heap_model.specs.Slots.{slots_total};
 ghost use Rattle.heap_model.specs.Heap.{HeapAccepted};
 ghost use Rattle.heap_model.specs.Lists.{Least};
-ghost use Rattle.heap_model.specs.Database.{entry_in, entry_count_in};
-ghost use Rattle.heap_model.specs.Store.{HasData};
+ghost use Rattle.heap_model.specs.Database.{data_in, entry_in, entry_count_in, database_in};
+ghost use Rattle.heap_model.specs.Store.{HasData, named};
 ghost use Rattle.heap_check.specs.Faults.{FirstBrought};
 ghost use Rattle.heap_check.specs.Owners.{HasOwners};
 ghost use Rattle.db_format.specs.Headers.{IsWhole};
 ghost use Rattle.db_format.specs.EitherEntry.{entry_of};
-ghost use Rattle.store_check.specs.Listing.{IsListing, HaveHeaders};
+ghost use Rattle.store_check.specs.Listing.{entry_slots, IsListing, HaveHeaders};
 ghost use Rattle.store_check.specs.Faults.{HasBadEntry, HasGoodEntries, entry_faults, NoneBrought};
+ghost use Rattle.store_check.specs.Naming.{AddsMarks};
 
 use crate::fault::StoreFault;
 use crate::lookup::header_of;
+use crate::marks::mark;
 use crate::owners::is_for_data;
 use crate::words::listed_count;
-use db_format::{DbEntry, entry_count};
+use db_format::{DbEntry, app_info, entry_count, sort_info};
 use raw_region::Region;
 
 /// Whether an entry has its data in a chunk for data. The record may have none if it is deleted.
@@ -34,33 +37,68 @@ fn has_data(region: &Region, entry: DbEntry, owners: &[u8]) -> bool
     }
 }
 
-/// The first bad entry of a database.
-fn find_bad_entry_in(region: &Region, header: &[u8], owners: &[u8]) -> Option<u16>
+/// The first bad entry behind a header. Where there is none, what the entries name is marked.
+fn find_bad_entry_among(
+    region: &Region,
+    header: &[u8],
+    owners: &[u8],
+    marks: &mut [u8],
+) -> Option<u16>
     requires accepted { HeapAccepted region.now.bytes }
     requires owners { HasOwners region.now.bytes owners.now }
+    requires room { slots_total region.now.bytes ≤ length marks.old }
     requires whole { IsWhole header.now }
     ensures some { IfSome result (Least (HasBadEntry region.now.bytes header.now)) }
     ensures none { IfNone result (HasGoodEntries region.now.bytes header.now) }
+    ensures marked { IfNone result
+        (AddsMarks region.now.bytes (entry_slots header.now) marks.old marks.new) }
 {
     for index in 0..entry_count(header) {
-        if !has_data(region, DbEntry::read(header, index), owners) {
+        let entry = DbEntry::read(header, index);
+        if !has_data(region, entry, owners) {
             return Some(index);
         }
+        mark(region, entry.slot(), marks);
     }
     None
 }
 
-/// The first bad entry of all databases, in their order.
-pub(crate) fn find_bad_entry(region: &Region, directory: &[u8], owners: &[u8]) -> Option<StoreFault>
+/// The first bad entry of a database. Where there is none, what the database names is marked.
+fn find_bad_entry_in(region: &Region, header: &[u8], owners: &[u8], marks: &mut [u8]) -> Option<u16>
+    requires accepted { HeapAccepted region.now.bytes }
     requires owners { HasOwners region.now.bytes owners.now }
+    requires room { slots_total region.now.bytes ≤ length marks.old }
+    requires whole { IsWhole header.now }
+    ensures some { IfSome result (Least (HasBadEntry region.now.bytes header.now)) }
+    ensures none { IfNone result (HasGoodEntries region.now.bytes header.now) }
+    ensures marked { IfNone result
+        (AddsMarks region.now.bytes (data_in (database_in header.now)) marks.old marks.new) }
+{
+    mark(region, app_info(header), marks);
+    mark(region, sort_info(header), marks);
+    find_bad_entry_among(region, header, owners, marks)
+}
+
+/// The first bad entry of all databases, in their order. Where there is none, all that they name is
+/// marked.
+pub(crate) fn find_bad_entry(
+    region: &Region,
+    directory: &[u8],
+    owners: &[u8],
+    marks: &mut [u8],
+) -> Option<StoreFault>
+    requires owners { HasOwners region.now.bytes owners.now }
+    requires room { slots_total region.now.bytes ≤ length marks.old }
     requires listing { IsListing region.now.bytes directory.now }
     requires headers { HaveHeaders region.now.bytes }
     ensures some { IfSome result (FirstBrought (entry_faults region.now.bytes)) }
     ensures none { IfNone result (NoneBrought (entry_faults region.now.bytes)) }
+    ensures marked { IfNone result
+        (AddsMarks region.now.bytes (named region.now.bytes) marks.old marks.new) }
 {
     for db in 0..listed_count(directory) {
         let header = header_of(region, directory, db);
-        if let Some(index) = find_bad_entry_in(region, header, owners) {
+        if let Some(index) = find_bad_entry_in(region, header, owners, marks) {
             return Some(StoreFault::BadEntry(db as u32, index as u32));
         }
     }

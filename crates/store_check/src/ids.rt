@@ -1,6 +1,6 @@
 //! The unique IDs of records, each database for itself.
 
-ghost use Rattle.std.specs.Prelude.{◌≡◌, ◌≤◌, ◌<◌, ◌^◌, ℕ, Some, false, length, IfOk, IfSome, IfNone, OnErr};
+ghost use Rattle.std.specs.Prelude.{◌≡◌, ◌≤◌, ◌<◌, ◌^◌, ◌↔◌, ℕ, Some, false, length, IsTrue, IfOk, IfSome, IfNone, OnErr};
 ghost use Rattle.heap_model.specs.Lists.{Least};
 ghost use Rattle.heap_model.specs.Database.{resources_in, entry_count_in};
 ghost use Rattle.heap_check.specs.Faults.{FirstBrought};
@@ -8,7 +8,7 @@ ghost use Rattle.bit_sets.specs.Sets.{HasNone};
 ghost use Rattle.db_format.specs.Headers.{IsWhole};
 ghost use Rattle.store_check.specs.Listing.{listed_count as model_count, header_at, IsListing, HaveHeaders};
 ghost use Rattle.store_check.specs.Faults.{id_at, HasBadId, HasGoodIds, id_faults, NoneBrought};
-ghost use Rattle.store_check.specs.Ids.{HasIdsUpTo, HasRoomForIds, HasRoomForAll, HasIdsWithin};
+ghost use Rattle.store_check.specs.Ids.{HasIdsUpTo, HasRoomForIds, HasRoomForAll, HasIdsWithin, HasRisingIds};
 
 use crate::fault::StoreFault;
 use crate::lookup::header_of;
@@ -72,6 +72,23 @@ pub(crate) fn greatest_id(region: &Region, directory: &[u8]) -> u32
     greatest
 }
 
+/// Whether the ID of each record of a database is above 0 and above those in front: then none is bad.
+fn has_rising_ids(header: &[u8]) -> bool
+    requires whole { IsWhole header.now }
+    requires records { resources_in header.now ≡ false }
+    ensures { IsTrue result ↔ HasRisingIds header.now }
+{
+    let mut last = 0;
+    for index in 0..entry_count(header) {
+        let id = record_id(header, index);
+        if id <= last {
+            return false;
+        }
+        last = id;
+    }
+    true
+}
+
 /// The first record of a database whose ID is 0 or an earlier one's. Where there is none, the set has
 /// their IDs.
 fn find_bad_id_among(header: &[u8], seen: &mut [u8]) -> Option<u16>
@@ -94,8 +111,8 @@ fn find_bad_id_among(header: &[u8], seen: &mut [u8]) -> Option<u16>
     None
 }
 
-/// Empties a set that has the IDs of a database's records.
-fn forget_ids(header: &[u8], seen: &mut [u8])
+/// Takes the IDs of a database's records out of a set that has no others.
+fn forget_each(header: &[u8], seen: &mut [u8])
     requires whole { IsWhole header.now }
     requires records { resources_in header.now ≡ false }
     requires room { HasRoomForIds header.now (length seen.old) }
@@ -104,6 +121,24 @@ fn forget_ids(header: &[u8], seen: &mut [u8])
 {
     for index in 0..entry_count(header) {
         bit_sets::remove_byte(seen, record_id(header, index));
+    }
+}
+
+/// How many bytes of a set are cleared at once in about the time in which one ID is taken out.
+const BYTES_FOR_ONE: usize = 32;
+
+/// Empties a set that has the IDs of a database's records, and clears it as a whole where they are many.
+fn forget_ids(header: &[u8], seen: &mut [u8])
+    requires whole { IsWhole header.now }
+    requires records { resources_in header.now ≡ false }
+    requires room { HasRoomForIds header.now (length seen.old) }
+    requires within { HasIdsWithin header.now seen.old 0 (entry_count_in header.now) }
+    ensures { HasNone seen.new }
+{
+    if entry_count(header) as usize >= seen.len() / BYTES_FOR_ONE {
+        seen.fill(0);
+    } else {
+        forget_each(header, seen);
     }
 }
 
@@ -117,7 +152,7 @@ fn find_bad_id_in(header: &[u8], seen: &mut [u8]) -> Option<u16>
     ensures none { IfNone result (HasGoodIds header.now) }
     ensures empty { IfNone result (HasNone seen.new) }
 {
-    if has_resources(header) {
+    if has_resources(header) || has_rising_ids(header) {
         return None;
     }
     let bad = find_bad_id_among(header, seen);

@@ -5,7 +5,7 @@ ghost use Rattle.heap_model.specs.Chunk.{managers_owner, data_owner};
 ghost use Rattle.heap_model.specs.Heap.{HeapAccepted};
 ghost use Rattle.heap_model.specs.Store.{owner_under};
 ghost use Rattle.heap_check.specs.Owners.{HasOwners};
-ghost use Rattle.store_check.specs.Owners.{IsOurs, TellsOwner};
+ghost use Rattle.store_check.specs.Owners.{IsOurOwner, TellsOwner};
 
 use chunk_format::{DATA_OWNER, MANAGERS_OWNER};
 use heap_check::NO_OWNER;
@@ -26,13 +26,12 @@ fn noted_owner(region: &Region, slot: u32, owners: &[u8]) -> u8
     }
 }
 
-/// Whether a slot has a chunk of the manager's or one for data.
-pub(crate) fn is_ours(region: &Region, slot: u32, owners: &[u8]) -> bool
-    requires accepted { HeapAccepted region.now.bytes }
-    requires owners { HasOwners region.now.bytes owners.now }
-    ensures { IsTrue result ↔ IsOurs region.now.bytes slot }
+/// Whether this is the owner of chunks of the manager's or of those for data.
+#[inline]
+pub(crate) fn is_our_owner(owner: u8) -> bool
+    ensures { IsTrue result ↔ IsOurOwner owner }
 {
-    is_managers(region, slot, owners) || is_for_data(region, slot, owners)
+    owner == MANAGERS_OWNER || owner == DATA_OWNER
 }
 
 /// Whether a slot has a chunk of the manager's.

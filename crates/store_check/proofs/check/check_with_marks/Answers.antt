@@ -1,6 +1,5 @@
 use Rattle.std.proofs.Common.{ℕ, [], ◌∷◌, ◌++◌, ap}
 use Rattle.heap_model.specs.Heap.{directory_of}
-use Rattle.store_check.specs.Naming.{managers_slots}
 use Rattle.store_check.proofs.MarkLaws.{same_marks}
 use Rattle.store_check.proofs.check.check_with_marks.Goals as goal
 
@@ -8,6 +7,3 @@ pub check_listed-requires-clause-marks : goal.check_listed-requires-clause-marks
 check_listed-requires-clause-marks c =
     same_marks c.args.region.now.bytes ([] ++ c.directory.result ∷ []) (directory_of c.args.region.now.bytes ∷ []) c.mark.new.marks (ap (λ (word : ℕ). word ∷ []) c.directory.ensures)
     (c.mark.ensures [] c.requires.clear)
-
-pub check_chunks-requires-clause-marks : goal.check_chunks-requires-clause-marks
-check_chunks-requires-clause-marks c = c.mark_databases.ensures (managers_slots c.args.region.now.bytes) c.in_ok-check_listed.ensures.marked
