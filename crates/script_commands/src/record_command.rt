@@ -2,15 +2,15 @@
 
 ghost use Rattle.std.specs.Prelude.{◌≡◌, ◌<◌, ℕ, List, length};
 ghost use Rattle.script_commands.specs.Commands as tables;
-ghost use Rattle.script_commands.specs.Commands.{command_of, on_records};
-ghost use Rattle.script_commands.specs.Places.{record_line};
+ghost use Rattle.script_commands.specs.Commands.{command_of, line_of, on_records};
+ghost use Rattle.script_commands.specs.ValueKinds.{AreOfKinds};
 ghost use Rattle.script_commands.specs.declared.line.Line.TheVariants.{Print, BindChunk};
 ghost use Rattle.script_commands.specs.declared.command.Command.TheVariants.{Record as OfRecords};
 
 use crate::command::{Command, CommandRow, row};
 use crate::line::{ChunkLabel, DatabaseLabel, Line};
-use crate::place::{byte_at, chunk_at, database_at, flag_at, number_at};
 use crate::value::{Kind, Value};
+use crate::words::{five, four, one, three, two};
 use heap_model::{Call, RecordCall};
 
 /// A command of records.
@@ -158,95 +158,112 @@ fn bind(label: ChunkLabel, call: RecordCall<ChunkLabel, DatabaseLabel>) -> Line
 
 /// The line of a command and what its words stand for.
 pub(crate) fn make_record_line(command: RecordCommand, values: &[Value]) -> Line
-    ensures { (bytes : List ℕ) → result ≡ record_line command values.now bytes }
+    requires { AreOfKinds (tables.kinds_of (OfRecords command)) values.now }
+    ensures { (bytes : List ℕ) → line_of (OfRecords command) values.now bytes ≡ Some result }
 {
-    let db = database_at(values, 0);
     match command {
-        RecordCommand::New => bind(
-            chunk_at(values, 3),
-            RecordCall::New {
+        RecordCommand::New => {
+            let (db, at, size, label) = four(values);
+            bind(label, RecordCall::New { db, at, size })
+        }
+        RecordCommand::Delete => {
+            let (db, index) = two(values);
+            print(RecordCall::Delete(db, index))
+        }
+        RecordCommand::Archive => {
+            let (db, index) = two(values);
+            print(RecordCall::Archive(db, index))
+        }
+        RecordCommand::Remove => {
+            let (db, index) = two(values);
+            print(RecordCall::Remove(db, index))
+        }
+        RecordCommand::Move => {
+            let (db, from, to) = three(values);
+            print(RecordCall::Move { db, from, to })
+        }
+        RecordCommand::Get => {
+            let (db, index, label) = three(values);
+            bind(label, RecordCall::Get(db, index))
+        }
+        RecordCommand::Query => {
+            let (db, index, label) = three(values);
+            bind(label, RecordCall::Query(db, index))
+        }
+        RecordCommand::Release => {
+            let (db, index, dirty) = three(values);
+            print(RecordCall::Release { db, index, dirty })
+        }
+        RecordCommand::Info => {
+            let (db, index) = two(values);
+            print(RecordCall::Info(db, index))
+        }
+        RecordCommand::Resize => {
+            let (db, index, size) = three(values);
+            print(RecordCall::Resize { db, index, size })
+        }
+        RecordCommand::Count => print(RecordCall::Count(one(values))),
+        RecordCommand::Attach => {
+            let (db, at, name) = three(values);
+            print(RecordCall::Attach { db, at, name })
+        }
+        RecordCommand::AttachReplacing => {
+            let (db, index, name, owner, label) = five(values);
+            bind(
+                label,
+                RecordCall::AttachReplacing {
+                    db,
+                    index,
+                    name,
+                    owner,
+                },
+            )
+        }
+        RecordCommand::Detach => {
+            let (db, index, owner, label) = four(values);
+            bind(label, RecordCall::Detach { db, index, owner })
+        }
+        RecordCommand::SetInfo => {
+            let (db, index, attributes, id) = four(values);
+            print(RecordCall::SetInfo {
                 db,
-                at: number_at(values, 1),
-                size: number_at(values, 2),
-            },
-        ),
-        RecordCommand::Delete => print(RecordCall::Delete(db, number_at(values, 1))),
-        RecordCommand::Archive => print(RecordCall::Archive(db, number_at(values, 1))),
-        RecordCommand::Remove => print(RecordCall::Remove(db, number_at(values, 1))),
-        RecordCommand::Move => print(RecordCall::Move {
-            db,
-            from: number_at(values, 1),
-            to: number_at(values, 2),
-        }),
-        RecordCommand::Get => bind(
-            chunk_at(values, 2),
-            RecordCall::Get(db, number_at(values, 1)),
-        ),
-        RecordCommand::Query => bind(
-            chunk_at(values, 2),
-            RecordCall::Query(db, number_at(values, 1)),
-        ),
-        RecordCommand::Release => print(RecordCall::Release {
-            db,
-            index: number_at(values, 1),
-            dirty: flag_at(values, 2),
-        }),
-        RecordCommand::Info => print(RecordCall::Info(db, number_at(values, 1))),
-        RecordCommand::Resize => print(RecordCall::Resize {
-            db,
-            index: number_at(values, 1),
-            size: number_at(values, 2),
-        }),
-        RecordCommand::Count => print(RecordCall::Count(db)),
-        RecordCommand::Attach => print(RecordCall::Attach {
-            db,
-            at: number_at(values, 1),
-            name: chunk_at(values, 2),
-        }),
-        RecordCommand::AttachReplacing => bind(
-            chunk_at(values, 4),
-            RecordCall::AttachReplacing {
+                index,
+                attributes,
+                id,
+            })
+        }
+        RecordCommand::Find => {
+            let (db, id) = two(values);
+            print(RecordCall::FindById(db, id))
+        }
+        RecordCommand::CountInCategory => {
+            let (db, category) = two(values);
+            print(RecordCall::CountInCategory(db, category))
+        }
+        RecordCommand::NextInCategory => {
+            let (db, from, category) = three(values);
+            print(RecordCall::NextInCategory { db, from, category })
+        }
+        RecordCommand::PositionInCategory => {
+            let (db, index, category) = three(values);
+            print(RecordCall::PositionInCategory {
                 db,
-                index: number_at(values, 1),
-                name: chunk_at(values, 2),
-                owner: byte_at(values, 3),
-            },
-        ),
-        RecordCommand::Detach => bind(
-            chunk_at(values, 3),
-            RecordCall::Detach {
+                index,
+                category,
+            })
+        }
+        RecordCommand::MoveCategory => {
+            let (db, to, from, dirty) = four(values);
+            print(RecordCall::MoveCategory {
                 db,
-                index: number_at(values, 1),
-                owner: byte_at(values, 2),
-            },
-        ),
-        RecordCommand::SetInfo => print(RecordCall::SetInfo {
-            db,
-            index: number_at(values, 1),
-            attributes: byte_at(values, 2),
-            id: number_at(values, 3),
-        }),
-        RecordCommand::Find => print(RecordCall::FindById(db, number_at(values, 1))),
-        RecordCommand::CountInCategory => print(RecordCall::CountInCategory(
-            db,
-            byte_at(values, 1),
-        )),
-        RecordCommand::NextInCategory => print(RecordCall::NextInCategory {
-            db,
-            from: number_at(values, 1),
-            category: byte_at(values, 2),
-        }),
-        RecordCommand::PositionInCategory => print(RecordCall::PositionInCategory {
-            db,
-            index: number_at(values, 1),
-            category: byte_at(values, 2),
-        }),
-        RecordCommand::MoveCategory => print(RecordCall::MoveCategory {
-            db,
-            to: byte_at(values, 1),
-            from: byte_at(values, 2),
-            dirty: flag_at(values, 3),
-        }),
-        RecordCommand::DeleteCategory => print(RecordCall::DeleteCategory(db, byte_at(values, 1))),
+                to,
+                from,
+                dirty,
+            })
+        }
+        RecordCommand::DeleteCategory => {
+            let (db, category) = two(values);
+            print(RecordCall::DeleteCategory(db, category))
+        }
     }
 }
