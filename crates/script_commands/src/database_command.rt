@@ -12,7 +12,7 @@ ghost use Rattle.script_commands.specs.declared.database_command.DatabaseCommand
 use crate::command::{Command, CommandRow, row};
 use crate::line::{ChunkLabel, DatabaseLabel, Line};
 use crate::value::{Kind, Value};
-use crate::words::{FourBytes, cut, five, four, one, three, two};
+use crate::words::{FourBytes, cut, four, one, three, two};
 use heap_model::{Call, DatabaseCall, DbInfo, DbName};
 
 /// A command of databases or of their files.
@@ -131,7 +131,8 @@ fn creation(values: &[Value], text: &[u8]) -> Line
     requires { AreOfKinds creation_kinds values.now }
     ensures { line_of (OfDatabases Create) values.now text.now ≡ Some result }
 {
-    let (label, FourBytes(kind), FourBytes(creator), resources, date) = five(values);
+    let (label, rest) = cut(values);
+    let (FourBytes(kind), FourBytes(creator), resources, date) = four(rest);
     let call = DatabaseCall::Create {
         name: DbName::of(text),
         kind,

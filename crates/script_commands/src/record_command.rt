@@ -10,7 +10,7 @@ ghost use Rattle.script_commands.specs.declared.command.Command.TheVariants.{Rec
 use crate::command::{Command, CommandRow, row};
 use crate::line::{ChunkLabel, DatabaseLabel, Line};
 use crate::value::{Kind, Value};
-use crate::words::{five, four, one, three, two};
+use crate::words::{cut, four, one, three, two};
 use heap_model::{Call, RecordCall};
 
 /// A command of records.
@@ -161,54 +161,43 @@ pub(crate) fn make_record_line(command: RecordCommand, values: &[Value]) -> Line
     requires { AreOfKinds (tables.kinds_of (OfRecords command)) values.now }
     ensures { (bytes : List ℕ) → line_of (OfRecords command) values.now bytes ≡ Some result }
 {
+    let (db, rest) = cut(values);
     match command {
         RecordCommand::New => {
-            let (db, at, size, label) = four(values);
+            let (at, size, label) = three(rest);
             bind(label, RecordCall::New { db, at, size })
         }
-        RecordCommand::Delete => {
-            let (db, index) = two(values);
-            print(RecordCall::Delete(db, index))
-        }
-        RecordCommand::Archive => {
-            let (db, index) = two(values);
-            print(RecordCall::Archive(db, index))
-        }
-        RecordCommand::Remove => {
-            let (db, index) = two(values);
-            print(RecordCall::Remove(db, index))
-        }
+        RecordCommand::Delete => print(RecordCall::Delete(db, one(rest))),
+        RecordCommand::Archive => print(RecordCall::Archive(db, one(rest))),
+        RecordCommand::Remove => print(RecordCall::Remove(db, one(rest))),
         RecordCommand::Move => {
-            let (db, from, to) = three(values);
+            let (from, to) = two(rest);
             print(RecordCall::Move { db, from, to })
         }
         RecordCommand::Get => {
-            let (db, index, label) = three(values);
+            let (index, label) = two(rest);
             bind(label, RecordCall::Get(db, index))
         }
         RecordCommand::Query => {
-            let (db, index, label) = three(values);
+            let (index, label) = two(rest);
             bind(label, RecordCall::Query(db, index))
         }
         RecordCommand::Release => {
-            let (db, index, dirty) = three(values);
+            let (index, dirty) = two(rest);
             print(RecordCall::Release { db, index, dirty })
         }
-        RecordCommand::Info => {
-            let (db, index) = two(values);
-            print(RecordCall::Info(db, index))
-        }
+        RecordCommand::Info => print(RecordCall::Info(db, one(rest))),
         RecordCommand::Resize => {
-            let (db, index, size) = three(values);
+            let (index, size) = two(rest);
             print(RecordCall::Resize { db, index, size })
         }
-        RecordCommand::Count => print(RecordCall::Count(one(values))),
+        RecordCommand::Count => print(RecordCall::Count(db)),
         RecordCommand::Attach => {
-            let (db, at, name) = three(values);
+            let (at, name) = two(rest);
             print(RecordCall::Attach { db, at, name })
         }
         RecordCommand::AttachReplacing => {
-            let (db, index, name, owner, label) = five(values);
+            let (index, name, owner, label) = four(rest);
             bind(
                 label,
                 RecordCall::AttachReplacing {
@@ -220,11 +209,11 @@ pub(crate) fn make_record_line(command: RecordCommand, values: &[Value]) -> Line
             )
         }
         RecordCommand::Detach => {
-            let (db, index, owner, label) = four(values);
+            let (index, owner, label) = three(rest);
             bind(label, RecordCall::Detach { db, index, owner })
         }
         RecordCommand::SetInfo => {
-            let (db, index, attributes, id) = four(values);
+            let (index, attributes, id) = three(rest);
             print(RecordCall::SetInfo {
                 db,
                 index,
@@ -232,20 +221,14 @@ pub(crate) fn make_record_line(command: RecordCommand, values: &[Value]) -> Line
                 id,
             })
         }
-        RecordCommand::Find => {
-            let (db, id) = two(values);
-            print(RecordCall::FindById(db, id))
-        }
-        RecordCommand::CountInCategory => {
-            let (db, category) = two(values);
-            print(RecordCall::CountInCategory(db, category))
-        }
+        RecordCommand::Find => print(RecordCall::FindById(db, one(rest))),
+        RecordCommand::CountInCategory => print(RecordCall::CountInCategory(db, one(rest))),
         RecordCommand::NextInCategory => {
-            let (db, from, category) = three(values);
+            let (from, category) = two(rest);
             print(RecordCall::NextInCategory { db, from, category })
         }
         RecordCommand::PositionInCategory => {
-            let (db, index, category) = three(values);
+            let (index, category) = two(rest);
             print(RecordCall::PositionInCategory {
                 db,
                 index,
@@ -253,7 +236,7 @@ pub(crate) fn make_record_line(command: RecordCommand, values: &[Value]) -> Line
             })
         }
         RecordCommand::MoveCategory => {
-            let (db, to, from, dirty) = four(values);
+            let (to, from, dirty) = three(rest);
             print(RecordCall::MoveCategory {
                 db,
                 to,
@@ -261,9 +244,6 @@ pub(crate) fn make_record_line(command: RecordCommand, values: &[Value]) -> Line
                 dirty,
             })
         }
-        RecordCommand::DeleteCategory => {
-            let (db, category) = two(values);
-            print(RecordCall::DeleteCategory(db, category))
-        }
+        RecordCommand::DeleteCategory => print(RecordCall::DeleteCategory(db, one(rest))),
     }
 }

@@ -10,7 +10,7 @@ ghost use Rattle.script_commands.specs.declared.command.Command.TheVariants.{Res
 use crate::command::{Command, CommandRow, row};
 use crate::line::{ChunkLabel, DatabaseLabel, Line};
 use crate::value::{Kind, Value};
-use crate::words::{FourBytes, five, four, one, three, two};
+use crate::words::{FourBytes, cut, four, one, three, two};
 use heap_model::{Call, ResourceCall};
 
 /// A command of resources.
@@ -124,33 +124,31 @@ pub(crate) fn make_resource_line(command: ResourceCommand, values: &[Value]) -> 
     requires { AreOfKinds (tables.kinds_of (OfResources command)) values.now }
     ensures { (bytes : List ℕ) → line_of (OfResources command) values.now bytes ≡ Some result }
 {
+    let (db, rest) = cut(values);
     match command {
         ResourceCommand::New => {
-            let (db, FourBytes(kind), id, size, label) = five(values);
+            let (FourBytes(kind), id, size, label) = four(rest);
             bind(label, ResourceCall::New { db, kind, id, size })
         }
         ResourceCommand::Attach => {
-            let (db, FourBytes(kind), id, name) = four(values);
+            let (FourBytes(kind), id, name) = three(rest);
             print(ResourceCall::Attach { db, kind, id, name })
         }
         ResourceCommand::Detach => {
-            let (db, index, owner, label) = four(values);
+            let (index, owner, label) = three(rest);
             bind(label, ResourceCall::Detach { db, index, owner })
         }
-        ResourceCommand::Remove => {
-            let (db, index) = two(values);
-            print(ResourceCall::Remove(db, index))
-        }
+        ResourceCommand::Remove => print(ResourceCall::Remove(db, one(rest))),
         ResourceCommand::Resize => {
-            let (db, index, size) = three(values);
+            let (index, size) = two(rest);
             print(ResourceCall::Resize { db, index, size })
         }
         ResourceCommand::Info => {
-            let (db, index, label) = three(values);
+            let (index, label) = two(rest);
             bind(label, ResourceCall::Info(db, index))
         }
         ResourceCommand::SetInfo => {
-            let (db, index, FourBytes(kind), id) = four(values);
+            let (index, FourBytes(kind), id) = three(rest);
             print(ResourceCall::SetInfo {
                 db,
                 index,
@@ -159,13 +157,13 @@ pub(crate) fn make_resource_line(command: ResourceCommand, values: &[Value]) -> 
             })
         }
         ResourceCommand::Find => {
-            let (db, FourBytes(kind), id) = three(values);
+            let (FourBytes(kind), id) = two(rest);
             print(ResourceCall::Find { db, kind, id })
         }
         ResourceCommand::FindType => {
-            let (db, FourBytes(kind), nth) = three(values);
+            let (FourBytes(kind), nth) = two(rest);
             print(ResourceCall::FindType { db, kind, nth })
         }
-        ResourceCommand::Count => print(ResourceCall::Count(one(values))),
+        ResourceCommand::Count => print(ResourceCall::Count(db)),
     }
 }

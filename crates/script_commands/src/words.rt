@@ -180,16 +180,3 @@ pub(crate) fn four<A: OfKind, B: OfKind, C: OfKind, D: OfKind>(values: &[Value])
     let (second, third, fourth) = three(rest);
     (first, second, third, fourth)
 }
-
-/// What five words stand for.
-pub(crate) fn five<A: OfKind, B: OfKind, C: OfKind, D: OfKind, E: OfKind>(
-    values: &[Value],
-) -> (A, B, C, D, E)
-    requires { map kind_of values.now ≡ A.kind ∷ B.kind ∷ C.kind ∷ D.kind ∷ E.kind ∷ [] }
-    ensures { values.now ≡ A.as_value result.0 ∷ B.as_value result.1 ∷ C.as_value result.2
-        ∷ D.as_value result.3 ∷ E.as_value result.4 ∷ [] }
-{
-    let (first, rest) = cut(values);
-    let (second, third, fourth, fifth) = four(rest);
-    (first, second, third, fourth, fifth)
-}
