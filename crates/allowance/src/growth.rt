@@ -38,6 +38,7 @@ pub fn push<A: Allowance, T: Drop>(
     item: T,
 ) -> Result<(), AllocError>
     ensures items { OnOk result (items.new.items ≡ items.old.items ++ (item ∷ [])) }
+    ensures same { OnErr result (items.new.items ≡ items.old.items) }
     ensures short { OnErr result (A.is_short memory.now) }
 {
     memory.grant()?;

@@ -1,3 +1,2 @@
 pub mod LabelLaws
-pub mod CommandLaws
 mod TableLaws

@@ -1,3 +1,3 @@
 pub mod Labels
 pub mod Commands
-pub mod Places
+pub mod ValueKinds

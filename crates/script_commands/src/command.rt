@@ -6,7 +6,7 @@ ghost use Rattle.std.specs.List.{find};
 ghost use Rattle.std.specs.Str.{bytes_eq};
 ghost use Rattle.script_commands.specs.Commands as tables;
 ghost use Rattle.script_commands.specs.Commands.{line_of, command_of};
-ghost use Rattle.script_commands.specs.Places.{AreOfKinds};
+ghost use Rattle.script_commands.specs.ValueKinds.{AreOfKinds};
 
 use crate::database_command::{
     DATABASE_COMMANDS, DatabaseCommand, database_row, make_database_line,

@@ -2,18 +2,17 @@
 
 ghost use Rattle.std.specs.Prelude.{◌≡◌, ◌<◌, length};
 ghost use Rattle.script_commands.specs.Commands as tables;
-ghost use Rattle.script_commands.specs.Commands.{command_of, on_databases};
-ghost use Rattle.script_commands.specs.Commands.{created, creation_kinds, info_kinds, info_set};
-ghost use Rattle.script_commands.specs.Places.{database_line, line_from};
+ghost use Rattle.script_commands.specs.Commands.{command_of, line_of, on_databases};
+ghost use Rattle.script_commands.specs.Commands.{creation_kinds, info_kinds};
+ghost use Rattle.script_commands.specs.ValueKinds.{AreOfKinds};
 ghost use Rattle.script_commands.specs.declared.line.Line.TheVariants.{Print, BindChunk, BindDatabase};
 ghost use Rattle.script_commands.specs.declared.command.Command.TheVariants.{Database as OfDatabases};
+ghost use Rattle.script_commands.specs.declared.database_command.DatabaseCommand.TheVariants.{Create, SetInfo};
 
 use crate::command::{Command, CommandRow, row};
 use crate::line::{ChunkLabel, DatabaseLabel, Line};
-use crate::place::{
-    byte_at, chunk_at, database_at, flag_at, four_bytes_at, number_at, short_at, which_at,
-};
 use crate::value::{Kind, Value};
+use crate::words::{FourBytes, cut, four, one, three, two};
 use heap_model::{Call, DatabaseCall, DbInfo, DbName};
 
 /// A command of databases or of their files.
@@ -129,77 +128,81 @@ fn bind_database(label: DatabaseLabel, call: DatabaseCall<ChunkLabel, DatabaseLa
 
 /// The line of `create`.
 fn creation(values: &[Value], text: &[u8]) -> Line
-    ensures { result ≡ line_from 0 creation_kinds created values.now text.now }
+    requires { AreOfKinds creation_kinds values.now }
+    ensures { line_of (OfDatabases Create) values.now text.now ≡ Some result }
 {
+    let (label, rest) = cut(values);
+    let (FourBytes(kind), FourBytes(creator), resources, date) = four(rest);
     let call = DatabaseCall::Create {
         name: DbName::of(text),
-        kind: four_bytes_at(values, 1),
-        creator: four_bytes_at(values, 2),
-        resources: flag_at(values, 3),
-        date: number_at(values, 4),
+        kind,
+        creator,
+        resources,
+        date,
     };
-    bind_database(database_at(values, 0), call)
+    bind_database(label, call)
 }
 
 /// The line of `dbset`.
 fn info_line(values: &[Value], text: &[u8]) -> Line
-    ensures { result ≡ line_from 0 info_kinds info_set values.now text.now }
+    requires { AreOfKinds info_kinds values.now }
+    ensures { line_of (OfDatabases SetInfo) values.now text.now ≡ Some result }
 {
+    let (db, rest) = cut(values);
+    let (attributes, rest) = cut(rest);
+    let (version, rest) = cut(rest);
+    let (creation_date, rest) = cut(rest);
+    let (modification_date, backup_date, FourBytes(kind), FourBytes(creator)) = four(rest);
     let info = DbInfo {
         name: DbName::of(text),
-        attributes: short_at(values, 1),
-        version: short_at(values, 2),
-        creation_date: number_at(values, 3),
-        modification_date: number_at(values, 4),
-        backup_date: number_at(values, 5),
+        attributes,
+        version,
+        creation_date,
+        modification_date,
+        backup_date,
         modification_number: 0,
-        kind: four_bytes_at(values, 6),
-        creator: four_bytes_at(values, 7),
+        kind,
+        creator,
         seed: 0,
         entry_count: 0,
     };
-    print(DatabaseCall::SetInfo(database_at(values, 0), info))
+    print(DatabaseCall::SetInfo(db, info))
 }
 
 /// The line of a command and what its words stand for.
 pub(crate) fn make_database_line(command: DatabaseCommand, values: &[Value], text: &[u8]) -> Line
-    ensures { result ≡ database_line command values.now text.now }
+    requires { AreOfKinds (tables.kinds_of (OfDatabases command)) values.now }
+    ensures { line_of (OfDatabases command) values.now text.now ≡ Some result }
 {
     match command {
         DatabaseCommand::Create => creation(values, text),
-        DatabaseCommand::Find => bind_database(
-            database_at(values, 0),
-            DatabaseCall::Find(DbName::of(text)),
-        ),
-        DatabaseCommand::Nth => bind_database(
-            database_at(values, 0),
-            DatabaseCall::Nth(number_at(values, 1)),
-        ),
+        DatabaseCommand::Find => {
+            bind_database(one(values), DatabaseCall::Find(DbName::of(text)))
+        }
+        DatabaseCommand::Nth => {
+            let (label, index) = two(values);
+            bind_database(label, DatabaseCall::Nth(index))
+        }
         DatabaseCommand::Count => print(DatabaseCall::Count),
-        DatabaseCommand::Delete => print(DatabaseCall::Delete(database_at(values, 0))),
-        DatabaseCommand::Info => print(DatabaseCall::Info(database_at(values, 0))),
+        DatabaseCommand::Delete => print(DatabaseCall::Delete(one(values))),
+        DatabaseCommand::Info => print(DatabaseCall::Info(one(values))),
         DatabaseCommand::SetInfo => info_line(values, text),
-        DatabaseCommand::SetInfoBlock => print(DatabaseCall::SetInfoBlock {
-            db: database_at(values, 0),
-            which: which_at(values, 1),
-            name: chunk_at(values, 2),
-        }),
-        DatabaseCommand::TakeInfoBlock => bind_chunk(
-            chunk_at(values, 3),
-            DatabaseCall::TakeInfoBlock {
-                db: database_at(values, 0),
-                which: which_at(values, 1),
-                owner: byte_at(values, 2),
-            },
-        ),
-        DatabaseCommand::InfoBlock => bind_chunk(
-            chunk_at(values, 2),
-            DatabaseCall::InfoBlock(database_at(values, 0), which_at(values, 1)),
-        ),
-        DatabaseCommand::Import => Line::Import {
-            label: database_at(values, 0),
-            file: number_at(values, 1),
-        },
-        DatabaseCommand::Export => Line::Export(database_at(values, 0)),
+        DatabaseCommand::SetInfoBlock => {
+            let (db, which, name) = three(values);
+            print(DatabaseCall::SetInfoBlock { db, which, name })
+        }
+        DatabaseCommand::TakeInfoBlock => {
+            let (db, which, owner, label) = four(values);
+            bind_chunk(label, DatabaseCall::TakeInfoBlock { db, which, owner })
+        }
+        DatabaseCommand::InfoBlock => {
+            let (db, which, label) = three(values);
+            bind_chunk(label, DatabaseCall::InfoBlock(db, which))
+        }
+        DatabaseCommand::Import => {
+            let (label, file) = two(values);
+            Line::Import { label, file }
+        }
+        DatabaseCommand::Export => Line::Export(one(values)),
     }
 }

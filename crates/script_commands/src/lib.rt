@@ -1,19 +1,19 @@
 //! The commands of scripts, and the lines that they make.
 //!
 //! `specs/Commands.antt` has the commands, one row each: the word, the kinds of the words behind it and
-//! the line that they make. `Places` says the same line by the places of the values, and `Labels` which
-//! labels lines bind. `find_command` answers the command of a word, `row_of` its row, and `make_line` the
-//! line of a command and what the words behind it stand for.
+//! the line that they make. `ValueKinds` says which values words of some kinds stand for, and `Labels`
+//! which labels lines bind. `find_command` answers the command of a word, `row_of` its row, and `make_line`
+//! the line of a command and what the words behind it stand for.
 #![tactic(auto)]
 
 mod command;
 mod database_command;
 mod line;
 mod memory_command;
-mod place;
 mod record_command;
 mod resource_command;
 mod value;
+mod words;
 
 pub use command::{Command, CommandRow, find_command, make_line, row_of};
 pub use database_command::DatabaseCommand;

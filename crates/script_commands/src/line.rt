@@ -121,7 +121,7 @@ impl Script {
         ensures short { OnErr result (A.is_short memory.now) }
     {
         let (chunk_end, database_end) = label_ends(memory, &line)?;
-        push_behind(memory, &mut self.lines, line)?;
+        allowance::push(memory, &mut self.lines, line)?;
         self.chunk_label_count = self.chunk_label_count.max(chunk_end);
         self.database_label_count = self.database_label_count.max(database_end);
         Ok(())
@@ -155,23 +155,6 @@ impl Script {
         ensures { result ≡ count_by labels.is_export self.now }
     {
         count_exports(&self.lines)
-    }
-}
-
-/// Puts an item behind the others, which stay as they are where the growth is refused.
-fn push_behind<A: Allowance, T: Drop>(
-    memory: &A,
-    items: &mut Vec<T>,
-    item: T,
-) -> Result<(), AllocError>
-    ensures ok { OnOk result (items.new.items ≡ items.old.items ++ (item ∷ [])) }
-    ensures same { OnErr result (items.new.items ≡ items.old.items) }
-    ensures short { OnErr result (A.is_short memory.now) }
-{
-    memory.grant()?;
-    match items.push(item) {
-        Ok(()) => Ok(()),
-        Err(_) => memory.outcome(Err(AllocError)),
     }
 }
 

@@ -2,15 +2,15 @@
 
 ghost use Rattle.std.specs.Prelude.{◌≡◌, ◌<◌, length};
 ghost use Rattle.script_commands.specs.Commands as tables;
-ghost use Rattle.script_commands.specs.Commands.{command_of, in_memory};
-ghost use Rattle.script_commands.specs.Places.{memory_line};
+ghost use Rattle.script_commands.specs.Commands.{command_of, in_memory, line_of};
+ghost use Rattle.script_commands.specs.ValueKinds.{AreOfKinds};
 ghost use Rattle.script_commands.specs.declared.line.Line.TheVariants.{Print, BindChunk};
 ghost use Rattle.script_commands.specs.declared.command.Command.TheVariants.{Memory};
 
 use crate::command::{Command, CommandRow, row};
 use crate::line::{ChunkLabel, Line};
-use crate::place::{byte_at, chunk_at, number_at};
 use crate::value::{Kind, Value};
+use crate::words::{four, one, three, two};
 use heap_model::{Bytes, Call, MemoryCall};
 
 /// A command of the memory manager.
@@ -127,63 +127,62 @@ fn bind(label: ChunkLabel, call: MemoryCall<ChunkLabel>) -> Line
 
 /// The line of a command and what its words stand for.
 pub(crate) fn make_memory_line(command: MemoryCommand, values: &[Value], bytes: Bytes) -> Line
-    ensures { result ≡ memory_line command values.now bytes }
+    requires { AreOfKinds (tables.kinds_of (Memory command)) values.now }
+    ensures { line_of (Memory command) values.now bytes ≡ Some result }
 {
     match command {
-        MemoryCommand::Bind => Line::Bind {
-            label: chunk_at(values, 0),
-            name: number_at(values, 1),
-        },
-        MemoryCommand::New => bind(
-            chunk_at(values, 0),
-            MemoryCall::HandleNew {
-                size: number_at(values, 1),
-                owner: byte_at(values, 2),
-            },
-        ),
-        MemoryCommand::PtrNew => bind(
-            chunk_at(values, 0),
-            MemoryCall::PtrNew {
-                size: number_at(values, 1),
-                owner: byte_at(values, 2),
-            },
-        ),
-        MemoryCommand::Free => print(MemoryCall::Free(chunk_at(values, 0))),
-        MemoryCommand::Resize => print(MemoryCall::Resize {
-            name: chunk_at(values, 0),
-            size: number_at(values, 1),
-        }),
-        MemoryCommand::SetOwner => print(MemoryCall::SetOwner {
-            name: chunk_at(values, 0),
-            owner: byte_at(values, 1),
-        }),
-        MemoryCommand::Lock => print(MemoryCall::Lock(chunk_at(values, 0))),
-        MemoryCommand::Unlock => print(MemoryCall::Unlock(chunk_at(values, 0))),
-        MemoryCommand::Size => print(MemoryCall::Size(chunk_at(values, 0))),
-        MemoryCommand::Owner => print(MemoryCall::Owner(chunk_at(values, 0))),
-        MemoryCommand::Locks => print(MemoryCall::Locks(chunk_at(values, 0))),
-        MemoryCommand::Read => print(MemoryCall::Read {
-            name: chunk_at(values, 0),
-            at: number_at(values, 1),
-            count: number_at(values, 2),
-        }),
-        MemoryCommand::Write => print(MemoryCall::Write {
-            name: chunk_at(values, 0),
-            at: number_at(values, 1),
-            bytes,
-        }),
-        MemoryCommand::Set => print(MemoryCall::Set {
-            name: chunk_at(values, 0),
-            at: number_at(values, 1),
-            count: number_at(values, 2),
-            byte: byte_at(values, 3),
-        }),
-        MemoryCommand::StrCopy => print(MemoryCall::StrCopy {
-            name: chunk_at(values, 0),
-            at: number_at(values, 1),
-            text: bytes,
-        }),
-        MemoryCommand::FreeByOwner => print(MemoryCall::FreeByOwner(byte_at(values, 0))),
+        MemoryCommand::Bind => {
+            let (label, name) = two(values);
+            Line::Bind { label, name }
+        }
+        MemoryCommand::New => {
+            let (label, size, owner) = three(values);
+            bind(label, MemoryCall::HandleNew { size, owner })
+        }
+        MemoryCommand::PtrNew => {
+            let (label, size, owner) = three(values);
+            bind(label, MemoryCall::PtrNew { size, owner })
+        }
+        MemoryCommand::Free => print(MemoryCall::Free(one(values))),
+        MemoryCommand::Resize => {
+            let (name, size) = two(values);
+            print(MemoryCall::Resize { name, size })
+        }
+        MemoryCommand::SetOwner => {
+            let (name, owner) = two(values);
+            print(MemoryCall::SetOwner { name, owner })
+        }
+        MemoryCommand::Lock => print(MemoryCall::Lock(one(values))),
+        MemoryCommand::Unlock => print(MemoryCall::Unlock(one(values))),
+        MemoryCommand::Size => print(MemoryCall::Size(one(values))),
+        MemoryCommand::Owner => print(MemoryCall::Owner(one(values))),
+        MemoryCommand::Locks => print(MemoryCall::Locks(one(values))),
+        MemoryCommand::Read => {
+            let (name, at, count) = three(values);
+            print(MemoryCall::Read { name, at, count })
+        }
+        MemoryCommand::Write => {
+            let (name, at) = two(values);
+            print(MemoryCall::Write { name, at, bytes })
+        }
+        MemoryCommand::Set => {
+            let (name, at, count, byte) = four(values);
+            print(MemoryCall::Set {
+                name,
+                at,
+                count,
+                byte,
+            })
+        }
+        MemoryCommand::StrCopy => {
+            let (name, at) = two(values);
+            print(MemoryCall::StrCopy {
+                name,
+                at,
+                text: bytes,
+            })
+        }
+        MemoryCommand::FreeByOwner => print(MemoryCall::FreeByOwner(one(values))),
         MemoryCommand::FreeBytes => print(MemoryCall::FreeBytes),
         MemoryCommand::Largest => print(MemoryCall::LargestStretch),
         MemoryCommand::Compact => Line::Silent(Call::Memory(MemoryCall::Compact)),

@@ -2,15 +2,15 @@
 
 ghost use Rattle.std.specs.Prelude.{◌≡◌, ◌<◌, ℕ, List, length};
 ghost use Rattle.script_commands.specs.Commands as tables;
-ghost use Rattle.script_commands.specs.Commands.{command_of, on_records};
-ghost use Rattle.script_commands.specs.Places.{record_line};
+ghost use Rattle.script_commands.specs.Commands.{command_of, line_of, on_records};
+ghost use Rattle.script_commands.specs.ValueKinds.{AreOfKinds};
 ghost use Rattle.script_commands.specs.declared.line.Line.TheVariants.{Print, BindChunk};
 ghost use Rattle.script_commands.specs.declared.command.Command.TheVariants.{Record as OfRecords};
 
 use crate::command::{Command, CommandRow, row};
 use crate::line::{ChunkLabel, DatabaseLabel, Line};
-use crate::place::{byte_at, chunk_at, database_at, flag_at, number_at};
 use crate::value::{Kind, Value};
+use crate::words::{cut, four, one, three, two};
 use heap_model::{Call, RecordCall};
 
 /// A command of records.
@@ -158,95 +158,92 @@ fn bind(label: ChunkLabel, call: RecordCall<ChunkLabel, DatabaseLabel>) -> Line
 
 /// The line of a command and what its words stand for.
 pub(crate) fn make_record_line(command: RecordCommand, values: &[Value]) -> Line
-    ensures { (bytes : List ℕ) → result ≡ record_line command values.now bytes }
+    requires { AreOfKinds (tables.kinds_of (OfRecords command)) values.now }
+    ensures { (bytes : List ℕ) → line_of (OfRecords command) values.now bytes ≡ Some result }
 {
-    let db = database_at(values, 0);
+    let (db, rest) = cut(values);
     match command {
-        RecordCommand::New => bind(
-            chunk_at(values, 3),
-            RecordCall::New {
-                db,
-                at: number_at(values, 1),
-                size: number_at(values, 2),
-            },
-        ),
-        RecordCommand::Delete => print(RecordCall::Delete(db, number_at(values, 1))),
-        RecordCommand::Archive => print(RecordCall::Archive(db, number_at(values, 1))),
-        RecordCommand::Remove => print(RecordCall::Remove(db, number_at(values, 1))),
-        RecordCommand::Move => print(RecordCall::Move {
-            db,
-            from: number_at(values, 1),
-            to: number_at(values, 2),
-        }),
-        RecordCommand::Get => bind(
-            chunk_at(values, 2),
-            RecordCall::Get(db, number_at(values, 1)),
-        ),
-        RecordCommand::Query => bind(
-            chunk_at(values, 2),
-            RecordCall::Query(db, number_at(values, 1)),
-        ),
-        RecordCommand::Release => print(RecordCall::Release {
-            db,
-            index: number_at(values, 1),
-            dirty: flag_at(values, 2),
-        }),
-        RecordCommand::Info => print(RecordCall::Info(db, number_at(values, 1))),
-        RecordCommand::Resize => print(RecordCall::Resize {
-            db,
-            index: number_at(values, 1),
-            size: number_at(values, 2),
-        }),
+        RecordCommand::New => {
+            let (at, size, label) = three(rest);
+            bind(label, RecordCall::New { db, at, size })
+        }
+        RecordCommand::Delete => print(RecordCall::Delete(db, one(rest))),
+        RecordCommand::Archive => print(RecordCall::Archive(db, one(rest))),
+        RecordCommand::Remove => print(RecordCall::Remove(db, one(rest))),
+        RecordCommand::Move => {
+            let (from, to) = two(rest);
+            print(RecordCall::Move { db, from, to })
+        }
+        RecordCommand::Get => {
+            let (index, label) = two(rest);
+            bind(label, RecordCall::Get(db, index))
+        }
+        RecordCommand::Query => {
+            let (index, label) = two(rest);
+            bind(label, RecordCall::Query(db, index))
+        }
+        RecordCommand::Release => {
+            let (index, dirty) = two(rest);
+            print(RecordCall::Release { db, index, dirty })
+        }
+        RecordCommand::Info => print(RecordCall::Info(db, one(rest))),
+        RecordCommand::Resize => {
+            let (index, size) = two(rest);
+            print(RecordCall::Resize { db, index, size })
+        }
         RecordCommand::Count => print(RecordCall::Count(db)),
-        RecordCommand::Attach => print(RecordCall::Attach {
-            db,
-            at: number_at(values, 1),
-            name: chunk_at(values, 2),
-        }),
-        RecordCommand::AttachReplacing => bind(
-            chunk_at(values, 4),
-            RecordCall::AttachReplacing {
+        RecordCommand::Attach => {
+            let (at, name) = two(rest);
+            print(RecordCall::Attach { db, at, name })
+        }
+        RecordCommand::AttachReplacing => {
+            let (index, name, owner, label) = four(rest);
+            bind(
+                label,
+                RecordCall::AttachReplacing {
+                    db,
+                    index,
+                    name,
+                    owner,
+                },
+            )
+        }
+        RecordCommand::Detach => {
+            let (index, owner, label) = three(rest);
+            bind(label, RecordCall::Detach { db, index, owner })
+        }
+        RecordCommand::SetInfo => {
+            let (index, attributes, id) = three(rest);
+            print(RecordCall::SetInfo {
                 db,
-                index: number_at(values, 1),
-                name: chunk_at(values, 2),
-                owner: byte_at(values, 3),
-            },
-        ),
-        RecordCommand::Detach => bind(
-            chunk_at(values, 3),
-            RecordCall::Detach {
+                index,
+                attributes,
+                id,
+            })
+        }
+        RecordCommand::Find => print(RecordCall::FindById(db, one(rest))),
+        RecordCommand::CountInCategory => print(RecordCall::CountInCategory(db, one(rest))),
+        RecordCommand::NextInCategory => {
+            let (from, category) = two(rest);
+            print(RecordCall::NextInCategory { db, from, category })
+        }
+        RecordCommand::PositionInCategory => {
+            let (index, category) = two(rest);
+            print(RecordCall::PositionInCategory {
                 db,
-                index: number_at(values, 1),
-                owner: byte_at(values, 2),
-            },
-        ),
-        RecordCommand::SetInfo => print(RecordCall::SetInfo {
-            db,
-            index: number_at(values, 1),
-            attributes: byte_at(values, 2),
-            id: number_at(values, 3),
-        }),
-        RecordCommand::Find => print(RecordCall::FindById(db, number_at(values, 1))),
-        RecordCommand::CountInCategory => print(RecordCall::CountInCategory(
-            db,
-            byte_at(values, 1),
-        )),
-        RecordCommand::NextInCategory => print(RecordCall::NextInCategory {
-            db,
-            from: number_at(values, 1),
-            category: byte_at(values, 2),
-        }),
-        RecordCommand::PositionInCategory => print(RecordCall::PositionInCategory {
-            db,
-            index: number_at(values, 1),
-            category: byte_at(values, 2),
-        }),
-        RecordCommand::MoveCategory => print(RecordCall::MoveCategory {
-            db,
-            to: byte_at(values, 1),
-            from: byte_at(values, 2),
-            dirty: flag_at(values, 3),
-        }),
-        RecordCommand::DeleteCategory => print(RecordCall::DeleteCategory(db, byte_at(values, 1))),
+                index,
+                category,
+            })
+        }
+        RecordCommand::MoveCategory => {
+            let (to, from, dirty) = three(rest);
+            print(RecordCall::MoveCategory {
+                db,
+                to,
+                from,
+                dirty,
+            })
+        }
+        RecordCommand::DeleteCategory => print(RecordCall::DeleteCategory(db, one(rest))),
     }
 }

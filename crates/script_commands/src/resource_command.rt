@@ -2,15 +2,15 @@
 
 ghost use Rattle.std.specs.Prelude.{◌≡◌, ◌<◌, ℕ, List, length};
 ghost use Rattle.script_commands.specs.Commands as tables;
-ghost use Rattle.script_commands.specs.Commands.{command_of, on_resources};
-ghost use Rattle.script_commands.specs.Places.{resource_line};
+ghost use Rattle.script_commands.specs.Commands.{command_of, line_of, on_resources};
+ghost use Rattle.script_commands.specs.ValueKinds.{AreOfKinds};
 ghost use Rattle.script_commands.specs.declared.line.Line.TheVariants.{Print, BindChunk};
 ghost use Rattle.script_commands.specs.declared.command.Command.TheVariants.{Resource as OfResources};
 
 use crate::command::{Command, CommandRow, row};
 use crate::line::{ChunkLabel, DatabaseLabel, Line};
-use crate::place::{byte_at, chunk_at, database_at, four_bytes_at, number_at, short_at};
 use crate::value::{Kind, Value};
+use crate::words::{FourBytes, cut, four, one, three, two};
 use heap_model::{Call, ResourceCall};
 
 /// A command of resources.
@@ -121,59 +121,49 @@ fn bind(label: ChunkLabel, call: ResourceCall<ChunkLabel, DatabaseLabel>) -> Lin
 
 /// The line of a command and what its words stand for.
 pub(crate) fn make_resource_line(command: ResourceCommand, values: &[Value]) -> Line
-    ensures { (bytes : List ℕ) → result ≡ resource_line command values.now bytes }
+    requires { AreOfKinds (tables.kinds_of (OfResources command)) values.now }
+    ensures { (bytes : List ℕ) → line_of (OfResources command) values.now bytes ≡ Some result }
 {
-    let db = database_at(values, 0);
+    let (db, rest) = cut(values);
     match command {
-        ResourceCommand::New => bind(
-            chunk_at(values, 4),
-            ResourceCall::New {
+        ResourceCommand::New => {
+            let (FourBytes(kind), id, size, label) = four(rest);
+            bind(label, ResourceCall::New { db, kind, id, size })
+        }
+        ResourceCommand::Attach => {
+            let (FourBytes(kind), id, name) = three(rest);
+            print(ResourceCall::Attach { db, kind, id, name })
+        }
+        ResourceCommand::Detach => {
+            let (index, owner, label) = three(rest);
+            bind(label, ResourceCall::Detach { db, index, owner })
+        }
+        ResourceCommand::Remove => print(ResourceCall::Remove(db, one(rest))),
+        ResourceCommand::Resize => {
+            let (index, size) = two(rest);
+            print(ResourceCall::Resize { db, index, size })
+        }
+        ResourceCommand::Info => {
+            let (index, label) = two(rest);
+            bind(label, ResourceCall::Info(db, index))
+        }
+        ResourceCommand::SetInfo => {
+            let (index, FourBytes(kind), id) = three(rest);
+            print(ResourceCall::SetInfo {
                 db,
-                kind: four_bytes_at(values, 1),
-                id: short_at(values, 2),
-                size: number_at(values, 3),
-            },
-        ),
-        ResourceCommand::Attach => print(ResourceCall::Attach {
-            db,
-            kind: four_bytes_at(values, 1),
-            id: short_at(values, 2),
-            name: chunk_at(values, 3),
-        }),
-        ResourceCommand::Detach => bind(
-            chunk_at(values, 3),
-            ResourceCall::Detach {
-                db,
-                index: number_at(values, 1),
-                owner: byte_at(values, 2),
-            },
-        ),
-        ResourceCommand::Remove => print(ResourceCall::Remove(db, number_at(values, 1))),
-        ResourceCommand::Resize => print(ResourceCall::Resize {
-            db,
-            index: number_at(values, 1),
-            size: number_at(values, 2),
-        }),
-        ResourceCommand::Info => bind(
-            chunk_at(values, 2),
-            ResourceCall::Info(db, number_at(values, 1)),
-        ),
-        ResourceCommand::SetInfo => print(ResourceCall::SetInfo {
-            db,
-            index: number_at(values, 1),
-            kind: four_bytes_at(values, 2),
-            id: short_at(values, 3),
-        }),
-        ResourceCommand::Find => print(ResourceCall::Find {
-            db,
-            kind: four_bytes_at(values, 1),
-            id: short_at(values, 2),
-        }),
-        ResourceCommand::FindType => print(ResourceCall::FindType {
-            db,
-            kind: four_bytes_at(values, 1),
-            nth: number_at(values, 2),
-        }),
+                index,
+                kind,
+                id,
+            })
+        }
+        ResourceCommand::Find => {
+            let (FourBytes(kind), id) = two(rest);
+            print(ResourceCall::Find { db, kind, id })
+        }
+        ResourceCommand::FindType => {
+            let (FourBytes(kind), nth) = two(rest);
+            print(ResourceCall::FindType { db, kind, nth })
+        }
         ResourceCommand::Count => print(ResourceCall::Count(db)),
     }
 }

@@ -1,83 +1,78 @@
 -- Laws on what words of each kind stand for: values of the kind.
-use Rattle.std.proofs.Common.{◌≡◌, ◌+◌, ℕ, if◌then◌else◌, List, [], ◌∷◌, ◌++◌, Bool, true, false, refl, ap, sym, ◌∙◌, append_assoc, append-nil}
+use Rattle.std.proofs.Common.{◌≡◌, ◌+◌, ℕ, if◌then◌else◌, List, [], ◌∷◌, ◌++◌, Bool, true, false, refl, ap, sym, ◌∙◌, append_assoc, append-nil, map}
 use Rattle.std.specs.Prelude.{Option, Some, None, Ok, Err, ◌^◌}
+use Rattle.std.specs.List.{filter}
 use Rattle.std.specs.Option.{option_map, option_map_or}
+use Rattle.std.proofs.lemmas.List.{map-append}
+use Rattle.std.proofs.lemmas.List.Elements.{filter-append}
 use Rattle.script_commands.specs.declared.command.Command.{Command}
-use Rattle.script_commands.specs.declared.line.ChunkLabel.{ChunkLabel}
-use Rattle.script_commands.specs.declared.line.DatabaseLabel.{DatabaseLabel}
 use Rattle.script_commands.specs.declared.value.Kind.{Kind}
 use Rattle.script_commands.specs.declared.value.Kind.TheVariants.{Chunk, Database, Byte, Short, Number, Flag, Which, FourBytes, Bytes, Text}
 use Rattle.script_commands.specs.declared.value.Value.{Value}
 use Rattle.script_commands.specs.declared.value.Value.TheVariants.{Chunk as ChunkValue, Database as DatabaseValue, Byte as ByteValue, Short as ShortValue, Number as NumberValue, Flag as FlagValue, Which as WhichValue, FourBytes as FourBytesValue}
 use Rattle.script_commands.specs.Commands.{kinds_of}
-use Rattle.script_commands.specs.Places.{AreOfKinds}
+use Rattle.script_commands.specs.ValueKinds.{AreOfKinds, has_value, kind_of}
 use Rattle.script_lines.specs.declared.fault.ScriptFault.TheVariants.{BadWord}
 use Rattle.script_lines.specs.Kinds.{WordsRead, read_word, read_words, with_bytes, with_chunk, with_database, with_value}
 use Rattle.script_lines.specs.Numbering.{Numberings, label_number}
 use Rattle.script_lines.specs.Reading.{none_read}
 use Rattle.script_lines.specs.Spellings.{is_label, number_below, spelled_bytes, spelled_text, spelled_flag, spelled_which, spelled_four}
 
--- what a word of a kind adds: values that stand for it, in front of those of the words behind it
-abbrev pub AddsOfKind : Kind → List Value → List Value → Type 0
-AddsOfKind kind old new = (front : List Value) × (new ≡ old ++ front) × ((kinds : List Kind) (more : List Value) → AreOfKinds kinds more → AreOfKinds (kind ∷ kinds) (front ++ more))
+-- values of some kinds were put behind others
+abbrev pub Adds : List Kind → List Value → List Value → Type 0
+Adds kinds old new = map kind_of new ≡ map kind_of old ++ filter has_value kinds
 
-mapped : {A B : Type 0} (f : A → B) (from : Option A) (to : B) → option_map f from ≡ Some to → (x : A) × (to ≡ f x)
-mapped f None to e = cc
-mapped f (Some x) to e = (x, cc)
+adds_value : (old : List Value) (value : Value) (kind : Kind) → kind_of value ∷ [] ≡ filter has_value (kind ∷ []) → Adds (kind ∷ []) old (old ++ value ∷ [])
+adds_value old value kind same = map-append kind_of old (value ∷ []) ∙ ap (λ ks. map kind_of old ++ ks) same
 
-labelled : (read next after : WordsRead) (kind : Kind) (value : Value) (is_label : Bool) → after.values ≡ read.values ++ value ∷ [] → (if is_label then Some after else None) ≡ Some next → ((kinds : List Kind) (more : List Value) → AreOfKinds kinds more → AreOfKinds (kind ∷ kinds) (value ∷ more)) → AddsOfKind kind read.values next.values
-labelled read next after kind value true adds is fits =
-    let same : next ≡ after = cc in
-    (value ∷ [], ap (λ (r : WordsRead). r.values) same ∙ adds, fits)
-labelled read next after kind value false adds is fits = cc
+-- a word that spells one
+of_option : {A : Type 0} (read next : WordsRead) (value : A → Value) (from : Option A) (kind : Kind) → ((x : A) → kind_of (value x) ∷ [] ≡ filter has_value (kind ∷ [])) → option_map (λ x. with_value read (value x)) from ≡ Some next → Adds (kind ∷ []) read.values next.values
+of_option read next value None kind same is = cc
+of_option read next value (Some x) kind same is =
+    let next_is : ◌≡◌ {A = WordsRead} (with_value read (value x)) next = cc in
+    rw (← next_is) (adds_value read.values (value x) kind (same x))
 
-word_adds : (read next : WordsRead) (kind : Kind) (word : List ℕ) → read_word read kind word ≡ Some next → AddsOfKind kind read.values next.values
+of_label : (read next after : WordsRead) (value : Value) (is_label : Bool) (kind : Kind) → kind_of value ∷ [] ≡ filter has_value (kind ∷ []) → after.values ≡ read.values ++ value ∷ [] → (if is_label then Some after else None) ≡ Some next → Adds (kind ∷ []) read.values next.values
+of_label read next after value false kind same adds is = cc
+of_label read next after value true kind same adds is =
+    let next_is : ◌≡◌ {A = WordsRead} after next = cc in
+    rw (← next_is, adds) (adds_value read.values value kind same)
+
+of_bytes : (read next : WordsRead) (from : Option (List ℕ)) → option_map (with_bytes read) from ≡ Some next → Adds [] read.values next.values
+of_bytes read next None is = cc
+of_bytes read next (Some bytes) is =
+    let next_is : ◌≡◌ {A = WordsRead} (with_bytes read bytes) next = cc in
+    rw (← next_is) (sym (append-nil (map kind_of read.values)))
+
+word_adds : (read next : WordsRead) (kind : Kind) (word : List ℕ) → read_word read kind word ≡ Some next → Adds (kind ∷ []) read.values next.values
 word_adds read next Chunk word is =
-    let label : ChunkLabel = record { 0 = label_number read.labels.chunks word } in
-    labelled read next (with_chunk read word) Chunk (ChunkValue label) (is_label word) refl is (λ kinds more fit. (label, more, refl, fit))
+    of_label read next (with_chunk read word) (ChunkValue (record { 0 = label_number read.labels.chunks word })) (is_label word) Chunk refl refl is
 word_adds read next Database word is =
-    let label : DatabaseLabel = record { 0 = label_number read.labels.databases word } in
-    labelled read next (with_database read word) Database (DatabaseValue label) (is_label word) refl is (λ kinds more fit. (label, more, refl, fit))
-word_adds read next Byte word is =
-    let (byte, same) = mapped (λ byte. with_value read (ByteValue byte)) (number_below (2 ^ 8) word) next is in
-    (ByteValue byte ∷ [], ap (λ (r : WordsRead). r.values) same, λ kinds more fit. (byte, more, refl, fit))
-word_adds read next Short word is =
-    let (number, same) = mapped (λ number. with_value read (ShortValue number)) (number_below (2 ^ 16) word) next is in
-    (ShortValue number ∷ [], ap (λ (r : WordsRead). r.values) same, λ kinds more fit. (number, more, refl, fit))
-word_adds read next Number word is =
-    let (number, same) = mapped (λ number. with_value read (NumberValue number)) (number_below (2 ^ 32) word) next is in
-    (NumberValue number ∷ [], ap (λ (r : WordsRead). r.values) same, λ kinds more fit. (number, more, refl, fit))
-word_adds read next Flag word is =
-    let (is_set, same) = mapped (λ is_set. with_value read (FlagValue is_set)) (spelled_flag word) next is in
-    (FlagValue is_set ∷ [], ap (λ (r : WordsRead). r.values) same, λ kinds more fit. (is_set, more, refl, fit))
-word_adds read next Which word is =
-    let (which, same) = mapped (λ which. with_value read (WhichValue which)) (spelled_which word) next is in
-    (WhichValue which ∷ [], ap (λ (r : WordsRead). r.values) same, λ kinds more fit. (which, more, refl, fit))
-word_adds read next FourBytes word is =
-    let (number, same) = mapped (λ number. with_value read (FourBytesValue number)) (spelled_four word) next is in
-    (FourBytesValue number ∷ [], ap (λ (r : WordsRead). r.values) same, λ kinds more fit. (number, more, refl, fit))
-word_adds read next Bytes word is =
-    let (bytes, same) = mapped (with_bytes read) (spelled_bytes word) next is in
-    ([], ap (λ (r : WordsRead). r.values) same ∙ sym (append-nil read.values), λ kinds more fit. fit)
-word_adds read next Text word is =
-    let (bytes, same) = mapped (with_bytes read) (spelled_text word) next is in
-    ([], ap (λ (r : WordsRead). r.values) same ∙ sym (append-nil read.values), λ kinds more fit. fit)
+    of_label read next (with_database read word) (DatabaseValue (record { 0 = label_number read.labels.databases word })) (is_label word) Database refl refl is
+word_adds read next Byte word is = of_option read next (λ byte. ByteValue byte) (number_below (2 ^ 8) word) Byte (λ _. refl) is
+word_adds read next Short word is = of_option read next (λ number. ShortValue number) (number_below (2 ^ 16) word) Short (λ _. refl) is
+word_adds read next Number word is = of_option read next (λ number. NumberValue number) (number_below (2 ^ 32) word) Number (λ _. refl) is
+word_adds read next Flag word is = of_option read next (λ is_set. FlagValue is_set) (spelled_flag word) Flag (λ _. refl) is
+word_adds read next Which word is = of_option read next (λ which. WhichValue which) (spelled_which word) Which (λ _. refl) is
+word_adds read next FourBytes word is = of_option read next (λ number. FourBytesValue number) (spelled_four word) FourBytes (λ _. refl) is
+word_adds read next Bytes word is = of_bytes read next (spelled_bytes word) is
+word_adds read next Text word is = of_bytes read next (spelled_text word) is
 
 -- words that were read stand for values of their kinds
-adds_of_kinds : (number : ℕ) (read after : WordsRead) (kinds : List Kind) (words : List (List ℕ)) → read_words number read kinds words ≡ Ok after → (more : List Value) × (after.values ≡ read.values ++ more) × AreOfKinds kinds more
-adds_of_kinds number read after [] words e = let same : ◌≡◌ {A = WordsRead} read after = cc in ([], ap (λ (r : WordsRead). r.values) (sym same) ∙ sym (append-nil read.values), refl)
-adds_of_kinds number read after (kind ∷ kinds) [] e = cc
-adds_of_kinds number read after (kind ∷ kinds) (word ∷ words) e = by_word (read_word read kind word) refl e (λ next. adds_of_kinds (number + 1) next after kinds words)
+words_add : (number : ℕ) (read after : WordsRead) (kinds : List Kind) (words : List (List ℕ)) → read_words number read kinds words ≡ Ok after → Adds kinds read.values after.values
+words_add number read after [] words e =
+    let same : ◌≡◌ {A = WordsRead} read after = cc in
+    rw (← same) (sym (append-nil (map kind_of read.values)))
+words_add number read after (kind ∷ kinds) [] e = cc
+words_add number read after (kind ∷ kinds) (word ∷ words) e = by_word (read_word read kind word) refl e (λ next. words_add (number + 1) next after kinds words)
   where
-    by_word : (next : Option WordsRead) → read_word read kind word ≡ next → option_map_or (λ next. read_words (number + 1) next kinds words) next (Err (BadWord number)) ≡ Ok after → ((next : WordsRead) → read_words (number + 1) next kinds words ≡ Ok after → (more : List Value) × (after.values ≡ next.values ++ more) × AreOfKinds kinds more) → (more : List Value) × (after.values ≡ read.values ++ more) × AreOfKinds (kind ∷ kinds) more
+    by_word : (next : Option WordsRead) → read_word read kind word ≡ next → option_map_or (λ next. read_words (number + 1) next kinds words) next (Err (BadWord number)) ≡ Ok after → ((next : WordsRead) → read_words (number + 1) next kinds words ≡ Ok after → Adds kinds next.values after.values) → Adds (kind ∷ kinds) read.values after.values
     by_word None is e later = cc
     by_word (Some next) is e later =
-        let (front, adds, goes_on) = word_adds read next kind word is in
-        let (more, behind, fit) = later next e in
-        (front ++ more, behind ∙ ap (λ vs. vs ++ more) adds ∙ append_assoc read.values front more, goes_on kinds more fit)
+        later next e ∙ ap (λ ks. ks ++ filter has_value kinds) (word_adds read next kind word is)
+        ∙ append_assoc (map kind_of read.values) (filter has_value (kind ∷ [])) (filter has_value kinds)
+        ∙ ap (λ ks. map kind_of read.values ++ ks) (sym (filter-append has_value (kind ∷ []) kinds))
 
 -- a command's words that were read stand for values of its kinds
 pub read_of_kinds : (command : Command) (labels : Numberings) (words : List (List ℕ)) (after : WordsRead) → read_words 2 (none_read labels) (kinds_of command) words ≡ Ok after → AreOfKinds (kinds_of command) after.values
-read_of_kinds command labels words after e =
-    let (more, all, fit) = adds_of_kinds 2 (none_read labels) after (kinds_of command) words e in
-    rw all fit
+read_of_kinds command labels words after e = words_add 2 (none_read labels) after (kinds_of command) words e

@@ -8,4 +8,4 @@ pub mod Reading
 pub mod Laws
 pub use Rattle.script_commands.specs.Commands
 pub use Rattle.script_commands.specs.Labels
-pub use Rattle.script_commands.specs.Places
+pub use Rattle.script_commands.specs.ValueKinds
