@@ -64,7 +64,7 @@ fn check_without(alloc: Global, before: u32, wanted: (Ended, u32, &[u8])) -> Res
 
 /// How many growths are granted, and what comes of the script: nothing but the tables of labels and the list of
 /// files grows.
-const RUNS: [(u32, (Ended, u32, &[u8])); 4] = [
+static RUNS: [(u32, (Ended, u32, &[u8])); 4] = [
     (0, (Err(RunFault::OutOfMemory), 96, b"")),
     (1, (Err(RunFault::OutOfMemory), 96, b"")),
     (2, (Err(RunFault::OutOfMemory), 96, b"")),

@@ -1,10 +1,17 @@
 //! Records of categories, with their IDs and attributes: the lines that ask for them and change them, and
 //! those that take data out of a database.
 
+use crate::runs::check_runs;
+use std::test::Fail;
 use test_images::WIDE;
 
+#[test]
+fn lines_print_their_replies(rt: HostRuntime) -> Result<(), Fail> {
+    check_runs(rt.alloc(), &RUNS)
+}
+
 /// Images, and the lines that are run on them, each with its reply.
-pub(crate) const RUNS: [(&str, &str); 9] = [
+static RUNS: [(&str, &str); 9] = [
     // deleted, archived, removed and detached
     (
         WIDE,

@@ -193,7 +193,7 @@ fn check_says_what_is_there(rt: HostRuntime) -> Result<(), Fail> {
 }
 
 /// After how many bytes a writer takes no more, and how it says so.
-const CUTS: [(usize, WhenFull); 3] = [
+static CUTS: [(usize, WhenFull); 3] = [
     (0, WhenFull::TakesNothing),
     (1, WhenFull::Fails(ErrorKind::StorageFull)),
     (2, WhenFull::Fails(ErrorKind::Interrupted)),

@@ -3,7 +3,7 @@
 
 use crate::calls::{check_calls, creation, listed_store};
 use crate::commands::{check_changed, check_on};
-use crate::runs::run_on;
+use crate::runs::{check_runs, run_on};
 use heap_model::{Call, DatabaseCall, Db, DbName};
 use program_io::Status;
 use std::alloc::{AllocError, Global};
@@ -43,8 +43,13 @@ fn check_names_what_is_wrong_with_databases(rt: HostRuntime) -> Result<(), Fail>
     Ok(())
 }
 
+#[test]
+fn lines_print_their_replies(rt: HostRuntime) -> Result<(), Fail> {
+    check_runs(rt.alloc(), &RUNS)
+}
+
 /// Images, and the lines that are run on them, each with its reply.
-pub(crate) const RUNS: [(&str, &str); 8] = [
+static RUNS: [(&str, &str); 8] = [
     // a database that an image has is found and deleted
     (
         DATABASE,

@@ -40,7 +40,7 @@ struct Case {
     files: &'static [&'static str],
 }
 
-const CASES: [Case; 9] = [
+static CASES: [Case; 9] = [
     // an empty database is written with two bytes of filler, and a name is there once
     Case {
         image: WIDE,

@@ -1,10 +1,17 @@
 //! Chunks of callers that become the data of records or info blocks, and those that databases hand back.
 
 use crate::records::NARROW;
+use crate::runs::check_runs;
+use std::test::Fail;
 use test_images::WIDE;
 
+#[test]
+fn lines_print_their_replies(rt: HostRuntime) -> Result<(), Fail> {
+    check_runs(rt.alloc(), &RUNS)
+}
+
 /// Images, and the lines that are run on them, each with its reply.
-pub(crate) const RUNS: [(&str, &str); 10] = [
+static RUNS: [(&str, &str); 10] = [
     // a caller's chunk becomes a record, and a database's doesn't
     (
         WIDE,

@@ -1,9 +1,16 @@
 //! Scripts whose lines move chunks, or may not.
 
+use crate::runs::check_runs;
+use std::test::Fail;
 use test_images::{THREE_CHUNKS, TWO_CHUNKS};
 
+#[test]
+fn lines_print_their_replies(rt: HostRuntime) -> Result<(), Fail> {
+    check_runs(rt.alloc(), &RUNS)
+}
+
 /// Images, and the lines that are run on them, each with its reply.
-pub(crate) const RUNS: [(&str, &str); 6] = [
+static RUNS: [(&str, &str); 6] = [
     // a locked chunk parts two rooms
     (
         THREE_CHUNKS,

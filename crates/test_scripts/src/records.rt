@@ -2,7 +2,7 @@
 
 use crate::calls::{check_calls, creation, listed_store};
 use crate::commands::check_image;
-use crate::runs::check_lines;
+use crate::runs::{check_lines, check_runs};
 use heap_model::{
     Call, DatabaseCall, Db, FileCall, Name, RecordCall, Refusal, Reply, ResourceCall, Which,
 };
@@ -17,8 +17,13 @@ use test_images::{DATABASE, WIDE, bytes_of};
 /// A blank image of 168 bytes with 8 slots.
 pub(crate) const NARROW: &str = "50484931 000000A8 0008 0000 00000000 00*32 80000078 00*116";
 
+#[test]
+fn lines_print_their_replies(rt: HostRuntime) -> Result<(), Fail> {
+    check_runs(rt.alloc(), &RUNS)
+}
+
 /// Images, and the lines that are run on them, each with its reply.
-pub(crate) const RUNS: [(&str, &str); 11] = [
+static RUNS: [(&str, &str); 11] = [
     // a record is busy from its making on, until it is released
     (
         WIDE,

@@ -72,7 +72,7 @@ const FULL: Option<ErrorKind> = Some(ErrorKind::StorageFull);
 
 const CLOSED: Option<ErrorKind> = Some(ErrorKind::BrokenPipe);
 
-const OUTCOMES: [Outcome; 8] = [
+static OUTCOMES: [Outcome; 8] = [
     (
         Status::WriteFault,
         FULL,

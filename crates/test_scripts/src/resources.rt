@@ -2,12 +2,18 @@
 
 use crate::calls::{check_calls, creation, listed_store};
 use crate::records::NARROW;
+use crate::runs::check_runs;
 use heap_model::{Call, Db, Name, ResourceCall};
 use std::test::Fail;
 use test_images::WIDE;
 
+#[test]
+fn lines_print_their_replies(rt: HostRuntime) -> Result<(), Fail> {
+    check_runs(rt.alloc(), &RUNS)
+}
+
 /// Images, and the lines that are run on them, each with its reply.
-pub(crate) const RUNS: [(&str, &str); 11] = [
+static RUNS: [(&str, &str); 11] = [
     // made, asked for, changed, resized, locked, detached and attached
     (
         WIDE,

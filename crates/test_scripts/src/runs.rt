@@ -1,6 +1,5 @@
 //! Scripts that are run on images: what they print, and what they leave.
 
-use crate::{categories, databases, giving, moving, records, resources};
 use heap_model::Bytes;
 use palm_text::Counted;
 use palmheap_commands::cmd_run;
@@ -116,30 +115,16 @@ fn check_run(alloc: Global, listing: &str, text: &str) -> Result<(), Fail> {
 }
 
 /// Runs lines on images, and checks their replies.
-fn check_runs(alloc: Global, runs: &[(&str, &str)]) -> Result<(), Fail> {
+pub(crate) fn check_runs(alloc: Global, runs: &[(&str, &str)]) -> Result<(), Fail> {
     for (listing, text) in runs {
         check_run(alloc, listing, text)?;
     }
     Ok(())
 }
 
-/// All tables of images and lines on them.
-const TABLES: [&[(&str, &str)]; 7] = [
-    &RUNS,
-    &moving::RUNS,
-    &databases::RUNS,
-    &records::RUNS,
-    &categories::RUNS,
-    &giving::RUNS,
-    &resources::RUNS,
-];
-
 #[test]
 fn lines_print_their_replies(rt: HostRuntime) -> Result<(), Fail> {
-    for runs in &TABLES {
-        check_runs(rt.alloc(), runs)?;
-    }
-    Ok(())
+    check_runs(rt.alloc(), &RUNS)
 }
 
 /// A script on an image comes to this, and leaves this image.
@@ -158,7 +143,7 @@ fn check_outcome(
 }
 
 /// Images, and the lines that are run on them, each with its reply.
-const RUNS: [(&str, &str); 7] = [
+static RUNS: [(&str, &str); 7] = [
     // labels are bound
     (
         ONE_CHUNK,
