@@ -24,13 +24,14 @@ pub(crate) const LEAST: Work<'static> = NONE;
 /// The bytes of an image that has the most.
 const MOST: u32 = 16_777_208;
 
-/// The images, each with a name. The first has all slots that there may be, and in the next two all goes
+/// The images, each with a name. The first two have all slots that there may be, and in the next two all goes
 /// down with the size.
-fn stores() -> [(&'static str, Store); 6] {
+fn stores() -> [(&'static str, Store); 7] {
     let records = store(MOST, 1, 65_533);
     let shared = store(MOST, 2, 65_532);
     [
         ("records", records),
+        ("falling", records.with(Flaw::FallingIds)),
         ("half", store(MOST / 16 * 8, 1, 32_766)),
         ("quarter", store(MOST / 32 * 8, 1, 16_383)),
         ("one_id", records.with(Flaw::OneId)),

@@ -18,10 +18,12 @@ const MANAGERS_OWNER: u32 = 0;
 /// The owner of chunks for data.
 const DATA_OWNER: u32 = 15;
 
-/// What is wrong with a store.
+/// What is wrong with a store, or other than usual.
 #[derive(Clone, Copy)]
 pub(crate) enum Flaw {
     Nothing,
+    /// The IDs of a database's records go down to 1, where they go up from 1 otherwise.
+    FallingIds,
     /// All records of a database have one ID.
     OneId,
     /// All databases name the same data.
@@ -46,7 +48,7 @@ struct Chunks {
 }
 
 impl Store {
-    /// The same with this wrong.
+    /// The same with this flaw.
     pub(crate) fn with(self, flaw: Flaw) -> Store {
         Store { flaw, ..self }
     }
@@ -99,7 +101,7 @@ impl Store {
         Ok(bytes)
     }
 
-    /// The records of a database. IDs go up from 1.
+    /// The records of a database.
     fn put_entries(self, bytes: &mut Vec<u8>, number: u16) -> Result<(), AllocError> {
         let first = match self.flaw {
             Flaw::SharedData => self.first_data(),
@@ -109,6 +111,7 @@ impl Store {
         };
         for index in 0..self.records as u32 {
             let id = match self.flaw {
+                Flaw::FallingIds => (self.records as u32).wrapping_sub(index),
                 Flaw::OneId => 1,
                 _ => index + 1,
             };
