@@ -46,8 +46,8 @@ use heap_model::{Name, Place};
 use raw_region::{ByteChange, Region};
 use std::marker::Model;
 
-/// A region whose chunks are found and changed. Contracts see the region's value alone; each call asks
-/// that it is an accepted heap.
+/// A region whose chunks are found and changed. Contracts see the region's value alone. Any region is taken,
+/// lent and given back; each other call asks that it is an accepted heap.
 #[derive(Drop)]
 pub struct Space {
     region: Region,
