@@ -98,6 +98,7 @@ impl Heap {
         requires callers { 1 ≤ found.owner }
         ensures { Does self.old (MemoryCall.Free name) (done_or_refused result) self.new }
     {
+        // The heap is looked at, so that its invariant is known.
         let _ = &self.space;
         check_callers(found)?;
         if found.lock > 0 && found.lock < FIXED_LOCK {
