@@ -1,5 +1,5 @@
 -- What a chunk that goes down is read as, and what may be written.
-use Rattle.std.proofs.Common.{◌≡◌, ℕ, ◌+◌, ◌-◌, ◌^◌, ◌≤◌, Some, List, ◌∷◌, ◌++◌, length, take, drop, sym, ap, subst, ◌∙◌, arith, length-take, length-drop}
+use Rattle.std.proofs.Common.{◌≡◌, ℕ, ◌+◌, ◌-◌, ◌^◌, ◌<◌, ◌≤◌, Some, List, ◌∷◌, ◌++◌, length, take, drop, sym, ap, subst, ◌∙◌, arith, length-take, length-drop}
 use Rattle.heap_model.specs.Bytes.{u32_bytes, overwritten}
 use Rattle.heap_model.specs.Chunk.{Chunk, free, movable, need}
 use Rattle.heap_model.specs.Slots.{IsSlot, table_end}
@@ -20,11 +20,12 @@ use Rattle.heap_place.proofs.DropLaws.{DropFacts, drop_facts, dropped}
 pub drop_writable : (old : List ℕ) (before : List Chunk) (bytes : List ℕ) (lock owner slot : ℕ) (after : List Chunk) (at room to : ℕ) → DropFacts old before bytes lock owner slot after at room to → IsWritable to (headers.Movable (length bytes) lock owner slot)
 drop_writable old before bytes lock owner slot after at room to f =
     let s = f.spelled in
+    let own : owner < 16 = s.1.owner_fits in
     let four = f.facts.whole in
     let whole = f.middle.start_whole in
     let slot_inside = f.facts.inside in
     let most = f.middle.most in
-    (s.1.size_fits, s.2, s.1.owner_fits, s.3, omega (arith, slot_inside, most), omega (arith, four, whole))
+    (s.1.size_fits, s.2, omega (arith, own), s.3, omega (arith, slot_inside, most), omega (arith, four, whole))
 
 pub same_header : (old : List ℕ) (before : List Chunk) (bytes : List ℕ) (lock owner slot : ℕ) (after : List Chunk) (at room to : ℕ) (header : Header) → DropFacts old before bytes lock owner slot after at room to → HasHeader old at header → header ≡ headers.Movable (length bytes) lock owner slot
 same_header old before bytes lock owner slot after at room to header f found = header_there old at (movable bytes lock owner slot) header f.spelled found
