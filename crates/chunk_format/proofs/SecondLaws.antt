@@ -36,21 +36,21 @@ relocked_live old at bytes was owner lock h_offset s low =
     let way : h_offset < 2 ^ 24 = s.h_offset_fits in
     second_written old at bytes was owner lock owner h_offset (with_lock_field (u32_at old (at + 4)) lock) s (omega arith) owner_fits (omega arith)
 
-reowned_live : (old : List ℕ) (at : ℕ) (bytes : List ℕ) (lock was owner h_offset : ℕ) → IsLive old at bytes lock was h_offset → owner < 16
+reowned_live : (old : List ℕ) (at : ℕ) (bytes : List ℕ) (lock was owner h_offset : ℕ) → IsLive old at bytes lock was h_offset → owner ≤ 15
     → IsLive (overwritten old (at + 4) (u32_bytes (with_owner_field (u32_at old (at + 4)) owner))) at bytes lock owner h_offset
 reowned_live old at bytes lock was owner h_offset s fits =
     let second = s.second_word in
     let lock_fits : lock < 16 = s.lock_fits in
     let owner_fits : was < 16 = s.owner_fits in
     let way : h_offset < 2 ^ 24 = s.h_offset_fits in
-    second_written old at bytes lock was lock owner h_offset (with_owner_field (u32_at old (at + 4)) owner) s lock_fits fits (omega arith)
+    second_written old at bytes lock was lock owner h_offset (with_owner_field (u32_at old (at + 4)) owner) s lock_fits (omega arith) (omega arith)
 
 pub relocks : (old new : Memory) (at lock : ℕ) → lock < 15 → new ≡ record old { bytes = overwritten old.bytes (at + 4) (u32_bytes (with_lock_field (u32_at old.bytes (at + 4)) lock)) } → Relocks old.bytes new.bytes at lock
 relocks old new at lock low is bytes was owner slot may s =
     let image : new.bytes ≡ overwritten old.bytes (at + 4) (u32_bytes (with_lock_field (u32_at old.bytes (at + 4)) lock)) = ap (λ (m : Memory). m.bytes) is in
     (s.0, subst (λ (b : List ℕ). IsLive b at bytes lock owner s.0) (sym image) (relocked_live old.bytes at bytes was owner lock s.0 s.1 low), low, may, s.4)
 
-pub reowns : (old new : Memory) (at owner : ℕ) → owner < 16 → new ≡ record old { bytes = overwritten old.bytes (at + 4) (u32_bytes (with_owner_field (u32_at old.bytes (at + 4)) owner)) } → Reowns old.bytes new.bytes at owner
+pub reowns : (old new : Memory) (at owner : ℕ) → owner ≤ 15 → new ≡ record old { bytes = overwritten old.bytes (at + 4) (u32_bytes (with_owner_field (u32_at old.bytes (at + 4)) owner)) } → Reowns old.bytes new.bytes at owner
 reowns old new at owner fits is =
     let image : new.bytes ≡ overwritten old.bytes (at + 4) (u32_bytes (with_owner_field (u32_at old.bytes (at + 4)) owner)) = ap (λ (m : Memory). m.bytes) is in
     record {

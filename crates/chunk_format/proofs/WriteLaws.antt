@@ -76,9 +76,10 @@ header_written old new at (headers.Free size) inside small w is =
     subst (λ (image : List ℕ). HasHeader image at (headers.Free size)) (sym is) record { chunk = free size; spelled = free_written old at size inside w.0 w.1 w.2; header_is = refl }
 header_written old new at (headers.Movable count lock owner slot) inside small w is =
     let low : lock < 15 = w.1 in
+    let own : owner ≤ 15 = w.2 in
     let fits : need count < 2 ^ 24 = w.0 in
     let h : ℕ = h_offset_to at slot in
-    let live = live_written old at count lock owner h inside w.0 (omega arith) w.2 (omega arith) in
+    let live = live_written old at count lock owner h inside w.0 (omega arith) (omega arith) (omega arith) in
     let image : List ℕ = overwritten old at (live_words count lock owner h) in
     subst (λ (image : List ℕ). HasHeader image at (headers.Movable count lock owner slot)) (sym is) record {
       chunk = movable (slice_range image (at + 8) (at + 8 + count)) lock owner slot;
@@ -86,7 +87,8 @@ header_written old new at (headers.Movable count lock owner slot) inside small w
       header_is = ap (λ (n : ℕ). headers.Movable n lock owner slot) (sym live.1);
     }
 header_written old new at (headers.Fixed count owner) inside small w is =
-    let live = live_written old at count 15 owner 0 inside w.0 (omega arith) w.1 (omega arith) in
+    let own : owner ≤ 15 = w.1 in
+    let live = live_written old at count 15 owner 0 inside w.0 (omega arith) (omega arith) (omega arith) in
     let image : List ℕ = overwritten old at (live_words count 15 owner 0) in
     subst (λ (image : List ℕ). HasHeader image at (headers.Fixed count owner)) (sym is) record {
       chunk = fixed (slice_range image (at + 8) (at + 8 + count)) owner;

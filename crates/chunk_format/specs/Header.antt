@@ -1,7 +1,7 @@
 -- The header of a chunk: what its two words say.
 use Rattle.std.specs.Prelude.{◌≡◌, ◌≤◌, ◌<◌, ◌+◌, ◌-◌, ◌*◌, ◌/◌, ◌%◌, ◌^◌, ◌++◌, ◌⊎◌, ◌==◌, if◌then◌else◌, ℕ, List, [], ◌∷◌, length, slice_range}
 use Rattle.heap_model.specs.Bytes.{u32_at, u32_bytes, overwritten}
-use Rattle.heap_model.specs.Chunk.{Chunk, free, movable, fixed, fixed_lock, need, size_of, slot_named, IsLive, Spelled}
+use Rattle.heap_model.specs.Chunk.{Chunk, free, movable, fixed, fixed_lock, data_owner, need, size_of, slot_named, IsLive, Spelled}
 use Rattle.heap_model.specs.Reading.{lock_field, owner_field, h_offset_field}
 use Rattle.heap_model.specs.declared.names.Place.{Place}
 use Rattle.chunk_format.specs.declared.header.Header.{Header}
@@ -55,8 +55,8 @@ headers_of at (chunk ∷ chunks) = (record { 0 = at + 8 }, header_of chunk) ∷ 
 abbrev pub IsWritable : ℕ → Header → Type 0
 IsWritable at (headers.Free size) = (8 ≤ size) × (size % 8 ≡ 0) × (size < 2 ^ 24)
 IsWritable at (headers.Movable length lock owner slot) =
-    (need length < 2 ^ 24) × (lock < fixed_lock) × (owner < 16) × ((lock ≡ 0) ⊎ (0 < owner)) × (slot < 2 ^ 24) × (slot % 2 ≡ at % 2)
-IsWritable at (headers.Fixed length owner) = (need length < 2 ^ 24) × (owner < 16)
+    (need length < 2 ^ 24) × (lock < fixed_lock) × (owner ≤ data_owner) × ((lock ≡ 0) ⊎ (0 < owner)) × (slot < 2 ^ 24) × (slot % 2 ≡ at % 2)
+IsWritable at (headers.Fixed length owner) = (need length < 2 ^ 24) × (owner ≤ data_owner)
 
 -- a lock count and an owner that may stand in one movable chunk: a locked one has an owner
 abbrev pub MayStand : ℕ → ℕ → Type 0

@@ -4,7 +4,7 @@ ghost use Rattle.std.specs.Prelude.{◌≡◌, ◌%◌, ◌+◌, ◌≤◌, ◌<
 ghost use Rattle.heap_model.specs.Memory.{IsWithin};
 ghost use Rattle.heap_model.specs.Bytes.{overwritten};
 ghost use Rattle.heap_model.specs.Frame.{most_size};
-ghost use Rattle.heap_model.specs.Chunk.{Chunk, need, fixed_lock, IsLive, Spelled, HasChunk};
+ghost use Rattle.heap_model.specs.Chunk.{Chunk, need, fixed_lock, data_owner, IsLive, Spelled, HasChunk};
 ghost use Rattle.heap_model.specs.Reading.{chunk_at};
 ghost use Rattle.chunk_format.specs.Header.{HasLive, chunk_with, size_by, live_header_by, h_offset_to, live_words, with_lock_at, with_owner_at, Relocks, Reowns};
 
@@ -297,7 +297,7 @@ pub fn put_lock(region: &mut Region, at: u32, lock: u8)
 #[inline]
 pub fn put_owner(region: &mut Region, at: u32, owner: u8)
     requires inside { IsWithin region.old at HEADER_SIZE }
-    requires owner { owner < 16 }
+    requires owner { owner ≤ data_owner }
     ensures after { region.new ≡ record region.old
         { bytes = with_owner_at region.old.bytes at owner } }
     ensures len { length region.new.bytes ≡ length region.old.bytes }
@@ -323,8 +323,8 @@ fn h_offset(at: u32, slot: u32) -> u32
 fn write_live(region: &mut Region, at: u32, count: u32, lock: u8, owner: u8, h_offset: u32)
     requires inside { IsWithin region.old at (need count) }
     requires small { length region.old.bytes < 2 ^ 24 }
-    requires lock { lock < 16 }
-    requires owner { owner < 16 }
+    requires lock { lock ≤ fixed_lock }
+    requires owner { owner ≤ data_owner }
     requires h_offset { h_offset < 2 ^ 24 }
     ensures after { region.new ≡ record region.old
         { bytes = overwritten region.old.bytes at (live_words count lock owner h_offset) } }

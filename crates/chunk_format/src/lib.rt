@@ -18,6 +18,7 @@
 mod frame;
 mod header;
 mod image;
+mod laws;
 mod walk;
 
 pub use frame::{
@@ -29,4 +30,5 @@ pub use header::{
     live_fields, put_lock, put_owner, size_of_body,
 };
 pub use image::{BlankFault, blank, blank_from};
+pub use laws::blank_images_are_empty;
 pub use walk::Walk;

@@ -12,7 +12,7 @@ use Rattle.laws_heap.proofs.Runs.{stuck_run}
 use Rattle.laws_heap.proofs.Bodies.{tied_halves, halves_tied}
 use Rattle.laws_heap.proofs.Accepted.{heap_of_read}
 use Rattle.heap_check.specs.declared.fault.HeapFault.{HeapFault}
-use Rattle.heap_check.specs.declared.fault.HeapFault.TheVariants.{BadChunk, SlotMismatch, ChunkWithoutSlot, BadFixedOwner, BadDirectory}
+use Rattle.heap_check.specs.declared.fault.HeapFault.TheVariants.{SlotMismatch, ChunkWithoutSlot, BadFixedOwner, BadDirectory}
 use Rattle.heap_check.specs.declared.survey.Survey.{Survey}
 use Rattle.heap_check.specs.Survey.{IsFirstWithout, IsMarked, IsSurvey, IsPaired}
 use Rattle.heap_check.proofs.SlotLaws.{all_hold, first_mismatch}

@@ -4,6 +4,10 @@ use Rattle.heap_model.specs.Chunk.{managers_owner}
 use Rattle.heap_model.specs.Slots.{StandsBehind, slots_total}
 use Rattle.heap_model.specs.Store.{owner_under}
 
+-- so many slots an image has at most, as two bytes count them
+abbrev pub most_slots : ℕ
+most_slots = 65535
+
 -- the mark of a slot that has no chunk
 abbrev pub no_owner : ℕ
 no_owner = 16

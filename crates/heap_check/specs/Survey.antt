@@ -148,7 +148,7 @@ pub record IsPaired (image : List ℕ) : Type 0 where
 abbrev pub ManagersAt : Option Chunk → Type 0
 ManagersAt None = ⊥
 ManagersAt (Some (free size)) = ⊥
-ManagersAt (Some (movable bytes lock owner slot)) = owner ≡ 0
+ManagersAt (Some (movable bytes lock owner slot)) = owner ≡ managers_owner
 ManagersAt (Some (fixed bytes owner)) = ⊥
 
 -- a chunk has its body at this place, and is a movable one of the manager's

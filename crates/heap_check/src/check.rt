@@ -3,7 +3,7 @@
 ghost use Rattle.std.specs.Prelude.{◌≡◌, ◌≤◌, true, length, map, IfOk, IfErr, OnOk, OnErr};
 ghost use Rattle.heap_model.specs.Heap.{IsHead, HeapAccepted};
 ghost use Rattle.heap_check.specs.Faults.{IsFirstFault};
-ghost use Rattle.heap_check.specs.Owners.{NoneMarked, HasOwners};
+ghost use Rattle.heap_check.specs.Owners.{most_slots, NoneMarked, HasOwners};
 ghost use Rattle.heap_check.specs.Summary.{Summarizes};
 
 use crate::directory::has_directory;
@@ -33,7 +33,7 @@ pub fn check_heap(region: &Region) -> Result<Summary, HeapFault>
 /// `check_heap`, which marks each slot with the owner of its chunk on the way. Where the heap is accepted,
 /// all slots are so marked, and where it isn't, some of them may be.
 pub fn check_heap_noting(region: &Region, owners: &mut [u8]) -> Result<Summary, HeapFault>
-    requires room { 65535 ≤ length owners.old }
+    requires room { most_slots ≤ length owners.old }
     requires clear { NoneMarked owners.old }
     ensures accepted { OnOk result (HeapAccepted region.now.bytes) }
     ensures summary { IfOk result (Summarizes region.now.bytes) }
@@ -61,7 +61,7 @@ fn check_with_marks(region: &Region) -> Result<Summary, HeapFault>
 /// Checks the chunks and the slots behind a right head, with a mark for the slot of each number.
 fn check_area<M: Mark>(region: &Region, marks: &mut [M]) -> Result<Summary, HeapFault>
     requires head { IsHead region.now.bytes }
-    requires room { 65535 ≤ length marks.old }
+    requires room { most_slots ≤ length marks.old }
     requires clear { NoneMarked (map M.says marks.old) }
     ensures accepted { OnOk result (HeapAccepted region.now.bytes) }
     ensures summary { IfOk result (Summarizes region.now.bytes) }

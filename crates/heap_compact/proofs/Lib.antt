@@ -1,2 +1,2 @@
 pub mod ResizedLaws
-pub mod MakingLaws
+pub mod MadeRoomLaws

@@ -1,6 +1,6 @@
 -- What another length for a chunk comes to, wherever its bytes are found: by names, since the chunk and
 -- others of one stretch may have moved.
-use Rattle.std.specs.Prelude.{◌≡◌, ◌≤◌, ◌+◌, ◌-◌, ◌++◌, ℕ, List, ◌∷◌, length, Some}
+use Rattle.std.specs.Prelude.{◌≡◌, ◌≤◌, ◌+◌, ◌++◌, ℕ, List, ◌∷◌, length, Some}
 use Rattle.heap_model.specs.Chunk.{Chunk, movable, need, total}
 use Rattle.heap_model.specs.Slots.{area_start}
 use Rattle.heap_model.specs.Meaning.{LiveChunk}
@@ -10,6 +10,7 @@ use Rattle.heap_model.specs.Space.{room_of}
 use Rattle.heap_model.specs.Leaving.{Leaves}
 use Rattle.heap_model.specs.Packing.{WholeStretch}
 use Rattle.heap_place.specs.declared.found.Found.{Found}
+use Rattle.heap_place.specs.Found.{header_at}
 
 -- a movable chunk without locks has this name
 pub record IsLoose (image : List ℕ) (name : ℕ) : Type 0 where
@@ -30,6 +31,6 @@ pub record FitsInStretch (image : List ℕ) (found : Found) (size : ℕ) : Type 
   pub back : List Chunk
   pub after : List Chunk
   pub whole : WholeStretch image before (front ++ movable bytes 0 owner found.name.0 ∷ back) after
-  pub there : found.place.0 - 8 ≡ area_start image + total before + total front
+  pub there : header_at found ≡ area_start image + total before + total front
   pub many : found.length ≡ length bytes
   pub enough : size ≤ need (length bytes) + room_of (front ++ back)

@@ -1,5 +1,5 @@
 -- What a chunk that goes down is read as, and what may be written.
-use Rattle.std.proofs.Common.{◌≡◌, ℕ, ◌+◌, ◌-◌, ◌^◌, ◌≤◌, List, ◌∷◌, ◌++◌, length, take, drop, sym, ap, subst, ◌∙◌, arith, length-take, length-drop}
+use Rattle.std.proofs.Common.{◌≡◌, ℕ, ◌+◌, ◌-◌, ◌^◌, ◌<◌, ◌≤◌, Some, List, ◌∷◌, ◌++◌, length, take, drop, sym, ap, subst, ◌∙◌, arith, length-take, length-drop}
 use Rattle.heap_model.specs.Bytes.{u32_bytes, overwritten}
 use Rattle.heap_model.specs.Chunk.{Chunk, free, movable, need}
 use Rattle.heap_model.specs.Slots.{IsSlot, table_end}
@@ -12,7 +12,7 @@ use Rattle.chunk_format.specs.declared.header.Header.{Header}
 use Rattle.chunk_format.specs.declared.header.Header.TheVariants as headers
 use Rattle.heap_place.specs.Lists.{KeepsFree}
 use Rattle.heap_place.specs.Gathers.{Before}
-use Rattle.heap_place.specs.Packs.{BecomesExactly, IsDroppable}
+use Rattle.heap_place.specs.Packs.{BecomesExactly, IsDroppable, slot_by}
 use Rattle.heap_place.proofs.CutLaws.{wrote_words, wrote_head}
 use Rattle.heap_place.proofs.MendLaws.{header_there}
 use Rattle.heap_place.proofs.DropLaws.{DropFacts, drop_facts, dropped}
@@ -20,17 +20,21 @@ use Rattle.heap_place.proofs.DropLaws.{DropFacts, drop_facts, dropped}
 pub drop_writable : (old : List ℕ) (before : List Chunk) (bytes : List ℕ) (lock owner slot : ℕ) (after : List Chunk) (at room to : ℕ) → DropFacts old before bytes lock owner slot after at room to → IsWritable to (headers.Movable (length bytes) lock owner slot)
 drop_writable old before bytes lock owner slot after at room to f =
     let s = f.spelled in
+    let own : owner < 16 = s.1.owner_fits in
     let four = f.facts.whole in
     let whole = f.middle.start_whole in
     let slot_inside = f.facts.inside in
     let most = f.middle.most in
-    (s.1.size_fits, s.2, s.1.owner_fits, s.3, omega (arith, slot_inside, most), omega (arith, four, whole))
+    (s.1.size_fits, s.2, omega (arith, own), s.3, omega (arith, slot_inside, most), omega (arith, four, whole))
 
 pub same_header : (old : List ℕ) (before : List Chunk) (bytes : List ℕ) (lock owner slot : ℕ) (after : List Chunk) (at room to : ℕ) (header : Header) → DropFacts old before bytes lock owner slot after at room to → HasHeader old at header → header ≡ headers.Movable (length bytes) lock owner slot
 same_header old before bytes lock owner slot after at room to header f found = header_there old at (movable bytes lock owner slot) header f.spelled found
 
-same_slot : (count k v named n lock owner slot : ℕ) → headers.Movable count k v named ≡ headers.Movable n lock owner slot → named ≡ slot
-same_slot count k v named n lock owner slot e = cc
+same_slot : (slot named : ℕ) → Some slot ≡ Some named → slot ≡ named
+same_slot slot named e = cc
+
+pub slot_is : (old : List ℕ) (before : List Chunk) (bytes : List ℕ) (lock owner slot : ℕ) (after : List Chunk) (at room to named : ℕ) (header : Header) → DropFacts old before bytes lock owner slot after at room to → HasHeader old at header → slot_by header ≡ Some named → slot ≡ named
+slot_is old before bytes lock owner slot after at room to named header f found is = same_slot slot named (sym (ap slot_by (same_header old before bytes lock owner slot after at room to header f found)) ∙ is)
 
 -- the images in between
 wrote_down : (old slid head hole : List ℕ) (before : List Chunk) (bytes : List ℕ) (lock owner slot : ℕ) (after : List Chunk) (at room to size : ℕ) → DropFacts old before bytes lock owner slot after at room to → size ≡ need (length bytes)
@@ -59,17 +63,14 @@ drop_table old slid head hole before bytes lock owner slot after at room to size
     let same = wrote_head old hole to (to + room + size) w (omega (arith, to_is)) (omega (arith, inside)) in
     (head_table hole (head_same old hole same f.heap.tiles.head), slot_there old hole slot same f.own)
 
-pub dropped_read : (old slid head hole new : List ℕ) (before : List Chunk) (bytes : List ℕ) (lock owner slot : ℕ) (after : List Chunk) (at room to size count k v named : ℕ) (header : Header) → DropFacts old before bytes lock owner slot after at room to → HasHeader old at header → size ≡ size_by header → header ≡ headers.Movable count k v named
+pub dropped_read : (old slid head hole new : List ℕ) (before : List Chunk) (bytes : List ℕ) (lock owner slot : ℕ) (after : List Chunk) (at room to size named : ℕ) (header : Header) → DropFacts old before bytes lock owner slot after at room to → HasHeader old at header → size ≡ size_by header → slot_by header ≡ Some named
     → slid ≡ overwritten old to (take (at + size - at) (drop at old)) → head ≡ overwritten slid to (header_bytes to header) → HasHeader head to header → hole ≡ overwritten head (to + size) (u32_bytes (2 ^ 31 + room)) → HasHeader hole (to + size) (headers.Free room)
     → new ≡ overwritten hole named (u32_bytes (to + 8)) → BecomesExactly old new (before ++ movable bytes lock owner slot ∷ free room ∷ after) × KeepsFree (Before to) old new
-dropped_read old slid head hole new before bytes lock owner slot after at room to size count k v named header f found size_is is slid_is head_is written hole_is rest new_is =
+dropped_read old slid head hole new before bytes lock owner slot after at room to size named header f found size_is is slid_is head_is written hole_is rest new_is =
     let e = same_header old before bytes lock owner slot after at room to header f found in
-    let n = same_slot count k v named (length bytes) lock owner slot (sym is ∙ e) in
+    let n = sym (slot_is old before bytes lock owner slot after at room to named header f found is) in
     dropped old slid head hole new before bytes lock owner slot after at room to size f (size_is ∙ ap size_by e) slid_is (head_is ∙ ap (λ (h : Header). overwritten slid to (header_bytes to h)) e)
     (subst (λ (h : Header). HasHeader head to h) e written) hole_is rest (new_is ∙ ap (λ (s : ℕ). overwritten hole s (u32_bytes (to + 8))) n)
-
-pub slot_is : (old : List ℕ) (before : List Chunk) (bytes : List ℕ) (lock owner slot : ℕ) (after : List Chunk) (at room to count k v named : ℕ) (header : Header) → DropFacts old before bytes lock owner slot after at room to → HasHeader old at header → header ≡ headers.Movable count k v named → slot ≡ named
-slot_is old before bytes lock owner slot after at room to count k v named header f found is = sym (same_slot count k v named (length bytes) lock owner slot (sym is ∙ same_header old before bytes lock owner slot after at room to header f found))
 
 -- of the chunk that a call is given
 pub asked : (old : List ℕ) (at room to : ℕ) → HeapAccepted old → (d : IsDroppable old at room) → to ≡ at - room → DropFacts old d.before d.bytes d.lock d.owner d.slot d.after at room to

@@ -9,7 +9,7 @@ pub mod OwnedLaws
 pub mod CarriedLaws
 pub mod CopyLaws
 pub mod MendLaws
-pub mod MendingLaws
+pub mod LiftedWalkLaws
 pub mod LiftLaws
 pub mod ExactLaws
 pub mod DropLaws
@@ -22,7 +22,7 @@ pub mod ResizeLaws
 pub mod RunLaws
 pub mod LargestLaws
 pub mod RelocateLaws
-pub mod SummingLaws
+pub mod StretchRoomLaws
 pub mod DirectoryLaws
 pub mod ListLaws
 pub mod KeepLaws
@@ -31,7 +31,7 @@ pub mod SpotLaws
 pub mod TakeLaws
 pub mod WithinLaws
 pub mod GatherLaws
-pub mod GivingLaws
+pub mod GivenBackLaws
 pub mod SpliceLaws
 pub mod AlikeLaws
 pub mod RegrownLaws

@@ -289,6 +289,7 @@ can_mend old image before done c rest after gap at count lock owner named r =
     let n = r.count_is in
     let e = r.named_is in
     let low : lock < 15 = s.2 in
+    let own : owner < 16 = s.1.owner_fits in
     let whole = m.next.whole in
     let inside : at + need (length r.bytes) ≤ length image = m.next.inside in
     let most = m.next.most in
@@ -300,7 +301,7 @@ can_mend old image before done c rest after gap at count lock owner named r =
     let size : need count ≡ need (length r.bytes) = ap need n in (
       omega (arith, e),
       record {
-        writable = (omega (arith, size, fits), low, s.1.owner_fits, s.3, omega (arith, back, slot_inside, most), omega (arith, back, four, whole));
+        writable = (omega (arith, size, fits), low, omega (arith, own), s.3, omega (arith, back, slot_inside, most), omega (arith, back, four, whole));
         inside = omega (arith, size, inside);
         small = omega (arith, most);
         is_slot = subst (λ (x : ℕ). IsSlot image x) (sym back) m.is_slot;

@@ -5,7 +5,7 @@ use Rattle.std.proofs.lemmas.Bool.{cases_lt, OnTrue_at, OnTrue_from}
 use Rattle.std.specs.Bool.{OnTrue}
 use Rattle.std.specs.Prelude.{slice_range, min}
 use Rattle.heap_model.specs.Bytes.{u32_at, u32_bytes, overwritten, sized_to}
-use Rattle.heap_model.specs.Chunk.{Chunk, free, movable, fixed, fixed_lock, need, size_of, Spelled}
+use Rattle.heap_model.specs.Chunk.{Chunk, free, movable, fixed, fixed_lock, need, size_of, Spelled, data_owner}
 use Rattle.heap_model.specs.Slots.{IsSlot, table_end}
 use Rattle.heap_model.specs.Heap.{HeapAccepted}
 use Rattle.heap_model.specs.Meaning.{LiveChunk, NamedHere}
@@ -294,18 +294,18 @@ slot_emptied old new found h f unlocked x =
 pub freed_keeps : (old new : List ℕ) (found other : Found) → HeapAccepted old → (f : IsOne old found) → Alters old new (found.place.0 - 8) freed → other.name.0 ≢ found.name.0 → IsOne old other → IsOne new other
 freed_keeps old new found other h f x apart g = found_kept old new found.name.0 _ _ other h (freed_changes old new found.name.0 (found.place.0 - 8) f.live f.chunk h f.finds x) apart g
 
-pub owner_fits : (image : List ℕ) (found : Found) → HeapAccepted image → IsOne image found → found.owner < 16
+pub owner_fits : (image : List ℕ) (found : Found) → HeapAccepted image → IsOne image found → found.owner ≤ data_owner
 owner_fits image found h f = by_chunk f.live f.chunk f.finds f.owner_is where
-  by_chunk : (live : LiveChunk) (c : Chunk) (g : Finds image found.name.0 live c (found.place.0 - 8)) → found.owner ≡ live.owner → found.owner < 16
+  by_chunk : (live : LiveChunk) (c : Chunk) (g : Finds image found.name.0 live c (found.place.0 - 8)) → found.owner ≡ live.owner → found.owner ≤ data_owner
   by_chunk live (free n) g is = absurd g.named
   by_chunk live (movable bytes lock owner slot) g is =
       let s : Spelled image (found.place.0 - 8) (movable bytes lock owner slot) = finds_spelled image found.name.0 live (movable bytes lock owner slot) (found.place.0 - 8) h g in
-      let fits = s.1.owner_fits in
+      let fits : owner < 16 = s.1.owner_fits in
       let same : owner ≡ live.owner = ap (λ (x : LiveChunk). x.owner) g.named.1 in
       omega arith
   by_chunk live (fixed bytes owner) g is =
       let s : Spelled image (found.place.0 - 8) (fixed bytes owner) = finds_spelled image found.name.0 live (fixed bytes owner) (found.place.0 - 8) h g in
-      let fits = s.owner_fits in
+      let fits : owner < 16 = s.owner_fits in
       let same : owner ≡ live.owner = ap (λ (x : LiveChunk). x.owner) (fixed_live_is (found.place.0 - 8) bytes owner g.named) in
       omega arith
 

@@ -88,12 +88,14 @@ writable_by image name at count live (movable bytes lock owner slot) h f whole s
     let s : Spelled image at (movable bytes lock owner slot) = finds_spelled image name live (movable bytes lock owner slot) at h f in
     let facts = slot_facts image h.0 slot h.1.tiles (own_slot image name at live bytes lock owner slot h f) in
     let slot_inside = facts.inside in let four = facts.whole in let most = h.1.tiles.head.most in
+    let own : owner < 16 = s.1.owner_fits in
     let len = length-sized_to bytes count in
-    (omega arith, s.2, s.1.owner_fits, s.3, omega arith, omega arith)
+    (omega arith, s.2, omega arith, s.3, omega arith, omega arith)
 writable_by image name at count live (fixed bytes owner) h f whole small =
     let s : Spelled image at (fixed bytes owner) = finds_spelled image name live (fixed bytes owner) at h f in
+    let own : owner < 16 = s.owner_fits in
     let len = length-sized_to bytes count in
-    (omega arith, s.owner_fits)
+    (omega arith, omega arith)
 
 size_by_sized : (c : Chunk) (count : ℕ) → IsNotFree c → size_by (header_of (with_length count c)) ≡ need count
 size_by_sized (free size) count n = absurd n

@@ -49,7 +49,7 @@ NothingAt image place = (name : ℕ) → place_of image name ≡ Some place → 
 -- A found chunk can go to this owner. A locked one can't be the manager's, and a fixed one only a
 -- caller's; the directory's stays the manager's.
 pub record CanGoTo (image : List ℕ) (found : Found) (owner : ℕ) : Type 0 where
-  pub fits : owner < 16
+  pub fits : owner ≤ data_owner
   pub locked : 0 < found.lock → 0 < owner
   pub fixed : found.lock ≡ fixed_lock → owner < data_owner
   pub directory : found.name.0 ≡ directory_of image → owner ≡ 0

@@ -1,6 +1,6 @@
 -- Chunks are packed one after the other: each free one is joined with the room in front of it, and each
 -- one that may move goes down over that room.
-use Rattle.std.specs.Prelude.{◌≡◌, ◌<◌, ◌+◌, ◌++◌, ◌==◌, if◌then◌else◌, ℕ, zero, suc, List, [], ◌∷◌, length}
+use Rattle.std.specs.Prelude.{◌≡◌, ◌<◌, ◌+◌, ◌++◌, ◌==◌, if◌then◌else◌, ℕ, zero, suc, List, [], ◌∷◌, length, Option, Some, None}
 use Rattle.heap_model.specs.Chunk.{Chunk, free, movable, fixed, need, size_of, total}
 use Rattle.heap_model.specs.Slots.{area_start}
 use Rattle.heap_model.specs.Reading.{chunks_of}
@@ -79,6 +79,12 @@ abbrev pub HeaderStays : Header → Type 0
 HeaderStays (headers.Free size) = ⊥
 HeaderStays (headers.Movable length lock owner slot) = 0 < lock
 HeaderStays (headers.Fixed length owner) = Unit {0}
+
+-- the slot that a header names, where it is a movable chunk's
+abbrev pub slot_by : Header → Option ℕ
+slot_by (headers.Free size) = None
+slot_by (headers.Movable length lock owner slot) = Some slot
+slot_by (headers.Fixed length owner) = None
 
 -- a chunk stands at an offset, and in front of it so much room in one chunk, or none
 pub record BehindRoom (image : List ℕ) (before : List Chunk) (chunk : Chunk) (after : List Chunk) (at room : ℕ) : Type 0 where

@@ -52,7 +52,7 @@ pub(crate) fn claim_movable(region: &mut Region, at: u32, slot: Name, count: u32
     requires free { IsFreeChunk region.old.bytes at (need count) }
     requires slot { IsSlot region.old.bytes slot.0 }
     requires empty { u32_at region.old.bytes slot.0 ≡ 0 }
-    requires owner { owner < 16 }
+    requires owner { owner ≤ data_owner }
     ensures made { Fills region.old.bytes region.new.bytes at (need count)
         (movable (replicate count 0) 0 owner slot.0) }
     ensures keeps { KeepsFree (ButAt at) region.old.bytes region.new.bytes }

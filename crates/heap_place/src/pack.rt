@@ -9,7 +9,7 @@ ghost use Rattle.heap_model.specs.Placing.{SameFrame};
 ghost use Rattle.heap_model.specs.Layout.{Becomes, WritesPlain};
 ghost use Rattle.heap_model.specs.Packing.{packed};
 ghost use Rattle.heap_place.specs.Stretches.{IsStretch, PacksStretch, RoomAtEnd, SlidesStretch};
-ghost use Rattle.heap_place.specs.Packs.{IsRun, Packs, MovesInRun, LeavesRoom, IsBehindRoom, PacksOne, IsDroppable, Drops, HeaderStays};
+ghost use Rattle.heap_place.specs.Packs.{IsRun, Packs, MovesInRun, LeavesRoom, IsBehindRoom, PacksOne, IsDroppable, Drops, HeaderStays, slot_by};
 ghost use Rattle.heap_place.specs.Lists.{AreLists, HasLists, KeepsFree};
 ghost use Rattle.heap_place.specs.Gathers.{Before};
 ghost use Rattle.chunk_format.specs.Header.{HasHeader, size_by};
@@ -154,11 +154,21 @@ fn drop_one(region: &mut Region, header: Header, at: u32, size: u32, room: u32)
     ensures keeps { KeepsFree (Before (at - room)) region.old.bytes region.new.bytes }
     ensures slid { region.new.slid ≡ region.old.slid + size }
 {
-    if let Header::Movable { slot, .. } = header {
-        let to = at - room;
-        region.slide(at as usize, to as usize, size as usize);
-        header.write(region, to);
-        Header::Free { size: room }.write(region, to + size);
-        master_table::set(region, Name(slot), Place(to + HEADER_SIZE));
+    let slot = slot_of(header).unwrap();
+    let to = at - room;
+    region.slide(at as usize, to as usize, size as usize);
+    header.write(region, to);
+    Header::Free { size: room }.write(region, to + size);
+    master_table::set(region, Name(slot), Place(to + HEADER_SIZE));
+}
+
+/// The slot that a header names, where it is a movable chunk's.
+#[inline]
+fn slot_of(header: Header) -> Option<u32>
+    ensures { result ≡ slot_by header }
+{
+    match header {
+        Header::Movable { slot, .. } => Some(slot),
+        Header::Free { .. } | Header::Fixed { .. } => None,
     }
 }

@@ -3,7 +3,7 @@
 ghost use Rattle.std.specs.Prelude.{◌≡◌, ◌≢◌, ◌≤◌, ◌<◌, ◌+◌, ◌-◌, min, replicate};
 ghost use Rattle.std.specs.Bool.{OnTrue, OnFalse};
 ghost use Rattle.heap_model.specs.Bytes.{u32_at};
-ghost use Rattle.heap_model.specs.Chunk.{fixed, fixed_lock, need};
+ghost use Rattle.heap_model.specs.Chunk.{fixed, fixed_lock, data_owner, need};
 ghost use Rattle.heap_model.specs.Slots.{IsSlot};
 ghost use Rattle.heap_model.specs.Heap.{HeapAccepted, directory_of};
 ghost use Rattle.heap_model.specs.Reading.{chunks_of};
@@ -201,7 +201,7 @@ fn take_name(region: &mut Region, there: Found, slot: Name, owner: u8)
     requires fixed { there.lock ≡ fixed_lock }
     requires slot { IsSlot region.old.bytes slot.0 }
     requires empty { u32_at region.old.bytes slot.0 ≡ 0 }
-    requires owner { owner < 16 }
+    requires owner { owner ≤ data_owner }
     ensures made { Alters region.old.bytes region.new.bytes (header_at there)
         (with_name owner slot.0) }
     ensures keeps { KeepsFree Any region.old.bytes region.new.bytes }

@@ -46,8 +46,8 @@ use heap_model::{Name, Place};
 use raw_region::{ByteChange, Region};
 use std::marker::Model;
 
-/// A region whose chunks are found and changed. Contracts see the region's value alone; each call asks
-/// that it is an accepted heap.
+/// A region whose chunks are found and changed. Contracts see the region's value alone. Any region is taken,
+/// lent and given back; each other call asks that it is an accepted heap.
 #[derive(Drop)]
 pub struct Space {
     region: Region,
@@ -210,7 +210,7 @@ impl Space {
         requires enough { need count ≤ room.size }
         requires slot { IsSlot self.old.bytes slot.0 }
         requires empty { u32_at self.old.bytes slot.0 ≡ 0 }
-        requires owner { owner < 16 }
+        requires owner { owner ≤ data_owner }
         ensures made { Claims self.old.bytes self.new.bytes room.at room.size
             (movable (replicate count 0) 0 owner slot.0) }
         ensures plain { WritesPlain self.old.bytes self.new.bytes }

@@ -5,32 +5,32 @@
 //!
 //! | file | laws of |
 //! |---|---|
-//! | `Frames`, `Writing` | where two lists of bytes agree, and what a write leaves |
-//! | `Deciding`, `Results` | tests and the facts that they decide; the error of a result, where it is known |
+//! | `Frames`, `Writes` | where two lists of bytes agree, and what a write leaves |
+//! | `Tests`, `Results` | tests and the facts that they decide; the error of a result, where it is known |
 //! | `Chunks` | runs of chunks, which are put together, taken apart and framed |
 //! | `Placed` | what holds of every chunk where it stands, or of some one |
 //! | `Shapes`, `Runs` | chunks that are read and chunks that are spelled, one or all from an offset on |
 //! | `Slots`, `Bodies` | slots by their number, and the two halves of the ties |
 //! | `FixedNames` | what the name of a fixed chunk is |
 //! | `Accepted`, `Meanings` | the test of an accepted heap, and the map that it holds |
-//! | `Finding` | the chunk that a name stands for, among the chunks |
+//! | `FoundChunks` | the chunk that a name stands for, among the chunks |
 //! | `Lives` | what names stand for, and where, in lists that are put together |
 //! | `Layouts` | lists in which free neighbours are made one: what is the same of them |
-//! | `Becoming` | an image that has become another: what it holds, and where, by the layout alone |
-//! | `Replacing` | chunks of a heap replaced by others of their size: it stays accepted |
+//! | `SameLayouts` | an image that has become another: what it holds, and where, by the layout alone |
+//! | `Replacements` | chunks of a heap replaced by others of their size: it stays accepted |
 //! | `Plain` | the same: first words of free chunks, of which no other bits are set |
-//! | `Freeing`, `Altering` | the same: free chunks split, joined and claimed, live ones freed and altered |
-//! | `Exchanging` | a chunk of a layout exchanged for others: by parts, and what all names stand for |
-//! | `Changing`, `ChangedName` | the same by what is done: what its name stands for afterwards, and what all others do |
+//! | `FreeChunks`, `AlteredChunks` | the same: free chunks split, joined and claimed, live ones freed and altered |
+//! | `Exchanges` | a chunk of a layout exchanged for others: by parts, and what all names stand for |
+//! | `ExchangedNames`, `ChangedName` | the same by what is done: what its name stands for afterwards, and what all others do |
 //! | `Spots` | room for a chunk, whatever stands in front of it: what fits into it, and what a claim of it does |
 //! | `Directory` | the directory word written: all else of the image is as it was |
 //! | `OwnedChunks` | all chunks of an owner made free |
 //! | `Packings` | what packing leaves: it is packed, and one list alone |
 //! | `CarriedBytes` | bytes carried up or down, and what they spelled |
-//! | `Sliding` | chunks that slide: what names stand for, which stay, and the rooms are as they were |
+//! | `Slides` | chunks that slide: what names stand for, which stay, and the rooms are as they were |
 //! | `StretchNumbers` | the number of the stretch that a chunk is in, in lists of one layout, and where chunks slide |
-//! | `Compacting` | the same of an image; and which of its chunks have moved, and how much |
-//! | `Holding`, `Fits` | how much is free, by what is held; whether so many bytes fit into a run, a stretch or a place |
+//! | `SlidImages` | the same of an image; and which of its chunks have moved, and how much |
+//! | `FreeCounts`, `Fits` | how much is free, by what is held; whether so many bytes fit into a run, a stretch or a place |
 //! | `Unmoved` | where one chunk alone has moved, or none |
 //! | `Stretches` | one stretch of an image: the one around a chunk, and its room among the others |
 //! | `LoweredRoom` | a chunk that is made lowers one room, and no other changes its stretch |

@@ -1,11 +1,11 @@
 -- Images in which one database and some chunks were edited, or one chunk alone, mean the store with these.
-use Rattle.std.proofs.Common.{◌≡◌, ◌≢◌, ℕ, ◌+◌, ◌<◌, List, [], ◌∷◌, length, get_or, set, replicate, ◌≤◌, Option, Some, None, refl, sym, ap, subst, ◌∙◌, arith, inl, inr}
+use Rattle.std.proofs.Common.{◌≡◌, ◌≢◌, ℕ, ◌+◌, ◌<◌, List, [], length, get_or, set, replicate, ◌≤◌, Option, Some, None, refl, sym, ap, subst, ◌∙◌, arith, inl, inr}
 use Rattle.std.proofs.lemmas.Bool.{cases_eq}
 use Rattle.std.proofs.lemmas.List.{get_or-set_same, get_or-set_other, length-set, length-map, map-set, get_or-map}
 use Rattle.std.proofs.lemmas.Option.{slice_get_within, get_or_from_slice_get}
 use Rattle.std.proofs.lemmas.List.Elements.{All-nil, All-cons}
 use Rattle.std.specs.Prelude.{IsSome, All, slice_get}
-use Rattle.heap_model.specs.Chunk.{managers_owner, data_owner}
+use Rattle.heap_model.specs.Chunk.{data_owner}
 use Rattle.heap_model.specs.Bytes.{sized_to}
 use Rattle.heap_model.specs.Meaning.{LiveChunk}
 use Rattle.heap_model.specs.Reading.{held}

@@ -6,8 +6,8 @@
 //! | file | laws of |
 //! |---|---|
 //! | `Numbers` | numbers and the bytes that they stand in, both ways; lists by index |
-//! | `Listing` | how often a number stands in a list, and what this says of its elements; least numbers |
-//! | `Moving` | an element of a list moved: it is taken out and put in again, and the length and sums stay |
+//! | `Times` | how often a number stands in a list, and what this says of its elements; least numbers |
+//! | `MovedElements` | an element of a list moved: it is taken out and put in again, and the length and sums stay |
 //! | `Fresh`, `RecordIds` | fresh unique IDs: there is one, and one alone; those of records, by the indexes of their entries |
 //! | `Names` | names in their fields |
 //! | `Spellings` | what spells a database is read as that one |
@@ -16,25 +16,25 @@
 //! | `Entries` | entries edited: the database stays sound, and what it names |
 //! | `Bodies` | what a heap of bytes holds are bytes |
 //! | `Directories` | the slots that a directory lists, and their bytes, both ways |
-//! | `Naming` | how often databases name something, and have an ID, as sums over databases and entries |
+//! | `NameCounts` | how often databases name something, and have an ID, as sums over databases and entries |
 //! | `Owners` | the owners of names: which names are slots, and which chunks are the manager's |
-//! | `Counting` | the accepted image, and the same by counts |
-//! | `Deciding` | the tests of `specs/StoreTests` decide which image is accepted |
-//! | `Keeping` | an image whose manager's chunks are as they were |
-//! | `Calling` | the memory manager's calls, which leave the databases |
-//! | `Lifting`, `Doing` | the memory manager's calls, which are steps of the store; what is left to show of a step |
-//! | `Rewriting` | an image in which one database was rewritten |
+//! | `Counts` | the accepted image, and the same by counts |
+//! | `Tests` | the tests of `specs/StoreTests` decide which image is accepted |
+//! | `KeptDatabases` | an image whose manager's chunks are as they were |
+//! | `MemoryCalls` | the memory manager's calls, which leave the databases |
+//! | `LiftedCalls`, `CallSteps` | the memory manager's calls, which are steps of the store; what is left to show of a step |
+//! | `RewrittenDatabases` | an image in which one database was rewritten |
 //! | `Found` | databases by their numbers: found, changed and taken out |
 //! | `Numbered` | databases of an accepted image by their numbers: what is spelled there |
 //! | `Listed` | an image to which a database came, or of which one went |
-//! | `Stepping` | images with their databases changed, which mean the store changed |
+//! | `ChangeSteps` | images with their databases changed, which mean the store changed |
 //! | `Edited` | images in which one database and one chunk were edited: what names stand for, and whose they are |
-//! | `Editing` | such images, and those of one of these alone, which mean the store changed |
-//! | `Meaning` | what an accepted image means: one store |
-//! | `Telling` | what a store says of the chunks of an image |
+//! | `EditedStores` | such images, and those of one of these alone, which mean the store changed |
+//! | `MeantStore` | what an accepted image means: one store |
+//! | `StoreChunks` | what a store says of the chunks of an image |
 //! | `Parts` | room for one part, and the number of the stretch around a chunk |
-//! | `Creating` | a slot listed last, and the room and the slots of two chunks that are made |
-//! | `Deleting` | a slot taken out of those that are listed |
+//! | `NewDatabases` | a slot listed last, and the room and the slots of two chunks that are made |
+//! | `DroppedDatabases` | a slot taken out of those that are listed |
 #![tactic(auto)]
 
 mod laws;

@@ -1,19 +1,15 @@
 -- Names that are remembered, and calls that remember one.
-use Rattle.std.proofs.Common.{◌≡◌, ℕ, ◌<◌, List, replicate, refl, sym, ap, subst, ◌∙◌, arith, inl, inr}
+use Rattle.std.proofs.Common.{◌≡◌, ℕ, ◌<◌, List, replicate, sym, ap, subst, ◌∙◌, arith, inl, inr}
 use Rattle.std.proofs.lemmas.Bool.{cases_eq}
 use Rattle.std.proofs.lemmas.List.{get_or-replicate}
 use Rattle.std.specs.Prelude.{◌/◌, ◌%◌, slice_index, Result, IsSome}
 use Rattle.std.specs.Result.{IsErr, IsErrAnd}
 use Rattle.heap_model.specs.Memory.{Memory}
-use Rattle.heap_model.specs.Heap.{HeapAccepted}
 use Rattle.heap_model.specs.Reading.{held}
 use Rattle.heap_model.specs.MemorySteps.{MemoryCall, Does, reply_of}
 use Rattle.heap_model.specs.declared.call.Reply.{Reply}
 use Rattle.heap_model.specs.declared.call.Reply.TheVariants.{Refused}
 use Rattle.heap_model.specs.declared.refusal.Refusal.{Refusal}
-use Rattle.heap_place.proofs.FoundLaws.{name_held}
-use Rattle.heap_place.specs.declared.found.Found.{Found}
-use Rattle.heap_place.specs.Found.{IsFound}
 use Rattle.mem_manager.specs.Known.{IsKnown, KnowsHeld, Remembers, entry_of}
 use Rattle.mem_manager.proofs.StepWords.{answered}
 
@@ -31,10 +27,6 @@ none_known name is =
     let none : 0 ≡ name = sym (get_or-replicate {A = ℕ} 64 (entry_of name) 0 0 below) ∙ is.there in
     let some = is.some in
     absurd (omega (arith, none, some))
-
--- a name that was found
-pub found_known : {old new : List ℕ} (image : List ℕ) (name : ℕ) (found : Found) → HeapAccepted image → IsFound image name found → KnowsHeld image old → Remembers old new name → KnowsHeld image new
-found_known image name found h f known remembers = remembered_held image name known remembers (subst IsSome (sym (name_held image name found h f)) refl)
 
 -- what a method that hands a refusal on answers, where the region is the heap's value
 pub handed_back : {A : Type 0} {inside value : Memory} {call : MemoryCall} {brought refusal : Refusal} (f : A → Reply) (result : Result A Refusal) → inside ≡ value → IsErr result × IsErrAnd result (λ answer. answer ≡ brought) → brought ≡ refusal → Does inside call (Refused refusal) inside

@@ -3,7 +3,7 @@ use Rattle.std.proofs.Common.{◌≡◌, ◌≢◌, ℕ, ◌+◌, ◌-◌, ◌<�
 use Rattle.std.specs.Prelude.{slice_range, IsSome}
 use Rattle.heap_model.specs.Memory.{Memory}
 use Rattle.heap_model.specs.Bytes.{overwritten}
-use Rattle.heap_model.specs.Chunk.{fixed_lock}
+use Rattle.heap_model.specs.Chunk.{fixed_lock, data_owner}
 use Rattle.heap_model.specs.Heap.{HeapAccepted, directory_of}
 use Rattle.heap_model.specs.Meaning.{LiveChunk}
 use Rattle.heap_model.specs.Reading.{held}
@@ -91,7 +91,7 @@ pub movable_viewed : {inside value : Memory} (name : ℕ) → inside ≡ value �
 movable_viewed name view m = subst (λ (x : Memory). IsMovable x.bytes name) (sym view) m
 
 -- a movable one may go to any owner but the manager
-pub may_go_to : (image : List ℕ) (name : ℕ) (found : Found) (owner : ℕ) → HeapAccepted image → IsFound image name found → IsMovable image name → name ≢ directory_of image → 0 < owner → owner < 16 → CanGoTo image found owner
+pub may_go_to : (image : List ℕ) (name : ℕ) (found : Found) (owner : ℕ) → HeapAccepted image → IsFound image name found → IsMovable image name → name ≢ directory_of image → 0 < owner → owner ≤ data_owner → CanGoTo image found owner
 may_go_to image name found owner h f m other some most = record {
   fits = most;
   locked = λ locks. some;

@@ -1,7 +1,7 @@
 //! Calls that make chunks and free them.
 
 ghost use Rattle.std.specs.Prelude.{◌≡◌, ◌≤◌, ◌<◌, ◌+◌, ℕ, List, IfOk, OnOk, IfErr, OnErr};
-ghost use Rattle.heap_model.specs.Chunk.{need};
+ghost use Rattle.heap_model.specs.Chunk.{need, data_owner};
 ghost use Rattle.heap_model.specs.Heap.{HeapAccepted};
 ghost use Rattle.heap_model.specs.Reading.{chunks_of};
 ghost use Rattle.heap_model.specs.Space.{NoRun, Short, MovesOneStretch, moved_bytes};
@@ -98,6 +98,7 @@ impl Heap {
         requires callers { 1 ≤ found.owner }
         ensures { Does self.old (MemoryCall.Free name) (done_or_refused result) self.new }
     {
+        // The heap is looked at, so that its invariant is known.
         let _ = &self.space;
         check_callers(found)?;
         if found.lock > 0 && found.lock < FIXED_LOCK {
@@ -134,7 +135,7 @@ pub(crate) fn make_movable(
 ) -> Result<EmptySlot, Refusal>
     requires accepted { HeapAccepted space.old.bytes }
     requires in_use { UsedBefore space.old.bytes used }
-    requires owner { owner < 16 }
+    requires owner { owner ≤ data_owner }
     ensures made { IfOk result
         (λ slot. MakesNew space.old.bytes space.new.bytes slot.name.0 size owner) }
     ensures in_use { IfOk result (λ slot. UsedBefore space.new.bytes slot.before) }

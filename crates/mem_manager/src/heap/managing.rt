@@ -3,7 +3,7 @@
 //! have to move.
 
 ghost use Rattle.std.specs.Prelude.{◌≡◌, ◌≢◌, ◌≤◌, ◌<◌, ◌+◌, length, slice_range, IsSome, IfOk, IfErr, OnOk, OnErr};
-ghost use Rattle.heap_model.specs.Chunk.{need, managers_owner};
+ghost use Rattle.heap_model.specs.Chunk.{need, managers_owner, data_owner};
 ghost use Rattle.heap_model.specs.Rooms.{Lowers};
 ghost use Rattle.heap_model.specs.Heap.{directory_of};
 ghost use Rattle.heap_model.specs.Reading.{held};
@@ -25,7 +25,7 @@ impl Heap {
     /// Makes a movable chunk of `size` zeros, without a lock, for any owner. Its name is the offset of a slot
     /// that was empty. Refused `NotEnoughSpace` alone, and then nothing has changed.
     pub fn sys_new(&mut self, size: u32, owner: u8) -> Result<Name, Refusal>
-        requires owner { owner < 16 }
+        requires owner { owner ≤ data_owner }
         ensures made { IfOk result
             (λ name. MakesNew self.old.bytes self.new.bytes name.0 size owner) }
         ensures had_room { OnOk result (HasNoRoomFor self.old.bytes size → ⊥) }
@@ -134,7 +134,7 @@ impl Heap {
         requires movable { IsMovable self.old.bytes name.0 }
         requires no_directory { name.0 ≢ directory_of self.old.bytes }
         requires some_owner { 0 < owner }
-        requires most_owner { owner < 16 }
+        requires most_owner { owner ≤ data_owner }
         ensures leaves { Leaves self.old.bytes self.new.bytes
             (reowned (held self.old.bytes) name.0 owner) }
         ensures rest { self.new ≡ record self.old { bytes = self.new.bytes } }

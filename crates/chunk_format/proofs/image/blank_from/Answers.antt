@@ -1,5 +1,4 @@
-use Rattle.std.proofs.Common.{◌≡◌, ◌+◌, ◌≤◌, refl, arith}
-use Rattle.heap_model.specs.Slots.{start_behind}
+use Rattle.std.proofs.Common.{refl, arith}
 use Rattle.chunk_format.specs.Blank.{LeavesRoom}
 use Rattle.chunk_format.proofs.EmptyLaws.{blank_accepted, blank_empty}
 use Rattle.chunk_format.proofs.image.blank_from.Goals as goal

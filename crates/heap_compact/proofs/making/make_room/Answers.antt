@@ -1,5 +1,5 @@
 use Rattle.laws_heap.proofs.Spots.{spot_not_short}
-use Rattle.heap_compact.proofs.MakingLaws.{slides_nothing, moves_none}
+use Rattle.heap_compact.proofs.MadeRoomLaws.{slides_nothing, moves_none}
 use Rattle.heap_compact.proofs.making.make_room.Goals as goal
 
 pub returns-in-Some-clause-not_short : goal.returns-in-Some-clause-not_short

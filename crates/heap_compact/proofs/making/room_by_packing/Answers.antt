@@ -1,4 +1,4 @@
-use Rattle.heap_compact.proofs.MakingLaws.{slides_nothing, has_room, packs_slides, packs_once, moves_none}
+use Rattle.heap_compact.proofs.MadeRoomLaws.{slides_nothing, has_room, packs_slides, packs_once, moves_none}
 use Rattle.heap_compact.proofs.making.room_by_packing.Goals as goal
 
 pub returns-in_err-stretch-clause-slides : goal.returns-in_err-stretch-clause-slides

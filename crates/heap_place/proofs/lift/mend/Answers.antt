@@ -1,5 +1,5 @@
 use Rattle.std.proofs.Common.{◌+◌, refl, ◌∙◌, arith}
-use Rattle.heap_place.proofs.MendingLaws.{walk_start, walk_more, walk_state, walk_next, walk_on, walk_done}
+use Rattle.heap_place.proofs.LiftedWalkLaws.{walk_start, walk_more, walk_state, walk_next, walk_on, walk_done}
 use Rattle.heap_place.proofs.lift.mend.Goals as goal
 
 pub loop-at-init : goal.loop-at-init

@@ -1,6 +1,6 @@
 use Rattle.std.proofs.Common.{arith}
 use Rattle.heap_place.proofs.WalkLaws.{free_fits_by}
-use Rattle.heap_place.proofs.SummingLaws.{summed_chunk, summed_fits, summed_more, summed_all}
+use Rattle.heap_place.proofs.StretchRoomLaws.{summed_chunk, summed_fits, summed_more, summed_all}
 use Rattle.heap_place.proofs.stretch.room_of_stretch.Goals as goal
 
 pub at_with_size-header-requires-clause-chunk : goal.at_with_size-header-requires-clause-chunk

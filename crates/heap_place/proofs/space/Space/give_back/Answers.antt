@@ -4,7 +4,7 @@ use Rattle.heap_model.specs.Heap.{HeapAccepted, directory_of}
 use Rattle.heap_model.specs.Layout.{Alters, freed, WritesPlain}
 use Rattle.heap_place.specs.Found.{IsOne}
 use Rattle.laws_heap.proofs.Plain.{plain_then}
-use Rattle.heap_place.proofs.GivingLaws.{same_found, then_freed}
+use Rattle.heap_place.proofs.GivenBackLaws.{same_found, then_freed}
 use Rattle.heap_place.proofs.space.Space.give_back.Goals as goal
 
 pub release_listed-requires-clause-found : goal.release_listed-requires-clause-found

@@ -1,5 +1,3 @@
-use Rattle.std.proofs.Common.{sym, subst}
-use Rattle.heap_model.specs.Memory.{Memory}
 use Rattle.mem_manager.proofs.Growth.{used_replied}
 use Rattle.mem_manager.proofs.StoreCalls.{loose_found, movable_there, movable_loose, movable_viewed}
 use Rattle.mem_manager.proofs.heap.Heap.sys_resize.Goals as goal

@@ -1,7 +1,7 @@
 use Rattle.std.proofs.Common.{arith}
 use Rattle.heap_model.specs.Chunk.{need}
 use Rattle.laws_heap.proofs.Fits.{short_beyond}
-use Rattle.heap_compact.proofs.MakingLaws.{slides_nothing, moves_none}
+use Rattle.heap_compact.proofs.MadeRoomLaws.{slides_nothing, moves_none}
 use Rattle.mem_manager.proofs.heap.making.room_for.Goals as goal
 
 pub returns-in_default-clause-short : goal.returns-in_default-clause-short
