@@ -2,7 +2,7 @@
 use Rattle.std.proofs.Common.{◌≡◌, ℕ, ◌<◌, Bool, true, List, length, get_or, Option, Some, None, refl, sym, ap, subst, ◌∙◌}
 use Rattle.std.proofs.lemmas.Option.{slice_get_within, get_or_from_slice_get}
 use Rattle.std.specs.Prelude.{IsSome, is_some, slice_get}
-use Rattle.heap_model.specs.Database.{Entry, a_record, a_resource, EntryFits, has_resources}
+use Rattle.heap_model.specs.Database.{Entry, a_record, a_resource, entry_data, EntryFits, has_resources}
 use Rattle.heap_model.specs.Store.{StoredDatabase, databases, IsDatabase, Accepted, store_of}
 use Rattle.heap_model.specs.StoreWords.{with_number}
 use Rattle.heap_model.specs.EntrySteps.{entries_of, entry_under, OfEntry, kind_of, resources_under, Tells, record_told, resource_told}
@@ -13,7 +13,9 @@ use Rattle.heap_model.specs.declared.entry.Entry as heard
 use Rattle.heap_model.specs.declared.entry.Entry.TheVariants as entries
 use Rattle.laws_heap.proofs.Tests.{same_some, none_some}
 use Rattle.laws_store.proofs.Found.{found_stands}
-use Rattle.database_access.specs.Checks.{are_resources, IsTold, IsOfKind}
+use Rattle.laws_store.proofs.Numbered.{entry_here as entry_read, entry_owner}
+use Rattle.palm_store.proofs.DataChunks.{for_data, data_callers}
+use Rattle.database_access.specs.Checks.{are_resources, IsTold, IsOfKind, IsNamed}
 use Rattle.database_access.specs.declared.opening.EntryKind.{EntryKind}
 use Rattle.database_access.specs.declared.opening.EntryKind.TheVariants.{Records, Resources}
 use Rattle.database_access.proofs.TwoChanges.{is_there}
@@ -63,6 +65,13 @@ fits image db resources index entry a has kind e =
     let of_kind : has_resources h.one.database.header.attributes ≡ resources = sym (ap kind_of h.found) ∙ kind in
     subst (λ (resources : Bool). EntryFits resources entry) of_kind
     (of_all (λ (x : Entry ℕ). EntryFits (has_resources h.one.database.header.attributes) x) h.one.database.entries index entry h.whole.spelled.fits.entries (entry_is image db index entry h e))
+
+-- callers may name its data
+pub data_named : (image : List ℕ) (db : Db) (index : ℕ) (entry : Entry ℕ) → Accepted image → IsSome (with_number (store_of image) db.0) → entry_under (store_of image) db index ≡ Some entry → 0 < entry_data entry → IsNamed image (entry_data entry)
+unfolding store_of
+data_named image db index entry a has e some =
+    let own = entry_owner image db.0 index entry a has (sym (entry_read image db index has) ∙ e) some in
+    ap is_some (data_callers image (entry_data entry) (for_data image (entry_data entry) own))
 
 -- what is told of it is of the kind that the database holds
 pub told_kind : (image : List ℕ) (db : Db) (kind : EntryKind) (index : ℕ) (told : heard.Entry) → Accepted image → IsSome (with_number (store_of image) db.0) → resources_under (store_of image) db ≡ are_resources kind → IsTold image db index told → IsOfKind kind told

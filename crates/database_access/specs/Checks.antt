@@ -1,5 +1,5 @@
 -- The checks with which the calls on entries begin, and what is told of an entry.
-use Rattle.std.specs.Prelude.{◌≡◌, not, ℕ, Bool, true, false, List, [], ◌∷◌}
+use Rattle.std.specs.Prelude.{◌≡◌, not, ℕ, Bool, true, false, List, [], ◌∷◌, IsSome}
 use Rattle.heap_model.specs.MemorySteps.{Of, IsLocked}
 use Rattle.heap_model.specs.Database.{has_resources, is_read_only}
 use Rattle.heap_model.specs.Store.{Store, store_of}
@@ -63,6 +63,10 @@ IsOfKind Records (entries.Resource info) = ⊥
 IsOfKind Resources (entries.Record info) = ⊥
 IsOfKind Resources (entries.Resource info) = Unit {0}
 
--- a chunk that callers may name is locked
+-- a chunk that callers may name has this name
+abbrev pub IsNamed : List ℕ → ℕ → Type 0
+IsNamed image name = IsSome ((store_of image).map name)
+
+-- and it is locked
 abbrev pub IsLockedChunk : List ℕ → ℕ → Type 0
 IsLockedChunk image name = Of ((store_of image).map name) IsLocked

@@ -10,12 +10,9 @@ ghost use Rattle.database_edits.specs.Edits.{Changes, HasKindHere, HasNoRoomFor,
 
 use crate::bodies::{grow, put_entry, slide_entries};
 use crate::headers::{heading_here, put_entry_count, put_modification_number, put_seed};
-use db_format::{DbEntry, entry_offset};
+use db_format::{DbEntry, SEEDS, entry_offset};
 use heap_model::{Db, Refusal};
 use mem_manager::Heap;
-
-/// How many seeds there are: one is in the low 24 bits of its field.
-const SEEDS: u32 = 0x100_0000;
 
 /// Puts an entry in at an index; the entries from there on move up by one. The ID of a record becomes the
 /// seed, and the modification number is raised. The chunk grows, and other chunks may move for it.

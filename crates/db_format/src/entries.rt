@@ -18,6 +18,9 @@ use bitflags::Flags;
 /// The greatest unique ID; the least is 1.
 pub const GREATEST_ID: u32 = 0xFF_FFFF;
 
+/// How many seeds there are: one is in the low 24 bits of its field, and a multiple of this stands above it.
+pub const SEEDS: u32 = GREATEST_ID + 1;
+
 /// The entry of a record (Palm OS File Format Specification, "PDB Format"), with the slot of its data
 /// where a file has an offset.
 #[derive(Clone, Copy, PartialEq, Eq, Debug)]

@@ -38,6 +38,10 @@ pub const ENTRY_COUNT_AT: usize = 76;
 /// What a header takes: the entries begin behind it.
 pub const HEADER_SIZE: usize = 78;
 
+/// How many info blocks a database may have. Of what it names they come first: the AppInfo block, and then the
+/// SortInfo block.
+pub const INFO_BLOCKS: usize = 2;
+
 /// Where the fields of a record's entry stand, behind the slot of its data.
 pub const RECORD_ATTRIBUTES_AT: usize = 4;
 

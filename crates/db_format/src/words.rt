@@ -3,6 +3,7 @@
 ghost use Rattle.std.specs.Prelude.{◌≡◌, ◌+◌, ◌≤◌, ◌<◌, ◌^◌, ◌++◌, [], ◌∷◌, length, take, slice_index};
 ghost use Rattle.heap_model.specs.Bytes.{u16_at, u24_at, u32_at, u16_bytes, u24_bytes, u32_bytes};
 
+use crate::entries::GREATEST_ID;
 use byteorder::{BigEndian, ByteOrder};
 
 /// The number in the two bytes at `at`.
@@ -25,7 +26,7 @@ pub(crate) fn u24_in(bytes: &[u8], at: usize) -> u32
     ensures is { result ≡ u24_at bytes.now at }
     ensures small { result < 2 ^ 24 }
 {
-    u32_in(bytes, at - 1) & 0xFF_FFFF
+    u32_in(bytes, at - 1) & GREATEST_ID
 }
 
 /// The number in the four bytes at `at`.

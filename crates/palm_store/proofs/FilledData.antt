@@ -1,7 +1,7 @@
 -- Data that is written whole, and what callers see of the bytes of a chunk.
-use Rattle.std.proofs.Common.{◌≡◌, ◌≢◌, ℕ, List, [], length, Option, Some, None, refl, sym, ap, subst, ◌∙◌, inl, inr}
+use Rattle.std.proofs.Common.{◌≡◌, ◌≢◌, ℕ, List, [], length, Option, Some, None, refl, sym, ap, subst, ◌∙◌, arith, inl, inr}
 use Rattle.std.proofs.lemmas.Bool.{cases_eq}
-use Rattle.heap_model.specs.Chunk.{managers_owner, data_owner}
+use Rattle.heap_model.specs.Chunk.{data_owner}
 use Rattle.heap_model.specs.Bytes.{overwritten}
 use Rattle.heap_model.specs.Heap.{HeapAccepted}
 use Rattle.heap_model.specs.Meaning.{LiveChunk}
@@ -11,29 +11,32 @@ use Rattle.heap_model.specs.Leaving.{Leaves, rewritten}
 use Rattle.heap_model.specs.MemorySteps.{Of}
 use Rattle.heap_model.specs.Store.{bytes_of, bytes_under, owner_under, Accepted, store_of}
 use Rattle.heap_model.specs.EntrySteps.{LeavesStore}
+use Rattle.laws_heap.proofs.Meanings.{held-zero}
 use Rattle.laws_store.proofs.Edited.{hidden, shown}
 use Rattle.laws_store.proofs.EditedStores.{change_steps}
 use Rattle.mem_manager.specs.Lookup.{IsMovable}
-use Rattle.palm_store.specs.Files.{HasDataOf, data_filled}
-use Rattle.palm_store.proofs.DataChunks.{data_movable}
+use Rattle.palm_store.specs.Files.{IsDataName, HasDataOf, data_filled}
+use Rattle.palm_store.proofs.DataChunks.{for_data, data_movable}
 use Rattle.palm_store.proofs.Maps.{owner_held, bytes_held}
 use Rattle.palm_store.proofs.ListedSlots.{all_written}
 
 -- ---- what callers see
 
--- nothing where there is no chunk
-pub none_seen : (image : List ℕ) (name : ℕ) → held image name ≡ None → [] ≡ bytes_of ((store_of image).map name)
+-- nothing under 0
+pub none_seen : (image : List ℕ) (name : ℕ) → HeapAccepted image → name ≡ 0 → [] ≡ bytes_of ((store_of image).map name)
 unfolding store_of
-none_seen image name none = sym (ap (λ (o : Option LiveChunk). bytes_of (not_owned 0 o)) none)
+none_seen image name h none = sym (ap (λ (o : Option LiveChunk). bytes_of (not_owned 0 o)) (ap (held image) none ∙ held-zero image h))
 
--- nor of the manager's
-pub managers_unseen : (image : List ℕ) (name : ℕ) → owner_under image name ≡ managers_owner → [] ≡ bytes_of ((store_of image).map name)
-unfolding store_of owner_under
-managers_unseen image name own = sym (ap bytes_of (hidden (held image name) own))
+-- and all of a chunk for data
+named_data : (image : List ℕ) (name : ℕ) → IsDataName image name → name ≢ 0 → owner_under image name ≡ data_owner
+named_data image name is some = elim is [ inl none ↦ absurd (some none) | inr own ↦ own ]
 
-pub others_seen : (image : List ℕ) (name : ℕ) → owner_under image name ≢ managers_owner → bytes_under image name ≡ bytes_of ((store_of image).map name)
+pub lent_movable : (image : List ℕ) (name : ℕ) → HeapAccepted image → IsDataName image name → name ≢ 0 → IsMovable image name
+lent_movable image name h is some = data_movable image name h (for_data image name (named_data image name is some))
+
+pub data_seen : (image : List ℕ) (name : ℕ) → IsDataName image name → name ≢ 0 → bytes_under image name ≡ bytes_of ((store_of image).map name)
 unfolding store_of owner_under bytes_under
-others_seen image name own = sym (ap bytes_of (shown (held image name) own))
+data_seen image name is some = sym (ap bytes_of (shown (held image name) (let own = named_data image name is some in λ e. omega arith)))
 
 -- ---- a chunk for data of so many bytes
 

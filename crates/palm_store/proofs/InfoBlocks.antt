@@ -1,14 +1,14 @@
 -- A database gets an info block, which was a caller's chunk, or has one no longer, which a caller gets.
-use Rattle.std.proofs.Common.{◌≡◌, ◌≢◌, ℕ, ◌+◌, ◌<◌, List, ◌∷◌, map, length, refl, sym, ap, subst, ◌∙◌, arith, inl, inr}
+use Rattle.std.proofs.Common.{◌≡◌, ◌≢◌, ℕ, ◌+◌, ◌<◌, List, ◌∷◌, map, refl, sym, ap, subst, ◌∙◌, arith, inl, inr}
 use Rattle.std.specs.Prelude.{◌⊎◌}
 use Rattle.heap_model.specs.Chunk.{data_owner}
-use Rattle.heap_model.specs.Bytes.{u32_at, overwritten}
+use Rattle.heap_model.specs.Bytes.{u32_at}
 use Rattle.heap_model.specs.Heap.{directory_of}
 use Rattle.heap_model.specs.Reading.{held}
 use Rattle.heap_model.specs.Lists.{same, times}
-use Rattle.heap_model.specs.Maps.{put, reowned, callers_map}
-use Rattle.heap_model.specs.Database.{DatabaseHeader, Entry, entry_data, Database, data_in, has_resources, IsSpelled, database_in, spelled, DatabaseFits}
-use Rattle.heap_model.specs.Store.{owner_under, bytes_under, IsInfoBlock, databases, Accepted, store_of}
+use Rattle.heap_model.specs.Maps.{reowned, callers_map}
+use Rattle.heap_model.specs.Database.{entry_data, Database, data_in, database_in, spelled, DatabaseFits}
+use Rattle.heap_model.specs.Store.{owner_under, IsInfoBlock, databases, Accepted, store_of}
 use Rattle.heap_model.specs.StoreWords.{with_changed}
 use Rattle.heap_model.specs.Counts.{IsSound}
 use Rattle.heap_model.specs.Leaving.{Leaves, Respells, rewritten, database_here}

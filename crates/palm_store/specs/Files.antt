@@ -1,10 +1,14 @@
 -- What the calls for files ask and promise of the store that an image means.
-use Rattle.std.specs.Prelude.{◌≡◌, ℕ, List, length}
+use Rattle.std.specs.Prelude.{◌≡◌, ◌⊎◌, ℕ, List, length}
 use Rattle.heap_model.specs.Chunk.{data_owner}
 use Rattle.heap_model.specs.Leaving.{rewritten}
 use Rattle.heap_model.specs.MemorySteps.{Of}
-use Rattle.heap_model.specs.Store.{Store, store_of}
+use Rattle.heap_model.specs.Store.{Store, owner_under, store_of}
 use Rattle.heap_model.specs.EntrySteps.{with_chunks}
+
+-- a name that a database has: it is 0, or stands for a chunk for data
+abbrev pub IsDataName : List ℕ → ℕ → Type 0
+IsDataName image name = (name ≡ 0) ⊎ (owner_under image name ≡ data_owner)
 
 -- a name stands for a chunk for data of so many bytes
 abbrev pub HasDataOf : List ℕ → ℕ → ℕ → Type 0

@@ -1,9 +1,12 @@
 -- The database that is exported, and the steps of the call.
-use Rattle.std.proofs.Common.{◌≡◌, ℕ, ◌^◌, ◌<◌, Option, Some, None, List, refl, sym, ap, subst, ◌∙◌, inl, inr}
+use Rattle.std.proofs.Common.{◌≡◌, ℕ, ◌^◌, ◌<◌, Option, Some, None, List, refl, sym, ap, subst, ◌∙◌, arith, inl, inr}
+use Rattle.std.specs.Prelude.{IsSome, All}
+use Rattle.std.proofs.lemmas.Bool.{cases_eq}
 use Rattle.std.specs.List.{Contains}
 use Rattle.std.proofs.lemmas.Option.{get_or_from_slice_get, slice_get_within}
 use Rattle.heap_model.specs.Memory.{Memory}
-use Rattle.heap_model.specs.Database.{Database, database_in, IsSpelled, HasShape}
+use Rattle.heap_model.specs.Database.{Database, data_in, database_in, IsSpelled, HasShape}
+use Rattle.heap_model.specs.Leaving.{database_here}
 use Rattle.heap_model.specs.Store.{StoredDatabase, databases, Accepted, content, store_of}
 use Rattle.heap_model.specs.StoreWords.{OfDatabase, with_number, In}
 use Rattle.heap_model.specs.Files.{file_of}
@@ -14,11 +17,15 @@ use Rattle.heap_model.specs.declared.call.Call.TheVariants as calls
 use Rattle.heap_model.specs.declared.call.Reply.TheVariants as replies
 use Rattle.heap_model.specs.declared.refusal.Refusal.TheVariants.{NoSuchDatabase, OutOfMemory}
 use Rattle.laws_store.proofs.Found.{found_stands}
+use Rattle.laws_store.proofs.Numbered.{number_here}
+use Rattle.laws_store.proofs.Times.{times-all}
 use Rattle.laws_store.proofs.CallSteps.{same_store, asks, refused}
 use Rattle.pdb_format.specs.Writable.{file_size}
 use Rattle.pdb_format.proofs.WrittenStores.{content_short}
-use Rattle.palm_store.specs.Databases.{HasDatabase}
-use Rattle.pdb_files.specs.FileParts.{content_of, IsExportable}
+use Rattle.palm_store.specs.Databases.{HasNumber, HasDatabase, named_under}
+use Rattle.palm_store.specs.Files.{IsDataName}
+use Rattle.palm_store.proofs.NamedChunks.{named_owner}
+use Rattle.pdb_files.specs.FileParts.{content_of, NamesData, IsExportable}
 
 -- ---- the database of a number
 
@@ -46,9 +53,21 @@ short_here : (image : List ℕ) (db : ℕ) (d : Database ℕ) → Accepted image
 unfolding store_of
 short_here image db d a has = (content_short image (record { db = db; database = d }) a (is_among image db d has)).1
 
+-- what it names is for data
+names_here : (image bytes : List ℕ) (db : ℕ) → Accepted image → HasDatabase image db (database_in bytes) → NamesData image bytes
+names_here image bytes db a is =
+    let has : HasNumber image db = subst (λ (x : Option StoredDatabase). IsSome x) (sym is) refl in
+    let same = same_database image db (database_here image db) (database_in bytes) (number_here image db has) is in
+    subst (λ (d : Database ℕ). All (IsDataName image) (data_in d)) same (
+    times-all (IsDataName image) (named_under image db) (λ name there. elim (cases_eq name 0) [
+      | inl none ↦ inl none
+      | inr some ↦ inr (named_owner image db name a has (omega arith) there)
+    ])
+    )
+
 -- it can be exported
 pub exportable : (image bytes : List ℕ) (db : ℕ) → Accepted image → HasDatabase image db (database_in bytes) → IsSpelled (database_in bytes) bytes → HasShape bytes → IsExportable image bytes
-exportable image bytes db a has spelled shape = record { shape = shape; spelled = spelled; short = short_here image db (database_in bytes) a has }
+exportable image bytes db a has spelled shape = record { shape = shape; spelled = spelled; names = names_here image bytes db a has; short = short_here image db (database_in bytes) a has }
 
 -- ---- the steps
 

@@ -1,6 +1,7 @@
 pub mod FileTexts
 pub mod FileLengths
 pub mod Contents
+pub mod OwnBlocks
 pub mod Databases
 pub mod Zips
 pub mod FileNames

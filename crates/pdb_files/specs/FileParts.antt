@@ -1,11 +1,12 @@
 -- The parts of the file of a database, which is given by its bytes as they lie in an image.
-use Rattle.std.specs.Prelude.{◌≡◌, ◌+◌, ◌<◌, ◌^◌, ℕ, List, map, Option}
+use Rattle.std.specs.Prelude.{◌≡◌, ◌+◌, ◌<◌, ◌^◌, ℕ, List, map, Option, All}
 use Rattle.std.specs.List.{flat_map}
 use Rattle.heap_model.specs.Meaning.{ChunkMap}
-use Rattle.heap_model.specs.Database.{Database, Entry, entry_data, entry_with, header_bytes, entry_bytes, database_in, IsSpelled, HasShape}
+use Rattle.heap_model.specs.Database.{Database, Entry, entry_data, entry_with, header_bytes, entry_bytes, data_in, database_in, IsSpelled, HasShape}
 use Rattle.heap_model.specs.Store.{bytes_named, content, store_of}
 use Rattle.heap_model.specs.Files.{idle_entry, idle, block_bytes, block_size, block_offset, entries_with_offsets, with_offsets, first_block}
 use Rattle.pdb_format.specs.Writable.{file_size}
+use Rattle.palm_store.specs.Files.{IsDataName}
 use Rattle.pdb_files.specs.declared.exporting.places.Places.{Places}
 
 -- what a slot stands for in an image
@@ -16,10 +17,15 @@ block_under image slot = bytes_named (store_of image).map slot
 abbrev pub content_of : List ℕ → List ℕ → Database (Option (List ℕ))
 content_of image bytes = content (store_of image).map (database_in bytes)
 
+-- the database that these bytes spell names chunks for data alone
+abbrev pub NamesData : List ℕ → List ℕ → Type 0
+NamesData image bytes = All (IsDataName image) (data_in (database_in bytes))
+
 -- the bytes are those of a database, whose file is short enough for offsets of four bytes
 pub record IsExportable (image bytes : List ℕ) : Type 0 where
   pub shape : HasShape bytes
   pub spelled : IsSpelled (database_in bytes) bytes
+  pub names : NamesData image bytes
   pub short : file_size (content_of image bytes) < 2 ^ 32
 
 -- the offsets in the header of a database's file, and where the data of its entries begins

@@ -6,11 +6,11 @@ ghost use Rattle.heap_model.specs.Files.{offsets_in, HasNoFault};
 ghost use Rattle.pdb_format.specs.Starts.{starts_in, order};
 
 use allowance::{Allowance, push};
-use db_format::{app_info, entry_count, entry_slot, has_resources, sort_info};
+use db_format::{INFO_BLOCKS, app_info, entry_count, entry_slot, has_resources, sort_info};
 use std::alloc::AllocError;
 
-/// Where a block begins in a file, and its rank: 0 for the AppInfo block, 1 for the SortInfo block, and 2 more than its
-/// index for the data of an entry.
+/// Where a block begins in a file, and its rank: 0 for the AppInfo block, 1 for the SortInfo block, and `INFO_BLOCKS`
+/// more than its index for the data of an entry.
 #[derive(Clone, Copy)]
 pub(crate) struct Start {
     pub(crate) at: u32,
@@ -32,7 +32,7 @@ pub(crate) fn rank_count(file: &[u8]) -> u32
     ensures is { result ≡ length (offsets_in file.now) }
     ensures most { result ≤ 65537 }
 {
-    entry_count(file) as u32 + 2
+    entry_count(file) as u32 + INFO_BLOCKS as u32
 }
 
 /// The offset of the block of a rank, or 0.
@@ -45,7 +45,11 @@ fn offset_of(file: &[u8], rank: u32) -> u32
     match rank {
         0 => app_info(file),
         1 => sort_info(file),
-        _ => entry_slot(file, has_resources(file), (rank - 2) as u16),
+        _ => entry_slot(
+            file,
+            has_resources(file),
+            (rank - INFO_BLOCKS as u32) as u16,
+        ),
     }
 }
 

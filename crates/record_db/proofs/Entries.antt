@@ -1,10 +1,12 @@
 -- The records of an accepted image, by their indexes.
-use Rattle.std.proofs.Common.{◌≡◌, ℕ, List, Option, Some, None, refl, sym, ap, subst, ◌∙◌, arith, inl, inr, true, false}
-use Rattle.std.specs.Prelude.{◌↔◌, IsSome, IsSomeAnd}
+use Rattle.std.proofs.Common.{◌≡◌, ℕ, ◌<◌, Bool, List, Option, Some, None, refl, sym, ap, subst, ◌∙◌, arith, inl, inr, true, false}
+use Rattle.std.proofs.lemmas.Bool.{cases_eq}
+use Rattle.std.specs.Prelude.{◌↔◌, ◌==◌, ◌&&◌, ◌||◌, not, IsSome, IsSomeAnd, IfSome, slice_get}
 use Rattle.heap_model.specs.Meaning.{LiveChunk}
 use Rattle.heap_model.specs.Maps.{not_owned, callers_map}
 use Rattle.heap_model.specs.MemorySteps.{Of, IsLocked}
-use Rattle.heap_model.specs.Database.{Entry, a_record, a_resource, is_deleted}
+use Rattle.heap_model.specs.Categories.{all_categories, category_of, has_category}
+use Rattle.heap_model.specs.Database.{Database, Entry, a_record, a_resource, is_deleted}
 use Rattle.heap_model.specs.Store.{HasData, Accepted, store_of}
 use Rattle.heap_model.specs.StoreWords.{with_number}
 use Rattle.heap_model.specs.EntrySteps.{entry_under, OfEntry, data_of_entry, data_under, IsNameOf, IsInfoOf}
@@ -13,7 +15,11 @@ use Rattle.heap_model.specs.declared.names.Name.{Name}
 use Rattle.heap_model.specs.declared.entry.RecordInfo.{RecordInfo}
 use Rattle.laws_heap.proofs.Meanings.{held-zero}
 use Rattle.laws_store.proofs.Owners.{owned_some}
+use Rattle.palm_store.specs.Databases.{HasDatabase}
+use Rattle.database_access.specs.Checks.{IsNamed}
 use Rattle.database_access.proofs.Entries.{here, entry_is, of_all}
+use Rattle.database_access.proofs.Entries as entries
+use Rattle.database_access.proofs.SearchLaws.{number_read, entries_read}
 
 -- ---- the entry
 
@@ -43,6 +49,28 @@ has_data image db index info a has told alive =
       by (Some name) slot some gone = refl
 
 -- ---- its data
+
+-- callers may name the data of one that is of a category
+pub of_named : (image : List ℕ) (db : Db) (index category : ℕ) (database : Database ℕ) (attributes id slot : ℕ) → Accepted image → HasDatabase image db.0 database → slice_get database.entries index ≡ Some (a_record attributes id slot) → has_category category attributes ≡ true → IsNamed image slot
+of_named image db index category database attributes id slot a is at of =
+    let has = number_read image db database is in
+    let e : entry_under (store_of image) db index ≡ Some (a_record attributes id slot) = ap (λ (xs : List (Entry ℕ)). slice_get xs index) (entries_read image db database is) ∙ at in
+    entries.data_named image db index (a_record attributes id slot) a has e (elim (cases_eq slot 0) [
+      | inl none ↦
+          let gone = no_data image db index attributes id slot a has e none in
+          let no : has_category category attributes ≡ false = ap (λ (deleted : Bool). not deleted && ((category == all_categories) || (category_of attributes == category))) gone in
+          absurd cc
+      | inr some ↦ omega arith
+    ])
+
+-- callers may name what is told of
+pub data_named : (image : List ℕ) (db : Db) (index : ℕ) (info : RecordInfo) → Accepted image → IsSome (with_number (store_of image) db.0) → OfEntry (entry_under (store_of image) db index) (IsInfoOf info) → IfSome info.«data» (λ name. IsNamed image name.0)
+data_named image db index info a has told =
+    let is = info_is (entry_under (store_of image) db index) info told in
+    by info.«data» is.0 is.2 (λ some. entries.data_named image db index (a_record info.attributes info.id is.0) a has is.1 some) where
+      by : (x : Option Name) (slot : ℕ) → IsNameOf slot x → (0 < slot → IsNamed image slot) → IfSome x (λ name. IsNamed image name.0)
+      by None slot none named = tt
+      by (Some name) slot some named = subst (IsNamed image) (sym some.1) (named some.0)
 
 -- what is told of the data says whether it is locked
 pub locked_data : (image : List ℕ) (db : Db) (index : ℕ) (info : RecordInfo) → Accepted image → OfEntry (entry_under (store_of image) db index) (IsInfoOf info)

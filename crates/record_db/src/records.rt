@@ -1,6 +1,6 @@
 //! Records, by their indexes.
 
-ghost use Rattle.std.specs.Prelude.{◌≡◌, ◌<◌, ◌↔◌, false, Some, length, IsTrue, IsSomeAnd, OnOk, IfOk, IfErr};
+ghost use Rattle.std.specs.Prelude.{◌≡◌, ◌<◌, ◌↔◌, false, Some, length, IsTrue, IsSomeAnd, IfSome, OnOk, IfOk, IfErr};
 ghost use Rattle.heap_model.specs.Database.{a_record};
 ghost use Rattle.heap_model.specs.Store.{Accepted, store_of};
 ghost use Rattle.heap_model.specs.Refusals.{NoneHolds, FirstBrings};
@@ -9,7 +9,7 @@ ghost use Rattle.heap_model.specs.RecordSteps.{HasLockedOf};
 ghost use Rattle.palm_store.specs.Databases.{HasNumber};
 ghost use Rattle.palm_store.specs.EntryCalls.{entries_of_image, resources_of_image};
 ghost use Rattle.database_access.specs.Search.{SomeHas};
-ghost use Rattle.database_access.specs.Checks.{IsLockedChunk, finding_checks};
+ghost use Rattle.database_access.specs.Checks.{IsNamed, IsLockedChunk, finding_checks};
 ghost use Rattle.record_db.specs.Checks.{IsRecordTold, living_checks};
 
 use crate::attributes::{has_category, is_deleted};
@@ -80,6 +80,7 @@ pub(crate) fn find_live(
 
 /// Whether a record has data, and it is locked.
 pub(crate) fn has_locked(store: &Store, data: Option<Name>) -> bool
+    requires { IfSome «data» (λ name. IsNamed store.now.bytes name.0) }
     ensures { IsTrue result ↔ IsSomeAnd «data» (λ name. IsLockedChunk store.now.bytes name.0) }
 {
     match data {

@@ -15,7 +15,7 @@ ghost use Rattle.palm_store.specs.Databases.{named_under};
 
 use crate::chunks::free_chunk_of;
 use crate::lookup::header_of;
-use db_format::{app_info, entry_count, entry_slot, has_resources, sort_info};
+use db_format::{INFO_BLOCKS, app_info, entry_count, entry_slot, has_resources, sort_info};
 use heap_model::{Db, Name};
 use mem_manager::{FIXED_LOCK, Heap};
 
@@ -24,7 +24,7 @@ fn slot_count(body: &[u8]) -> u32
     requires { IsSpelled (database_in body.now) body.now }
     ensures { result ≡ length (data_in (database_in body.now)) }
 {
-    2 + entry_count(body) as u32
+    INFO_BLOCKS as u32 + entry_count(body) as u32
 }
 
 /// The slot at an index among those of a database: that of its AppInfo block, that of its SortInfo block,
@@ -37,7 +37,11 @@ fn slot_at(body: &[u8], index: u32) -> Name
     Name(match index {
         0 => app_info(body),
         1 => sort_info(body),
-        _ => entry_slot(body, has_resources(body), (index - 2) as u16),
+        _ => entry_slot(
+            body,
+            has_resources(body),
+            (index - INFO_BLOCKS as u32) as u16,
+        ),
     })
 }
 

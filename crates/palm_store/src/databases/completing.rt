@@ -19,7 +19,7 @@ use crate::databases::creating::list_last;
 use crate::databases::gaining::{free_named, make_data};
 use crate::databases::whole::{BlockSizes, WholeEntry, named_entry, named_header};
 use bitflags::Flags;
-use db_format::{DbAttrs, NameField, entry_offset};
+use db_format::{DbAttrs, INFO_BLOCKS, NameField, entry_offset};
 use heap_model::{DbInfo, Name, Refusal};
 use mem_manager::{Heap, MANAGERS_OWNER};
 
@@ -107,7 +107,7 @@ fn write_entries(
     ensures rest { heap.new ≡ record heap.old { bytes = heap.new.bytes } }
 {
     for index in 0..entries.len() {
-        let entry = named_entry(entries[index], names[index + 2], resources);
+        let entry = named_entry(entries[index], names[index + INFO_BLOCKS], resources);
         let at = entry_offset(resources, index as u16) as u32;
         heap.sys_write(slot, at, entry.to_bytes().as_slice());
     }

@@ -7,7 +7,9 @@ ghost use Rattle.db_format.specs.Headers.{header_of};
 ghost use Rattle.palm_store.specs.WholeDatabases.{size_of_data, data_sizes, CanCome, header_asked, entry_named};
 
 use bitflags::Flags;
-use db_format::{DbEntry, DbHeader, NameField, RecordAttrs, RecordEntry, ResourceEntry};
+use db_format::{
+    DbEntry, DbHeader, INFO_BLOCKS, NameField, RecordAttrs, RecordEntry, ResourceEntry,
+};
 use heap_model::{DbInfo, Name};
 
 /// What a caller says of an entry of a new database, with the size of its data.
@@ -53,7 +55,7 @@ pub(crate) fn size_at(blocks: BlockSizes, entries: &[WholeEntry], index: usize) 
     match index {
         0 => blocks.app_info,
         1 => blocks.sort_info,
-        _ => size_of(entries[index - 2]),
+        _ => size_of(entries[index - INFO_BLOCKS]),
     }
 }
 

@@ -34,6 +34,7 @@ impl Store {
             (DatabaseCall.Create name.now kind creator resources date)
             (database_or_refused result) self.new }
     {
+        // the store is looked at, so that its invariant is known
         let _ = &self.heap;
         let Some(field) = NameField::of_name(name.as_slice()) else {
             return Err(Refusal::InvalidName);

@@ -8,12 +8,11 @@ ghost use Rattle.heap_model.specs.Store.{Accepted, bytes_of, store_of};
 ghost use Rattle.heap_model.specs.StoreWords.{with_number};
 ghost use Rattle.palm_store.specs.Databases.{HasDatabase};
 ghost use Rattle.palm_store.specs.EntryCalls.{LeavesChanged};
-ghost use Rattle.palm_store.specs.Files.{HasDataOf, data_filled};
+ghost use Rattle.palm_store.specs.Files.{IsDataName, HasDataOf, data_filled};
 
 use crate::lookup::find_header;
 use crate::store::Store;
 use heap_model::{Db, Name};
-use mem_manager::MANAGERS_OWNER;
 
 impl Store {
     /// The bytes of the database of a number, as they lie in the image: its header, and its entries behind
@@ -29,15 +28,17 @@ impl Store {
         find_header(&self.heap, db).ok()
     }
 
-    /// The bytes of a chunk that callers may name, as they lie in the image. There are none where nothing has
-    /// the name; so it is with `Name(0)`.
+    /// The bytes of a chunk that a database names, as they lie in the image. There are none under `Name(0)`,
+    /// which stands where it has no chunk.
     pub fn chunk_bytes(&self, name: Name) -> &[u8]
+        requires { IsDataName self.now.bytes name.0 }
         ensures { result.now ≡ bytes_of ((store_of self.now.bytes).map name.0) }
     {
-        let Some((owner, bytes)) = self.heap.sys_chunk(name) else {
-            return &[];
-        };
-        if owner == MANAGERS_OWNER { &[] } else { bytes }
+        if name.0 == 0 {
+            &[]
+        } else {
+            self.heap.sys_body(name)
+        }
     }
 
     /// Writes bytes over all of a chunk for data: an info block of a database, or the data of an entry.

@@ -7,7 +7,7 @@ ghost use Rattle.heap_model.specs.Meaning.{ChunkMap};
 ghost use Rattle.heap_model.specs.Database.{HasShape, data_in};
 ghost use Rattle.heap_model.specs.Files.{block_bytes, file_of};
 ghost use Rattle.db_format.specs.EitherEntry.{entry_of, HasFittingId};
-ghost use Rattle.pdb_files.specs.FileParts.{content_of, IsExportable, ArePlaces, file_entry, header_text, entries_text, data_text};
+ghost use Rattle.pdb_files.specs.FileParts.{content_of, NamesData, IsExportable, ArePlaces, file_entry, header_text, entries_text, data_text};
 
 use crate::exporting::places::{Places, block, block_offset, block_size, find_places};
 use bitflags::Flags;
@@ -65,6 +65,7 @@ fn put_entries<W: Write>(
     out: &mut Counted<W>,
 ) -> Result<(), WriteFault>
     requires shape { HasShape bytes.now }
+    requires names { NamesData store.now.bytes bytes.now }
     requires short { first + length (data_text (content_of store.now.bytes bytes.now).entries)
         < 2 ^ 32 }
     ensures text { Writes W.contents out.old out.new
@@ -103,7 +104,8 @@ fn in_file(entry: DbEntry, at: u32) -> DbEntry
 
 /// Writes the blocks.
 fn put_blocks<W: Write>(store: &Store, bytes: &[u8], out: &mut Counted<W>) -> Result<(), WriteFault>
-    requires { HasShape bytes.now }
+    requires shape { HasShape bytes.now }
+    requires names { NamesData store.now.bytes bytes.now }
     ensures text { Writes W.contents out.old out.new
         (flat_map block_bytes (data_in (content_of store.now.bytes bytes.now))) (is_ok result) }
     ensures unflushed { OnErr result (out.new.flushed ≡ None) }
@@ -116,7 +118,8 @@ fn put_blocks<W: Write>(store: &Store, bytes: &[u8], out: &mut Counted<W>) -> Re
 
 /// Writes the data of the entries.
 fn put_data<W: Write>(store: &Store, bytes: &[u8], out: &mut Counted<W>) -> Result<(), WriteFault>
-    requires { HasShape bytes.now }
+    requires shape { HasShape bytes.now }
+    requires names { NamesData store.now.bytes bytes.now }
     ensures text { Writes W.contents out.old out.new
         (data_text (content_of store.now.bytes bytes.now).entries) (is_ok result) }
     ensures unflushed { OnErr result (out.new.flushed ≡ None) }

@@ -5,6 +5,7 @@ ghost use Rattle.heap_model.specs.Meaning.{ChunkMap};
 ghost use Rattle.heap_model.specs.Store.{bytes_named};
 ghost use Rattle.heap_model.specs.Files as files;
 ghost use Rattle.pdb_format.specs.Writable as sizes;
+ghost use Rattle.palm_store.specs.Files.{IsDataName};
 ghost use Rattle.pdb_files.specs.FileParts.{block_under, content_of, IsExportable, ArePlaces};
 
 use db_format::{app_info, entries_end, entry_count, entry_slot, has_resources, sort_info};
@@ -23,6 +24,7 @@ pub(crate) struct Places {
 /// The block that a slot stands for; no bytes, where there is none.
 #[inline]
 pub(crate) fn block(store: &Store, slot: u32) -> &[u8]
+    requires { IsDataName store.now.bytes slot }
     ensures { result.now ≡ files.block_bytes (block_under store.now.bytes slot) }
 {
     if slot == 0 {
@@ -35,7 +37,8 @@ pub(crate) fn block(store: &Store, slot: u32) -> &[u8]
 /// How many bytes it has.
 #[inline]
 pub(crate) fn block_size(store: &Store, slot: u32) -> u32
-    requires { files.block_size (block_under store.now.bytes slot) < 2 ^ 32 }
+    requires own { IsDataName store.now.bytes slot }
+    requires short { files.block_size (block_under store.now.bytes slot) < 2 ^ 32 }
     ensures { result ≡ files.block_size (block_under store.now.bytes slot) }
 {
     block(store, slot).len() as u32

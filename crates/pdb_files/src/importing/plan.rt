@@ -12,15 +12,12 @@ ghost use Rattle.pdb_files.specs.Plans.{IsShort, HasIdsFor, size_within, IsPlann
 
 use allowance::{Allowance, push};
 use bitflags::Flags;
-use db_format::{DbEntry, DbHeader, GREATEST_ID, RecordAttrs, entry_count};
+use db_format::{DbEntry, DbHeader, INFO_BLOCKS, RecordAttrs, SEEDS, entry_count};
 use file_ids::give_ids_from;
 use heap_model::DbInfo;
 use palm_store::{BlockSizes, WholeEntry};
 use pdb_format::Block;
 use std::alloc::AllocError;
-
-/// How many seeds there are; a multiple of it stands above one in the field of a seed.
-const SEEDS: u32 = GREATEST_ID + 1;
 
 /// What a file says of its database: the header, the sizes of the info blocks, the entries with the sizes of their data,
 /// and where the blocks stand.
@@ -166,7 +163,7 @@ fn plan_entries<A: Allowance>(
 {
     let mut entries = Vec::new(memory.allocator());
     for index in 0..entry_count(file) {
-        let size = size_of(blocks[2 + index as usize]);
+        let size = size_of(blocks[INFO_BLOCKS + index as usize]);
         push(memory, &mut entries, plan_entry(file, index, ids, size))?;
     }
     Ok(entries)

@@ -1,8 +1,8 @@
-use Rattle.std.proofs.Common.{◌≡◌, ℕ, false, true, Option, refl, sym, ap, subst, ◌∙◌, bit_or, inl, inr}
+use Rattle.std.proofs.Common.{◌≡◌, ℕ, false, true, Option, refl, sym, ap, subst, ◌∙◌, inl, inr}
 use Rattle.heap_model.specs.Database.{Entry}
 use Rattle.heap_model.specs.Store.{store_of}
 use Rattle.heap_model.specs.EntrySteps.{entry_under, OfEntry, data_of_entry}
-use Rattle.heap_model.specs.RecordSteps.{busy_bit, is_busy, HasAttributes}
+use Rattle.heap_model.specs.RecordSteps.{is_busy, HasAttributes}
 use Rattle.heap_model.specs.declared.call.Call.TheVariants as calls
 use Rattle.heap_model.specs.declared.call.RecordCall.TheVariants.{Get}
 use Rattle.heap_model.specs.declared.call.Reply.TheVariants.{Named}

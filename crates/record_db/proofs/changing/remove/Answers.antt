@@ -4,8 +4,13 @@ use Rattle.heap_model.specs.declared.call.RecordCall.TheVariants.{Remove}
 use Rattle.heap_model.specs.declared.call.Reply.TheVariants.{Done}
 use Rattle.heap_model.specs.declared.refusal.Refusal.TheVariants.{ChunkLocked}
 use Rattle.laws_store.proofs.CallSteps.{refused, changes}
-use Rattle.record_db.proofs.Entries.{locked_data}
+use Rattle.record_db.proofs.Entries.{data_named, locked_data}
 use Rattle.record_db.proofs.changing.remove.Goals as goal
+
+pub has_locked-requires : goal.has_locked-requires
+has_locked-requires c =
+    let found = c.in_ok-info.ensures in
+    data_named c.args.store.now.bytes c.args.db c.args.index c.in_ok-info.info found.accepted found.known found.is
 
 pub returns-then-has_locked-clause-does : goal.returns-then-has_locked-clause-does
 returns-then-has_locked-clause-does c =

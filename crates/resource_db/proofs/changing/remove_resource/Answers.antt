@@ -1,4 +1,5 @@
 use Rattle.std.proofs.Common.{refl, sym, ap, subst, inl, inr}
+use Rattle.heap_model.specs.Database.{a_resource}
 use Rattle.heap_model.specs.EntrySteps.{data_of_entry}
 use Rattle.heap_model.specs.declared.call.Call.TheVariants as calls
 use Rattle.heap_model.specs.declared.call.ResourceCall.TheVariants.{Remove}
@@ -7,7 +8,14 @@ use Rattle.heap_model.specs.declared.refusal.Refusal.TheVariants.{ChunkLocked}
 use Rattle.laws_store.proofs.CallSteps.{refused, changes}
 use Rattle.database_access.specs.Checks.{IsLockedChunk}
 use Rattle.palm_store.specs.EntryCalls.{HasLockedData}
+use Rattle.database_access.proofs.Entries.{data_named}
 use Rattle.resource_db.proofs.changing.remove_resource.Goals as goal
+
+pub is_locked-requires : goal.is_locked-requires
+is_locked-requires c =
+    let found = c.in_ok-resource.ensures in
+    let info = c.in_ok-resource.resource in
+    data_named c.args.store.now.bytes c.args.db c.args.index (a_resource info.kind info.id info.«data».0) found.accepted found.known found.is found.some
 
 pub returns-then-is_locked-clause-does : goal.returns-then-is_locked-clause-does
 returns-then-is_locked-clause-does c =

@@ -1,12 +1,17 @@
-use Rattle.std.proofs.Common.{sym, ◌∙◌}
-use Rattle.palm_store.proofs.FilledData.{none_seen, managers_unseen, others_seen}
+use Rattle.std.proofs.Common.{◌∙◌}
+use Rattle.palm_store.specs.Files.{IsDataName}
+use Rattle.palm_store.proofs.FilledData.{none_seen, data_seen, lent_movable}
 use Rattle.palm_store.proofs.store.Store.chunk_bytes.Goals as goal
 
-pub returns-in_default : goal.returns-in_default
-returns-in_default c = rw (← c.self.view_is) (none_seen c.self.inside.heap.bytes c.args.name.0 c.in_default.ensures.none)
+pub sys_body-requires : goal.sys_body-requires
+sys_body-requires c =
+    let is : IsDataName c.self.inside.heap.bytes c.args.name.0 = rw c.self.view_is c.requires in
+    lent_movable c.self.inside.heap.bytes c.args.name.0 c.self.invariant.accepted.heap is c.if-name-eq0.false
 
-pub returns-then-owner-eq-MANAGERS_OWNER : goal.returns-then-owner-eq-MANAGERS_OWNER
-returns-then-owner-eq-MANAGERS_OWNER c = rw (← c.self.view_is) (managers_unseen c.self.inside.heap.bytes c.args.name.0 (sym c.in-Some.ensures.owner ∙ c.if-owner-eq-MANAGERS_OWNER.true))
+pub returns-then-name-eq0 : goal.returns-then-name-eq0
+returns-then-name-eq0 c = rw (← c.self.view_is) (none_seen c.self.inside.heap.bytes c.args.name.0 c.self.invariant.accepted.heap c.if-name-eq0.true)
 
-pub returns-else-owner-eq-MANAGERS_OWNER : goal.returns-else-owner-eq-MANAGERS_OWNER
-returns-else-owner-eq-MANAGERS_OWNER c = rw (← c.self.view_is) (c.in-Some.ensures.body ∙ others_seen c.self.inside.heap.bytes c.args.name.0 (λ e. c.if-owner-eq-MANAGERS_OWNER.false (c.in-Some.ensures.owner ∙ e)))
+pub returns-else-name-eq0 : goal.returns-else-name-eq0
+returns-else-name-eq0 c =
+    let is : IsDataName c.self.inside.heap.bytes c.args.name.0 = rw c.self.view_is c.requires in
+    rw (← c.self.view_is) (c.sys_body.ensures ∙ data_seen c.self.inside.heap.bytes c.args.name.0 is c.if-name-eq0.false)

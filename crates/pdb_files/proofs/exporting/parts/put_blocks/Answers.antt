@@ -8,7 +8,14 @@ use Rattle.palm_text.proofs.Parts.{then, stops}
 use Rattle.pdb_files.specs.FileParts.{content_of, data_text}
 use Rattle.pdb_files.proofs.Contents.{app_block, sort_block}
 use Rattle.pdb_files.proofs.FileTexts.{blocks_text, failed, as_blocks}
+use Rattle.pdb_files.proofs.OwnBlocks.{app_own, sort_own}
 use Rattle.pdb_files.proofs.exporting.parts.put_blocks.Goals as goal
+
+pub block-requires : goal.block-requires
+block-requires g c = app_own c.args.store.now.bytes c.args.bytes.now c.app_info.result c.requires.names c.app_info.ensures
+
+pub block-requires-2 : goal.block-requires-2
+block-requires-2 g c = sort_own c.args.store.now.bytes c.args.bytes.now c.sort_info.result c.requires.names c.sort_info.ensures
 
 pub returns-in_err-put_all-clause-text : goal.returns-in_err-put_all-clause-text
 returns-in_err-put_all-clause-text g c =

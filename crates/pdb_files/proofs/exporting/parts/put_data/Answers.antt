@@ -3,7 +3,13 @@ use Rattle.heap_model.specs.Database.{entry_count_in}
 use Rattle.heap_model.specs.Store.{store_of}
 use Rattle.pdb_files.specs.FileParts.{content_of, data_text}
 use Rattle.pdb_files.proofs.FileTexts.{failed, then_data, stops_data, no_data}
+use Rattle.pdb_files.proofs.OwnBlocks.{entry_own}
 use Rattle.pdb_files.proofs.exporting.parts.put_data.Goals as goal
+
+pub block-requires : goal.block-requires
+block-requires g c =
+    let below : c.loop-index.index < entry_count_in c.args.bytes.now = omega arith in
+    entry_own c.args.store.now.bytes c.args.bytes.now c.loop-index.index c.entry_slot.result c.requires.names below c.entry_slot.ensures
 
 pub returns-in_err-put_all-clause-text : goal.returns-in_err-put_all-clause-text
 returns-in_err-put_all-clause-text g c =

@@ -5,10 +5,16 @@ use Rattle.heap_model.specs.Store.{bytes_named, store_of}
 use Rattle.heap_model.specs.Files.{block_size}
 use Rattle.pdb_files.specs.FileParts.{content_of, file_entry, entries_text}
 use Rattle.pdb_files.proofs.FileTexts.{failed, size_from, then_entry, stops_entry, no_entry}
+use Rattle.pdb_files.proofs.OwnBlocks.{entry_own}
 use Rattle.pdb_files.proofs.exporting.parts.put_entries.Goals as goal
 
-pub block_size-size-requires : goal.block_size-size-requires
-block_size-size-requires g c =
+pub block_size-size-requires-clause-own : goal.block_size-size-requires-clause-own
+block_size-size-requires-clause-own g c =
+    let below : c.loop-index.index < entry_count_in c.args.bytes.now = omega arith in
+    entry_own c.args.store.now.bytes c.args.bytes.now c.loop-index.index c.slot.result c.requires.names below (c.slot.ensures ∙ ap entry_data c.read-entry.ensures.is)
+
+pub block_size-size-requires-clause-short : goal.block_size-size-requires-clause-short
+block_size-size-requires-clause-short g c =
     let below : c.loop-index.index < entry_count_in c.args.bytes.now = omega arith in
     let left = size_from (store_of c.args.store.now.bytes).map c.args.bytes.now c.loop-index.index c.slot.result below (c.slot.ensures ∙ ap entry_data c.read-entry.ensures.is) in
     omega (arith, left, c.loop-index.invariant.left)

@@ -4,6 +4,7 @@ use Rattle.heap_model.specs.Store.{store_of}
 use Rattle.pdb_files.specs.FileParts.{content_of, data_text}
 use Rattle.pdb_files.proofs.FileTexts.{size_parts, size_from, none_left}
 use Rattle.pdb_files.proofs.FileLengths.{length-file_of}
+use Rattle.pdb_files.proofs.OwnBlocks.{entry_own}
 use Rattle.pdb_files.proofs.exporting.places.file_size.Goals as goal
 
 pub loop-index-init : goal.loop-index-init
@@ -11,8 +12,13 @@ loop-index-init c =
     let size = size_parts (content_of c.args.store.now.bytes c.args.bytes.now) in
     omega (arith, size, c.find_places-size.ensures.«data»)
 
-pub block_size-size-requires : goal.block_size-size-requires
-block_size-size-requires c =
+pub block_size-size-requires-clause-own : goal.block_size-size-requires-clause-own
+block_size-size-requires-clause-own c =
+    let below : c.loop-index.index < entry_count_in c.args.bytes.now = omega arith in
+    entry_own c.args.store.now.bytes c.args.bytes.now c.loop-index.index c.entry_slot.result c.requires.names below c.entry_slot.ensures
+
+pub block_size-size-requires-clause-short : goal.block_size-size-requires-clause-short
+block_size-size-requires-clause-short c =
     let below : c.loop-index.index < entry_count_in c.args.bytes.now = omega arith in
     let left = size_from (store_of c.args.store.now.bytes).map c.args.bytes.now c.loop-index.index c.entry_slot.result below c.entry_slot.ensures in
     omega (arith, left, c.loop-index.invariant, c.requires.short)

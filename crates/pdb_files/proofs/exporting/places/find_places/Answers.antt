@@ -6,10 +6,14 @@ use Rattle.heap_model.specs.Files.{block_size, first_block}
 use Rattle.pdb_files.specs.FileParts.{block_under, content_of}
 use Rattle.pdb_files.proofs.Contents.{app_block, sort_block, same_offset}
 use Rattle.pdb_files.proofs.FileTexts.{size_parts}
+use Rattle.pdb_files.proofs.OwnBlocks.{app_own, sort_own}
 use Rattle.pdb_files.proofs.exporting.places.find_places.Goals as goal
 
-pub block_size-requires : goal.block_size-requires
-block_size-requires c =
+pub block_size-requires-clause-own : goal.block_size-requires-clause-own
+block_size-requires-clause-own c = app_own c.args.store.now.bytes c.args.bytes.now c.app_info-app_info.result c.requires.names c.app_info-app_info.ensures
+
+pub block_size-requires-clause-short : goal.block_size-requires-clause-short
+block_size-requires-clause-short c =
     let d : Database (Option (List ℕ)) = content_of c.args.store.now.bytes c.args.bytes.now in
     let app = ap block_size (app_block (store_of c.args.store.now.bytes).map c.args.bytes.now c.app_info-app_info.result c.app_info-app_info.ensures) in
     omega (arith, size_parts d, app, c.requires.short)
@@ -20,8 +24,11 @@ overflow_add-sort_at c =
     let app = ap block_size (app_block (store_of c.args.store.now.bytes).map c.args.bytes.now c.app_info-app_info.result c.app_info-app_info.ensures) in
     omega (arith, size_parts d, app, c.requires.short, c.block_size.ensures, c.first_block-app_at.ensures)
 
-pub block_size-requires-2 : goal.block_size-requires-2
-block_size-requires-2 c =
+pub block_size-requires-2-clause-own : goal.block_size-requires-2-clause-own
+block_size-requires-2-clause-own c = sort_own c.args.store.now.bytes c.args.bytes.now c.sort_info-sort_info.result c.requires.names c.sort_info-sort_info.ensures
+
+pub block_size-requires-2-clause-short : goal.block_size-requires-2-clause-short
+block_size-requires-2-clause-short c =
     let d : Database (Option (List ℕ)) = content_of c.args.store.now.bytes c.args.bytes.now in
     let sort = ap block_size (sort_block (store_of c.args.store.now.bytes).map c.args.bytes.now c.sort_info-sort_info.result c.sort_info-sort_info.ensures) in
     omega (arith, size_parts d, sort, c.requires.short)

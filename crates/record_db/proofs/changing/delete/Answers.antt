@@ -1,0 +1,9 @@
+use Rattle.heap_model.specs.Database.{a_record}
+use Rattle.database_access.proofs.Entries.{data_named}
+use Rattle.record_db.proofs.changing.delete.Goals as goal
+
+pub is_locked-requires : goal.is_locked-requires
+is_locked-requires c =
+    let found = c.in_ok-live.ensures in
+    let live = c.in_ok-live.live in
+    data_named c.args.store.now.bytes c.args.db c.args.index (a_record live.attributes live.id live.«data».0) found.accepted found.known found.is found.some
