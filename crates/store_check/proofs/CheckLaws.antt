@@ -1,5 +1,5 @@
 -- The passes together.
-use Rattle.std.proofs.Common.{◌≡◌, ℕ, List, [], ◌∷◌, ◌++◌, length, refl, sym, ◌∙◌, inl, inr}
+use Rattle.std.proofs.Common.{◌≡◌, ℕ, List, [], ◌∷◌, ◌++◌, ◌/◌, length, take, refl, sym, subst, ◌∙◌, inl, inr}
 use Rattle.heap_model.specs.Bytes.{AreBytes}
 use Rattle.heap_model.specs.Heap.{HeapAccepted}
 use Rattle.heap_model.specs.Store.{listed, Accepted}
@@ -8,7 +8,8 @@ use Rattle.heap_check.specs.Faults.{FirstBrought}
 use Rattle.heap_check.proofs.CheckLaws as laws_heap
 use Rattle.store_check.specs.declared.fault.StoreFault.{StoreFault}
 use Rattle.store_check.specs.declared.fault.StoreFault.TheVariants.{OutOfMemory}
-use Rattle.store_check.specs.Listing.{listed_count, IsListing}
+use Rattle.store_check.specs.declared.lookup.Body.{Body}
+use Rattle.store_check.specs.Listing.{IsListing, AreListed, NotesListed}
 use Rattle.store_check.specs.Faults.{IsBadSlot, IsBadHeader, IsBadEntry, slot_faults, header_faults, entry_faults, store_faults, NoneBrought}
 use Rattle.store_check.specs.Naming.{AreNamed}
 use Rattle.store_check.specs.Checks.{IsFirstOr, IsRefusal, IsAnswered, marked_faults, own_faults}
@@ -70,8 +71,12 @@ pub listed_named : (image : List ℕ) → HeapAccepted image → NoneBrought (sl
 listed_named image h slots headers entries =
     are_named image h (no_least (IsBadSlot image) (λ k l. slots.0 _ (k, l, refl))) (no_least (IsBadHeader image) (λ k l. headers.0 _ (k, l, refl))) (no_least_pair (IsBadEntry image) (λ k i l. entries.0 _ (k, i, l, refl)))
 
-pub listed_length : (image directory : List ℕ) (count : ℕ) → IsListing image directory → count ≡ listed_count image → count ≡ length (listed image)
-listed_length image directory count l e = e ∙ sym (length-listed image)
+-- the front of a table that is cut to as many as are listed
+pub listed_cut : (image directory : List ℕ) (table : List Body) (count : ℕ) → IsListing image directory → count ≡ length directory / 4 → NotesListed image table → AreListed image (take count table)
+listed_cut image directory table count l is noted = subst (λ (n : ℕ). AreListed image (take n table)) (sym (is ∙ l.count)) noted
+
+pub listed_length : (image : List ℕ) (headers : List Body) → AreListed image headers → length headers ≡ length (listed image)
+listed_length image headers l = l.count ∙ sym (length-listed image)
 
 -- ---- the whole
 

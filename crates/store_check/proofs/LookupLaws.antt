@@ -1,5 +1,6 @@
 -- What a look-up of a slot finds, and what the directory and the headers are.
-use Rattle.std.proofs.Common.{◌≡◌, ◌≢◌, ℕ, ◌+◌, ◌-◌, ◌*◌, ◌<◌, ◌≤◌, List, [], length, Option, Some, None, MatchOption, refl, sym, ap, subst, ◌∙◌, arith, inl, inr}
+use Rattle.std.proofs.Common.{◌≡◌, ◌≢◌, ℕ, ◌+◌, ◌-◌, ◌*◌, ◌<◌, ◌≤◌, List, [], length, get_or, Option, Some, None, MatchOption, refl, sym, ap, subst, ◌∙◌, arith, inl, inr}
+use Rattle.std.proofs.lemmas.Option.{slice_get-get_or}
 use Rattle.std.specs.Prelude.{◌⊎◌, slice_range, IsSome, IfNone}
 use Rattle.std.specs.Option.{option_map}
 use Rattle.heap_model.specs.Bytes.{u32_at}
@@ -18,15 +19,15 @@ use Rattle.chunk_format.specs.declared.header.Header.{Header}
 use Rattle.chunk_format.specs.declared.header.Header.TheVariants as headers
 use Rattle.chunk_format.specs.Header.{header_of, HasHeader}
 use Rattle.master_table.specs.Table.{HoldsPlace, HoldsNothing}
-use Rattle.store_check.specs.Listing.{listed_at, listed_count, header_at, IsListing}
-use Rattle.store_check.specs.Lookup.{IsMovable, movable_by}
+use Rattle.store_check.specs.Listing.{listed_at, listed_count, header_at, IsListing, AreListed}
+use Rattle.store_check.specs.Lookup.{HasBody, movable_by}
 use Rattle.store_check.specs.Owners.{IsOurs, NotOurs}
-use Rattle.store_check.specs.declared.lookup.Movable.{Movable}
+use Rattle.store_check.specs.declared.lookup.Body.{Body}
 
 slot_header : (image : List ℕ) (name place : ℕ) → HeapAccepted image → (s : InSlot image name place) → option_map header_of (chunk_at image (place - 8)) ≡ Some (headers.Movable (length s.live.bytes) s.live.lock s.live.owner s.named)
 slot_header image name place h s = ap (option_map header_of) (finds_read image name s.live (movable s.live.bytes s.live.lock s.live.owner s.named) (place - 8) h s.finds)
 
-movable_in : (image : List ℕ) (slot : ℕ) (place : Place) → HeapAccepted image → (s : InSlot image slot place.0) → IsMovable image slot (record { place = place; length = length s.live.bytes })
+movable_in : (image : List ℕ) (slot : ℕ) (place : Place) → HeapAccepted image → (s : InSlot image slot place.0) → HasBody image slot (record { place = place; length = length s.live.bytes })
 unfolding bytes_under
 movable_in image slot place h s =
     let is = finds_held image slot s.live _ (place.0 - 8) h s.finds in
@@ -35,28 +36,28 @@ movable_in image slot place h s =
     let e : place.0 - 8 + 8 ≡ place.0 = omega arith in
     let inside = spelled.inside in
     record {
-      body = ap bytes_of is ∙ sym spelled.body ∙ ap (λ (p : ℕ). slice_range image p (p + length s.live.bytes)) e;
+      bytes = ap bytes_of is ∙ sym spelled.body ∙ ap (λ (p : ℕ). slice_range image p (p + length s.live.bytes)) e;
       inside = omega arith;
     }
 
-slot_found : (image : List ℕ) (slot : ℕ) (place : Place) (header : Header) → HeapAccepted image → Some header ≡ option_map header_of (chunk_at image (place.0 - 8)) → HoldsPlace image slot place.0 → MatchOption (movable_by header place) ⊥ (IsMovable image slot)
+slot_found : (image : List ℕ) (slot : ℕ) (place : Place) (header : Header) → HeapAccepted image → Some header ≡ option_map header_of (chunk_at image (place.0 - 8)) → HoldsPlace image slot place.0 → MatchOption (movable_by header place) ⊥ (HasBody image slot)
 slot_found image slot place header h read holds =
     let s = in_slot image slot place.0 h holds.is_slot holds.held holds.some in
-    subst (λ (x : Header). MatchOption (movable_by x place) ⊥ (IsMovable image slot)) (sym (same s (read ∙ slot_header image slot place.0 h s)))
+    subst (λ (x : Header). MatchOption (movable_by x place) ⊥ (HasBody image slot)) (sym (same s (read ∙ slot_header image slot place.0 h s)))
     (movable_in image slot place h s) where
       same : (s : InSlot image slot place.0) → Some header ≡ Some (headers.Movable (length s.live.bytes) s.live.lock s.live.owner s.named) → header ≡ headers.Movable (length s.live.bytes) s.live.lock s.live.owner s.named
       same s e = cc
 
-pub slot_movable : (image : List ℕ) (slot : ℕ) (place : Place) (header : Header) (found : Option Movable) → HeapAccepted image → Some header ≡ option_map header_of (chunk_at image (place.0 - 8)) → found ≡ movable_by header place → HoldsPlace image slot place.0 → MatchOption found ⊥ (IsMovable image slot)
-slot_movable image slot place header found h read is holds = subst (λ (o : Option Movable). MatchOption o ⊥ (IsMovable image slot)) (sym is) (slot_found image slot place header h read holds)
+pub slot_movable : (image : List ℕ) (slot : ℕ) (place : Place) (header : Header) (found : Option Body) → HeapAccepted image → Some header ≡ option_map header_of (chunk_at image (place.0 - 8)) → found ≡ movable_by header place → HoldsPlace image slot place.0 → MatchOption found ⊥ (HasBody image slot)
+slot_movable image slot place header found h read is holds = subst (λ (o : Option Body). MatchOption o ⊥ (HasBody image slot)) (sym is) (slot_found image slot place header h read holds)
 
 -- what holds of the value that is there
-pub is_some_matched : (P : Movable → Type 0) (found : Option Movable) → MatchOption found ⊥ P → IsSome found
+pub is_some_matched : (P : Body → Type 0) (found : Option Body) → MatchOption found ⊥ P → IsSome found
 is_some_matched P None m = absurd m
-is_some_matched P (Some chunk) m = refl
+is_some_matched P (Some body) m = refl
 
-pub matched_value : (P : Movable → Type 0) (found : Option Movable) (chunk : Movable) → found ≡ Some chunk → MatchOption found ⊥ P → P chunk
-matched_value P found chunk e m = subst (λ (o : Option Movable). MatchOption o ⊥ P) e m
+pub matched_value : (P : Body → Type 0) (found : Option Body) (body : Body) → found ≡ Some body → MatchOption found ⊥ P → P body
+matched_value P found body e m = subst (λ (o : Option Body). MatchOption o ⊥ P) e m
 
 -- a header that stands there is the one that is read
 pub header_read : (image : List ℕ) (at : ℕ) (header : Header) → HasHeader image at header → Some header ≡ option_map header_of (chunk_at image at)
@@ -78,9 +79,9 @@ slot_chunk image slot place found h holds is =
     record { chunk = chunk; spelled = finds_spelled image slot s.live chunk (found.0 - 8) h s.finds }
 
 -- where the slot has a chunk of ours, it is found
-pub ours_found : (image : List ℕ) (slot : ℕ) (found : Option Movable) → IfNone found (NotOurs image slot) → IsOurs image slot → IsSome found
+pub ours_found : (image : List ℕ) (slot : ℕ) (found : Option Body) → IfNone found (NotOurs image slot) → IsOurs image slot → IsSome found
 ours_found image slot None none own = absurd (none own)
-ours_found image slot (Some chunk) none own = refl
+ours_found image slot (Some body) none own = refl
 
 -- an empty slot has no chunk of the manager's, and none for data
 pub empty_not_ours : (image : List ℕ) (slot : ℕ) → HeapAccepted image → HoldsNothing image slot → NotOurs image slot
@@ -113,6 +114,15 @@ word_listed image directory index e = ap (λ (b : List ℕ). u32_at b (4 * index
 pub header_owner : (image directory : List ℕ) (db slot : ℕ) → IsListing image directory → db < listed_count image → slot ≡ u32_at directory (4 * db) → owner_under image slot ≡ managers_owner
 header_owner image directory db slot l below e = ap (owner_under image) (e ∙ word_listed image directory db l.bytes) ∙ (l.headers db below).owner
 
-pub header_bytes : (image directory bytes : List ℕ) (db slot : ℕ) → IsListing image directory → slot ≡ u32_at directory (4 * db) → bytes ≡ bytes_under image slot → bytes ≡ header_at image db
+-- where the header under that word is
+pub listed_body : (image directory : List ℕ) (db slot : ℕ) (body : Body) → IsListing image directory → slot ≡ u32_at directory (4 * db) → HasBody image slot body → HasBody image (listed_at image db) body
+listed_body image directory db slot body l e h = subst (λ (s : ℕ). HasBody image s body) (e ∙ word_listed image directory db l.bytes) h
+
+-- and its bytes
+pub header_bytes : (image bytes : List ℕ) (db : ℕ) (body : Body) → HasBody image (listed_at image db) body → bytes ≡ slice_range image body.place.0 (body.place.0 + body.length) → bytes ≡ header_at image db
 unfolding header_at
-header_bytes image directory bytes db slot l e is = is ∙ ap (bytes_under image) (e ∙ word_listed image directory db l.bytes)
+header_bytes image bytes db body h is = is ∙ sym h.bytes
+
+-- the header of an index in a table
+pub header_noted : (image : List ℕ) (headers : List Body) (db : ℕ) (none : Body) → AreListed image headers → db < length headers → HasBody image (listed_at image db) (get_or headers db none)
+header_noted image headers db none l below = l.each db (get_or headers db none) (slice_get-get_or headers db none below)

@@ -1,11 +1,13 @@
 -- The databases of an image by their indexes in the directory.
-use Rattle.std.specs.Prelude.{◌≡◌, ◌≤◌, ◌<◌, ◌*◌, ◌/◌, ℕ, List, length, map}
+use Rattle.std.specs.Prelude.{◌≡◌, ◌≤◌, ◌<◌, ◌*◌, ◌/◌, ℕ, List, Some, length, take, map, slice_get}
 use Rattle.heap_model.specs.Bytes.{u32_at}
 use Rattle.heap_model.specs.Heap.{HeapAccepted}
 use Rattle.heap_model.specs.Lists.{numbered}
 use Rattle.heap_model.specs.Database.{Entry, entry_data, entry_in, entry_count_in}
 use Rattle.heap_model.specs.Store.{bytes_under, directory_bytes, most_databases, IsHeaderSlot, listed_size}
 use Rattle.db_format.specs.Headers.{IsWhole}
+use Rattle.store_check.specs.declared.lookup.Body.{Body}
+use Rattle.store_check.specs.Lookup.{HasBody}
 
 -- the word of an index in the directory: the slot of a header, where it is a right one
 abbrev pub listed_at : List ℕ → ℕ → ℕ
@@ -35,6 +37,18 @@ pub record IsListing (image directory : List ℕ) : Type 0 where
   pub count : length directory / listed_size ≡ listed_count image
   pub few : length directory / listed_size ≤ most_databases
   pub headers : (db : ℕ) → db < listed_count image → IsHeaderSlot image (listed_at image db)
+
+-- These are the headers that an accepted heap lists, each by where it lies in the image: what is known
+-- where each was found.
+pub record AreListed (image : List ℕ) (headers : List Body) : Type 0 where
+  pub heap : HeapAccepted image
+  pub count : length headers ≡ listed_count image
+  pub few : length headers ≤ most_databases
+  pub each : (db : ℕ) (header : Body) → slice_get headers db ≡ Some header → HasBody image (listed_at image db) header
+
+-- the front of the table notes them
+abbrev pub NotesListed : List ℕ → List Body → Type 0
+NotesListed image table = AreListed image (take (listed_count image) table)
 
 -- each database that is listed has a whole header with its entries: what is known where no header is bad
 pub record HaveHeaders (image : List ℕ) : Type 0 where

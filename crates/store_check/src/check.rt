@@ -4,10 +4,10 @@ ghost use Rattle.std.specs.Prelude.{◌≡◌, ◌≤◌, ◌*◌, ◌⊎◌, []
 ghost use Rattle.heap_model.specs.Slots.{slots_total};
 ghost use Rattle.heap_model.specs.Bytes.{AreBytes};
 ghost use Rattle.heap_model.specs.Heap.{HeapAccepted, directory_of};
-ghost use Rattle.heap_model.specs.Store.{directory_bytes, listed, Accepted};
+ghost use Rattle.heap_model.specs.Store.{directory_bytes, listed, most_databases, Accepted};
 ghost use Rattle.heap_check.specs.Faults.{FirstBrought};
 ghost use Rattle.heap_check.specs.Owners.{NoneMarked, HasOwners};
-ghost use Rattle.store_check.specs.Listing.{IsListing, HaveHeaders};
+ghost use Rattle.store_check.specs.Listing.{IsListing, AreListed, NotesListed, HaveHeaders};
 ghost use Rattle.store_check.specs.Faults.{store_faults, NoneBrought};
 ghost use Rattle.store_check.specs.Naming.{AreNamed, accounted, AreMarks};
 ghost use Rattle.bit_sets.specs.Sets.{HasNone};
@@ -20,7 +20,7 @@ use crate::entries::find_bad_entry;
 use crate::fault::StoreFault;
 use crate::headers::find_bad_header;
 use crate::ids::{empty_set, find_bad_id, greatest_id};
-use crate::lookup::directory_in;
+use crate::lookup::{Body, NO_BODY, directory_in};
 use crate::marks::{mark, no_marks};
 use crate::names::{NAME_NUMBERS, find_bad_name, find_same_name};
 use crate::slots::find_bad_slot;
@@ -28,6 +28,7 @@ use crate::summary::StoreSummary;
 use crate::words::listed_count;
 use allowance::Allowance;
 use chunk_format::slot_count;
+use db_format::MOST_DATABASES;
 use heap_check::{MOST_MARKS, NO_OWNER, check_heap_noting};
 use raw_region::Region;
 use std::alloc::Global;
@@ -96,11 +97,32 @@ fn check_databases<A: Allowance>(
     ensures refused { IfErr result (IsRefusal region.now.bytes) }
     ensures no_memory { result ≡ Err StoreFault.OutOfMemory → A.is_short memory.now }
 {
+    let mut table = [NO_BODY; MOST_DATABASES as usize];
+    check_with_table(memory, region, owners, &mut table)
+}
+
+/// The same, with a table in which the headers are noted as they are found.
+fn check_with_table<A: Allowance>(
+    memory: &A,
+    region: &Region,
+    owners: &[u8],
+    table: &mut [Body],
+) -> Result<u32, StoreFault>
+    requires accepted { HeapAccepted region.now.bytes }
+    requires owners { HasOwners region.now.bytes owners.now }
+    requires table { most_databases ≤ length table.old }
+    ensures accepted { OnOk result (Accepted region.now.bytes) }
+    ensures count { IfOk result (λ count. count ≡ length (listed region.now.bytes)) }
+    ensures fault { IfErr result (IsFirstOr (store_faults region.now.bytes)) }
+    ensures refused { IfErr result (IsRefusal region.now.bytes) }
+    ensures no_memory { result ≡ Err StoreFault.OutOfMemory → A.is_short memory.now }
+{
     know_bytes(region);
     let directory = directory_in(region);
-    check_marks(memory, region, directory, owners)?;
-    check_ids_and_names(memory, region, directory)?;
-    Ok(listed_count(directory) as u32)
+    check_marks(memory, region, directory, owners, table)?;
+    let headers = &table[..listed_count(directory)];
+    check_ids_and_names(memory, region, headers)?;
+    Ok(headers.len() as u32)
 }
 
 /// The numbers in a region are bytes: it is known of those that a slice has.
@@ -116,20 +138,23 @@ fn check_marks<A: Allowance>(
     region: &Region,
     directory: &[u8],
     owners: &[u8],
+    table: &mut [Body],
 ) -> Result<(), StoreFault>
     requires accepted { HeapAccepted region.now.bytes }
     requires owners { HasOwners region.now.bytes owners.now }
+    requires table { most_databases ≤ length table.old }
     requires directory { directory.now ≡ directory_bytes region.now.bytes }
     ensures fault { IfErr result (IsFirstOr (marked_faults region.now.bytes)) }
     ensures no_memory { result ≡ Err StoreFault.OutOfMemory → A.is_short memory.now }
     ensures none { OnOk result (NoneBrought (marked_faults region.now.bytes)) }
     ensures listing { OnOk result (IsListing region.now.bytes directory.now) }
     ensures headers { OnOk result (HaveHeaders region.now.bytes) }
+    ensures noted { OnOk result (NotesListed region.now.bytes table.new) }
 {
     let Ok(mut marks) = no_marks(memory, slot_count(region)) else {
         return Err(StoreFault::OutOfMemory);
     };
-    check_with_marks(region, directory, owners, &mut marks)
+    check_with_marks(region, directory, owners, &mut marks, table)
 }
 
 /// Looks for the faults that are found by these marks for slots, none of which is set yet.
@@ -138,39 +163,45 @@ fn check_with_marks(
     directory: &[u8],
     owners: &[u8],
     marks: &mut [u8],
+    table: &mut [Body],
 ) -> Result<(), StoreFault>
     requires accepted { HeapAccepted region.now.bytes }
     requires owners { HasOwners region.now.bytes owners.now }
     requires room { slots_total region.now.bytes ≤ length marks.old }
+    requires table { most_databases ≤ length table.old }
     requires directory { directory.now ≡ directory_bytes region.now.bytes }
     requires clear { AreMarks region.now.bytes [] marks.old }
     ensures fault { IfErr result (FirstBrought (marked_faults region.now.bytes)) }
     ensures none { OnOk result (NoneBrought (marked_faults region.now.bytes)) }
     ensures listing { OnOk result (IsListing region.now.bytes directory.now) }
     ensures headers { OnOk result (HaveHeaders region.now.bytes) }
+    ensures noted { OnOk result (NotesListed region.now.bytes table.new) }
 {
     mark(region, chunk_format::directory(region), marks);
-    check_listed(region, directory, owners, marks)?;
+    check_listed(region, directory, owners, marks, table)?;
     check_chunks(region, owners, marks)
 }
 
 /// Looks for the faults of what the directory lists, whose own slot is marked. All that must be named is
-/// then marked too.
+/// then marked too, and the front of the table has all headers.
 fn check_listed(
     region: &Region,
     directory: &[u8],
     owners: &[u8],
     marks: &mut [u8],
+    table: &mut [Body],
 ) -> Result<(), StoreFault>
     requires accepted { HeapAccepted region.now.bytes }
     requires owners { HasOwners region.now.bytes owners.now }
     requires room { slots_total region.now.bytes ≤ length marks.old }
+    requires table { most_databases ≤ length table.old }
     requires directory { directory.now ≡ directory_bytes region.now.bytes }
     requires marks { AreMarks region.now.bytes (directory_of region.now.bytes ∷ []) marks.old }
     ensures fault { IfErr result (FirstBrought (listed_faults region.now.bytes)) }
     ensures none { OnOk result (NoneBrought (listed_faults region.now.bytes)) }
     ensures listing { OnOk result (IsListing region.now.bytes directory.now) }
     ensures headers { OnOk result (HaveHeaders region.now.bytes) }
+    ensures noted { OnOk result (NotesListed region.now.bytes table.new) }
     ensures named { OnOk result (AreNamed region.now.bytes) }
     ensures marked { OnOk result (AreMarks region.now.bytes
         (accounted region.now.bytes) marks.new) }
@@ -178,10 +209,11 @@ fn check_listed(
     if let Some(fault) = find_bad_slot(region, directory, owners, marks) {
         return Err(fault);
     }
-    if let Some(fault) = find_bad_header(region, directory, owners) {
+    if let Some(fault) = find_bad_header(region, directory, owners, table) {
         return Err(fault);
     }
-    match find_bad_entry(region, directory, owners, marks) {
+    let headers = &table[..listed_count(directory)];
+    match find_bad_entry(region, headers, owners, marks) {
         Some(fault) => Err(fault),
         None => Ok(()),
     }
@@ -207,13 +239,13 @@ fn check_chunks(region: &Region, owners: &[u8], marks: &[u8]) -> Result<(), Stor
 }
 
 /// How many bytes a set takes that has room for all IDs, and for the numbers of names.
-fn set_size(region: &Region, directory: &[u8]) -> usize
-    requires listing { IsListing region.now.bytes directory.now }
+fn set_size(region: &Region, headers: &[Body]) -> usize
+    requires listed { AreListed region.now.bytes headers.now }
     requires headers { HaveHeaders region.now.bytes }
     ensures ids { HasRoomForAll region.now.bytes result }
     ensures names { name_numbers ≤ 8 * result }
 {
-    let greatest = greatest_id(region, directory);
+    let greatest = greatest_id(region, headers);
     greatest.max(NAME_NUMBERS) as usize / 8 + 1
 }
 
@@ -221,23 +253,23 @@ fn set_size(region: &Region, directory: &[u8]) -> usize
 fn check_ids_and_names<A: Allowance>(
     memory: &A,
     region: &Region,
-    directory: &[u8],
+    headers: &[Body],
 ) -> Result<(), StoreFault>
-    requires listing { IsListing region.now.bytes directory.now }
+    requires listed { AreListed region.now.bytes headers.now }
     requires headers { HaveHeaders region.now.bytes }
     ensures fault { IfErr result (IsFirstOr (own_faults region.now.bytes)) }
     ensures no_memory { result ≡ Err StoreFault.OutOfMemory → A.is_short memory.now }
     ensures none { OnOk result (NoneBrought (own_faults region.now.bytes)) }
 {
-    let Ok(mut seen) = empty_set(memory, set_size(region, directory)) else {
+    let Ok(mut seen) = empty_set(memory, set_size(region, headers)) else {
         return Err(StoreFault::OutOfMemory);
     };
-    check_with_set(region, directory, &mut seen)
+    check_with_set(region, headers, &mut seen)
 }
 
 /// Looks for the faults of IDs and names, with this set of numbers, which is empty.
-fn check_with_set(region: &Region, directory: &[u8], seen: &mut [u8]) -> Result<(), StoreFault>
-    requires listing { IsListing region.now.bytes directory.now }
+fn check_with_set(region: &Region, headers: &[Body], seen: &mut [u8]) -> Result<(), StoreFault>
+    requires listed { AreListed region.now.bytes headers.now }
     requires headers { HaveHeaders region.now.bytes }
     requires ids { HasRoomForAll region.now.bytes (length seen.old) }
     requires names { name_numbers ≤ 8 * length seen.old }
@@ -245,13 +277,13 @@ fn check_with_set(region: &Region, directory: &[u8], seen: &mut [u8]) -> Result<
     ensures fault { IfErr result (FirstBrought (own_faults region.now.bytes)) }
     ensures none { OnOk result (NoneBrought (own_faults region.now.bytes)) }
 {
-    if let Some(fault) = find_bad_id(region, directory, seen) {
+    if let Some(fault) = find_bad_id(region, headers, seen) {
         return Err(fault);
     }
-    if let Some(fault) = find_bad_name(region, directory) {
+    if let Some(fault) = find_bad_name(region, headers) {
         return Err(fault);
     }
-    match find_same_name(region, directory, seen) {
+    match find_same_name(region, headers, seen) {
         Some(fault) => Err(fault),
         None => Ok(()),
     }

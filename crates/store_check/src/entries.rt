@@ -10,15 +10,14 @@ ghost use Rattle.heap_check.specs.Faults.{FirstBrought};
 ghost use Rattle.heap_check.specs.Owners.{HasOwners};
 ghost use Rattle.db_format.specs.Headers.{IsWhole};
 ghost use Rattle.db_format.specs.EitherEntry.{entry_of};
-ghost use Rattle.store_check.specs.Listing.{entry_slots, IsListing, HaveHeaders};
+ghost use Rattle.store_check.specs.Listing.{entry_slots, AreListed, HaveHeaders};
 ghost use Rattle.store_check.specs.Faults.{HasBadEntry, HasGoodEntries, entry_faults, NoneBrought};
 ghost use Rattle.store_check.specs.Naming.{AddsMarks};
 
 use crate::fault::StoreFault;
-use crate::lookup::header_of;
+use crate::lookup::{Body, header_of};
 use crate::marks::mark;
 use crate::owners::is_for_data;
-use crate::words::listed_count;
 use db_format::{DbEntry, app_info, entry_count, sort_info};
 use raw_region::Region;
 
@@ -83,21 +82,21 @@ fn find_bad_entry_in(region: &Region, header: &[u8], owners: &[u8], marks: &mut 
 /// marked.
 pub(crate) fn find_bad_entry(
     region: &Region,
-    directory: &[u8],
+    headers: &[Body],
     owners: &[u8],
     marks: &mut [u8],
 ) -> Option<StoreFault>
     requires owners { HasOwners region.now.bytes owners.now }
     requires room { slots_total region.now.bytes ≤ length marks.old }
-    requires listing { IsListing region.now.bytes directory.now }
+    requires listed { AreListed region.now.bytes headers.now }
     requires headers { HaveHeaders region.now.bytes }
     ensures some { IfSome result (FirstBrought (entry_faults region.now.bytes)) }
     ensures none { IfNone result (NoneBrought (entry_faults region.now.bytes)) }
     ensures marked { IfNone result
         (AddsMarks region.now.bytes (named region.now.bytes) marks.old marks.new) }
 {
-    for db in 0..listed_count(directory) {
-        let header = header_of(region, directory, db);
+    for db in 0..headers.len() {
+        let header = header_of(region, headers, db);
         if let Some(index) = find_bad_entry_in(region, header, owners, marks) {
             return Some(StoreFault::BadEntry(db as u32, index as u32));
         }

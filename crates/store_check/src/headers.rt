@@ -1,15 +1,15 @@
 //! The headers that the directory lists.
 
-ghost use Rattle.std.specs.Prelude.{◌↔◌, IsTrue, IfSome, IfNone};
+ghost use Rattle.std.specs.Prelude.{◌≤◌, ◌↔◌, length, IsTrue, IfSome, IfNone};
 ghost use Rattle.heap_model.specs.Heap.{HeapAccepted};
-ghost use Rattle.heap_model.specs.Store.{IsInfoBlock};
+ghost use Rattle.heap_model.specs.Store.{most_databases, IsInfoBlock};
 ghost use Rattle.heap_check.specs.Faults.{FirstBrought};
 ghost use Rattle.heap_check.specs.Owners.{HasOwners};
-ghost use Rattle.store_check.specs.Listing.{IsListing, HaveHeaders};
+ghost use Rattle.store_check.specs.Listing.{IsListing, NotesListed, HaveHeaders};
 ghost use Rattle.store_check.specs.Faults.{HasHeader, header_faults, NoneBrought};
 
 use crate::fault::StoreFault;
-use crate::lookup::header_of;
+use crate::lookup::{Body, bytes_of, find_header};
 use crate::owners::is_for_data;
 use crate::words::listed_count;
 use db_format::{app_info, is_whole, sort_info};
@@ -35,20 +35,25 @@ fn has_header(region: &Region, bytes: &[u8], owners: &[u8]) -> bool
         && is_info_block(region, sort_info(bytes), owners)
 }
 
-/// The first database with a bad header.
+/// The first database with a bad header. Where there is none, the front of the table has all headers.
 pub(crate) fn find_bad_header(
     region: &Region,
     directory: &[u8],
     owners: &[u8],
+    table: &mut [Body],
 ) -> Option<StoreFault>
     requires owners { HasOwners region.now.bytes owners.now }
     requires listing { IsListing region.now.bytes directory.now }
+    requires room { most_databases ≤ length table.old }
     ensures some { IfSome result (FirstBrought (header_faults region.now.bytes)) }
     ensures none { IfNone result (NoneBrought (header_faults region.now.bytes)) }
     ensures headers { IfNone result (HaveHeaders region.now.bytes) }
+    ensures noted { IfNone result (NotesListed region.now.bytes table.new) }
 {
     for db in 0..listed_count(directory) {
-        if !has_header(region, header_of(region, directory, db), owners) {
+        let header = find_header(region, directory, db);
+        table[db] = header;
+        if !has_header(region, bytes_of(region, header), owners) {
             return Some(StoreFault::BadHeader(db as u32));
         }
     }

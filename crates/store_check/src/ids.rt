@@ -6,13 +6,12 @@ ghost use Rattle.heap_model.specs.Database.{resources_in, entry_count_in};
 ghost use Rattle.heap_check.specs.Faults.{FirstBrought};
 ghost use Rattle.bit_sets.specs.Sets.{HasNone};
 ghost use Rattle.db_format.specs.Headers.{IsWhole};
-ghost use Rattle.store_check.specs.Listing.{listed_count as model_count, header_at, IsListing, HaveHeaders};
+ghost use Rattle.store_check.specs.Listing.{listed_count as model_count, header_at, AreListed, HaveHeaders};
 ghost use Rattle.store_check.specs.Faults.{id_at, HasBadId, HasGoodIds, id_faults, NoneBrought};
 ghost use Rattle.store_check.specs.Ids.{HasIdsUpTo, HasRoomForIds, HasRoomForAll, HasIdsWithin, HasRisingIds};
 
 use crate::fault::StoreFault;
-use crate::lookup::header_of;
-use crate::words::listed_count;
+use crate::lookup::{Body, header_of};
 use allowance::{Allowance, zeros};
 use db_format::{entry_count, has_resources};
 use raw_region::Region;
@@ -58,16 +57,16 @@ fn greatest_id_in(header: &[u8], least: u32) -> u32
 }
 
 /// The greatest ID of all records, 0 where there is none.
-pub(crate) fn greatest_id(region: &Region, directory: &[u8]) -> u32
-    requires listing { IsListing region.now.bytes directory.now }
+pub(crate) fn greatest_id(region: &Region, headers: &[Body]) -> u32
+    requires listed { AreListed region.now.bytes headers.now }
     requires headers { HaveHeaders region.now.bytes }
     ensures ids { (db : ℕ) → db < model_count region.now.bytes
         → HasIdsUpTo (header_at region.now.bytes db) result }
     ensures small { result < 2 ^ 24 }
 {
     let mut greatest = 0;
-    for db in 0..listed_count(directory) {
-        greatest = greatest_id_in(header_of(region, directory, db), greatest);
+    for db in 0..headers.len() {
+        greatest = greatest_id_in(header_of(region, headers, db), greatest);
     }
     greatest
 }
@@ -163,16 +162,16 @@ fn find_bad_id_in(header: &[u8], seen: &mut [u8]) -> Option<u16>
 }
 
 /// The first record of all databases, in their order, whose ID is 0 or an earlier one's of its database.
-pub(crate) fn find_bad_id(region: &Region, directory: &[u8], seen: &mut [u8]) -> Option<StoreFault>
-    requires listing { IsListing region.now.bytes directory.now }
+pub(crate) fn find_bad_id(region: &Region, headers: &[Body], seen: &mut [u8]) -> Option<StoreFault>
+    requires listed { AreListed region.now.bytes headers.now }
     requires headers { HaveHeaders region.now.bytes }
     requires room { HasRoomForAll region.now.bytes (length seen.old) }
     requires empty { HasNone seen.old }
     ensures some { IfSome result (FirstBrought (id_faults region.now.bytes)) }
     ensures none { IfNone result (NoneBrought (id_faults region.now.bytes)) }
 {
-    for db in 0..listed_count(directory) {
-        if let Some(index) = find_bad_id_in(header_of(region, directory, db), seen) {
+    for db in 0..headers.len() {
+        if let Some(index) = find_bad_id_in(header_of(region, headers, db), seen) {
             return Some(StoreFault::BadId(db as u32, index as u32));
         }
     }

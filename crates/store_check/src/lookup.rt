@@ -1,11 +1,11 @@
-//! The chunks of the manager, by their slots.
+//! The chunks of the manager: where their bodies are, by their slots, and the bytes there.
 
-ghost use Rattle.std.specs.Prelude.{◌≡◌, ◌≤◌, ◌<◌, ◌-◌, IfSome, IfNone};
+ghost use Rattle.std.specs.Prelude.{◌≡◌, ◌≤◌, ◌<◌, ◌+◌, ◌-◌, length, slice_range, IfSome, IfNone};
 ghost use Rattle.heap_model.specs.Chunk.{HasChunk, managers_owner};
 ghost use Rattle.heap_model.specs.Heap.{HeapAccepted};
-ghost use Rattle.heap_model.specs.Store.{bytes_under, owner_under, directory_bytes};
-ghost use Rattle.store_check.specs.Listing.{listed_count as model_count, header_at, IsListing};
-ghost use Rattle.store_check.specs.Lookup.{IsMovable, IsHeld, SlotsFind, movable_by};
+ghost use Rattle.heap_model.specs.Store.{owner_under, directory_bytes};
+ghost use Rattle.store_check.specs.Listing.{listed_at, listed_count as model_count, header_at, IsListing, AreListed};
+ghost use Rattle.store_check.specs.Lookup.{HasBody, IsHeld, SlotsFind, movable_by};
 ghost use Rattle.store_check.specs.Owners.{NotOurs};
 
 use crate::words::word_at;
@@ -14,18 +14,24 @@ use heap_model::{Name, Place};
 use master_table::resolve;
 use raw_region::Region;
 
-/// A movable chunk: where its body is, and how many bytes that has.
+/// The body of a movable chunk: where it is, and how many bytes it has.
 #[derive(Clone, Copy)]
-pub(crate) struct Movable {
+pub(crate) struct Body {
     pub(crate) place: Place,
     pub(crate) length: u32,
 }
 
-/// The movable chunk of a slot.
+/// What stands in a table where no body is noted yet.
+pub(crate) const NO_BODY: Body = Body {
+    place: Place(0),
+    length: 0,
+};
+
+/// The body of the movable chunk of a slot.
 #[inline]
-fn movable_under(region: &Region, slot: u32) -> Option<Movable>
+fn movable_under(region: &Region, slot: u32) -> Option<Body>
     requires accepted { HeapAccepted region.now.bytes }
-    ensures some { IfSome result (IsMovable region.now.bytes slot) }
+    ensures some { IfSome result (HasBody region.now.bytes slot) }
     ensures none { IfNone result (NotOurs region.now.bytes slot) }
 {
     match resolve(region, Name(slot)) {
@@ -34,9 +40,9 @@ fn movable_under(region: &Region, slot: u32) -> Option<Movable>
     }
 }
 
-/// The movable chunk whose body is at a place that a slot holds: its header stands in front of it.
+/// The body of a movable chunk, at a place that a slot holds: its header stands in front of it.
 #[inline]
-fn movable_at(region: &Region, place: Place) -> Movable
+fn movable_at(region: &Region, place: Place) -> Body
     requires accepted { HeapAccepted region.now.bytes }
     requires held { IsHeld region.now.bytes place.0 }
     requires behind_header { HEADER_SIZE ≤ place.0 }
@@ -46,25 +52,34 @@ fn movable_at(region: &Region, place: Place) -> Movable
     as_movable(Header::at(region, place.0 - HEADER_SIZE), place).unwrap()
 }
 
-/// The chunk with this header, if it is a movable one.
+/// The body at a place of the chunk with this header, if it is a movable one.
 #[inline]
-fn as_movable(header: Header, place: Place) -> Option<Movable>
+fn as_movable(header: Header, place: Place) -> Option<Body>
     ensures { result ≡ movable_by header place }
 {
     match header {
-        Header::Movable { length, .. } => Some(Movable { place, length }),
+        Header::Movable { length, .. } => Some(Body { place, length }),
         _ => None,
     }
 }
 
-/// The bytes of a chunk of the manager's.
-fn body_under(region: &Region, slot: u32) -> &[u8]
+/// The body of a chunk of the manager's.
+fn body_under(region: &Region, slot: u32) -> Body
     requires accepted { HeapAccepted region.now.bytes }
     requires managers { owner_under region.now.bytes slot ≡ managers_owner }
-    ensures { result.now ≡ bytes_under region.now.bytes slot }
+    ensures { HasBody region.now.bytes slot result }
 {
-    let chunk = movable_under(region, slot).unwrap();
-    region.slice(chunk.place.0 as usize, chunk.length as usize)
+    movable_under(region, slot).unwrap()
+}
+
+/// The bytes of a body.
+#[inline]
+pub(crate) fn bytes_of(region: &Region, body: Body) -> &[u8]
+    requires { body.place.0 + body.length ≤ length region.now.bytes }
+    ensures { result.now ≡ slice_range region.now.bytes
+        body.place.0 (body.place.0 + body.length) }
+{
+    region.slice(body.place.0 as usize, body.length as usize)
 }
 
 /// The bytes of the directory. There are none where the directory word is 0.
@@ -76,14 +91,24 @@ pub(crate) fn directory_in(region: &Region) -> &[u8]
     if slot == 0 {
         return region.slice(0, 0);
     }
-    body_under(region, slot)
+    bytes_of(region, body_under(region, slot))
+}
+
+/// The body under the word of an index in the directory: the header of that database and its entries.
+pub(crate) fn find_header(region: &Region, directory: &[u8], db: usize) -> Body
+    requires listing { IsListing region.now.bytes directory.now }
+    requires below { db < model_count region.now.bytes }
+    ensures { HasBody region.now.bytes (listed_at region.now.bytes db) result }
+{
+    body_under(region, word_at(directory, db))
 }
 
 /// The bytes of the header of the database of an index, and of its entries.
-pub(crate) fn header_of<'a>(region: &'a Region, directory: &[u8], db: usize) -> &'a [u8]
-    requires listing { IsListing region.now.bytes directory.now }
-    requires below { db < model_count region.now.bytes }
+#[inline]
+pub(crate) fn header_of<'a>(region: &'a Region, headers: &[Body], db: usize) -> &'a [u8]
+    requires listed { AreListed region.now.bytes headers.now }
+    requires below { db < length headers.now }
     ensures { result.now ≡ header_at region.now.bytes db }
 {
-    body_under(region, word_at(directory, db))
+    bytes_of(region, headers[db])
 }

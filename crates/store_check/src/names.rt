@@ -4,26 +4,26 @@ ghost use Rattle.std.specs.Prelude.{◌≡◌, ◌≤◌, ◌<◌, ◌*◌, ◌/
 ghost use Rattle.heap_model.specs.DatabaseFields.{name_size};
 ghost use Rattle.heap_model.specs.Database.{HasName, name_in};
 ghost use Rattle.heap_check.specs.Faults.{FirstBrought};
-ghost use Rattle.store_check.specs.Listing.{listed_count as model_count, header_at, IsListing, HaveHeaders};
+ghost use Rattle.store_check.specs.Listing.{header_at, AreListed, HaveHeaders};
 ghost use Rattle.store_check.specs.Faults.{IsSameName, name_faults, same_name_faults, NoneBrought};
 ghost use Rattle.store_check.specs.Names.{HaveNames, HasNamesBefore, name_number, name_numbers};
 
 use crate::fault::StoreFault;
-use crate::lookup::header_of;
-use crate::words::{listed_count, word_at};
+use crate::lookup::{Body, header_of};
+use crate::words::word_at;
 use db_format::{NAME_SIZE, has_name};
 use raw_region::Region;
 
 /// The first database whose field for a name has none.
-pub(crate) fn find_bad_name(region: &Region, directory: &[u8]) -> Option<StoreFault>
-    requires listing { IsListing region.now.bytes directory.now }
+pub(crate) fn find_bad_name(region: &Region, headers: &[Body]) -> Option<StoreFault>
+    requires listed { AreListed region.now.bytes headers.now }
     requires headers { HaveHeaders region.now.bytes }
     ensures some { IfSome result (FirstBrought (name_faults region.now.bytes)) }
     ensures none { IfNone result (NoneBrought (name_faults region.now.bytes)) }
     ensures names { IfNone result (HaveNames region.now.bytes) }
 {
-    for db in 0..listed_count(directory) {
-        if !has_name(header_of(region, directory, db)) {
+    for db in 0..headers.len() {
+        if !has_name(header_of(region, headers, db)) {
             return Some(StoreFault::BadName(db as u32));
         }
     }
@@ -64,16 +64,16 @@ fn is_same_name(header: &[u8], other: &[u8]) -> bool
 }
 
 /// Whether an earlier database has the name of the one of an index.
-fn has_earlier_name(region: &Region, directory: &[u8], db: usize) -> bool
-    requires listing { IsListing region.now.bytes directory.now }
+fn has_earlier_name(region: &Region, headers: &[Body], db: usize) -> bool
+    requires listed { AreListed region.now.bytes headers.now }
     requires headers { HaveHeaders region.now.bytes }
     requires names { HaveNames region.now.bytes }
-    requires below { db < model_count region.now.bytes }
+    requires below { db < length headers.now }
     ensures { IsTrue result ↔ IsSameName region.now.bytes db }
 {
-    let header = header_of(region, directory, db);
+    let header = header_of(region, headers, db);
     for earlier in 0..db {
-        if is_same_name(header_of(region, directory, earlier), header) {
+        if is_same_name(header_of(region, headers, earlier), header) {
             return true;
         }
     }
@@ -81,11 +81,11 @@ fn has_earlier_name(region: &Region, directory: &[u8], db: usize) -> bool
 }
 
 /// Whether an earlier database has the name of the one of an index, by the numbers of the names in front.
-fn has_same_name(region: &Region, directory: &[u8], db: usize, number: u32, seen: &[u8]) -> bool
-    requires listing { IsListing region.now.bytes directory.now }
+fn has_same_name(region: &Region, headers: &[Body], db: usize, number: u32, seen: &[u8]) -> bool
+    requires listed { AreListed region.now.bytes headers.now }
     requires headers { HaveHeaders region.now.bytes }
     requires names { HaveNames region.now.bytes }
-    requires below { db < model_count region.now.bytes }
+    requires below { db < length headers.now }
     requires number { number ≡ name_number (header_at region.now.bytes db) }
     requires room { number / 8 < length seen.now }
     requires seen { HasNamesBefore region.now.bytes seen.now db }
@@ -94,26 +94,26 @@ fn has_same_name(region: &Region, directory: &[u8], db: usize, number: u32, seen
     if !bit_sets::has(seen, number) {
         return false;
     }
-    has_earlier_name(region, directory, db)
+    has_earlier_name(region, headers, db)
 }
 
 /// The first database with the name of an earlier one. The set gets the numbers of all names in front,
 /// so that names are compared only where the number is in it: the fewer others are, the fewer are.
 pub(crate) fn find_same_name(
     region: &Region,
-    directory: &[u8],
+    headers: &[Body],
     seen: &mut [u8],
 ) -> Option<StoreFault>
-    requires listing { IsListing region.now.bytes directory.now }
+    requires listed { AreListed region.now.bytes headers.now }
     requires headers { HaveHeaders region.now.bytes }
     requires names { HaveNames region.now.bytes }
     requires room { name_numbers ≤ 8 * length seen.old }
     ensures some { IfSome result (FirstBrought (same_name_faults region.now.bytes)) }
     ensures none { IfNone result (NoneBrought (same_name_faults region.now.bytes)) }
 {
-    for db in 0..listed_count(directory) {
-        let number = number_of_name(header_of(region, directory, db));
-        if has_same_name(region, directory, db, number, seen) {
+    for db in 0..headers.len() {
+        let number = number_of_name(header_of(region, headers, db));
+        if has_same_name(region, headers, db, number, seen) {
             return Some(StoreFault::SameName(db as u32));
         }
         bit_sets::add(seen, number);

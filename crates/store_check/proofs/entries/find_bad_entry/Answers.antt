@@ -21,4 +21,4 @@ loop-db-preserved c = record {
 
 pub returns-clause-marked : goal.returns-clause-marked
 returns-clause-marked c xs m =
-    same_marks c.args.region.now.bytes _ _ c.loop-db.marks (named_all c.args.region.now.bytes xs c.loop-db.db (let count = c.requires.listing.count in omega arith)) (c.loop-db.invariant.marked xs m)
+    same_marks c.args.region.now.bytes _ _ c.loop-db.marks (named_all c.args.region.now.bytes xs c.loop-db.db (let count = c.requires.listed.count in omega arith)) (c.loop-db.invariant.marked xs m)

@@ -10,4 +10,4 @@ loop-db-preserved c =
     greatest_more c.args.region.now.bytes c.header_of.result.now c.loop-db.db c.loop-db.greatest c.greatest_id_in-greatest.result c.header_of.ensures c.greatest_id_in-greatest.ensures.ids c.greatest_id_in-greatest.ensures.least c.greatest_id_in-greatest.ensures.small c.loop-db.invariant
 
 pub returns-clause-ids : goal.returns-clause-ids
-returns-clause-ids c = let count = c.requires.listing.count in greatest_all c.args.region.now.bytes c.loop-db.db c.loop-db.greatest (omega arith) c.loop-db.invariant
+returns-clause-ids c = let count = c.requires.listed.count in greatest_all c.args.region.now.bytes c.loop-db.db c.loop-db.greatest (omega arith) c.loop-db.invariant

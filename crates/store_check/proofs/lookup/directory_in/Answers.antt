@@ -9,4 +9,4 @@ pub returns-then-slot-eq0 : goal.returns-then-slot-eq0
 returns-then-slot-eq0 c = c.slice.ensures ∙ no_directory c.args.region.now.bytes c.requires (sym c.directory-slot.ensures ∙ c.if-slot-eq0.true)
 
 pub returns : goal.returns
-returns c = c.body_under.ensures ∙ the_directory c.args.region.now.bytes c.directory-slot.result c.directory-slot.ensures
+returns c = c.bytes_of.ensures ∙ sym c.body_under.ensures.bytes ∙ the_directory c.args.region.now.bytes c.directory-slot.result c.directory-slot.ensures

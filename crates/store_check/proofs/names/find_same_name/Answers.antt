@@ -10,4 +10,4 @@ loop-db-preserved c =
     (λ bad. false≢true (c.if-has_same_name.ensures.1 bad)) c.loop-db.invariant
 
 pub returns-clause-none : goal.returns-clause-none
-returns-clause-none c = let count = c.requires.listing.count in same_none c.args.region.now.bytes c.loop-db.db (omega arith) c.loop-db.invariant.none_same
+returns-clause-none c = let count = c.requires.listed.count in same_none c.args.region.now.bytes c.loop-db.db (omega arith) c.loop-db.invariant.none_same
