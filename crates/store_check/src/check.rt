@@ -6,7 +6,7 @@ ghost use Rattle.heap_model.specs.Bytes.{AreBytes};
 ghost use Rattle.heap_model.specs.Heap.{HeapAccepted, directory_of};
 ghost use Rattle.heap_model.specs.Store.{directory_bytes, listed, most_databases, Accepted};
 ghost use Rattle.heap_check.specs.Faults.{FirstBrought};
-ghost use Rattle.heap_check.specs.Owners.{NoneMarked, HasOwners};
+ghost use Rattle.heap_check.specs.Owners.{most_slots, NoneMarked, HasOwners};
 ghost use Rattle.store_check.specs.Listing.{IsListing, AreListed, NotesListed, HaveHeaders};
 ghost use Rattle.store_check.specs.Faults.{store_faults, NoneBrought};
 ghost use Rattle.store_check.specs.Naming.{AreNamed, accounted, AreMarks};
@@ -67,7 +67,7 @@ fn check_noting<A: Allowance>(
     region: &Region,
     owners: &mut [u8],
 ) -> Result<StoreSummary, StoreFault>
-    requires room { 65535 ≤ length owners.old }
+    requires room { most_slots ≤ length owners.old }
     requires clear { NoneMarked owners.old }
     ensures accepted { OnOk result (Accepted region.now.bytes) }
     ensures summary { IfOk result (Summarizes region.now.bytes) }
