@@ -1,10 +1,13 @@
-//! Heap images and files of databases for tests: listings in hex, and small blank images in which words are
-//! changed.
+//! Heap images and files of databases for tests: listings in hex, small blank images in which words are
+//! changed, and images that have one bit other.
 //!
 //! One of the listings is the worked image of docs/FORMAT.md. Nothing but tests uses this crate.
 #![tactic(auto)]
 
+mod flipped;
+
 use chunk_format::blank;
+pub use flipped::{Finding, check_flipped};
 use raw_region::Region;
 use std::alloc::Global;
 use std::test::Fail;
