@@ -19,6 +19,7 @@ pub fn change_attributes<C: ByteChange>(heap: &mut Heap, db: Db, chunk: Found, c
     requires records { HasKindHere heap.old.bytes db.0 false }
     ensures changed { Changes heap.old.bytes heap.new.bytes db.0
         (attributes_changed (C.made change)) }
+    ensures stands { StandsAs heap.new.bytes db.0 chunk }
     ensures rest { heap.new ≡ record heap.old { bytes = heap.new.bytes } }
 {
     let entries = heap.sys_body_found(Name(db.0), chunk).len() - HEADER_SIZE;

@@ -22,6 +22,7 @@ pub fn write_entry(heap: &mut Heap, db: Db, chunk: Found, index: u16, entry: DbE
     requires id { HasFittingId entry }
     ensures respells { Changes heap.old.bytes heap.new.bytes db.0
         (λ database. with_entry database index (entry_of entry)) }
+    ensures stands { StandsAs heap.new.bytes db.0 chunk }
     ensures rest { heap.new ≡ record heap.old { bytes = heap.new.bytes } }
 {
     put_entry(heap, db, chunk, index, entry, entry.is_resource());

@@ -7,7 +7,7 @@ use Rattle.heap_model.specs.Chunk.{fixed_lock, data_owner}
 use Rattle.heap_model.specs.Heap.{HeapAccepted, directory_of}
 use Rattle.heap_model.specs.Meaning.{LiveChunk}
 use Rattle.heap_model.specs.Reading.{held}
-use Rattle.heap_model.specs.Space.{place_of}
+use Rattle.heap_model.specs.Space.{place_of, MovesNothing}
 use Rattle.heap_model.specs.Maps.{gone, put}
 use Rattle.heap_model.specs.Layout.{Alters, with_bytes}
 use Rattle.heap_model.specs.Store.{bytes_of, owner_of, bytes_under, owner_under}
@@ -17,14 +17,14 @@ use Rattle.laws_heap.proofs.Slots.{slot_alike}
 use Rattle.laws_heap.proofs.Directory.{named_slots}
 use Rattle.laws_heap.proofs.Exchanges.{ChangesName}
 use Rattle.laws_heap.proofs.ChangedName.{held_updated}
-use Rattle.laws_heap.proofs.SlidImages.{slot_unheld}
+use Rattle.laws_heap.proofs.SlidImages.{slot_unheld, changes_move_nothing}
 use Rattle.master_table.proofs.TableLaws.{used_still}
 use Rattle.heap_place.proofs.FoundLaws.{name_held, bytes_inside}
 use Rattle.heap_place.specs.declared.found.Found.{Found}
 use Rattle.heap_place.specs.Found.{IsFound, IsOne, CanGoTo, SlidesWithin}
-use Rattle.heap_place.proofs.RelocateLaws.{found_held}
+use Rattle.heap_place.proofs.RelocateLaws.{found_held, one_placed}
 use Rattle.mem_manager.specs.Lookup.{IsManaged, IsMovable, StandsAs}
-use Rattle.mem_manager.proofs.StepWords.{one_of, still_others, altered}
+use Rattle.mem_manager.proofs.StepWords.{one_of, none_there, still_others, altered}
 use Rattle.mem_manager.proofs.ChunkCalls.{body_there, write_changes}
 
 -- ---- a name's chunk that was found
@@ -122,6 +122,17 @@ may_go_to image name found owner h f m other some most = record {
 
 pub leaves_gone : (old new : List ℕ) (name : ℕ) → ChangesName old new name None None → Leaves old new (gone (held old) name)
 leaves_gone old new name ch = record { map = held_updated old new name None None ch; frame = ch.frame; still = still_others old new name None None ch (inr refl) }
+
+pub gone_moves_nothing : (old new : List ℕ) (name : ℕ) → ChangesName old new name None None → MovesNothing old new
+gone_moves_nothing old new name ch = changes_move_nothing old new name None None ch (λ was is. absurd (none_there ch.here is))
+
+-- where another chunk changes, and nothing moves, a chunk stands as it was found
+pub stands_still : (old new : List ℕ) (name : ℕ) (found : Found) → HeapAccepted old → HeapAccepted new → StandsAs old name found → held new name ≡ held old name → MovesNothing old new → StandsAs new name found
+stands_still old new name found h k s same unmoved =
+    let f = s.is in
+    let there : held new name ≡ Some f.live = same ∙ name_held old name found h f in
+    let place : place_of new found.name.0 ≡ Some found.place.0 = ap (place_of new) f.name_is ∙ unmoved name (subst IsSome (sym (name_held old name found h f)) refl) (subst IsSome (sym there) refl) ∙ ap (place_of old) (sym f.name_is) ∙ one_placed old found h (one_of f) in
+    record { is = subst (λ (n : ℕ). IsFound new n found) f.name_is (found_held new found f.live k (ap (held new) f.name_is ∙ there) place f.count f.lock_is f.owner_is); movable = s.movable }
 
 -- bytes slide within a chunk
 part_length : (image : List ℕ) (found : Found) (from count : ℕ) → HeapAccepted image → IsOne image found → from + count ≤ found.length → length (slice_range image (found.place.0 + from) (found.place.0 + from + count)) ≡ count

@@ -33,16 +33,16 @@ pub(crate) fn check_taken(heap: &Heap, name: Name) -> Result<(), Refusal>
     ensures could { OnOk result (NoneHolds (checks_of_giving heap.now.bytes name.0)) }
     ensures why { IfErr result (FirstBrings (checks_of_giving heap.now.bytes name.0)) }
 {
-    let Some((owner, _)) = heap.sys_chunk(name) else {
+    let Some(chunk) = heap.sys_chunk(name) else {
         return Err(Refusal::InvalidHandle);
     };
-    if owner == MANAGERS_OWNER {
+    if chunk.owner == MANAGERS_OWNER {
         return Err(Refusal::InvalidHandle);
     }
-    if owner == DATA_OWNER {
+    if chunk.owner == DATA_OWNER {
         return Err(Refusal::OwnedByDatabase);
     }
-    if heap.sys_locks(name) == FIXED_LOCK {
+    if chunk.lock == FIXED_LOCK {
         return Err(Refusal::ChunkFixed);
     }
     Ok(())

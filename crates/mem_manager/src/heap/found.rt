@@ -69,6 +69,7 @@ impl Heap {
             (changed_every (C.made change) step skip
             (slice_range (bytes_under self.old.bytes name.0) at (at + count)))) }
         ensures unmoved { MovesNothing self.old.bytes self.new.bytes }
+        ensures stands { StandsAs self.new.bytes name.0 found }
         ensures rest { self.new ≡ record self.old { bytes = self.new.bytes } }
     {
         self.space

@@ -7,7 +7,7 @@ ghost use Rattle.heap_model.specs.Chunk.{need, managers_owner, data_owner};
 ghost use Rattle.heap_model.specs.Rooms.{Lowers};
 ghost use Rattle.heap_model.specs.Heap.{directory_of};
 ghost use Rattle.heap_model.specs.Reading.{held};
-ghost use Rattle.heap_model.specs.Space.{MovesOneStretch, moved_bytes};
+ghost use Rattle.heap_model.specs.Space.{MovesNothing, MovesOneStretch, moved_bytes};
 ghost use Rattle.heap_model.specs.Maps.{gone, reowned};
 ghost use Rattle.heap_model.specs.Store.{bytes_under, owner_under};
 ghost use Rattle.heap_model.specs.Leaving.{Leaves, NamesDirectory};
@@ -71,6 +71,7 @@ impl Heap {
         requires movable { IsMovable self.old.bytes name.0 }
         requires no_directory { name.0 ≢ directory_of self.old.bytes }
         ensures leaves { Leaves self.old.bytes self.new.bytes (gone (held self.old.bytes) name.0) }
+        ensures unmoved { MovesNothing self.old.bytes self.new.bytes }
         ensures rest { self.new ≡ record self.old { bytes = self.new.bytes } }
     {
         let found = self.space.movable(name);
