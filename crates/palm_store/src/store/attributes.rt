@@ -23,6 +23,7 @@ impl Store {
         requires change { MayChange (C.made change) }
         ensures changed { LeavesChanged self.old self.new
             (λ store. with_entries store db (map (with_attributes (C.made change)))) }
+        ensures stands { StandsAs self.new.bytes db.0 chunk }
         ensures none_made { MakesNone self.old.bytes self.new.bytes }
         ensures rest { self.new ≡ record self.old { bytes = self.new.bytes } }
     {

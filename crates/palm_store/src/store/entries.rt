@@ -20,7 +20,7 @@ use crate::entries::{
     EntryInfo, FoundEntry, NewEntry, count_entries, emptied, entry_at, entry_with, new_entry,
     put_in, read_entry, take_in, with_slot,
 };
-use crate::lookup::{chunk_of, find_chunk, find_header, header_in, header_of};
+use crate::lookup::{chunk_of, find_chunk, find_header, header_in};
 use crate::store::Store;
 use database_edits::{count_change, move_entry, remove_entry, write_entry};
 use db_format::{DatabaseView, DbAttrs};
@@ -44,23 +44,39 @@ impl Store {
         Ok(DatabaseView::of(header))
     }
 
-    /// The database of a number that there is, to be read.
-    pub fn database<'a>(&'a self, db: Db) -> DatabaseView<'a>
-        requires { HasNumber self.now.bytes db.0 }
+    /// The chunk of the database of a number, as it stands, for the calls below: that is of use until a call makes,
+    /// frees or resizes a chunk, and behind those that promise that it stands.
+    ///
+    /// Refused: `NoSuchDatabase`.
+    #[inline(always)]
+    pub fn find_chunk(&self, db: Db) -> Result<Found, Refusal>
         ensures accepted { Accepted self.now.bytes }
-        ensures is { HasDatabase self.now.bytes db.0 result }
+        ensures known { OnOk result (HasNumber self.now.bytes db.0) }
+        ensures is { IfOk result (StandsAs self.now.bytes db.0) }
+        ensures unknown { OnErr result (with_number (store_of self.now.bytes) db.0 ≡ None) }
+        ensures refusal { IfErr result (λ refusal. refusal ≡ Refusal.NoSuchDatabase) }
     {
-        DatabaseView::of(header_of(&self.heap, db))
+        find_chunk(&self.heap, db)
     }
 
-    /// The chunk of a database, as it stands, for the calls below: that is of use until a call makes, frees or resizes
-    /// a chunk.
+    /// The chunk of a database that there is, as `find_chunk` answers it.
     #[inline(always)]
-    pub fn database_chunk(&self, db: Db) -> Found
+    pub fn chunk_of(&self, db: Db) -> Found
         requires { HasNumber self.now.bytes db.0 }
         ensures { StandsAs self.now.bytes db.0 result }
     {
         chunk_of(&self.heap, db)
+    }
+
+    /// The database whose chunk was found, to be read.
+    #[inline(always)]
+    pub fn database_in<'a>(&'a self, db: Db, chunk: Found) -> DatabaseView<'a>
+        requires number { HasNumber self.now.bytes db.0 }
+        requires chunk { StandsAs self.now.bytes db.0 chunk }
+        ensures accepted { Accepted self.now.bytes }
+        ensures is { HasDatabase self.now.bytes db.0 result }
+    {
+        DatabaseView::of(header_in(&self.heap, db, chunk))
     }
 
     /// The attributes of a database, and what its entry at an index says, if there is one.
@@ -262,6 +278,7 @@ impl Store {
         requires unlocked { HasLockedData self.old.bytes db index → ⊥ }
         ensures freed { LeavesChanged self.old self.new
             (λ store. raised_if counts (data_freed store db index) db) }
+        ensures stands { StandsAs self.new.bytes db.0 chunk }
         ensures none_made { MakesNone self.old.bytes self.new.bytes }
         ensures rest { self.new ≡ record self.old { bytes = self.new.bytes } }
     {
