@@ -24,7 +24,8 @@ pub(crate) fn free_chunk_of(heap: &mut Heap, slot: Name)
     ensures rest { heap.new ≡ record heap.old { bytes = heap.new.bytes } }
 {
     if slot.0 != 0 {
-        heap.sys_free(slot);
+        let chunk = heap.sys_find(slot);
+        heap.sys_free(slot, chunk);
     }
 }
 

@@ -1,10 +1,11 @@
 //! Calls for the store above on a movable chunk that it has found. Where the chunk stands is looked up once, and handed
 //! to each call: that is of use until the chunk moves, is freed, or gets another length, owner or lock.
 
-ghost use Rattle.std.specs.Prelude.{◌≡◌, ◌≤◌, ◌<◌, ◌+◌, length, slice_range, IfErr, OnOk, OnErr};
+ghost use Rattle.std.specs.Prelude.{◌≡◌, ◌≢◌, ◌≤◌, ◌<◌, ◌+◌, length, slice_range, IfErr, OnOk, OnErr};
+ghost use Rattle.heap_model.specs.Heap.{directory_of};
 ghost use Rattle.heap_model.specs.Reading.{held};
 ghost use Rattle.heap_model.specs.Space.{MovesNothing, MovesOneStretchAnd};
-ghost use Rattle.heap_model.specs.Maps.{put, sized};
+ghost use Rattle.heap_model.specs.Maps.{gone, put, sized};
 ghost use Rattle.heap_model.specs.Store.{bytes_under};
 ghost use Rattle.heap_model.specs.Leaving.{Leaves};
 ghost use Rattle.heap_model.specs.Refusals.{NoneHolds, FirstBrings};
@@ -12,6 +13,7 @@ ghost use Rattle.raw_region.specs.ByteChanges.{changed_every};
 ghost use Rattle.mem_manager.specs.Lookup.{IsMovable, StandsAs, MovesOnlyToGrow, checks_of_growth};
 
 use crate::heap::Heap;
+use crate::heap::making::used_without;
 use crate::heap::moving::resize_found;
 use heap_model::{Name, Refusal};
 use heap_place::Found;
@@ -108,5 +110,19 @@ impl Heap {
         ensures rest { self.new ≡ record self.old { bytes = self.new.bytes; slid = self.new.slid } }
     {
         resize_found(&mut self.space, found, size)
+    }
+
+    /// Frees it; the directory is never freed.
+    #[inline(always)]
+    pub fn sys_free(&mut self, name: Name, found: Found)
+        requires stands { StandsAs self.old.bytes name.0 found }
+        requires no_directory { name.0 ≢ directory_of self.old.bytes }
+        ensures leaves { Leaves self.old.bytes self.new.bytes (gone (held self.old.bytes) name.0) }
+        ensures unmoved { MovesNothing self.old.bytes self.new.bytes }
+        ensures rest { self.new ≡ record self.old { bytes = self.new.bytes } }
+    {
+        self.used = used_without(self.used, name);
+        self.known.forget(name);
+        self.space.give_back(found);
     }
 }

@@ -7,14 +7,14 @@ ghost use Rattle.heap_model.specs.Chunk.{need, managers_owner, data_owner};
 ghost use Rattle.heap_model.specs.Rooms.{Lowers};
 ghost use Rattle.heap_model.specs.Heap.{directory_of};
 ghost use Rattle.heap_model.specs.Reading.{held};
-ghost use Rattle.heap_model.specs.Space.{MovesNothing, MovesOneStretch, moved_bytes};
-ghost use Rattle.heap_model.specs.Maps.{gone, reowned};
+ghost use Rattle.heap_model.specs.Space.{MovesOneStretch, moved_bytes};
+ghost use Rattle.heap_model.specs.Maps.{reowned};
 ghost use Rattle.heap_model.specs.Store.{bytes_under, owner_under};
 ghost use Rattle.heap_model.specs.Leaving.{Leaves, NamesDirectory};
 ghost use Rattle.mem_manager.specs.Lookup.{IsMovable, MakesNew, HasNoRoomFor, MovesOnlyForRoom};
 
 use crate::heap::Heap;
-use crate::heap::making::{make_movable, used_without};
+use crate::heap::making::make_movable;
 use heap_model::{Name, Refusal};
 
 impl Heap {
@@ -63,21 +63,6 @@ impl Heap {
     {
         let found = self.space.movable(name);
         self.space.reown(found, owner);
-    }
-
-    /// Frees a movable chunk, any but the directory.
-    #[inline(always)]
-    pub fn sys_free(&mut self, name: Name)
-        requires movable { IsMovable self.old.bytes name.0 }
-        requires no_directory { name.0 ≢ directory_of self.old.bytes }
-        ensures leaves { Leaves self.old.bytes self.new.bytes (gone (held self.old.bytes) name.0) }
-        ensures unmoved { MovesNothing self.old.bytes self.new.bytes }
-        ensures rest { self.new ≡ record self.old { bytes = self.new.bytes } }
-    {
-        let found = self.space.movable(name);
-        self.used = used_without(self.used, name);
-        self.known.forget(name);
-        self.space.give_back(found);
     }
 
     /// The name of the directory's chunk, or `Name(0)` where there is none.

@@ -78,7 +78,8 @@ pub(crate) fn list_whole(
 {
     let slot = heap.sys_new(size, MANAGERS_OWNER)?;
     if let Err(refusal) = make_data_and_list(heap, slot, blocks, entries, names) {
-        heap.sys_free(slot);
+        let chunk = heap.sys_find(slot);
+        heap.sys_free(slot, chunk);
         return Err(refusal);
     }
     Ok(slot)

@@ -100,7 +100,8 @@ pub(crate) fn list_new(heap: &mut Heap) -> Result<Name, Refusal>
 {
     let slot = heap.sys_new(HEADER_SIZE as u32, MANAGERS_OWNER)?;
     if let Err(refusal) = list_last(heap, slot) {
-        heap.sys_free(slot);
+        let chunk = heap.sys_find(slot);
+        heap.sys_free(slot, chunk);
         return Err(refusal);
     }
     Ok(slot)

@@ -58,7 +58,8 @@ pub(crate) fn put_in(
     let name = heap.sys_new(size, DATA_OWNER)?;
     let chunk = heap.sys_find(Name(db.0));
     if let Err(refusal) = insert_entry(heap, db, chunk, at as u16, with_slot(entry, name)) {
-        heap.sys_free(name);
+        let made = heap.sys_find(name);
+        heap.sys_free(name, made);
         return Err(refusal);
     }
     Ok(name)

@@ -59,13 +59,13 @@ impl Store {
     pub fn delete_database(&mut self, db: Db) -> Result<(), Refusal>
         ensures { DoesDatabase self.old (DatabaseCall.Delete db) (done_or_refused result) self.new }
     {
-        find_header(&self.heap, db)?;
-        if has_locked(&self.heap, db) {
+        let chunk = find_chunk(&self.heap, db)?;
+        if has_locked(&self.heap, db, chunk) {
             return Err(Refusal::ChunkLocked);
         }
         let index = index_of(&self.heap, db);
-        free_data(&mut self.heap, db);
-        self.heap.sys_free(Name(db.0));
+        free_data(&mut self.heap, db, chunk);
+        self.heap.sys_free(Name(db.0), chunk);
         unlist(&mut self.heap, index);
         self.known = NOTHING_KNOWN;
         Ok(())

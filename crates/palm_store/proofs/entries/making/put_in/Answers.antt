@@ -40,8 +40,8 @@ insert_entry-requires-clause-kind c =
     let still = database_still c.args.heap.now.bytes c.sys_new.new.self.bytes c.args.db.0 c.in_ok-name.name.0 c.args.size (accepted_spells c.args.heap.now.bytes c.args.db.0 c.requires.accepted c.requires.number) c.in_ok-name.ensures.made in
     c.with_slot.ensures.kind ∙ c.requires.kind ∙ kind_here c.args.heap.now.bytes c.args.db c.requires.number ∙ ap (λ (d : Database ℕ). has_resources d.header.attributes) (sym still)
 
-pub sys_free-requires-clause-movable : goal.sys_free-requires-clause-movable
-sys_free-requires-clause-movable c =
+pub sys_find-made-requires : goal.sys_find-made-requires
+sys_find-made-requires c =
     subst (λ (m : Memory). IsMovable m.bytes c.in_ok-name.name.0) (sym c.in-Err.ensures.refused) (made_movable c.args.heap.now.bytes c.sys_new.new.self.bytes c.in_ok-name.name.0 _ _ c.in_ok-name.ensures.made)
 
 pub sys_free-requires-clause-no_directory : goal.sys_free-requires-clause-no_directory
