@@ -43,12 +43,12 @@ pub fn insert_entry(
     let count = heading.entry_count;
     let resources = entry.is_resource();
     grow(heap, db, chunk, entry_offset(resources, count + 1) as u32)?;
-    let chunk = heap.sys_find(Name(db.0));
-    slide_entries(heap, db, chunk, index, count, index + 1, resources);
-    put_entry(heap, db, chunk, index, entry, resources);
-    put_entry_count(heap, db, chunk, count + 1);
-    put_seed(heap, db, chunk, seed_after(heading.seed, entry));
-    put_modification_number(heap, db, chunk, heading.modification_number.wrapping_add(1));
+    let grown = heap.sys_find(Name(db.0));
+    slide_entries(heap, db, grown, index, count, index + 1, resources);
+    put_entry(heap, db, grown, index, entry, resources);
+    put_entry_count(heap, db, grown, count + 1);
+    put_seed(heap, db, grown, seed_after(heading.seed, entry));
+    put_modification_number(heap, db, grown, heading.modification_number.wrapping_add(1));
     Ok(())
 }
 

@@ -11,8 +11,8 @@ use Rattle.database_edits.proofs.HeadersHere.{heading_spelled}
 use Rattle.database_edits.proofs.InsertedEntries.{short_of, same_name, inserted, inserted_header, inserted_kept}
 use Rattle.database_edits.proofs.insertion.insert_entry.Goals as goal
 
-pub sys_find-chunk-requires : goal.sys_find-chunk-requires
-sys_find-chunk-requires c = is_movable c.grow.new.heap.bytes c.args.db.0 c.in_ok-grow.ensures.grows.managers
+pub sys_find-grown-requires : goal.sys_find-grown-requires
+sys_find-grown-requires c = is_movable c.grow.new.heap.bytes c.args.db.0 c.in_ok-grow.ensures.grows.managers
 
 pub returns-in_err-grow-clause-no_room : goal.returns-in_err-grow-clause-no_room
 returns-in_err-grow-clause-no_room c =
