@@ -66,7 +66,7 @@ pub(crate) fn put_entry(
 
 /// Copies the entries from `first` on and below `end` to where the entry of the index `to` stands, or is to
 /// stand.
-#[inline]
+#[inline(always)]
 pub(crate) fn slide_entries(
     heap: &mut Heap,
     db: Db,
@@ -135,6 +135,7 @@ pub(crate) fn shrink(heap: &mut Heap, db: Db, chunk: Found, size: u32)
 }
 
 /// The entry of an index.
+#[inline(always)]
 pub(crate) fn entry_here(heap: &Heap, db: Db, chunk: Found, index: u16) -> DbEntry
     requires stands { StandsAs heap.now.bytes db.0 chunk }
     requires spells { SpellsHere heap.now.bytes db.0 }

@@ -19,6 +19,7 @@ use mem_manager::{Found, Heap};
 /// seed, and the modification number is raised. The chunk grows, and other chunks may move for it.
 ///
 /// Refused `NotEnoughSpace` alone, and then nothing has changed.
+#[inline(always)]
 pub fn insert_entry(
     heap: &mut Heap,
     db: Db,

@@ -12,6 +12,7 @@ use heap_model::Db;
 use mem_manager::{Found, Heap};
 
 /// Takes the entry at an index out; those behind it move down by one. The modification number is raised.
+#[inline(always)]
 pub fn remove_entry(heap: &mut Heap, db: Db, chunk: Found, index: u16)
     requires stands { StandsAs heap.old.bytes db.0 chunk }
     requires spells { SpellsHere heap.old.bytes db.0 }

@@ -157,6 +157,7 @@ pub fn set_record_info(
 }
 
 /// Sets bits of the attributes of a record that has data. The database counts the call if `counts` says so.
+#[inline(always)]
 fn mark(store: &mut Store, db: Db, index: u32, live: LiveRecord, bits: RecordAttrs, counts: bool)
     requires accepted { Accepted store.old.bytes }
     requires known { HasNumber store.old.bytes db.0 }

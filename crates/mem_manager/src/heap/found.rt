@@ -54,6 +54,7 @@ impl Heap {
 
     /// Of `count` of its bytes, from `at` within it on, changes each that stands behind `skip` others, or `step`
     /// further, or as often that much.
+    #[inline(always)]
     pub fn sys_change_every<C: ByteChange>(
         &mut self,
         name: Name,
@@ -79,6 +80,7 @@ impl Heap {
     }
 
     /// Copies `count` of its bytes from `from` within it to `to` within it; the ranges may overlap.
+    #[inline(always)]
     pub fn sys_slide(&mut self, name: Name, found: Found, from: u32, to: u32, count: u32)
         requires stands { StandsAs self.old.bytes name.0 found }
         requires from_within { from + count ≤ length (bytes_under self.old.bytes name.0) }
@@ -97,6 +99,7 @@ impl Heap {
     ///
     /// Refused: `ChunkLocked`, where it is locked and would have to move; `NotEnoughSpace`, where it is not
     /// locked and no stretch has the room. Then nothing has changed.
+    #[inline(always)]
     pub fn sys_resize(&mut self, name: Name, found: Found, size: u32) -> Result<(), Refusal>
         requires stands { StandsAs self.old.bytes name.0 found }
         ensures done { OnOk result (Leaves self.old.bytes self.new.bytes

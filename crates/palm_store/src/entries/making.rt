@@ -109,7 +109,7 @@ pub(crate) struct MadeEntry {
 }
 
 /// The new entry: a record gets a fresh ID, the next one where that is known to be free.
-#[inline]
+#[inline(always)]
 pub(crate) fn new_entry(
     heap: &Heap,
     db: Db,

@@ -107,6 +107,7 @@ impl Store {
     ///
     /// Refused: `TooManyEntries`, where there are 65,535; `NotEnoughSpace`, where no slot is free, or room for
     /// the data and for one entry more in the header can run out. Then nothing is left of it.
+    #[inline(always)]
     pub fn entry_new(
         &mut self,
         db: Db,
@@ -153,6 +154,7 @@ impl Store {
     ///
     /// Refused: `TooManyEntries`, where there are 65,535; `NotEnoughSpace`, where room for one entry more in
     /// the header can run out. Then nothing has changed.
+    #[inline(always)]
     pub fn entry_attach(
         &mut self,
         db: Db,
@@ -205,6 +207,7 @@ impl Store {
     }
 
     /// Sets what an entry says. Its data stays. The database counts the call if `counts` says so.
+    #[inline(always)]
     pub fn entry_set(&mut self, db: Db, chunk: Found, index: u32, info: EntryInfo, counts: bool)
         requires number { HasNumber self.old.bytes db.0 }
         requires chunk { StandsAs self.old.bytes db.0 chunk }
@@ -223,6 +226,7 @@ impl Store {
     /// Gives an entry a movable chunk of a caller's for its data, and sets what it says. The chunk becomes one for
     /// data, and that of the data that the entry had gets an owner; both keep their locks. The database counts
     /// the call.
+    #[inline(always)]
     pub fn entry_swap(
         &mut self,
         db: Db,
@@ -254,6 +258,7 @@ impl Store {
 
     /// Moves the entry at an index in front of the one that stands at another, or behind the last: `to` counts
     /// the entries as they stand before. The database counts the call.
+    #[inline(always)]
     pub fn entry_move(&mut self, db: Db, chunk: Found, from: u32, to: u32)
         requires number { HasNumber self.old.bytes db.0 }
         requires chunk { StandsAs self.old.bytes db.0 chunk }
@@ -296,6 +301,7 @@ impl Store {
 
     /// Drops an entry: its data, if it has any, is freed, or handed over to an owner. The database counts the
     /// call.
+    #[inline(always)]
     pub fn entry_drop(&mut self, db: Db, chunk: Found, index: u32, owner: Option<u8>)
         requires number { HasNumber self.old.bytes db.0 }
         requires chunk { StandsAs self.old.bytes db.0 chunk }
@@ -317,6 +323,7 @@ impl Store {
     }
 
     /// Counts a change of a database: raises its modification number by 1, modulo 2^32.
+    #[inline(always)]
     pub fn count_change(&mut self, db: Db, chunk: Found)
         requires number { HasNumber self.old.bytes db.0 }
         requires chunk { StandsAs self.old.bytes db.0 chunk }
