@@ -9,4 +9,6 @@ mod locks;
 mod opening;
 
 pub use locks::is_locked;
-pub use opening::{Access, EntryKind, count_entries, find_entry, open_database};
+pub use opening::{
+    Access, EntryAt, EntryKind, Opened, count_entries, find_entry, open_database, open_entries,
+};

@@ -4,13 +4,14 @@ ghost use Rattle.std.specs.Prelude.{◌≡◌, ◌<◌, [], length, OnOk, IfOk, 
 ghost use Rattle.heap_model.specs.Database.{has_resources};
 ghost use Rattle.heap_model.specs.Store.{Accepted};
 ghost use Rattle.heap_model.specs.Refusals.{NoneHolds, FirstBrings};
+ghost use Rattle.palm_store.specs.Found.{StandsAs};
 ghost use Rattle.palm_store.specs.Databases.{HasNumber, HasDatabase};
 ghost use Rattle.palm_store.specs.EntryCalls.{entries_of_image, resources_of_image, HasCount};
 ghost use Rattle.database_access.specs.Checks.{are_resources, wrong_kind, attribute_checks, opening_checks, finding_checks, IsTold, IsOfKind};
 
 use db_format::{DatabaseView, DbAttrs};
 use heap_model::{Db, Entry, Refusal};
-use palm_store::Store;
+use palm_store::{Found, Store};
 
 /// The entries that a call is on.
 #[derive(Clone, Copy, Debug, PartialEq, Eq)]
@@ -71,6 +72,42 @@ pub fn open_database<'a>(
     Ok(database)
 }
 
+/// A database that was opened for a call.
+#[derive(Clone, Copy)]
+pub struct Opened {
+    /// Its chunk, as it stands.
+    pub chunk: Found,
+    pub entry_count: u32,
+}
+
+/// A database that holds entries of a kind and may be used so, for a call that changes it.
+///
+/// Refused: as `open_database`.
+#[inline(always)]
+pub fn open_entries(
+    store: &Store,
+    db: Db,
+    kind: EntryKind,
+    access: Access,
+) -> Result<Opened, Refusal>
+    ensures accepted { Accepted store.now.bytes }
+    ensures known { OnOk result (HasNumber store.now.bytes db.0) }
+    ensures chunk { IfOk result (λ opened. StandsAs store.now.bytes db.0 opened.chunk) }
+    ensures kind { OnOk result (resources_of_image store.now.bytes db ≡ are_resources kind) }
+    ensures count { IfOk result (λ opened. HasCount store.now.bytes db opened.entry_count) }
+    ensures passes { OnOk result (NoneHolds (opening_checks store.now.bytes db kind access [])) }
+    ensures refused { IfErr result
+        (FirstBrings (opening_checks store.now.bytes db kind access [])) }
+{
+    let chunk = store.find_chunk(db)?;
+    let database = store.database_in(db, chunk);
+    check_attributes(database.attributes(), kind, access)?;
+    Ok(Opened {
+        chunk,
+        entry_count: database.entry_count(),
+    })
+}
+
 /// How many entries a database has that holds those of a kind and may be used so.
 ///
 /// Refused: as `open_database`.
@@ -87,6 +124,14 @@ pub fn count_entries(store: &Store, db: Db, kind: EntryKind, access: Access) -> 
     Ok(open_database(store, db, kind, access)?.entry_count())
 }
 
+/// An entry, and the chunk of its database.
+#[derive(Clone, Copy)]
+pub struct EntryAt {
+    /// The chunk, as it stands.
+    pub chunk: Found,
+    pub entry: Entry,
+}
+
 /// What the entry of an index says, of a database that holds entries of a kind and may be used so.
 ///
 /// Refused: as `open_database`; `IndexOutOfRange`.
@@ -97,13 +142,14 @@ pub fn find_entry(
     index: u32,
     kind: EntryKind,
     access: Access,
-) -> Result<Entry, Refusal>
+) -> Result<EntryAt, Refusal>
     ensures accepted { Accepted store.now.bytes }
     ensures known { OnOk result (HasNumber store.now.bytes db.0) }
     ensures kind { OnOk result (resources_of_image store.now.bytes db ≡ are_resources kind) }
     ensures inside { OnOk result (index < length (entries_of_image store.now.bytes db)) }
-    ensures is { IfOk result (IsTold store.now.bytes db index) }
-    ensures of_kind { IfOk result (IsOfKind kind) }
+    ensures chunk { IfOk result (λ found. StandsAs store.now.bytes db.0 found.chunk) }
+    ensures is { IfOk result (λ found. IsTold store.now.bytes db index found.entry) }
+    ensures of_kind { IfOk result (λ found. IsOfKind kind found.entry) }
     ensures passes { OnOk result
         (NoneHolds (finding_checks store.now.bytes db index kind access)) }
     ensures refused { IfErr result
@@ -114,7 +160,10 @@ pub fn find_entry(
     let Some(entry) = found.entry else {
         return Err(Refusal::IndexOutOfRange);
     };
-    Ok(entry)
+    Ok(EntryAt {
+        chunk: found.chunk,
+        entry,
+    })
 }
 
 /// Looks whether a database with these attributes holds entries of a kind and may be used so.

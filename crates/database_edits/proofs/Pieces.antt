@@ -1,7 +1,7 @@
 -- Lists of bytes in pieces: one piece is written over another, and slides past others.
 use Rattle.std.proofs.Common.{◌≡◌, ℕ, ◌+◌, ◌-◌, ◌≤◌, List, [], ◌++◌, length, take, drop, replicate, refl, sym, ap, ◌∙◌, append_assoc, arith, length-append, length-take, length-drop}
 use Rattle.std.proofs.Math.Seq.{take-append_seam, drop-append-add}
-use Rattle.std.proofs.lemmas.List.{append-nil, take-append-drop, take_all, length-replicate}
+use Rattle.std.proofs.lemmas.List.{append-nil, take-append-drop, take_all, take_at, length-replicate}
 use Rattle.std.specs.Prelude.{slice_range}
 use Rattle.heap_model.specs.Bytes.{overwritten, sized_to}
 use Rattle.laws_store.proofs.Numbers.{take_both}
@@ -96,3 +96,33 @@ put_in body header new size at len low inside =
     ∙ ap (λ (xs : List ℕ). overwritten xs 0 header) (opens front back zeros [] new at (at + length new) (omega arith) (omega arith) room)
     ∙ ap (λ (xs : List ℕ). overwritten (front ++ (new ++ xs)) 0 header) (append-nil back)
     ∙ headed body (new ++ back) header size at len low inside
+
+-- ---- with another header, and cut
+
+-- a list is cut behind its front
+cut : (xs ys : List ℕ) (n : ℕ) → length xs ≡ n → sized_to (xs ++ ys) n ≡ xs
+cut xs ys n len =
+    let all = length-append xs ys in
+    let none : n - length (xs ++ ys) ≡ 0 = omega arith in
+    ap (λ (k : ℕ). take n (xs ++ ys) ++ replicate k 0) none ∙ ap (λ (zs : List ℕ). zs ++ []) (take_at xs ys n len) ∙ append-nil xs
+
+-- a header is written over the front, whether the end is cut before or after
+pub header_cut : (body header : List ℕ) (size : ℕ) → length header ≤ size → size ≤ length body → sized_to (overwritten body 0 header) size ≡ overwritten (sized_to body size) 0 header
+header_cut body header size low inside =
+    let n : ℕ = length header in
+    let front : List ℕ = take n body in
+    let mid : List ℕ = slice_range body n size in
+    let back : List ℕ = drop size body in
+    let sum : n + (size - n) ≡ size = omega arith in
+    let parts : take size body ≡ front ++ mid = ap (λ (k : ℕ). take k body) (sym sum) ∙ sym (take_both n (size - n) body) in
+    let whole : body ≡ front ++ (mid ++ back) = sym (take-append-drop size body) ∙ ap (λ (xs : List ℕ). xs ++ back) parts ∙ append_assoc front mid back in
+    let front_size = length-take n body in
+    let cut_size = length-take size body in
+    let both = length-append header mid in
+    let halves = length-append front mid in
+    let pieces = ap length parts in
+    ap (λ (xs : List ℕ). sized_to (overwritten xs 0 header) size) whole
+    ∙ ap (λ (xs : List ℕ). sized_to xs size) (over_piece [] front (mid ++ back) header 0 refl (omega arith) ∙ sym (append_assoc header mid back))
+    ∙ cut (header ++ mid) back size (omega arith)
+    ∙ sym (over_piece [] front mid header 0 refl (omega arith))
+    ∙ ap (λ (xs : List ℕ). overwritten xs 0 header) (sym (ap (λ (xs : List ℕ). sized_to xs size) (whole ∙ sym (append_assoc front mid back)) ∙ cut (front ++ mid) back size (omega arith)))

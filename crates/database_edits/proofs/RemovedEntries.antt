@@ -1,5 +1,5 @@
 -- An entry taken out: those behind it slide over it, the chunk shrinks, and the header counts one less.
-use Rattle.std.proofs.Common.{◌≡◌, ℕ, suc, ◌+◌, ◌-◌, ◌<◌, ◌≤◌, Bool, List, ◌++◌, length, drop, refl, sym, ap, subst, ◌∙◌, arith}
+use Rattle.std.proofs.Common.{◌≡◌, ℕ, suc, ◌+◌, ◌-◌, ◌<◌, ◌≤◌, Bool, List, ◌++◌, length, drop, refl, sym, ap, ◌∙◌, arith}
 use Rattle.std.proofs.lemmas.List.Edits.{length-remove}
 use Rattle.std.specs.Prelude.{slice_range}
 use Rattle.std.specs.List.{remove}
@@ -9,6 +9,7 @@ use Rattle.heap_model.specs.Database.{Database, IsDatabaseName, has_resources, h
 use Rattle.heap_model.specs.Leaving.{SpellsHere, Respells, database_here}
 use Rattle.heap_model.specs.Store.{bytes_under}
 use Rattle.heap_model.specs.StoreWords.{next_modification}
+use Rattle.laws_heap.proofs.Frames.{length-overwritten}
 use Rattle.laws_store.proofs.Edits.{spelled_remove}
 use Rattle.laws_store.proofs.Spellings.{length-header_bytes}
 use Rattle.db_format.specs.Headers.{HasEntryCount, HasModificationNumber}
@@ -17,9 +18,9 @@ use Rattle.database_edits.specs.Edits.{counted, entry_removed}
 use Rattle.database_edits.proofs.Chunks.{leaves_as, through}
 use Rattle.database_edits.proofs.Databases.{managers, long}
 use Rattle.database_edits.proofs.Entries.{offset_next, offset_order, header_low}
-use Rattle.database_edits.proofs.HeadersHere.{kept_below, kept_sized, header_put, header_put_twice}
+use Rattle.database_edits.proofs.HeadersHere.{heading_spelled, kept_below, header_put, header_put_twice}
 use Rattle.database_edits.proofs.RaisedNumbers.{number_put}
-use Rattle.database_edits.proofs.Pieces.{taken_out}
+use Rattle.database_edits.proofs.Pieces.{taken_out, header_cut}
 
 unfoldable pub without : Database ℕ → ℕ → Database ℕ
 without d index = record d { entries = remove d.entries index }
@@ -47,46 +48,62 @@ closed d other body index size resources s inside same name kind all size_is =
     ∙ ap (λ (xs : List ℕ). header ++ (slice_range xs 78 (entry_offset (has_resources d.header.attributes) index) ++ drop (entry_offset (has_resources d.header.attributes) (suc index)) xs)) s.bytes_are
     ∙ sym (spelled_remove d other index s.fits inside same)
 
-pub removed : (old mid short new : List ℕ) (db index size left count : ℕ) (other : Database ℕ) (resources : Bool) → SpellsHere old db → index < length (database_here old db).entries → resources ≡ has_resources (database_here old db).header.attributes → count ≡ length (database_here old db).entries
+pub removed : (old mid wrote new : List ℕ) (db index size left count : ℕ) (other : Database ℕ) (resources : Bool) → SpellsHere old db → index < length (database_here old db).entries → resources ≡ has_resources (database_here old db).header.attributes → count ≡ length (database_here old db).entries
     → Rebodies old mid db (overwritten (bytes_under old db) (entry_offset resources index) (slice_range (bytes_under old db) (entry_offset resources (index + 1)) (entry_offset resources count)))
-    → left ≡ count - 1 → size ≡ entry_offset resources left → Rebodies mid short db (sized_to (bytes_under mid db) size)
-    → other.entries ≡ remove (database_here old db).entries index → IsDatabaseName other.header.name → Rebodies short new db (overwritten (bytes_under short db) 0 (header_bytes other))
+    → length (bytes_under mid db) ≡ length (bytes_under old db) → left ≡ count - 1 → size ≡ entry_offset resources left
+    → other.entries ≡ remove (database_here old db).entries index → IsDatabaseName other.header.name → Rebodies mid wrote db (overwritten (bytes_under mid db) 0 (header_bytes other)) → Rebodies wrote new db (sized_to (bytes_under wrote db) size)
     → Respells old new db other
-removed old mid short new db index size left count other resources s inside kind count_is slides left_is size_is shrinks same name wrote =
+removed old mid wrote new db index size left count other resources s inside kind count_is slides len left_is size_is same name writes shrinks =
     let d : Database ℕ = database_here old db in
     let body : List ℕ = bytes_under old db in
     let header : List ℕ = header_bytes other in
     let m = managers old db s in
     let all : length body ≡ entry_offset resources (length d.entries) = long old db s ∙ ap (λ (r : Bool). entry_offset r (length d.entries)) (sym kind) in
     let size_of : size ≡ entry_offset resources (length d.entries - 1) = size_is ∙ ap (entry_offset resources) left_is ∙ ap (λ (k : ℕ). entry_offset resources (k - 1)) count_is in
-    let both = through old mid new db (overwritten body (entry_offset resources index) (slice_range body (entry_offset resources (index + 1)) (entry_offset resources count))) (overwritten (bytes_under short db) 0 header) m slides
-    (through mid short new db (sized_to (bytes_under mid db) size) (overwritten (bytes_under short db) 0 header) slides.managers shrinks wrote) in
-    leaves_as old new db (overwritten (bytes_under short db) 0 header) (spelled other)
-    (ap (λ (xs : List ℕ). overwritten xs 0 header) shrinks.body
-    ∙ ap (λ (xs : List ℕ). overwritten (sized_to xs size) 0 header) slides.body
+    let slid : List ℕ = overwritten body (entry_offset resources index) (slice_range body (entry_offset resources (index + 1)) (entry_offset resources count)) in
+    let both = through old mid new db slid (sized_to (bytes_under wrote db) size) m slides
+    (through mid wrote new db (overwritten (bytes_under mid db) 0 header) (sized_to (bytes_under wrote db) size) slides.managers writes shrinks) in
+    let low : length header ≤ size = (let h = length-header_bytes other name in let l = header_low resources left in omega (arith, h, l, size_is)) in
+    let fits : size ≤ length slid = (let kept = ap length slides.body in let order = offset_order resources (length d.entries - 1) (length d.entries) (omega arith) in omega (arith, kept, len, all, order, size_of)) in
+    leaves_as old new db (sized_to (bytes_under wrote db) size) (spelled other)
+    (ap (λ (xs : List ℕ). sized_to xs size) writes.body
+    ∙ ap (λ (xs : List ℕ). sized_to (overwritten xs 0 header) size) slides.body
+    ∙ header_cut slid header size low fits
     ∙ ap (λ (k : ℕ). overwritten (sized_to (overwritten body (entry_offset resources index) (slice_range body (entry_offset resources (index + 1)) (entry_offset resources k))) size) 0 header) count_is
     ∙ closed d other body index size resources s.spelled inside same name kind all size_of)
     both
 
 -- the header is written field by field
-pub removed_header : (short wrote new : List ℕ) (db index left was number : ℕ) (d : Database ℕ) → IsManagers short db → HasHeaderOf short db d → index < length d.entries → left ≡ length d.entries - 1 → was ≡ d.header.modification_number → number ≡ next_modification was
-    → PutsHeader short wrote db (HasEntryCount left) → PutsHeader wrote new db (HasModificationNumber number)
-    → Rebodies short new db (overwritten (bytes_under short db) 0 (header_bytes (entry_removed index d)))
+pub removed_header : (mid wrote new : List ℕ) (db index left was number : ℕ) (d : Database ℕ) → IsManagers mid db → HasHeaderOf mid db d → index < length d.entries → left ≡ length d.entries - 1 → was ≡ d.header.modification_number → number ≡ next_modification was
+    → PutsHeader mid wrote db (HasEntryCount left) → PutsHeader wrote new db (HasModificationNumber number)
+    → Rebodies mid new db (overwritten (bytes_under mid db) 0 (header_bytes (entry_removed index d)))
 unfolding without
-removed_header short wrote new db index left was number d m has inside left_is was_is number_is counts raises =
+removed_header mid wrote new db index left was number d m has inside left_is was_is number_is counts raises =
     let out = length-remove d.entries index inside in
     let first = counts d (without d index) has (record { values = refl; app_info = refl; sort_info = refl; entries = omega (arith, out, left_is, inside) }) in
-    let there = header_put short wrote db d (without d index) has has.name first in
-    header_put_twice short wrote new db (without d index) (counted (without d index)) m has.inside has.name has.name first
+    let there = header_put mid wrote db d (without d index) has has.name first in
+    header_put_twice mid wrote new db (without d index) (counted (without d index)) m has.inside has.name has.name first
     (number_put wrote new db was number (without d index) there was_is number_is raises)
 
--- the header stays while entries slide and the chunk shrinks
-pub removed_kept : (old mid short : List ℕ) (db index size left count : ℕ) (resources : Bool) (d : Database ℕ) → HasHeaderOf old db d → size ≡ entry_offset resources left
+-- it is written while the entry's bytes are still there, and the chunk is as long as before
+pub record HeaderWritten (mid wrote : List ℕ) (db : ℕ) (other : Database ℕ) : Type 0 where
+  pub writes : Rebodies mid wrote db (overwritten (bytes_under mid db) 0 (header_bytes other))
+  pub len : length (bytes_under wrote db) ≡ length (bytes_under mid db)
+
+-- the header stays while entries slide
+pub slid_kept : (old mid : List ℕ) (db index count : ℕ) (resources : Bool) → SpellsHere old db
     → Rebodies old mid db (overwritten (bytes_under old db) (entry_offset resources index) (slice_range (bytes_under old db) (entry_offset resources (index + 1)) (entry_offset resources count)))
-    → Rebodies mid short db (sized_to (bytes_under mid db) size)
-    → HasHeaderOf short db d
-removed_kept old mid short db index size left count resources d has size_is slides shrinks =
-    let low : 78 ≤ size = subst (λ (n : ℕ). 78 ≤ n) (sym size_is) (header_low resources left) in
-    kept_sized mid short db size d
-    (kept_below old mid db (entry_offset resources index) (slice_range (bytes_under old db) (entry_offset resources (index + 1)) (entry_offset resources count)) d has (header_low resources index) slides)
-    low shrinks
+    → HasHeaderOf mid db (database_here old db)
+slid_kept old mid db index count resources s slides =
+    kept_below old mid db (entry_offset resources index) (slice_range (bytes_under old db) (entry_offset resources (index + 1)) (entry_offset resources count)) (database_here old db) (heading_spelled old db s) (header_low resources index) slides
+
+pub header_written : (old mid counts wrote : List ℕ) (db index count was : ℕ) (resources : Bool) → SpellsHere old db → index < length (database_here old db).entries → count ≡ length (database_here old db).entries → was ≡ (database_here old db).header.modification_number
+    → Rebodies old mid db (overwritten (bytes_under old db) (entry_offset resources index) (slice_range (bytes_under old db) (entry_offset resources (index + 1)) (entry_offset resources count)))
+    → PutsHeader mid counts db (HasEntryCount (count - 1)) → PutsHeader counts wrote db (HasModificationNumber (next_modification was)) → HeaderWritten mid wrote db (entry_removed index (database_here old db))
+header_written old mid counts wrote db index count was resources s inside count_is was_is slides puts_count puts_number =
+    let d : Database ℕ = database_here old db in
+    let has = slid_kept old mid db index count resources s slides in
+    let writes = removed_header mid counts wrote db index (count - 1) was (next_modification was) d slides.managers has inside (ap (λ (n : ℕ). n - 1) count_is) was_is refl puts_count puts_number in
+    let fits = has.inside in
+    let len = length-header_bytes (entry_removed index d) s.spelled.fits.name in
+    record { writes = writes; len = ap length writes.body ∙ length-overwritten (bytes_under mid db) 0 (header_bytes (entry_removed index d)) (omega (arith, fits, len)) }

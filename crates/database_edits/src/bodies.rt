@@ -10,29 +10,40 @@ ghost use Rattle.heap_model.specs.Leaving.{SpellsHere, database_here};
 ghost use Rattle.heap_model.specs.Store.{bytes_under};
 ghost use Rattle.db_format.specs.EitherEntry.{entry_of, is_resource, HasFittingId};
 ghost use Rattle.db_format.specs.Entries.{WritesEntry};
+ghost use Rattle.mem_manager.specs.Lookup.{StandsAs};
 ghost use Rattle.database_edits.specs.Edits.{HasKindHere};
 ghost use Rattle.database_edits.specs.Managers.{IsManagers, Rebodies};
 
 use db_format::{DbEntry, entry_offset};
 use heap_model::{Db, Name, Refusal};
-use mem_manager::Heap;
+use mem_manager::{Found, Heap};
 
 /// Writes bytes over those of a database, from `at` on. In line, so that the few bytes of a field or of an entry are
 /// written as one number.
 #[inline(always)]
-pub(crate) fn put_part(heap: &mut Heap, db: Db, at: u32, part: &[u8])
+pub(crate) fn put_part(heap: &mut Heap, db: Db, chunk: Found, at: u32, part: &[u8])
+    requires stands { StandsAs heap.old.bytes db.0 chunk }
     requires managers { IsManagers heap.old.bytes db.0 }
     requires inside { at + length part.now ≤ length (bytes_under heap.old.bytes db.0) }
     ensures writes { Rebodies heap.old.bytes heap.new.bytes db.0
         (overwritten (bytes_under heap.old.bytes db.0) at part.now) }
+    ensures stands { StandsAs heap.new.bytes db.0 chunk }
     ensures rest { heap.new ≡ record heap.old { bytes = heap.new.bytes } }
 {
-    heap.sys_write(Name(db.0), at, part);
+    heap.sys_write(Name(db.0), chunk, at, part);
 }
 
 /// Writes an entry where that of an index stands, or is to stand, among resources or among records.
 #[inline(always)]
-pub(crate) fn put_entry(heap: &mut Heap, db: Db, index: u16, entry: DbEntry, resources: bool)
+pub(crate) fn put_entry(
+    heap: &mut Heap,
+    db: Db,
+    chunk: Found,
+    index: u16,
+    entry: DbEntry,
+    resources: bool,
+)
+    requires stands { StandsAs heap.old.bytes db.0 chunk }
     requires managers { IsManagers heap.old.bytes db.0 }
     requires inside { databases.entry_offset resources (index + 1)
         ≤ length (bytes_under heap.old.bytes db.0) }
@@ -43,19 +54,29 @@ pub(crate) fn put_entry(heap: &mut Heap, db: Db, index: u16, entry: DbEntry, res
         (overwritten (bytes_under heap.old.bytes db.0)
         (databases.entry_offset resources index) (entry_bytes (entry_of entry))) }
     ensures len { length (bytes_under heap.new.bytes db.0) ≡ length (bytes_under heap.old.bytes db.0) }
+    ensures stands { StandsAs heap.new.bytes db.0 chunk }
     ensures rest { heap.new ≡ record heap.old { bytes = heap.new.bytes } }
 {
     let at = entry_offset(resources, index) as u32;
     match entry {
-        DbEntry::Record(record) => put_part(heap, db, at, &record.to_bytes()),
-        DbEntry::Resource(resource) => put_part(heap, db, at, &resource.to_bytes()),
+        DbEntry::Record(record) => put_part(heap, db, chunk, at, &record.to_bytes()),
+        DbEntry::Resource(resource) => put_part(heap, db, chunk, at, &resource.to_bytes()),
     }
 }
 
 /// Copies the entries from `first` on and below `end` to where the entry of the index `to` stands, or is to
 /// stand.
-#[inline]
-pub(crate) fn slide_entries(heap: &mut Heap, db: Db, first: u16, end: u16, to: u16, resources: bool)
+#[inline(always)]
+pub(crate) fn slide_entries(
+    heap: &mut Heap,
+    db: Db,
+    chunk: Found,
+    first: u16,
+    end: u16,
+    to: u16,
+    resources: bool,
+)
+    requires stands { StandsAs heap.old.bytes db.0 chunk }
     requires managers { IsManagers heap.old.bytes db.0 }
     requires order { first ≤ end }
     requires from_inside { databases.entry_offset resources end
@@ -67,6 +88,7 @@ pub(crate) fn slide_entries(heap: &mut Heap, db: Db, first: u16, end: u16, to: u
         (slice_range (bytes_under heap.old.bytes db.0)
         (databases.entry_offset resources first) (databases.entry_offset resources end))) }
     ensures len { length (bytes_under heap.new.bytes db.0) ≡ length (bytes_under heap.old.bytes db.0) }
+    ensures stands { StandsAs heap.new.bytes db.0 chunk }
     ensures rest { heap.new ≡ record heap.old { bytes = heap.new.bytes; slid = heap.new.slid } }
 {
     if first >= end {
@@ -74,13 +96,20 @@ pub(crate) fn slide_entries(heap: &mut Heap, db: Db, first: u16, end: u16, to: u
     }
     let from = entry_offset(resources, first) as u32;
     let count = entry_offset(resources, end) as u32 - from;
-    heap.sys_slide(Name(db.0), from, entry_offset(resources, to) as u32, count);
+    heap.sys_slide(
+        Name(db.0),
+        chunk,
+        from,
+        entry_offset(resources, to) as u32,
+        count,
+    );
 }
 
 /// Lets the chunk of a database have `size` bytes, its own and zeros behind them. Refused `NotEnoughSpace`
 /// alone, and then nothing has changed.
 #[inline(always)]
-pub(crate) fn grow(heap: &mut Heap, db: Db, size: u32) -> Result<(), Refusal>
+pub(crate) fn grow(heap: &mut Heap, db: Db, chunk: Found, size: u32) -> Result<(), Refusal>
+    requires stands { StandsAs heap.old.bytes db.0 chunk }
     requires managers { IsManagers heap.old.bytes db.0 }
     ensures grows { OnOk result (Rebodies heap.old.bytes heap.new.bytes db.0
         (sized_to (bytes_under heap.old.bytes db.0) size)) }
@@ -89,28 +118,31 @@ pub(crate) fn grow(heap: &mut Heap, db: Db, size: u32) -> Result<(), Refusal>
     ensures refused { OnErr result (heap.new ≡ heap.old) }
     ensures rest { heap.new ≡ record heap.old { bytes = heap.new.bytes; slid = heap.new.slid } }
 {
-    heap.sys_resize(Name(db.0), size)
+    heap.sys_resize(Name(db.0), chunk, size)
 }
 
 /// Leaves the chunk of a database its first `size` bytes.
 #[inline(always)]
-pub(crate) fn shrink(heap: &mut Heap, db: Db, size: u32)
+pub(crate) fn shrink(heap: &mut Heap, db: Db, chunk: Found, size: u32)
+    requires stands { StandsAs heap.old.bytes db.0 chunk }
     requires managers { IsManagers heap.old.bytes db.0 }
     requires inside { size ≤ length (bytes_under heap.old.bytes db.0) }
     ensures shrinks { Rebodies heap.old.bytes heap.new.bytes db.0
         (sized_to (bytes_under heap.old.bytes db.0) size) }
     ensures rest { heap.new ≡ record heap.old { bytes = heap.new.bytes; slid = heap.new.slid } }
 {
-    heap.sys_resize(Name(db.0), size).unwrap();
+    heap.sys_resize(Name(db.0), chunk, size).unwrap();
 }
 
 /// The entry of an index.
-pub(crate) fn entry_here(heap: &Heap, db: Db, index: u16) -> DbEntry
+#[inline(always)]
+pub(crate) fn entry_here(heap: &Heap, db: Db, chunk: Found, index: u16) -> DbEntry
+    requires stands { StandsAs heap.now.bytes db.0 chunk }
     requires spells { SpellsHere heap.now.bytes db.0 }
     requires inside { index < length (database_here heap.now.bytes db.0).entries }
     ensures is { entry_of result ≡ databases.entry_in (bytes_under heap.now.bytes db.0) index }
     ensures kind { HasKindHere heap.now.bytes db.0 (is_resource result) }
     ensures id { HasFittingId result }
 {
-    DbEntry::read(heap.sys_body(Name(db.0)), index)
+    DbEntry::read(heap.sys_body_found(Name(db.0), chunk), index)
 }

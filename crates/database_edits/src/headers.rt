@@ -7,6 +7,7 @@ ghost use Rattle.heap_model.specs.Space.{MovesNothing};
 ghost use Rattle.heap_model.specs.Leaving.{SpellsHere, database_here};
 ghost use Rattle.heap_model.specs.Store.{bytes_under};
 ghost use Rattle.db_format.specs.Headers.{HasModificationNumber, HasSeed, HasEntryCount, HasInfoBlock};
+ghost use Rattle.mem_manager.specs.Lookup.{StandsAs};
 ghost use Rattle.database_edits.specs.Managers.{IsManagers, PutsHeader};
 ghost use Rattle.database_edits.specs.Headings.{IsHeading};
 
@@ -16,7 +17,7 @@ use db_format::{
     seed_bytes,
 };
 use heap_model::{Db, Name, Which};
-use mem_manager::Heap;
+use mem_manager::{Found, Heap};
 
 /// What edits need of the header of a database.
 #[derive(Clone, Copy, PartialEq, Eq, Debug)]
@@ -31,11 +32,12 @@ pub(crate) struct Heading {
 
 /// The heading of a database.
 #[inline(always)]
-pub(crate) fn heading_here(heap: &Heap, db: Db) -> Heading
+pub(crate) fn heading_here(heap: &Heap, db: Db, chunk: Found) -> Heading
+    requires stands { StandsAs heap.now.bytes db.0 chunk }
     requires spells { SpellsHere heap.now.bytes db.0 }
     ensures { IsHeading result (database_here heap.now.bytes db.0) }
 {
-    let body = heap.sys_body(Name(db.0));
+    let body = heap.sys_body_found(Name(db.0), chunk);
     Heading {
         resources: has_resources(body),
         entry_count: entry_count(body),
@@ -46,54 +48,62 @@ pub(crate) fn heading_here(heap: &Heap, db: Db) -> Heading
 
 /// Writes the modification number in a header.
 #[inline(always)]
-pub(crate) fn put_modification_number(heap: &mut Heap, db: Db, number: u32)
+pub(crate) fn put_modification_number(heap: &mut Heap, db: Db, chunk: Found, number: u32)
+    requires stands { StandsAs heap.old.bytes db.0 chunk }
     requires managers { IsManagers heap.old.bytes db.0 }
     requires inside { header_size ≤ length (bytes_under heap.old.bytes db.0) }
     ensures puts { PutsHeader heap.old.bytes heap.new.bytes db.0 (HasModificationNumber number) }
     ensures unmoved { MovesNothing heap.old.bytes heap.new.bytes }
+    ensures stands { StandsAs heap.new.bytes db.0 chunk }
     ensures rest { heap.new ≡ record heap.old { bytes = heap.new.bytes } }
 {
     let bytes = modification_number_bytes(number);
-    heap.sys_write(Name(db.0), MODIFICATION_NUMBER_AT as u32, &bytes);
+    heap.sys_write(Name(db.0), chunk, MODIFICATION_NUMBER_AT as u32, &bytes);
 }
 
 /// Writes the field of the seed in a header.
 #[inline(always)]
-pub(crate) fn put_seed(heap: &mut Heap, db: Db, seed: u32)
+pub(crate) fn put_seed(heap: &mut Heap, db: Db, chunk: Found, seed: u32)
+    requires stands { StandsAs heap.old.bytes db.0 chunk }
     requires managers { IsManagers heap.old.bytes db.0 }
     requires inside { header_size ≤ length (bytes_under heap.old.bytes db.0) }
     ensures puts { PutsHeader heap.old.bytes heap.new.bytes db.0 (HasSeed seed) }
     ensures managers { IsManagers heap.new.bytes db.0 }
     ensures inside { header_size ≤ length (bytes_under heap.new.bytes db.0) }
+    ensures stands { StandsAs heap.new.bytes db.0 chunk }
     ensures rest { heap.new ≡ record heap.old { bytes = heap.new.bytes } }
 {
     let bytes = seed_bytes(seed);
-    heap.sys_write(Name(db.0), SEED_AT as u32, &bytes);
+    heap.sys_write(Name(db.0), chunk, SEED_AT as u32, &bytes);
 }
 
 /// Writes the number of entries in a header.
 #[inline(always)]
-pub(crate) fn put_entry_count(heap: &mut Heap, db: Db, count: u16)
+pub(crate) fn put_entry_count(heap: &mut Heap, db: Db, chunk: Found, count: u16)
+    requires stands { StandsAs heap.old.bytes db.0 chunk }
     requires managers { IsManagers heap.old.bytes db.0 }
     requires inside { header_size ≤ length (bytes_under heap.old.bytes db.0) }
     ensures puts { PutsHeader heap.old.bytes heap.new.bytes db.0 (HasEntryCount count) }
     ensures managers { IsManagers heap.new.bytes db.0 }
     ensures inside { header_size ≤ length (bytes_under heap.new.bytes db.0) }
+    ensures stands { StandsAs heap.new.bytes db.0 chunk }
     ensures rest { heap.new ≡ record heap.old { bytes = heap.new.bytes } }
 {
     let bytes = entry_count_bytes(count);
-    heap.sys_write(Name(db.0), ENTRY_COUNT_AT as u32, &bytes);
+    heap.sys_write(Name(db.0), chunk, ENTRY_COUNT_AT as u32, &bytes);
 }
 
 /// Writes the slot of an info block, or 0 for none, in a header.
-pub(crate) fn put_info_block(heap: &mut Heap, db: Db, which: Which, slot: u32)
+pub(crate) fn put_info_block(heap: &mut Heap, db: Db, chunk: Found, which: Which, slot: u32)
+    requires stands { StandsAs heap.old.bytes db.0 chunk }
     requires managers { IsManagers heap.old.bytes db.0 }
     requires inside { header_size ≤ length (bytes_under heap.old.bytes db.0) }
     ensures puts { PutsHeader heap.old.bytes heap.new.bytes db.0 (HasInfoBlock which slot) }
     ensures managers { IsManagers heap.new.bytes db.0 }
     ensures inside { header_size ≤ length (bytes_under heap.new.bytes db.0) }
+    ensures stands { StandsAs heap.new.bytes db.0 chunk }
     ensures rest { heap.new ≡ record heap.old { bytes = heap.new.bytes } }
 {
     let bytes = info_block_bytes(slot);
-    heap.sys_write(Name(db.0), info_block_at(which) as u32, &bytes);
+    heap.sys_write(Name(db.0), chunk, info_block_at(which) as u32, &bytes);
 }

@@ -6,19 +6,28 @@ ghost use Rattle.heap_model.specs.EntrySteps.{seeded_by, most_entries};
 ghost use Rattle.heap_model.specs.UniqueIds.{greatest_id, with_seed};
 ghost use Rattle.heap_model.specs.Leaving.{SpellsHere, database_here};
 ghost use Rattle.db_format.specs.EitherEntry.{entry_of, is_resource, HasFittingId};
+ghost use Rattle.mem_manager.specs.Lookup.{StandsAs};
 ghost use Rattle.database_edits.specs.Edits.{Changes, HasKindHere, HasNoRoomFor, entry_inserted};
 
 use crate::bodies::{grow, put_entry, slide_entries};
 use crate::headers::{heading_here, put_entry_count, put_modification_number, put_seed};
 use db_format::{DbEntry, SEEDS, entry_offset};
-use heap_model::{Db, Refusal};
-use mem_manager::Heap;
+use heap_model::{Db, Name, Refusal};
+use mem_manager::{Found, Heap};
 
 /// Puts an entry in at an index; the entries from there on move up by one. The ID of a record becomes the
 /// seed, and the modification number is raised. The chunk grows, and other chunks may move for it.
 ///
 /// Refused `NotEnoughSpace` alone, and then nothing has changed.
-pub fn insert_entry(heap: &mut Heap, db: Db, index: u16, entry: DbEntry) -> Result<(), Refusal>
+#[inline(always)]
+pub fn insert_entry(
+    heap: &mut Heap,
+    db: Db,
+    chunk: Found,
+    index: u16,
+    entry: DbEntry,
+) -> Result<(), Refusal>
+    requires stands { StandsAs heap.old.bytes db.0 chunk }
     requires spells { SpellsHere heap.old.bytes db.0 }
     requires inside { index ≤ length (database_here heap.old.bytes db.0).entries }
     requires few { length (database_here heap.old.bytes db.0).entries < most_entries }
@@ -31,15 +40,16 @@ pub fn insert_entry(heap: &mut Heap, db: Db, index: u16, entry: DbEntry) -> Resu
     ensures refused { OnErr result (heap.new ≡ heap.old) }
     ensures rest { heap.new ≡ record heap.old { bytes = heap.new.bytes; slid = heap.new.slid } }
 {
-    let heading = heading_here(heap, db);
+    let heading = heading_here(heap, db, chunk);
     let count = heading.entry_count;
     let resources = entry.is_resource();
-    grow(heap, db, entry_offset(resources, count + 1) as u32)?;
-    slide_entries(heap, db, index, count, index + 1, resources);
-    put_entry(heap, db, index, entry, resources);
-    put_entry_count(heap, db, count + 1);
-    put_seed(heap, db, seed_after(heading.seed, entry));
-    put_modification_number(heap, db, heading.modification_number.wrapping_add(1));
+    grow(heap, db, chunk, entry_offset(resources, count + 1) as u32)?;
+    let grown = heap.sys_find(Name(db.0));
+    slide_entries(heap, db, grown, index, count, index + 1, resources);
+    put_entry(heap, db, grown, index, entry, resources);
+    put_entry_count(heap, db, grown, count + 1);
+    put_seed(heap, db, grown, seed_after(heading.seed, entry));
+    put_modification_number(heap, db, grown, heading.modification_number.wrapping_add(1));
     Ok(())
 }
 

@@ -2,15 +2,17 @@
 
 ghost use Rattle.std.specs.Prelude.{◌≡◌, ◌<◌, ◌≤◌, ◌+◌, length};
 ghost use Rattle.heap_model.specs.Leaving.{SpellsHere, database_here};
+ghost use Rattle.mem_manager.specs.Lookup.{StandsAs};
 ghost use Rattle.database_edits.specs.Edits.{Changes, with_moved};
 
 use crate::bodies::{entry_here, put_entry, slide_entries};
 use heap_model::Db;
-use mem_manager::Heap;
+use mem_manager::{Found, Heap};
 
 /// Moves the entry at an index in front of the one that stands at another, or behind the last: `to` counts
 /// the entries as they stand before.
-pub fn move_entry(heap: &mut Heap, db: Db, from: u16, to: u16)
+pub fn move_entry(heap: &mut Heap, db: Db, chunk: Found, from: u16, to: u16)
+    requires stands { StandsAs heap.old.bytes db.0 chunk }
     requires spells { SpellsHere heap.old.bytes db.0 }
     requires from_inside { from < length (database_here heap.old.bytes db.0).entries }
     requires to_inside { to ≤ length (database_here heap.old.bytes db.0).entries }
@@ -18,36 +20,38 @@ pub fn move_entry(heap: &mut Heap, db: Db, from: u16, to: u16)
     ensures rest { heap.new ≡ record heap.old { bytes = heap.new.bytes; slid = heap.new.slid } }
 {
     if to < from {
-        move_to_front(heap, db, from, to);
+        move_to_front(heap, db, chunk, from, to);
     } else if from + 1 < to {
-        move_to_back(heap, db, from, to);
+        move_to_back(heap, db, chunk, from, to);
     }
 }
 
 /// Moves an entry to the front: those in front of it down to the index move up by one.
-fn move_to_front(heap: &mut Heap, db: Db, from: u16, to: u16)
+fn move_to_front(heap: &mut Heap, db: Db, chunk: Found, from: u16, to: u16)
+    requires stands { StandsAs heap.old.bytes db.0 chunk }
     requires spells { SpellsHere heap.old.bytes db.0 }
     requires inside { from < length (database_here heap.old.bytes db.0).entries }
     requires front { to < from }
     ensures respells { Changes heap.old.bytes heap.new.bytes db.0 (with_moved from to) }
     ensures rest { heap.new ≡ record heap.old { bytes = heap.new.bytes; slid = heap.new.slid } }
 {
-    let entry = entry_here(heap, db, from);
+    let entry = entry_here(heap, db, chunk, from);
     let resources = entry.is_resource();
-    slide_entries(heap, db, to, from, to + 1, resources);
-    put_entry(heap, db, to, entry, resources);
+    slide_entries(heap, db, chunk, to, from, to + 1, resources);
+    put_entry(heap, db, chunk, to, entry, resources);
 }
 
 /// Moves an entry to the back, in front of the one at the index: those between them move down by one.
-fn move_to_back(heap: &mut Heap, db: Db, from: u16, to: u16)
+fn move_to_back(heap: &mut Heap, db: Db, chunk: Found, from: u16, to: u16)
+    requires stands { StandsAs heap.old.bytes db.0 chunk }
     requires spells { SpellsHere heap.old.bytes db.0 }
     requires inside { to ≤ length (database_here heap.old.bytes db.0).entries }
     requires back { from + 1 < to }
     ensures respells { Changes heap.old.bytes heap.new.bytes db.0 (with_moved from to) }
     ensures rest { heap.new ≡ record heap.old { bytes = heap.new.bytes; slid = heap.new.slid } }
 {
-    let entry = entry_here(heap, db, from);
+    let entry = entry_here(heap, db, chunk, from);
     let resources = entry.is_resource();
-    slide_entries(heap, db, from + 1, to, from, resources);
-    put_entry(heap, db, to - 1, entry, resources);
+    slide_entries(heap, db, chunk, from + 1, to, from, resources);
+    put_entry(heap, db, chunk, to - 1, entry, resources);
 }

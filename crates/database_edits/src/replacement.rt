@@ -3,38 +3,42 @@
 ghost use Rattle.std.specs.Prelude.{◌≡◌, ◌<◌, ◌≤◌, length};
 ghost use Rattle.heap_model.specs.Leaving.{SpellsHere, database_here};
 ghost use Rattle.db_format.specs.EitherEntry.{entry_of, is_resource, HasFittingId};
+ghost use Rattle.mem_manager.specs.Lookup.{StandsAs};
 ghost use Rattle.database_edits.specs.Edits.{Changes, HasKindHere, entry_written, entry_moved};
 
 use crate::counting::{count_change, count_change_if};
 use crate::{moving, writing};
 use db_format::DbEntry;
 use heap_model::Db;
-use mem_manager::Heap;
+use mem_manager::{Found, Heap};
 
 /// Writes an entry in place of the one at an index. The modification number is raised if `counts` says so.
 #[inline(always)]
-pub fn write_entry(heap: &mut Heap, db: Db, index: u16, entry: DbEntry, counts: bool)
+pub fn write_entry(heap: &mut Heap, db: Db, chunk: Found, index: u16, entry: DbEntry, counts: bool)
+    requires stands { StandsAs heap.old.bytes db.0 chunk }
     requires spells { SpellsHere heap.old.bytes db.0 }
     requires inside { index < length (database_here heap.old.bytes db.0).entries }
     requires kind { HasKindHere heap.old.bytes db.0 (is_resource entry) }
     requires id { HasFittingId entry }
     ensures written { Changes heap.old.bytes heap.new.bytes db.0
         (entry_written counts index (entry_of entry)) }
+    ensures stands { StandsAs heap.new.bytes db.0 chunk }
     ensures rest { heap.new ≡ record heap.old { bytes = heap.new.bytes } }
 {
-    count_change_if(heap, db, counts);
-    writing::write_entry(heap, db, index, entry);
+    count_change_if(heap, db, chunk, counts);
+    writing::write_entry(heap, db, chunk, index, entry);
 }
 
 /// Moves the entry at an index in front of the one that stands at another, or behind the last: `to` counts
 /// the entries as they stand before. The modification number is raised.
-pub fn move_entry(heap: &mut Heap, db: Db, from: u16, to: u16)
+pub fn move_entry(heap: &mut Heap, db: Db, chunk: Found, from: u16, to: u16)
+    requires stands { StandsAs heap.old.bytes db.0 chunk }
     requires spells { SpellsHere heap.old.bytes db.0 }
     requires from_inside { from < length (database_here heap.old.bytes db.0).entries }
     requires to_inside { to ≤ length (database_here heap.old.bytes db.0).entries }
     ensures moved { Changes heap.old.bytes heap.new.bytes db.0 (entry_moved from to) }
     ensures rest { heap.new ≡ record heap.old { bytes = heap.new.bytes; slid = heap.new.slid } }
 {
-    count_change(heap, db);
-    moving::move_entry(heap, db, from, to);
+    count_change(heap, db, chunk);
+    moving::move_entry(heap, db, chunk, from, to);
 }

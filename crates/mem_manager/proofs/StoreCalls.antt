@@ -7,22 +7,24 @@ use Rattle.heap_model.specs.Chunk.{fixed_lock, data_owner}
 use Rattle.heap_model.specs.Heap.{HeapAccepted, directory_of}
 use Rattle.heap_model.specs.Meaning.{LiveChunk}
 use Rattle.heap_model.specs.Reading.{held}
+use Rattle.heap_model.specs.Space.{place_of, MovesNothing}
 use Rattle.heap_model.specs.Maps.{gone, put}
 use Rattle.heap_model.specs.Layout.{Alters, with_bytes}
 use Rattle.heap_model.specs.Store.{bytes_of, owner_of, bytes_under, owner_under}
 use Rattle.heap_model.specs.Leaving.{Leaves, NamesDirectory}
-use Rattle.laws_heap.proofs.Frames.{slice-of_slice}
+use Rattle.laws_heap.proofs.Frames.{slice-of_slice, length-overwritten}
 use Rattle.laws_heap.proofs.Slots.{slot_alike}
 use Rattle.laws_heap.proofs.Directory.{named_slots}
 use Rattle.laws_heap.proofs.Exchanges.{ChangesName}
 use Rattle.laws_heap.proofs.ChangedName.{held_updated}
-use Rattle.laws_heap.proofs.SlidImages.{slot_unheld}
+use Rattle.laws_heap.proofs.SlidImages.{slot_unheld, changes_move_nothing}
 use Rattle.master_table.proofs.TableLaws.{used_still}
 use Rattle.heap_place.proofs.FoundLaws.{name_held, bytes_inside}
 use Rattle.heap_place.specs.declared.found.Found.{Found}
 use Rattle.heap_place.specs.Found.{IsFound, IsOne, CanGoTo, SlidesWithin}
-use Rattle.mem_manager.specs.Lookup.{IsManaged, IsMovable}
-use Rattle.mem_manager.proofs.StepWords.{one_of, still_others, altered}
+use Rattle.heap_place.proofs.RelocateLaws.{found_held, one_placed}
+use Rattle.mem_manager.specs.Lookup.{IsManaged, IsMovable, StandsAs}
+use Rattle.mem_manager.proofs.StepWords.{one_of, none_there, still_others, altered}
 use Rattle.mem_manager.proofs.ChunkCalls.{body_there, write_changes}
 
 -- ---- a name's chunk that was found
@@ -90,6 +92,23 @@ movable_loose image name m live e is = m.movable (ap (λ (x : LiveChunk). x.lock
 pub movable_viewed : {inside value : Memory} (name : ℕ) → inside ≡ value → IsMovable value.bytes name → IsMovable inside.bytes name
 movable_viewed name view m = subst (λ (x : Memory). IsMovable x.bytes name) (sym view) m
 
+-- what was found in the heap's value was found in its region
+pub found_viewed : {inside value : Memory} (name : ℕ) (found : Found) → inside ≡ value → StandsAs value.bytes name found → IsFound inside.bytes name found
+found_viewed name found view s = subst (λ (x : Memory). IsFound x.bytes name found) (sym view) s.is
+
+pub stands_found : (region value : Memory) (name : ℕ) (found : Found) → region ≡ value → HeapAccepted region.bytes → IsMovable value.bytes name → IsFound region.bytes name found → StandsAs value.bytes name found
+stands_found region value name found view h m f = record { is = subst (λ (x : Memory). IsFound x.bytes name found) view f; movable = loose_found region.bytes name found h f (movable_viewed name view m) }
+
+pub found_under : (image : List ℕ) (name : ℕ) (found : Found) → IsFound image name found → bytes_under image found.name.0 ≡ bytes_under image name
+found_under image name found f = ap (bytes_under image) f.name_is
+
+-- where the bytes of its chunk alone become others, as many as before, it stands as it was found
+pub stands_written : (old new : List ℕ) (name : ℕ) (found : Found) (bytes : List ℕ) → HeapAccepted old → (f : IsFound old name found) → found.lock ≢ fixed_lock → length bytes ≡ length f.live.bytes → ChangesName old new name (Some (record f.live { bytes = bytes })) (Some found.place.0)
+    → StandsAs new name found
+stands_written old new name found bytes h f loose len ch =
+    let one = found_held new found (record f.live { bytes = bytes }) ch.frame.accepted (ap (held new) f.name_is ∙ ch.here) (ap (place_of new) f.name_is ∙ ch.place) (f.count ∙ sym len) f.lock_is f.owner_is in
+    record { is = subst (λ (n : ℕ). IsFound new n found) f.name_is one; movable = loose }
+
 -- a movable one may go to any owner but the manager
 pub may_go_to : (image : List ℕ) (name : ℕ) (found : Found) (owner : ℕ) → HeapAccepted image → IsFound image name found → IsMovable image name → name ≢ directory_of image → 0 < owner → owner ≤ data_owner → CanGoTo image found owner
 may_go_to image name found owner h f m other some most = record {
@@ -104,6 +123,17 @@ may_go_to image name found owner h f m other some most = record {
 pub leaves_gone : (old new : List ℕ) (name : ℕ) → ChangesName old new name None None → Leaves old new (gone (held old) name)
 leaves_gone old new name ch = record { map = held_updated old new name None None ch; frame = ch.frame; still = still_others old new name None None ch (inr refl) }
 
+pub gone_moves_nothing : (old new : List ℕ) (name : ℕ) → ChangesName old new name None None → MovesNothing old new
+gone_moves_nothing old new name ch = changes_move_nothing old new name None None ch (λ was is. absurd (none_there ch.here is))
+
+-- where another chunk changes, and nothing moves, a chunk stands as it was found
+pub stands_still : (old new : List ℕ) (name : ℕ) (found : Found) → HeapAccepted old → HeapAccepted new → StandsAs old name found → held new name ≡ held old name → MovesNothing old new → StandsAs new name found
+stands_still old new name found h k s same unmoved =
+    let f = s.is in
+    let there : held new name ≡ Some f.live = same ∙ name_held old name found h f in
+    let place : place_of new found.name.0 ≡ Some found.place.0 = ap (place_of new) f.name_is ∙ unmoved name (subst IsSome (sym (name_held old name found h f)) refl) (subst IsSome (sym there) refl) ∙ ap (place_of old) (sym f.name_is) ∙ one_placed old found h (one_of f) in
+    record { is = subst (λ (n : ℕ). IsFound new n found) f.name_is (found_held new found f.live k (ap (held new) f.name_is ∙ there) place f.count f.lock_is f.owner_is); movable = s.movable }
+
 -- bytes slide within a chunk
 part_length : (image : List ℕ) (found : Found) (from count : ℕ) → HeapAccepted image → IsOne image found → from + count ≤ found.length → length (slice_range image (found.place.0 + from) (found.place.0 + from + count)) ≡ count
 part_length image found from count h f within = let inside = bytes_inside image found h f in simp (length-take, length-drop) (omega arith)
@@ -113,6 +143,13 @@ pub slide_changes : (old new : List ℕ) (name : ℕ) (found : Found) (from to c
 slide_changes old new name found from to count h f in_from in_to made =
     let many = part_length old found from count h (one_of f) in_from in
     write_changes old new name found to (slice_range old (found.place.0 + from) (found.place.0 + from + count)) h f (omega arith) made
+
+pub stands_slid : (old new : List ℕ) (name : ℕ) (found : Found) (from to count : ℕ) → HeapAccepted old → (f : IsFound old name found) → found.lock ≢ fixed_lock → from + count ≤ found.length → to + count ≤ found.length → SlidesWithin old new found from to count → StandsAs new name found
+stands_slid old new name found from to count h f loose in_from in_to made =
+    let part : List ℕ = slice_range old (found.place.0 + from) (found.place.0 + from + count) in
+    let many = part_length old found from count h (one_of f) in_from in
+    let bytes = f.count in
+    stands_written old new name found (overwritten f.live.bytes to part) h f loose (length-overwritten f.live.bytes to part (omega (arith, many, bytes, in_to))) (slide_changes old new name found from to count h f in_from in_to made)
 
 pub leaves_slid : (old new : Memory) (name : ℕ) (found : Found) (from to count : ℕ) → HeapAccepted old.bytes → IsFound old.bytes name found → from + count ≤ length (bytes_under old.bytes name) → to + count ≤ length (bytes_under old.bytes name) → SlidesWithin old.bytes new.bytes found from to count
     → Leaves old.bytes new.bytes (put (held old.bytes) name to (slice_range (bytes_under old.bytes name) from (from + count)))

@@ -10,6 +10,8 @@ use Rattle.heap_model.specs.Leaving.{Leaves}
 use Rattle.heap_model.specs.Refusals.{Check}
 use Rattle.heap_model.specs.MemorySteps.{growth_checks}
 use Rattle.master_table.specs.Table.{UsedBefore}
+use Rattle.heap_place.specs.declared.found.Found.{Found}
+use Rattle.heap_place.specs.Found.{IsFound}
 use Rattle.mem_manager.specs.Known.{KnowsHeld}
 
 -- the heap is accepted, the first so many slots are in use, and the names that are remembered stand for chunks
@@ -29,6 +31,11 @@ pub record IsMovable (image : List ℕ) (name : ℕ) : Type 0 where
   pub live : LiveChunk
   pub is_held : held image name ≡ Some live
   pub movable : live.lock ≢ fixed_lock
+
+-- a name's chunk is a movable one, and stands as it was found
+pub record StandsAs (image : List ℕ) (name : ℕ) (found : Found) : Type 0 where
+  pub is : IsFound image name found
+  pub movable : found.lock ≢ fixed_lock
 
 -- ---- what the calls for the store leave
 

@@ -7,6 +7,7 @@ ghost use Rattle.heap_check.specs.Faults.{IsFirstFault};
 
 mod asking;
 mod changing;
+mod found;
 mod lending;
 mod making;
 mod managing;

@@ -14,3 +14,4 @@ mod lookup;
 pub use bounds::check_owner;
 pub use chunk_format::{DATA_OWNER, FIXED_LOCK, MANAGERS_OWNER};
 pub use heap::{Heap, Locked, NotAHeap};
+pub use heap_place::Found;

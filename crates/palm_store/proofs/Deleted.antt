@@ -41,9 +41,6 @@ use Rattle.palm_store.proofs.Deletion.{went, directory_kept, index_inside, drops
 pub header_stays : (old mid : List ℕ) (db : ℕ) → Accepted old → HasNumber old db → Leaves old mid (all_gone (held old) (named_under old db)) → held mid db ≡ held old db
 header_stays old mid db a has l = kept old mid (named_under old db) db l (number_unnamed old db a has)
 
-pub header_left : (old mid : List ℕ) (db : ℕ) → Accepted old → HasNumber old db → Leaves old mid (all_gone (held old) (named_under old db)) → IsMovable mid db
-header_left old mid db a has l = (let m = number_movable old db a has in record { live = m.live; is_held = header_stays old mid db a has l ∙ m.is_held; movable = m.movable })
-
 pub header_other : (old mid : List ℕ) (db : ℕ) → Accepted old → HasNumber old db → Leaves old mid (all_gone (held old) (named_under old db)) → db ≢ directory_of mid
 header_other old mid db a has l e = let slot = number_slot old db a has in slot.other (e ∙ l.frame.directory)
 

@@ -181,9 +181,6 @@ header_held old mid db index a has l =
 pub header_like : (old mid : List ℕ) (db index : ℕ) → Accepted old → HasNumber old db → Leaves old mid (all_gone (held old) (take index (named_under old db))) → bytes_under mid db ≡ bytes_under old db
 header_like old mid db index a has l = bytes_like old mid db (header_held old mid db index a has l)
 
-pub header_movable : (old mid : List ℕ) (db index : ℕ) → Accepted old → HasNumber old db → Leaves old mid (all_gone (held old) (take index (named_under old db))) → IsMovable mid db
-header_movable old mid db index a has l = (let m = number_movable old db a has in record { live = m.live; is_held = header_held old mid db index a has l ∙ m.is_held; movable = m.movable })
-
 -- a slot is the one at this index of those that a database has
 pub record IsNamedAt (image : List ℕ) (db index slot : ℕ) : Type 0 where
   pub below : index < length (named_under image db)

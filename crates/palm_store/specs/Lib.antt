@@ -10,3 +10,4 @@ pub mod Replies
 pub mod KnownIds
 pub mod AttributeChanges
 pub mod Files
+pub mod Found

@@ -3,6 +3,7 @@
 ghost use Rattle.std.specs.Prelude.{◌≡◌, ◌<◌, OnOk, IfErr};
 ghost use Rattle.heap_model.specs.Heap.{HeapAccepted, directory_of};
 ghost use Rattle.heap_model.specs.Reading.{held};
+ghost use Rattle.heap_model.specs.Space.{MovesNothing};
 ghost use Rattle.heap_model.specs.Maps.{gone};
 ghost use Rattle.heap_model.specs.Leaving.{Leaves};
 ghost use Rattle.heap_model.specs.Refusals.{NoneHolds, FirstBrings};
@@ -19,10 +20,12 @@ pub(crate) fn free_chunk_of(heap: &mut Heap, slot: Name)
     requires movable { 0 < slot.0 → IsMovable heap.old.bytes slot.0 }
     requires no_directory { 0 < slot.0 → slot.0 ≡ directory_of heap.old.bytes → ⊥ }
     ensures leaves { Leaves heap.old.bytes heap.new.bytes (gone (held heap.old.bytes) slot.0) }
+    ensures unmoved { MovesNothing heap.old.bytes heap.new.bytes }
     ensures rest { heap.new ≡ record heap.old { bytes = heap.new.bytes } }
 {
     if slot.0 != 0 {
-        heap.sys_free(slot);
+        let chunk = heap.sys_find(slot);
+        heap.sys_free(slot, chunk);
     }
 }
 
@@ -33,16 +36,16 @@ pub(crate) fn check_taken(heap: &Heap, name: Name) -> Result<(), Refusal>
     ensures could { OnOk result (NoneHolds (checks_of_giving heap.now.bytes name.0)) }
     ensures why { IfErr result (FirstBrings (checks_of_giving heap.now.bytes name.0)) }
 {
-    let Some((owner, _)) = heap.sys_chunk(name) else {
+    let Some(chunk) = heap.sys_chunk(name) else {
         return Err(Refusal::InvalidHandle);
     };
-    if owner == MANAGERS_OWNER {
+    if chunk.owner == MANAGERS_OWNER {
         return Err(Refusal::InvalidHandle);
     }
-    if owner == DATA_OWNER {
+    if chunk.owner == DATA_OWNER {
         return Err(Refusal::OwnedByDatabase);
     }
-    if heap.sys_locks(name) == FIXED_LOCK {
+    if chunk.lock == FIXED_LOCK {
         return Err(Refusal::ChunkFixed);
     }
     Ok(())

@@ -14,7 +14,7 @@ mod store;
 
 pub use databases::{BlockSizes, WholeEntry};
 pub use entries::{EntryInfo, FoundEntry, NewEntry};
-pub use mem_manager::{FIXED_LOCK, Locked, check_owner};
+pub use mem_manager::{FIXED_LOCK, Found, Locked, check_owner};
 pub use palm_text::{WriteFault, put_all};
 pub use store::{NotAStore, Store};
 pub use store_check::{StoreFault, StoreSummary};

@@ -37,7 +37,7 @@ pub fn record_info(store: &Store, db: Db, index: u32) -> Result<RecordInfo, Refu
     ensures { DoesRecord store.now (RecordCall.Info db index)
         (reply_of (λ info. Reply.Record info) result) store.now }
 {
-    find_record(store, db, index, Access::Read)
+    Ok(find_record(store, db, index, Access::Read)?.info)
 }
 
 /// The index of the record that has a unique ID, of a deleted one too.

@@ -7,6 +7,7 @@ ghost use Rattle.heap_model.specs.EntrySteps.{MakesNone};
 ghost use Rattle.heap_model.specs.Categories.{IsOf};
 ghost use Rattle.heap_model.specs.RecordSteps.{no_category, no_categories, HasLockedOf, category_deleted};
 ghost use Rattle.heap_model.specs.declared.call.RecordCall.{RecordCall};
+ghost use Rattle.palm_store.specs.Found.{StandsAs};
 ghost use Rattle.palm_store.specs.Databases.{HasNumber};
 ghost use Rattle.palm_store.specs.EntryCalls.{entries_of_image, resources_of_image, LeavesChanged};
 ghost use Rattle.palm_store.specs.Replies.{done_or_refused, number_or_refused};
@@ -16,10 +17,10 @@ ghost use Rattle.record_db.specs.Checks.{DoesRecord};
 use crate::attributes::{ALL_CATEGORIES, Moving, has_category};
 use crate::records::has_locked_of;
 use crate::search::{count_of, first_of};
-use database_access::{Access, EntryKind, count_entries, open_database};
+use database_access::{Access, EntryKind, open_database, open_entries};
 use db_format::CATEGORIES;
 use heap_model::{Db, Refusal};
-use palm_store::Store;
+use palm_store::{Found, Store};
 
 /// How many records are of a category, 0 to 15, or of any, for 0xFF. Deleted ones are passed over.
 ///
@@ -77,11 +78,11 @@ pub fn move_category(
         (done_or_refused result) store.new }
     ensures refused { OnErr result (store.new ≡ store.old) }
 {
-    count_entries(store, db, EntryKind::Records, Access::Write)?;
+    let opened = open_entries(store, db, EntryKind::Records, Access::Write)?;
     check_category(to)?;
     check_category(from)?;
-    store.change_attributes(db, Moving { to, from, dirty });
-    store.count_change(db);
+    store.change_attributes(db, opened.chunk, Moving { to, from, dirty });
+    store.count_change(db, opened.chunk);
     Ok(())
 }
 
@@ -94,45 +95,48 @@ pub fn delete_category(store: &mut Store, db: Db, category: u8) -> Result<(), Re
         (done_or_refused result) store.new }
     ensures refused { OnErr result (store.new ≡ store.old) }
 {
-    count_entries(store, db, EntryKind::Records, Access::Write)?;
+    let opened = open_entries(store, db, EntryKind::Records, Access::Write)?;
     check_category(category)?;
-    if has_locked_of(store, db, category) {
+    if has_locked_of(store, db, opened.chunk, category) {
         return Err(Refusal::ChunkLocked);
     }
-    delete_all_of(store, db, category);
-    store.count_change(db);
+    delete_all_of(store, db, opened.chunk, category);
+    store.count_change(db, opened.chunk);
     Ok(())
 }
 
 /// Deletes each record of a category that isn't deleted, none of which has locked data.
-fn delete_all_of(store: &mut Store, db: Db, category: u8)
+fn delete_all_of(store: &mut Store, db: Db, chunk: Found, category: u8)
     requires accepted { Accepted store.old.bytes }
     requires known { HasNumber store.old.bytes db.0 }
+    requires chunk { StandsAs store.old.bytes db.0 chunk }
     requires records { resources_of_image store.old.bytes db ≡ false }
     requires unlocked { HasLockedOf (store_of store.old.bytes) db category → ⊥ }
     ensures deleted { LeavesChanged store.old store.new
         (λ before. category_deleted before db category) }
+    ensures stands { StandsAs store.new.bytes db.0 chunk }
     ensures none_made { MakesNone store.old.bytes store.new.bytes }
     ensures rest { store.new ≡ record store.old { bytes = store.new.bytes } }
 {
     let mut from = 0;
-    while let Some(index) = next_of(store, db, from, category) {
-        store.entry_free_data(db, index, false);
+    while let Some(index) = next_of(store, db, chunk, from, category) {
+        store.entry_free_data(db, chunk, index, false);
         from = index + 1;
     }
 }
 
 /// The first record of a database, from an index on, that is of a category.
 #[inline]
-fn next_of(store: &Store, db: Db, from: u32, category: u8) -> Option<u32>
+fn next_of(store: &Store, db: Db, chunk: Found, from: u32, category: u8) -> Option<u32>
     requires known { HasNumber store.now.bytes db.0 }
+    requires chunk { StandsAs store.now.bytes db.0 chunk }
     requires records { resources_of_image store.now.bytes db ≡ false }
     ensures is { IfSome result
         (IsFirst (entries_of_image store.now.bytes db) from (IsOf category)) }
     ensures none { IfNone result
         (NoneBehind (entries_of_image store.now.bytes db) from (IsOf category)) }
 {
-    first_of(&store.database(db), from, category)
+    first_of(&store.database_in(db, chunk), from, category)
 }
 
 /// Refuses what is no category: it is 0 to 15.

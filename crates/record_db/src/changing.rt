@@ -6,6 +6,7 @@ ghost use Rattle.heap_model.specs.Store.{Accepted, store_of};
 ghost use Rattle.heap_model.specs.EntrySteps.{entry_under, entry_changed, with_attributes, MakesNone};
 ghost use Rattle.heap_model.specs.RecordSteps.{id_set};
 ghost use Rattle.heap_model.specs.declared.call.RecordCall.{RecordCall};
+ghost use Rattle.palm_store.specs.Found.{StandsAs};
 ghost use Rattle.palm_store.specs.Databases.{HasNumber};
 ghost use Rattle.palm_store.specs.EntryCalls.{entries_of_image, resources_of_image, raised_if, LeavesChanged};
 ghost use Rattle.palm_store.specs.Replies.{done_or_refused, name_or_refused};
@@ -13,7 +14,7 @@ ghost use Rattle.record_db.specs.Checks.{DoesRecord};
 
 use crate::attributes::{is_busy, marked, released, with_given};
 use crate::records::{LiveRecord, find_live, find_record, has_id, has_locked};
-use database_access::{Access, EntryKind, count_entries, is_locked};
+use database_access::{Access, EntryKind, is_locked, open_entries};
 use db_format::{GREATEST_ID, RecordAttrs};
 use heap_model::{Db, Name, Refusal};
 use palm_store::{EntryInfo, Store, check_owner};
@@ -30,7 +31,7 @@ pub fn delete(store: &mut Store, db: Db, index: u32) -> Result<(), Refusal>
     if is_locked(store, live.data) {
         return Err(Refusal::ChunkLocked);
     }
-    store.entry_free_data(db, index, true);
+    store.entry_free_data(db, live.chunk, index, true);
     Ok(())
 }
 
@@ -55,11 +56,11 @@ pub fn remove(store: &mut Store, db: Db, index: u32) -> Result<(), Refusal>
     ensures does { DoesRecord store.old (RecordCall.Remove db index) (done_or_refused result) store.new }
     ensures refused { OnErr result (store.new ≡ store.old) }
 {
-    let info = find_record(store, db, index, Access::Write)?;
-    if has_locked(store, info.data) {
+    let found = find_record(store, db, index, Access::Write)?;
+    if has_locked(store, found.info.data) {
         return Err(Refusal::ChunkLocked);
     }
-    store.entry_drop(db, index, None);
+    store.entry_drop(db, found.chunk, index, None);
     Ok(())
 }
 
@@ -71,11 +72,11 @@ pub fn move_record(store: &mut Store, db: Db, from: u32, to: u32) -> Result<(), 
     ensures does { DoesRecord store.old (RecordCall.Move db from to) (done_or_refused result) store.new }
     ensures refused { OnErr result (store.new ≡ store.old) }
 {
-    let count = count_entries(store, db, EntryKind::Records, Access::Write)?;
-    if from >= count || to > count {
+    let opened = open_entries(store, db, EntryKind::Records, Access::Write)?;
+    if from >= opened.entry_count || to > opened.entry_count {
         return Err(Refusal::IndexOutOfRange);
     }
-    store.entry_move(db, from, to);
+    store.entry_move(db, opened.chunk, from, to);
     Ok(())
 }
 
@@ -102,12 +103,12 @@ pub fn release(store: &mut Store, db: Db, index: u32, dirty: bool) -> Result<(),
         (done_or_refused result) store.new }
     ensures refused { OnErr result (store.new ≡ store.old) }
 {
-    let info = find_record(store, db, index, Access::Read)?;
+    let found = find_record(store, db, index, Access::Read)?;
     let left = EntryInfo::Record {
-        attributes: released(info.attributes, dirty),
-        id: info.id,
+        attributes: released(found.info.attributes, dirty),
+        id: found.info.id,
     };
-    store.entry_set(db, index, left, false);
+    store.entry_set(db, found.chunk, index, left, false);
     Ok(())
 }
 
@@ -122,7 +123,7 @@ pub fn detach(store: &mut Store, db: Db, index: u32, owner: u8) -> Result<Name, 
 {
     let live = find_live(store, db, index, Access::Write)?;
     check_owner(owner)?;
-    store.entry_drop(db, index, Some(owner));
+    store.entry_drop(db, live.chunk, index, Some(owner));
     Ok(live.data)
 }
 
@@ -142,23 +143,25 @@ pub fn set_record_info(
         (done_or_refused result) store.new }
     ensures refused { OnErr result (store.new ≡ store.old) }
 {
-    let info = find_record(store, db, index, Access::Write)?;
-    let id = id_or(id, info.id);
-    if id != info.id && has_id(store, db, id) {
+    let found = find_record(store, db, index, Access::Write)?;
+    let id = id_or(id, found.info.id);
+    if id != found.info.id && has_id(store, db, found.chunk, id) {
         return Err(Refusal::DuplicateId);
     }
     let given = EntryInfo::Record {
-        attributes: with_given(info.attributes, attributes),
+        attributes: with_given(found.info.attributes, attributes),
         id,
     };
-    store.entry_set(db, index, given, true);
+    store.entry_set(db, found.chunk, index, given, true);
     Ok(())
 }
 
 /// Sets bits of the attributes of a record that has data. The database counts the call if `counts` says so.
+#[inline(always)]
 fn mark(store: &mut Store, db: Db, index: u32, live: LiveRecord, bits: RecordAttrs, counts: bool)
     requires accepted { Accepted store.old.bytes }
     requires known { HasNumber store.old.bytes db.0 }
+    requires chunk { StandsAs store.old.bytes db.0 live.chunk }
     requires records { resources_of_image store.old.bytes db ≡ false }
     requires inside { index < length (entries_of_image store.old.bytes db) }
     requires is { entry_under (store_of store.old.bytes) db index
@@ -174,7 +177,7 @@ fn mark(store: &mut Store, db: Db, index: u32, live: LiveRecord, bits: RecordAtt
         attributes: marked(live.attributes, bits),
         id: live.id,
     };
-    store.entry_set(db, index, marked, counts);
+    store.entry_set(db, live.chunk, index, marked, counts);
 }
 
 /// The unique ID in the low 24 bits of a number, and a record's own where they are 0.

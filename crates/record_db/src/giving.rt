@@ -7,7 +7,7 @@ ghost use Rattle.record_db.specs.Checks.{DoesRecord};
 
 use crate::attributes::{marked, of_attached_record};
 use crate::records::find_live;
-use database_access::{Access, EntryKind, count_entries};
+use database_access::{Access, EntryKind, open_entries};
 use db_format::RecordAttrs;
 use heap_model::{Db, Name, Refusal};
 use palm_store::{EntryInfo, NewEntry, Store, check_owner};
@@ -24,13 +24,13 @@ pub fn attach(store: &mut Store, db: Db, at: u32, name: Name) -> Result<u32, Ref
         (number_or_refused result) store.new }
     ensures refused { OnErr result (store.new ≡ store.old) }
 {
-    let count = count_entries(store, db, EntryKind::Records, Access::Write)?;
+    let opened = open_entries(store, db, EntryKind::Records, Access::Write)?;
     store.check_given(name)?;
-    let index = at.min(count);
+    let index = at.min(opened.entry_count);
     let entry = NewEntry::Record {
         attributes: of_attached_record(),
     };
-    store.entry_attach(db, index, entry, name)?;
+    store.entry_attach(db, opened.chunk, index, entry, name)?;
     Ok(index)
 }
 
@@ -58,6 +58,6 @@ pub fn attach_replacing(
         attributes: marked(live.attributes, RecordAttrs::DIRTY),
         id: live.id,
     };
-    store.entry_swap(db, index, dirty, name, owner);
+    store.entry_swap(db, live.chunk, index, dirty, name, owner);
     Ok(live.data)
 }

@@ -11,7 +11,7 @@ ghost use Rattle.record_db.specs.Checks.{DoesRecord};
 
 use crate::attributes::of_new_record;
 use crate::records::find_live;
-use database_access::{Access, EntryKind, count_entries};
+use database_access::{Access, EntryKind, open_entries};
 use heap_model::{Db, Name, Refusal};
 use palm_store::{NewEntry, Store};
 
@@ -24,12 +24,12 @@ pub fn new_record(store: &mut Store, db: Db, at: u32, size: u32) -> Result<(u32,
     ensures { DoesRecord store.old (RecordCall.New db at size)
         (reply_of made_reply result) store.new }
 {
-    let count = count_entries(store, db, EntryKind::Records, Access::Write)?;
-    let index = at.min(count);
+    let opened = open_entries(store, db, EntryKind::Records, Access::Write)?;
+    let index = at.min(opened.entry_count);
     let entry = NewEntry::Record {
         attributes: of_new_record(),
     };
-    let name = store.entry_new(db, index, entry, size)?;
+    let name = store.entry_new(db, opened.chunk, index, entry, size)?;
     Ok((index, name))
 }
 
@@ -50,6 +50,7 @@ pub fn resize_record(store: &mut Store, db: Db, index: u32, size: u32) -> Result
 {
     let live = find_live(store, db, index, Access::Write)?;
     store.entry_resize(live.data, size)?;
-    store.count_change(db);
+    let chunk = store.chunk_of(db);
+    store.count_change(db, chunk);
     Ok(())
 }

@@ -6,6 +6,7 @@ ghost use Rattle.heap_model.specs.Store.{Accepted, store_of};
 ghost use Rattle.heap_model.specs.Refusals.{NoneHolds, FirstBrings};
 ghost use Rattle.heap_model.specs.EntrySteps.{entry_under, HasId};
 ghost use Rattle.heap_model.specs.RecordSteps.{HasLockedOf};
+ghost use Rattle.palm_store.specs.Found.{StandsAs};
 ghost use Rattle.palm_store.specs.Databases.{HasNumber};
 ghost use Rattle.palm_store.specs.EntryCalls.{entries_of_image, resources_of_image};
 ghost use Rattle.database_access.specs.Search.{SomeHas};
@@ -16,11 +17,21 @@ use crate::attributes::{has_category, is_deleted};
 use crate::search::find_id;
 use database_access::{Access, EntryKind, find_entry, is_locked};
 use heap_model::{Db, Name, RecordInfo, Refusal};
-use palm_store::Store;
+use palm_store::{Found, Store};
+
+/// A record, deleted or not.
+#[derive(Clone, Copy)]
+pub(crate) struct FoundRecord {
+    /// The chunk of its database.
+    pub(crate) chunk: Found,
+    pub(crate) info: RecordInfo,
+}
 
 /// A record that is not deleted, and so has data.
 #[derive(Clone, Copy)]
 pub(crate) struct LiveRecord {
+    /// The chunk of its database.
+    pub(crate) chunk: Found,
     pub(crate) attributes: u8,
     pub(crate) id: u32,
     pub(crate) data: Name,
@@ -33,18 +44,22 @@ pub(crate) fn find_record(
     db: Db,
     index: u32,
     access: Access,
-) -> Result<RecordInfo, Refusal>
+) -> Result<FoundRecord, Refusal>
     ensures accepted { Accepted store.now.bytes }
     ensures known { OnOk result (HasNumber store.now.bytes db.0) }
     ensures records { OnOk result (resources_of_image store.now.bytes db ≡ false) }
     ensures inside { OnOk result (index < length (entries_of_image store.now.bytes db)) }
-    ensures is { IfOk result (IsRecordTold store.now.bytes db index) }
+    ensures chunk { IfOk result (λ found. StandsAs store.now.bytes db.0 found.chunk) }
+    ensures is { IfOk result (λ found. IsRecordTold store.now.bytes db index found.info) }
     ensures passes { OnOk result (NoneHolds (finding_checks store.now.bytes db index EntryKind.Records access)) }
     ensures refused { IfErr result
         (FirstBrings (finding_checks store.now.bytes db index EntryKind.Records access)) }
 {
-    let entry = find_entry(store, db, index, EntryKind::Records, access)?;
-    Ok(entry.as_record().unwrap())
+    let found = find_entry(store, db, index, EntryKind::Records, access)?;
+    Ok(FoundRecord {
+        chunk: found.chunk,
+        info: found.entry.as_record().unwrap(),
+    })
 }
 
 /// The record of an index that is not deleted, of a database that may be used so.
@@ -59,6 +74,7 @@ pub(crate) fn find_live(
     ensures known { OnOk result (HasNumber store.now.bytes db.0) }
     ensures records { OnOk result (resources_of_image store.now.bytes db ≡ false) }
     ensures inside { OnOk result (index < length (entries_of_image store.now.bytes db)) }
+    ensures chunk { IfOk result (λ live. StandsAs store.now.bytes db.0 live.chunk) }
     ensures is { IfOk result (λ live.
         entry_under (store_of store.now.bytes) db index
         ≡ Some (a_record live.attributes live.id live.«data».0)) }
@@ -67,14 +83,15 @@ pub(crate) fn find_live(
     ensures refused { IfErr result
         (FirstBrings (living_checks store.now.bytes db index access)) }
 {
-    let info = find_record(store, db, index, access)?;
-    if is_deleted(info.attributes) {
+    let found = find_record(store, db, index, access)?;
+    if is_deleted(found.info.attributes) {
         return Err(Refusal::RecordDeleted);
     }
     Ok(LiveRecord {
-        attributes: info.attributes,
-        id: info.id,
-        data: info.data.unwrap(),
+        chunk: found.chunk,
+        attributes: found.info.attributes,
+        id: found.info.id,
+        data: found.info.data.unwrap(),
     })
 }
 
@@ -90,21 +107,23 @@ pub(crate) fn has_locked(store: &Store, data: Option<Name>) -> bool
 }
 
 /// Whether a record of a database has a unique ID.
-pub(crate) fn has_id(store: &Store, db: Db, id: u32) -> bool
+pub(crate) fn has_id(store: &Store, db: Db, chunk: Found, id: u32) -> bool
     requires known { HasNumber store.now.bytes db.0 }
+    requires chunk { StandsAs store.now.bytes db.0 chunk }
     requires records { resources_of_image store.now.bytes db ≡ false }
     ensures { IsTrue result ↔ SomeHas (entries_of_image store.now.bytes db) (HasId id) }
 {
-    find_id(&store.database(db), id).is_some()
+    find_id(&store.database_in(db, chunk), id).is_some()
 }
 
 /// Whether the data of a record is locked that is of a category and not deleted.
-pub(crate) fn has_locked_of(store: &Store, db: Db, category: u8) -> bool
+pub(crate) fn has_locked_of(store: &Store, db: Db, chunk: Found, category: u8) -> bool
     requires known { HasNumber store.now.bytes db.0 }
+    requires chunk { StandsAs store.now.bytes db.0 chunk }
     requires records { resources_of_image store.now.bytes db ≡ false }
     ensures { IsTrue result ↔ HasLockedOf (store_of store.now.bytes) db category }
 {
-    let records = store.database(db);
+    let records = store.database_in(db, chunk);
     for index in 0..records.entry_count() {
         let record = records.record(index);
         if has_category(record.attributes, category) && is_locked(store, Name(record.slot)) {

@@ -29,7 +29,7 @@ pub fn resource_info(store: &Store, db: Db, index: u32) -> Result<ResourceInfo, 
     ensures { DoesResource store.now (ResourceCall.Info db index)
         (reply_of (λ info. Reply.Resource info) result) store.now }
 {
-    resource_at(store, db, index, Access::Read)
+    Ok(resource_at(store, db, index, Access::Read)?.info)
 }
 
 /// The index of the first resource of a type and an id.

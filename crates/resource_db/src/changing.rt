@@ -21,8 +21,8 @@ pub fn detach_resource(store: &mut Store, db: Db, index: u32, owner: u8) -> Resu
 {
     let resource = resource_at(store, db, index, Access::Write)?;
     check_owner(owner)?;
-    store.entry_drop(db, index, Some(owner));
-    Ok(resource.data)
+    store.entry_drop(db, resource.chunk, index, Some(owner));
+    Ok(resource.info.data)
 }
 
 /// Takes a resource out, and frees its data.
@@ -35,10 +35,10 @@ pub fn remove_resource(store: &mut Store, db: Db, index: u32) -> Result<(), Refu
     ensures refused { OnErr result (store.new ≡ store.old) }
 {
     let resource = resource_at(store, db, index, Access::Write)?;
-    if is_locked(store, resource.data) {
+    if is_locked(store, resource.info.data) {
         return Err(Refusal::ChunkLocked);
     }
-    store.entry_drop(db, index, None);
+    store.entry_drop(db, resource.chunk, index, None);
     Ok(())
 }
 
@@ -56,7 +56,13 @@ pub fn set_resource_info(
         (done_or_refused result) store.new }
     ensures refused { OnErr result (store.new ≡ store.old) }
 {
-    resource_at(store, db, index, Access::Write)?;
-    store.entry_set(db, index, EntryInfo::Resource { kind, id }, true);
+    let resource = resource_at(store, db, index, Access::Write)?;
+    store.entry_set(
+        db,
+        resource.chunk,
+        index,
+        EntryInfo::Resource { kind, id },
+        true,
+    );
     Ok(())
 }

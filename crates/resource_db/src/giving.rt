@@ -5,7 +5,7 @@ ghost use Rattle.heap_model.specs.declared.call.ResourceCall.{ResourceCall};
 ghost use Rattle.palm_store.specs.Replies.{number_or_refused};
 ghost use Rattle.resource_db.specs.Resources.{DoesResource};
 
-use database_access::{Access, EntryKind, count_entries};
+use database_access::{Access, EntryKind, open_entries};
 use heap_model::{Db, Name, Refusal};
 use palm_store::{NewEntry, Store};
 
@@ -26,8 +26,14 @@ pub fn attach_resource(
         (number_or_refused result) store.new }
     ensures refused { OnErr result (store.new ≡ store.old) }
 {
-    let index = count_entries(store, db, EntryKind::Resources, Access::Write)?;
+    let opened = open_entries(store, db, EntryKind::Resources, Access::Write)?;
     store.check_given(name)?;
-    store.entry_attach(db, index, NewEntry::Resource { kind, id }, name)?;
-    Ok(index)
+    store.entry_attach(
+        db,
+        opened.chunk,
+        opened.entry_count,
+        NewEntry::Resource { kind, id },
+        name,
+    )?;
+    Ok(opened.entry_count)
 }

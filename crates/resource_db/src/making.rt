@@ -10,7 +10,7 @@ ghost use Rattle.palm_store.specs.Replies.{made_reply, done_or_refused};
 ghost use Rattle.resource_db.specs.Resources.{DoesResource};
 
 use crate::resources::resource_at;
-use database_access::{Access, EntryKind, count_entries};
+use database_access::{Access, EntryKind, open_entries};
 use heap_model::{Db, Name, Refusal};
 use palm_store::{NewEntry, Store};
 
@@ -28,9 +28,15 @@ pub fn new_resource(
     ensures { DoesResource store.old (ResourceCall.New db kind id size)
         (reply_of made_reply result) store.new }
 {
-    let index = count_entries(store, db, EntryKind::Resources, Access::Write)?;
-    let name = store.entry_new(db, index, NewEntry::Resource { kind, id }, size)?;
-    Ok((index, name))
+    let opened = open_entries(store, db, EntryKind::Resources, Access::Write)?;
+    let name = store.entry_new(
+        db,
+        opened.chunk,
+        opened.entry_count,
+        NewEntry::Resource { kind, id },
+        size,
+    )?;
+    Ok((opened.entry_count, name))
 }
 
 /// Gives the data of a resource so many bytes: its first ones, or all of them and zeros behind them.
@@ -48,7 +54,8 @@ pub fn resize_resource(store: &mut Store, db: Db, index: u32, size: u32) -> Resu
     ensures refused { OnErr result (store.new ≡ store.old) }
 {
     let resource = resource_at(store, db, index, Access::Write)?;
-    store.entry_resize(resource.data, size)?;
-    store.count_change(db);
+    store.entry_resize(resource.info.data, size)?;
+    let chunk = store.chunk_of(db);
+    store.count_change(db, chunk);
     Ok(())
 }

@@ -5,13 +5,22 @@ ghost use Rattle.heap_model.specs.Database.{a_resource};
 ghost use Rattle.heap_model.specs.Store.{Accepted, store_of};
 ghost use Rattle.heap_model.specs.Refusals.{NoneHolds, FirstBrings};
 ghost use Rattle.heap_model.specs.EntrySteps.{entry_under};
+ghost use Rattle.palm_store.specs.Found.{StandsAs};
 ghost use Rattle.palm_store.specs.Databases.{HasNumber};
 ghost use Rattle.palm_store.specs.EntryCalls.{entries_of_image, resources_of_image};
 ghost use Rattle.database_access.specs.Checks.{finding_checks};
 
 use database_access::{Access, EntryKind, find_entry};
 use heap_model::{Db, Refusal, ResourceInfo};
-use palm_store::Store;
+use palm_store::{Found, Store};
+
+/// A resource.
+#[derive(Clone, Copy)]
+pub(crate) struct FoundResource {
+    /// The chunk of its database.
+    pub(crate) chunk: Found,
+    pub(crate) info: ResourceInfo,
+}
 
 /// The resource of an index, of a database that may be used so. It has data.
 pub(crate) fn resource_at(
@@ -19,20 +28,24 @@ pub(crate) fn resource_at(
     db: Db,
     index: u32,
     access: Access,
-) -> Result<ResourceInfo, Refusal>
+) -> Result<FoundResource, Refusal>
     ensures accepted { Accepted store.now.bytes }
     ensures known { OnOk result (HasNumber store.now.bytes db.0) }
     ensures resources { OnOk result (resources_of_image store.now.bytes db ≡ true) }
     ensures inside { OnOk result (index < length (entries_of_image store.now.bytes db)) }
-    ensures is { IfOk result (λ info.
+    ensures chunk { IfOk result (λ found. StandsAs store.now.bytes db.0 found.chunk) }
+    ensures is { IfOk result (λ found.
         entry_under (store_of store.now.bytes) db index
-        ≡ Some (a_resource info.kind info.id info.«data».0)) }
-    ensures some { IfOk result (λ info. 0 < info.«data».0) }
+        ≡ Some (a_resource found.info.kind found.info.id found.info.«data».0)) }
+    ensures some { IfOk result (λ found. 0 < found.info.«data».0) }
     ensures passes { OnOk result
         (NoneHolds (finding_checks store.now.bytes db index EntryKind.Resources access)) }
     ensures refused { IfErr result
         (FirstBrings (finding_checks store.now.bytes db index EntryKind.Resources access)) }
 {
-    let entry = find_entry(store, db, index, EntryKind::Resources, access)?;
-    Ok(entry.as_resource().unwrap())
+    let found = find_entry(store, db, index, EntryKind::Resources, access)?;
+    Ok(FoundResource {
+        chunk: found.chunk,
+        info: found.entry.as_resource().unwrap(),
+    })
 }

@@ -1,13 +1,14 @@
 //! What a heap lends and tells to the store above, of any chunk.
 
-ghost use Rattle.std.specs.Prelude.{◌≡◌, IsSome, Some, IfSome, IfNone};
+ghost use Rattle.std.specs.Prelude.{◌≡◌, ◌≢◌, IsSome, Some, None, IfSome, IfNone};
+ghost use Rattle.heap_model.specs.Chunk.{fixed_lock};
 ghost use Rattle.heap_model.specs.Heap.{HeapAccepted};
 ghost use Rattle.heap_model.specs.Meaning.{LiveChunk};
 ghost use Rattle.heap_model.specs.Reading.{held};
 ghost use Rattle.heap_model.specs.Store.{bytes_under, owner_under};
 ghost use Rattle.heap_check.specs.Summary.{Summarizes};
 ghost use Rattle.heap_place.specs.Found.{IsOne};
-ghost use Rattle.mem_manager.specs.Lookup.{IsMovable};
+ghost use Rattle.mem_manager.specs.Lookup.{IsMovable, StandsAs};
 
 use crate::heap::Heap;
 use crate::known::KnownNames;
@@ -45,17 +46,19 @@ impl Heap {
         region.slice(0, region.len())
     }
 
-    /// The owner of any chunk, and its bytes as they lie in the image; or none where the name stands for
-    /// nothing. That of a slot costs the same however large the heap is.
+    /// Any chunk, as it stands, or none where the name stands for nothing. That of a slot costs the same however large
+    /// the heap is.
     #[inline(always)]
-    pub fn sys_chunk(&self, name: Name) -> Option<(u8, &[u8])>
-        ensures owner { IfSome result (λ chunk. chunk.0 ≡ owner_under self.now.bytes name.0) }
-        ensures body { IfSome result (λ chunk. chunk.1.now ≡ bytes_under self.now.bytes name.0) }
-        ensures there { IfSome result (λ chunk. IsSome (held self.now.bytes name.0)) }
+    pub fn sys_chunk(&self, name: Name) -> Option<Found>
+        ensures owner { IfSome result (λ found. found.owner ≡ owner_under self.now.bytes name.0) }
+        ensures lock { IfSome result (λ found.
+            (live : LiveChunk) → held self.now.bytes name.0 ≡ Some live → found.lock ≡ live.lock) }
+        ensures stands { IfSome result (λ found.
+            found.lock ≢ fixed_lock → StandsAs self.now.bytes name.0 found) }
+        ensures there { IfSome result (λ found. IsSome (held self.now.bytes name.0)) }
         ensures none { IfNone result (held self.now.bytes name.0 ≡ None) }
     {
-        let found = named(&self.space, &self.known, name)?;
-        Some((found.owner, self.body_of(found)))
+        named(&self.space, &self.known, name)
     }
 
     /// The lock count of any chunk, 15 of a fixed one.
@@ -78,7 +81,7 @@ impl Heap {
 
     /// The bytes of a chunk that was found.
     #[inline(always)]
-    fn body_of(&self, found: Found) -> &[u8]
+    pub(crate) fn body_of(&self, found: Found) -> &[u8]
         requires { IsOne self.now.bytes found }
         ensures { result.now ≡ bytes_under self.now.bytes found.name.0 }
     {

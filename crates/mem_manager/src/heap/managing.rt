@@ -7,19 +7,15 @@ ghost use Rattle.heap_model.specs.Chunk.{need, managers_owner, data_owner};
 ghost use Rattle.heap_model.specs.Rooms.{Lowers};
 ghost use Rattle.heap_model.specs.Heap.{directory_of};
 ghost use Rattle.heap_model.specs.Reading.{held};
-ghost use Rattle.heap_model.specs.Space.{MovesNothing, MovesOneStretch, MovesOneStretchAnd, moved_bytes};
-ghost use Rattle.heap_model.specs.Maps.{gone, put, sized, reowned};
+ghost use Rattle.heap_model.specs.Space.{MovesOneStretch, moved_bytes};
+ghost use Rattle.heap_model.specs.Maps.{reowned};
 ghost use Rattle.heap_model.specs.Store.{bytes_under, owner_under};
 ghost use Rattle.heap_model.specs.Leaving.{Leaves, NamesDirectory};
-ghost use Rattle.heap_model.specs.Refusals.{NoneHolds, FirstBrings};
-ghost use Rattle.raw_region.specs.ByteChanges.{changed_every};
-ghost use Rattle.mem_manager.specs.Lookup.{IsMovable, MakesNew, HasNoRoomFor, MovesOnlyForRoom, MovesOnlyToGrow, checks_of_growth};
+ghost use Rattle.mem_manager.specs.Lookup.{IsMovable, MakesNew, HasNoRoomFor, MovesOnlyForRoom};
 
 use crate::heap::Heap;
-use crate::heap::making::{make_movable, used_without};
-use crate::heap::moving::resize_found;
+use crate::heap::making::make_movable;
 use heap_model::{Name, Refusal};
-use raw_region::ByteChange;
 
 impl Heap {
     /// Makes a movable chunk of `size` zeros, without a lock, for any owner. Its name is the offset of a slot
@@ -54,80 +50,6 @@ impl Heap {
         self.space.region().slice(start, count as usize)
     }
 
-    /// Writes bytes over those of a movable chunk, from `at` within it on.
-    #[inline(always)]
-    pub fn sys_write(&mut self, name: Name, at: u32, bytes: &[u8])
-        requires movable { IsMovable self.old.bytes name.0 }
-        requires within { at + length bytes.now ≤ length (bytes_under self.old.bytes name.0) }
-        ensures leaves { Leaves self.old.bytes self.new.bytes
-            (put (held self.old.bytes) name.0 at bytes.now) }
-        ensures unmoved { MovesNothing self.old.bytes self.new.bytes }
-        ensures rest { self.new ≡ record self.old { bytes = self.new.bytes } }
-    {
-        let found = self.space.movable(name);
-        self.space.write(found, at, bytes);
-    }
-
-    /// Of `count` bytes of a movable chunk, from `at` within it on, changes each that stands behind `skip` others, or
-    /// `step` further, or as often that much.
-    pub fn sys_change_every<C: ByteChange>(
-        &mut self,
-        name: Name,
-        at: u32,
-        count: u32,
-        skip: u32,
-        step: u32,
-        change: C,
-    )
-        requires movable { IsMovable self.old.bytes name.0 }
-        requires within { at + count ≤ length (bytes_under self.old.bytes name.0) }
-        requires step { 0 < step }
-        ensures leaves { Leaves self.old.bytes self.new.bytes (put (held self.old.bytes) name.0 at
-            (changed_every (C.made change) step skip
-            (slice_range (bytes_under self.old.bytes name.0) at (at + count)))) }
-        ensures unmoved { MovesNothing self.old.bytes self.new.bytes }
-        ensures rest { self.new ≡ record self.old { bytes = self.new.bytes } }
-    {
-        let found = self.space.movable(name);
-        self.space
-            .change_every(found, at, count, skip, step, change);
-    }
-
-    /// Copies `count` bytes of a movable chunk's body from `from` within it to `to` within it; the ranges may overlap.
-    pub fn sys_slide(&mut self, name: Name, from: u32, to: u32, count: u32)
-        requires movable { IsMovable self.old.bytes name.0 }
-        requires from_within { from + count ≤ length (bytes_under self.old.bytes name.0) }
-        requires to_within { to + count ≤ length (bytes_under self.old.bytes name.0) }
-        ensures leaves { Leaves self.old.bytes self.new.bytes (put (held self.old.bytes) name.0 to
-            (slice_range (bytes_under self.old.bytes name.0) from (from + count))) }
-        ensures rest { self.new ≡ record self.old
-            { bytes = self.new.bytes; slid = self.old.slid + count } }
-    {
-        let found = self.space.movable(name);
-        self.space.slide_within(found, from, to, count);
-    }
-
-    /// Gives a movable chunk, the directory too, `size` bytes: its first ones, or all of them and zeros behind.
-    /// What moves is as with `resize`.
-    ///
-    /// Refused: `ChunkLocked`, where it is locked and would have to move; `NotEnoughSpace`, where it is not
-    /// locked and no stretch has the room. Then nothing has changed.
-    pub fn sys_resize(&mut self, name: Name, size: u32) -> Result<(), Refusal>
-        requires movable { IsMovable self.old.bytes name.0 }
-        ensures done { OnOk result (Leaves self.old.bytes self.new.bytes
-            (sized (held self.old.bytes) name.0 size)) }
-        ensures could { OnOk result (NoneHolds (checks_of_growth self.old.bytes name.0 size)) }
-        ensures refused { OnErr result (self.new ≡ self.old) }
-        ensures why { IfErr result
-            (λ refusal. FirstBrings (checks_of_growth self.old.bytes name.0 size) refusal) }
-        ensures unmoved { MovesOnlyToGrow self.old.bytes self.new.bytes name.0 size }
-        ensures one_stretch { MovesOneStretchAnd self.old.bytes self.new.bytes name.0 }
-        ensures rest { self.new ≡ record self.old { bytes = self.new.bytes; slid = self.new.slid } }
-    {
-        let found = self.space.movable(name);
-        resize_found(&mut self.space, found, size)
-    }
-
     /// Gives a movable chunk to another owner, 1 to 15. The directory has none but the manager.
     #[inline(always)]
     pub fn sys_set_owner(&mut self, name: Name, owner: u8)
@@ -141,20 +63,6 @@ impl Heap {
     {
         let found = self.space.movable(name);
         self.space.reown(found, owner);
-    }
-
-    /// Frees a movable chunk, any but the directory.
-    #[inline(always)]
-    pub fn sys_free(&mut self, name: Name)
-        requires movable { IsMovable self.old.bytes name.0 }
-        requires no_directory { name.0 ≢ directory_of self.old.bytes }
-        ensures leaves { Leaves self.old.bytes self.new.bytes (gone (held self.old.bytes) name.0) }
-        ensures rest { self.new ≡ record self.old { bytes = self.new.bytes } }
-    {
-        let found = self.space.movable(name);
-        self.used = used_without(self.used, name);
-        self.known.forget(name);
-        self.space.give_back(found);
     }
 
     /// The name of the directory's chunk, or `Name(0)` where there is none.

@@ -7,41 +7,47 @@ ghost use Rattle.heap_model.specs.DatabaseSteps.{info_block, info_block_set, inf
 ghost use Rattle.heap_model.specs.Refusals.{NoneHolds, FirstBrings};
 ghost use Rattle.heap_model.specs.EntrySteps.{raised, LeavesStore, MakesNone};
 ghost use Rattle.heap_model.specs.Store.{Accepted, store_of};
+ghost use Rattle.mem_manager.specs.Lookup.{StandsAs};
 ghost use Rattle.palm_store.specs.Databases.{HasNumber};
 ghost use Rattle.palm_store.specs.EntryCalls.{MayBeGiven};
 ghost use Rattle.palm_store.specs.EntryInfos.{MayOwn};
 ghost use Rattle.palm_store.specs.InfoBlocks.{block_of_image, writing_checks};
 
-use crate::lookup::{find_header, header_of};
+use crate::lookup::{find_chunk, header_in};
 use database_edits::write_block;
 use db_format::{DbAttrs, app_info, attributes, sort_info};
 use heap_model::{Db, Name, Refusal, Which};
-use mem_manager::{DATA_OWNER, Heap};
+use mem_manager::{DATA_OWNER, Found, Heap};
 
-/// The name of an info block of a database, or `Name(0)` where there is none.
-pub(crate) fn block_of(heap: &Heap, db: Db, which: Which) -> Name
-    requires accepted { Accepted heap.now.bytes }
-    requires number { HasNumber heap.now.bytes db.0 }
-    ensures { result.0 ≡ block_of_image heap.now.bytes db which }
-{
-    Name(block_in(header_of(heap, db), which))
+/// An info block as a database names it.
+#[derive(Clone, Copy)]
+pub(crate) struct FoundBlock {
+    /// The chunk of the database.
+    pub(crate) chunk: Found,
+    /// The name of the block, or `Name(0)` where there is none.
+    pub(crate) name: Name,
 }
 
-/// The name of an info block of a database that may be written, or `Name(0)` where there is none.
+/// An info block of a database that may be written.
 ///
 /// Refused: `NoSuchDatabase`, `ReadOnly`.
-pub(crate) fn find_writable_block(heap: &Heap, db: Db, which: Which) -> Result<Name, Refusal>
+pub(crate) fn find_writable_block(heap: &Heap, db: Db, which: Which) -> Result<FoundBlock, Refusal>
     requires accepted { Accepted heap.now.bytes }
     ensures known { OnOk result (HasNumber heap.now.bytes db.0) }
-    ensures is { IfOk result (λ name. name.0 ≡ block_of_image heap.now.bytes db which) }
+    ensures chunk { IfOk result (λ found. StandsAs heap.now.bytes db.0 found.chunk) }
+    ensures is { IfOk result (λ found. found.name.0 ≡ block_of_image heap.now.bytes db which) }
     ensures passes { OnOk result (NoneHolds (writing_checks heap.now.bytes db)) }
     ensures refused { IfErr result (FirstBrings (writing_checks heap.now.bytes db)) }
 {
-    let header = find_header(heap, db)?;
+    let chunk = find_chunk(heap, db)?;
+    let header = header_in(heap, db, chunk);
     if DbAttrs(attributes(header)).is_read_only() {
         return Err(Refusal::ReadOnly);
     }
-    Ok(Name(block_in(header, which)))
+    Ok(FoundBlock {
+        chunk,
+        name: Name(block_in(header, which)),
+    })
 }
 
 /// The slot of an info block in the bytes of a database, or 0.
@@ -57,9 +63,10 @@ pub(crate) fn block_in(body: &[u8], which: Which) -> u32
 
 /// Makes a movable chunk of a caller's an info block of a database that doesn't have that one, and keeps its
 /// locks. The database counts the call.
-pub(crate) fn give_block(heap: &mut Heap, db: Db, which: Which, name: Name)
+pub(crate) fn give_block(heap: &mut Heap, db: Db, chunk: Found, which: Which, name: Name)
     requires accepted { Accepted heap.old.bytes }
     requires number { HasNumber heap.old.bytes db.0 }
+    requires chunk { StandsAs heap.old.bytes db.0 chunk }
     requires none { block_of_image heap.old.bytes db which ≡ 0 }
     requires given { MayBeGiven heap.old.bytes name.0 }
     ensures given { LeavesStore heap.old.bytes heap.new.bytes
@@ -67,25 +74,24 @@ pub(crate) fn give_block(heap: &mut Heap, db: Db, which: Which, name: Name)
     ensures none_made { MakesNone heap.old.bytes heap.new.bytes }
     ensures rest { heap.new ≡ record heap.old { bytes = heap.new.bytes } }
 {
-    write_block(heap, db, which, name.0);
+    write_block(heap, db, chunk, which, name.0);
     heap.sys_set_owner(name, DATA_OWNER);
 }
 
-/// Hands an info block of a database over to an owner, and answers its name; its locks stay. The database has
-/// it no longer, and counts the call.
-pub(crate) fn take_block(heap: &mut Heap, db: Db, which: Which, owner: u8) -> Name
+/// Hands an info block of a database over to an owner; its locks stay. The database has it no longer, and counts the
+/// call.
+pub(crate) fn take_block(heap: &mut Heap, db: Db, found: FoundBlock, which: Which, owner: u8)
     requires accepted { Accepted heap.old.bytes }
     requires number { HasNumber heap.old.bytes db.0 }
+    requires chunk { StandsAs heap.old.bytes db.0 found.chunk }
+    requires is { found.name.0 ≡ block_of_image heap.old.bytes db which }
     requires there { 0 < block_of_image heap.old.bytes db which }
     requires owner { MayOwn owner }
-    ensures is { result.0 ≡ block_of_image heap.old.bytes db which }
     ensures taken { LeavesStore heap.old.bytes heap.new.bytes
         (raised (info_block_taken (store_of heap.old.bytes) db which owner) db) }
     ensures none_made { MakesNone heap.old.bytes heap.new.bytes }
     ensures rest { heap.new ≡ record heap.old { bytes = heap.new.bytes } }
 {
-    let name = block_of(heap, db, which);
-    write_block(heap, db, which, 0);
-    heap.sys_set_owner(name, owner);
-    name
+    write_block(heap, db, found.chunk, which, 0);
+    heap.sys_set_owner(found.name, owner);
 }

@@ -9,15 +9,15 @@ ghost use Rattle.heap_model.specs.Database.{IsSpelled, database_in, data_in};
 ghost use Rattle.heap_model.specs.MemorySteps.{Of, IsLocked};
 ghost use Rattle.heap_model.specs.Store.{Accepted};
 ghost use Rattle.heap_model.specs.StoreWords.{all_gone};
-ghost use Rattle.mem_manager.specs.Lookup.{IsMovable};
+ghost use Rattle.mem_manager.specs.Lookup.{IsMovable, StandsAs};
 ghost use Rattle.palm_store.specs.Databases.{HasNumber};
 ghost use Rattle.palm_store.specs.Databases.{named_under};
 
 use crate::chunks::free_chunk_of;
-use crate::lookup::header_of;
+use crate::lookup::header_in;
 use db_format::{INFO_BLOCKS, app_info, entry_count, entry_slot, has_resources, sort_info};
 use heap_model::{Db, Name};
-use mem_manager::{FIXED_LOCK, Heap};
+use mem_manager::{FIXED_LOCK, Found, Heap};
 
 /// How many slots a database has: those of its info blocks, and one for each entry.
 fn slot_count(body: &[u8]) -> u32
@@ -59,14 +59,15 @@ fn is_locked(heap: &Heap, slot: Name) -> bool
 }
 
 /// Whether a database names a locked chunk.
-pub(crate) fn has_locked(heap: &Heap, db: Db) -> bool
+pub(crate) fn has_locked(heap: &Heap, db: Db, chunk: Found) -> bool
     requires accepted { Accepted heap.now.bytes }
     requires number { HasNumber heap.now.bytes db.0 }
+    requires chunk { StandsAs heap.now.bytes db.0 chunk }
     ensures { IsTrue result
         ↔ Any (λ name. Of (callers_map heap.now.bytes name) IsLocked)
         (named_under heap.now.bytes db.0) }
 {
-    let body = header_of(heap, db);
+    let body = header_in(heap, db, chunk);
     for index in 0..slot_count(body) {
         if is_locked(heap, slot_at(body, index)) {
             return true;
@@ -75,17 +76,19 @@ pub(crate) fn has_locked(heap: &Heap, db: Db) -> bool
     false
 }
 
-/// Frees all chunks that a database names. Its header stays as it is, and is read anew for each.
-pub(crate) fn free_data(heap: &mut Heap, db: Db)
+/// Frees all chunks that a database names. Its own stays where it is, with its bytes.
+pub(crate) fn free_data(heap: &mut Heap, db: Db, chunk: Found)
     requires accepted { Accepted heap.old.bytes }
     requires number { HasNumber heap.old.bytes db.0 }
+    requires chunk { StandsAs heap.old.bytes db.0 chunk }
     ensures leaves { Leaves heap.old.bytes heap.new.bytes
         (all_gone (held heap.old.bytes) (named_under heap.old.bytes db.0)) }
+    ensures stands { StandsAs heap.new.bytes db.0 chunk }
     ensures rest { heap.new ≡ record heap.old { bytes = heap.new.bytes } }
 {
-    let count = slot_count(header_of(heap, db));
+    let count = slot_count(header_in(heap, db, chunk));
     for index in 0..count {
-        let slot = slot_at(heap.sys_body(Name(db.0)), index);
+        let slot = slot_at(heap.sys_body_found(Name(db.0), chunk), index);
         free_chunk_of(heap, slot);
     }
 }

@@ -13,6 +13,7 @@ ghost use Rattle.heap_model.specs.Store.{Accepted, bytes_under, owner_under, dir
 ghost use Rattle.heap_model.specs.EntrySteps.{most_entries};
 ghost use Rattle.heap_model.specs.Leaving.{Leaves, rewritten};
 ghost use Rattle.heap_model.specs.FileSteps.{makings, listing_part, listing_slots, whole_parts, whole_slots};
+ghost use Rattle.mem_manager.specs.Lookup.{StandsAs};
 ghost use Rattle.palm_store.specs.WholeDatabases.{data_sizes, numbers_in, RunsOut, MakesAndLists, ListsWhole, CanBeWhole, CanCome, entries_named, whole_database, whole_size};
 
 use crate::databases::creating::list_last;
@@ -21,7 +22,7 @@ use crate::databases::whole::{BlockSizes, WholeEntry, named_entry, named_header}
 use bitflags::Flags;
 use db_format::{DbAttrs, INFO_BLOCKS, NameField, entry_offset};
 use heap_model::{DbInfo, Name, Refusal};
-use mem_manager::{Heap, MANAGERS_OWNER};
+use mem_manager::{Found, Heap, MANAGERS_OWNER};
 
 /// Makes a chunk of zeros for each info block and the data of each entry, and lists a slot last. Refused
 /// `NotEnoughSpace` alone, and then the heap holds what it held.
@@ -77,7 +78,8 @@ pub(crate) fn list_whole(
 {
     let slot = heap.sys_new(size, MANAGERS_OWNER)?;
     if let Err(refusal) = make_data_and_list(heap, slot, blocks, entries, names) {
-        heap.sys_free(slot);
+        let chunk = heap.sys_find(slot);
+        heap.sys_free(slot, chunk);
         return Err(refusal);
     }
     Ok(slot)
@@ -88,10 +90,12 @@ pub(crate) fn list_whole(
 fn write_entries(
     heap: &mut Heap,
     slot: Name,
+    chunk: Found,
     resources: bool,
     entries: &[WholeEntry],
     names: &[Name],
 )
+    requires stands { StandsAs heap.old.bytes slot.0 chunk }
     requires heap { HeapAccepted heap.old.bytes }
     requires owner { owner_under heap.old.bytes slot.0 ≡ managers_owner }
     requires body { length (bytes_under heap.old.bytes slot.0)
@@ -109,7 +113,7 @@ fn write_entries(
     for index in 0..entries.len() {
         let entry = named_entry(entries[index], names[index + INFO_BLOCKS], resources);
         let at = entry_offset(resources, index as u16) as u32;
-        heap.sys_write(slot, at, entry.to_bytes().as_slice());
+        heap.sys_write(slot, chunk, at, entry.to_bytes().as_slice());
     }
 }
 
@@ -134,7 +138,8 @@ pub(crate) fn write_whole(
 {
     let name = NameField::of_name(info.name.as_slice()).unwrap();
     let header = named_header(info, name, names[0], names[1]);
-    heap.sys_write(slot, 0, &header.to_bytes());
+    let chunk = heap.sys_find(slot);
+    heap.sys_write(slot, chunk, 0, &header.to_bytes());
     let resources = DbAttrs(info.attributes).has_resources();
-    write_entries(heap, slot, resources, entries, names);
+    write_entries(heap, slot, chunk, resources, entries, names);
 }

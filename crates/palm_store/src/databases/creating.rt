@@ -42,7 +42,8 @@ fn begin_directory(heap: &mut Heap, slot: Name) -> Result<(), Refusal>
     ensures rest { heap.new ≡ record heap.old { bytes = heap.new.bytes; slid = heap.new.slid } }
 {
     let directory = heap.sys_new(SLOT_SIZE as u32, MANAGERS_OWNER)?;
-    heap.sys_write(directory, 0, &slot_bytes(slot));
+    let chunk = heap.sys_find(directory);
+    heap.sys_write(directory, chunk, 0, &slot_bytes(slot));
     heap.set_directory(directory);
     Ok(())
 }
@@ -60,9 +61,11 @@ fn extend_directory(heap: &mut Heap, slot: Name) -> Result<(), Refusal>
     ensures rest { heap.new ≡ record heap.old { bytes = heap.new.bytes; slid = heap.new.slid } }
 {
     let directory = heap.directory();
-    let length = heap.sys_body(directory).len() as u32;
-    heap.sys_resize(directory, length + SLOT_SIZE as u32)?;
-    heap.sys_write(directory, length, &slot_bytes(slot));
+    let chunk = heap.sys_find(directory);
+    let length = heap.sys_body_found(directory, chunk).len() as u32;
+    heap.sys_resize(directory, chunk, length + SLOT_SIZE as u32)?;
+    let grown = heap.sys_find(directory);
+    heap.sys_write(directory, grown, length, &slot_bytes(slot));
     Ok(())
 }
 
@@ -97,7 +100,8 @@ pub(crate) fn list_new(heap: &mut Heap) -> Result<Name, Refusal>
 {
     let slot = heap.sys_new(HEADER_SIZE as u32, MANAGERS_OWNER)?;
     if let Err(refusal) = list_last(heap, slot) {
-        heap.sys_free(slot);
+        let chunk = heap.sys_find(slot);
+        heap.sys_free(slot, chunk);
         return Err(refusal);
     }
     Ok(slot)

@@ -18,10 +18,11 @@ pub(crate) fn unlist(heap: &mut Heap, index: u32)
     ensures rest { heap.new ≡ record heap.old { bytes = heap.new.bytes; slid = heap.new.slid } }
 {
     let directory = heap.directory();
-    let length = heap.sys_body(directory).len() as u32;
+    let chunk = heap.sys_find(directory);
+    let length = heap.sys_body_found(directory, chunk).len() as u32;
     let at = SLOT_SIZE as u32 * index;
     let behind = at + SLOT_SIZE as u32;
-    heap.sys_slide(directory, behind, at, length - behind);
-    heap.sys_resize(directory, length - SLOT_SIZE as u32)
+    heap.sys_slide(directory, chunk, behind, at, length - behind);
+    heap.sys_resize(directory, chunk, length - SLOT_SIZE as u32)
         .unwrap();
 }

@@ -2,10 +2,13 @@
 
 use db_format::DbAttrs;
 use heap_model::Entry;
+use mem_manager::Found;
 
 /// What is found at an index of a database.
 #[derive(Clone, Copy, Debug, PartialEq, Eq)]
 pub struct FoundEntry {
+    /// The chunk of the database.
+    pub chunk: Found,
     /// The attributes of the database.
     pub attributes: DbAttrs,
     /// What the entry of the index says, if there are so many.

@@ -10,6 +10,7 @@ ghost use Rattle.heap_model.specs.Store.{Accepted, bytes_under, store_of};
 ghost use Rattle.heap_model.specs.Leaving.{Leaves};
 ghost use Rattle.heap_model.specs.EntrySteps.{most_entries, entries_in, resources_under, MakesNone};
 ghost use Rattle.db_format.specs.EitherEntry.{entry_of, is_resource, HasFittingId};
+ghost use Rattle.mem_manager.specs.Lookup.{StandsAs};
 ghost use Rattle.palm_store.specs.Databases.{HasNumber};
 ghost use Rattle.palm_store.specs.EntryInfos.{makes_resource, IsMadeOf};
 ghost use Rattle.palm_store.specs.EntryCalls.{MayBeGiven};
@@ -19,13 +20,13 @@ ghost use Rattle.palm_store.specs.KnownIds.{StandFree, StandFreeBeside};
 use crate::entries::infos::NewEntry;
 use crate::entries::known::KnownIds;
 use crate::entries::shapes::with_slot;
-use crate::lookup::header_of;
+use crate::lookup::header_in;
 use bitflags::Flags;
 use database_edits::insert_entry;
 use db_format::{DbEntry, RecordAttrs, RecordEntry, ResourceEntry};
 use fresh_ids::free_ids;
 use heap_model::{Db, Name, Refusal};
-use mem_manager::{DATA_OWNER, Heap};
+use mem_manager::{DATA_OWNER, Found, Heap};
 
 /// Makes a chunk of zeros for data, and puts an entry with it in at an index; the database counts the call.
 /// Refused `NotEnoughSpace` alone, and then the heap holds what it held.
@@ -55,8 +56,10 @@ pub(crate) fn put_in(
     ensures rest { heap.new ≡ record heap.old { bytes = heap.new.bytes; slid = heap.new.slid } }
 {
     let name = heap.sys_new(size, DATA_OWNER)?;
-    if let Err(refusal) = insert_entry(heap, db, at as u16, with_slot(entry, name)) {
-        heap.sys_free(name);
+    let chunk = heap.sys_find(Name(db.0));
+    if let Err(refusal) = insert_entry(heap, db, chunk, at as u16, with_slot(entry, name)) {
+        let made = heap.sys_find(name);
+        heap.sys_free(name, made);
         return Err(refusal);
     }
     Ok(name)
@@ -68,12 +71,14 @@ pub(crate) fn put_in(
 pub(crate) fn take_in(
     heap: &mut Heap,
     db: Db,
+    chunk: Found,
     at: u32,
     entry: DbEntry,
     name: Name,
 ) -> Result<(), Refusal>
     requires accepted { Accepted heap.old.bytes }
     requires number { HasNumber heap.old.bytes db.0 }
+    requires chunk { StandsAs heap.old.bytes db.0 chunk }
     requires inside { at ≤ length (entries_in (store_of heap.old.bytes) db) }
     requires few { length (entries_in (store_of heap.old.bytes) db) < most_entries }
     requires kind { is_resource entry ≡ resources_under (store_of heap.old.bytes) db }
@@ -91,7 +96,7 @@ pub(crate) fn take_in(
     ensures refused { OnErr result (heap.new ≡ heap.old) }
     ensures rest { heap.new ≡ record heap.old { bytes = heap.new.bytes; slid = heap.new.slid } }
 {
-    insert_entry(heap, db, at as u16, with_slot(entry, name))?;
+    insert_entry(heap, db, chunk, at as u16, with_slot(entry, name))?;
     heap.sys_set_owner(name, DATA_OWNER);
     Ok(())
 }
@@ -104,10 +109,17 @@ pub(crate) struct MadeEntry {
 }
 
 /// The new entry: a record gets a fresh ID, the next one where that is known to be free.
-#[inline]
-pub(crate) fn new_entry(heap: &Heap, db: Db, entry: NewEntry, known: KnownIds) -> MadeEntry
+#[inline(always)]
+pub(crate) fn new_entry(
+    heap: &Heap,
+    db: Db,
+    chunk: Found,
+    entry: NewEntry,
+    known: KnownIds,
+) -> MadeEntry
     requires accepted { Accepted heap.now.bytes }
     requires number { HasNumber heap.now.bytes db.0 }
+    requires chunk { StandsAs heap.now.bytes db.0 chunk }
     requires kind { makes_resource entry ≡ resources_under (store_of heap.now.bytes) db }
     requires few { length (entries_in (store_of heap.now.bytes) db) < most_entries }
     requires known { StandFree (store_of heap.now.bytes) known }
@@ -119,7 +131,7 @@ pub(crate) fn new_entry(heap: &Heap, db: Db, entry: NewEntry, known: KnownIds) -
 {
     match entry {
         NewEntry::Record { attributes } => {
-            let free = free_ids(header_of(heap, db), known.of(db));
+            let free = free_ids(header_in(heap, db, chunk), known.of(db));
             MadeEntry {
                 entry: DbEntry::Record(RecordEntry {
                     attributes: RecordAttrs::from_bits_retain(attributes),

@@ -6,29 +6,32 @@ ghost use Rattle.heap_model.specs.Store.{Accepted, store_of};
 ghost use Rattle.heap_model.specs.EntrySteps.{entries_in, OfEntry, Tells};
 ghost use Rattle.heap_model.specs.Leaving.{database_here};
 ghost use Rattle.db_format.specs.EitherEntry.{entry_of, is_resource, HasFittingId};
+ghost use Rattle.mem_manager.specs.Lookup.{StandsAs};
 ghost use Rattle.palm_store.specs.Databases.{HasNumber};
 
 use crate::entries::shapes::told;
-use crate::lookup::header_of;
+use crate::lookup::header_in;
 use db_format::{DbEntry, entry_count};
 use heap_model::{Db, Entry};
-use mem_manager::Heap;
+use mem_manager::{Found, Heap};
 
 /// How many entries a database has.
 #[inline(always)]
-pub(crate) fn count_entries(heap: &Heap, db: Db) -> u32
+pub(crate) fn count_entries(heap: &Heap, db: Db, chunk: Found) -> u32
     requires accepted { Accepted heap.now.bytes }
     requires number { HasNumber heap.now.bytes db.0 }
+    requires chunk { StandsAs heap.now.bytes db.0 chunk }
     ensures { result ≡ length (entries_in (store_of heap.now.bytes) db) }
 {
-    entry_count(header_of(heap, db)) as u32
+    entry_count(header_in(heap, db, chunk)) as u32
 }
 
 /// The entry at an index, as the database has it.
 #[inline(always)]
-pub(crate) fn read_entry(heap: &Heap, db: Db, index: u32) -> DbEntry
+pub(crate) fn read_entry(heap: &Heap, db: Db, chunk: Found, index: u32) -> DbEntry
     requires accepted { Accepted heap.now.bytes }
     requires number { HasNumber heap.now.bytes db.0 }
+    requires chunk { StandsAs heap.now.bytes db.0 chunk }
     requires inside { index < length (entries_in (store_of heap.now.bytes) db) }
     ensures is { slice_get (database_here heap.now.bytes db.0).entries index
         ≡ Some (entry_of result) }
@@ -37,7 +40,7 @@ pub(crate) fn read_entry(heap: &Heap, db: Db, index: u32) -> DbEntry
     ensures id { HasFittingId result }
     ensures fits { EntryFits (is_resource result) (entry_of result) }
 {
-    DbEntry::read(header_of(heap, db), index as u16)
+    DbEntry::read(header_in(heap, db, chunk), index as u16)
 }
 
 /// What the entry at an index says, of the database with these bytes, if there are so many.

@@ -5,14 +5,48 @@ ghost use Rattle.heap_model.specs.Database.{IsSpelled, HasShape, database_in};
 ghost use Rattle.heap_model.specs.Store.{Accepted, bytes_under, store_of};
 ghost use Rattle.heap_model.specs.StoreWords.{with_number};
 ghost use Rattle.heap_model.specs.DatabaseSteps.{info_of};
+ghost use Rattle.mem_manager.specs.Lookup.{StandsAs};
 ghost use Rattle.palm_store.specs.Databases.{HasNumber};
 
 use db_format::DbHeader;
 use heap_model::{Db, DbInfo, Name, Refusal};
-use mem_manager::{Heap, MANAGERS_OWNER};
+use mem_manager::{Found, Heap, MANAGERS_OWNER};
 
-/// The bytes of the database that has a number, as `header_of` lends them. It costs the same however many
-/// there are: each chunk of the manager's is a header or the directory.
+/// The chunk of the database that has a number, as it stands. It costs the same however many there are: each chunk of
+/// the manager's is a header or the directory.
+///
+/// Refused: `NoSuchDatabase`.
+#[inline(always)]
+pub(crate) fn find_chunk(heap: &Heap, db: Db) -> Result<Found, Refusal>
+    requires { Accepted heap.now.bytes }
+    ensures known { OnOk result (HasNumber heap.now.bytes db.0) }
+    ensures is { IfOk result (StandsAs heap.now.bytes db.0) }
+    ensures unknown { OnErr result (with_number (store_of heap.now.bytes) db.0 ≡ None) }
+    ensures refusal { IfErr result (λ refusal. refusal ≡ Refusal.NoSuchDatabase) }
+{
+    let Some(chunk) = heap.sys_chunk(Name(db.0)) else {
+        return Err(Refusal::NoSuchDatabase);
+    };
+    if chunk.owner != MANAGERS_OWNER || db.0 == heap.directory().0 {
+        return Err(Refusal::NoSuchDatabase);
+    }
+    Ok(chunk)
+}
+
+/// The bytes of a database whose chunk was found, as they lie in the image: its header, and its entries behind that.
+#[inline(always)]
+pub(crate) fn header_in(heap: &Heap, db: Db, chunk: Found) -> &[u8]
+    requires accepted { Accepted heap.now.bytes }
+    requires number { HasNumber heap.now.bytes db.0 }
+    requires chunk { StandsAs heap.now.bytes db.0 chunk }
+    ensures is { result.now ≡ bytes_under heap.now.bytes db.0 }
+    ensures spelled { IsSpelled (database_in result.now) result.now }
+    ensures shape { HasShape result.now }
+{
+    heap.sys_body_found(Name(db.0), chunk)
+}
+
+/// The bytes of the database that has a number, as `header_in` lends them.
 ///
 /// Refused: `NoSuchDatabase`.
 #[inline(always)]
@@ -25,16 +59,21 @@ pub(crate) fn find_header(heap: &Heap, db: Db) -> Result<&[u8], Refusal>
     ensures unknown { OnErr result (with_number (store_of heap.now.bytes) db.0 ≡ None) }
     ensures refusal { IfErr result (λ refusal. refusal ≡ Refusal.NoSuchDatabase) }
 {
-    let Some((owner, header)) = heap.sys_chunk(Name(db.0)) else {
-        return Err(Refusal::NoSuchDatabase);
-    };
-    if owner != MANAGERS_OWNER || db.0 == heap.directory().0 {
-        return Err(Refusal::NoSuchDatabase);
-    }
-    Ok(header)
+    let chunk = find_chunk(heap, db)?;
+    Ok(header_in(heap, db, chunk))
 }
 
-/// The bytes of a database, as they lie in the image: its header, and its entries behind that.
+/// The chunk of a database, as it stands.
+#[inline(always)]
+pub(crate) fn chunk_of(heap: &Heap, db: Db) -> Found
+    requires accepted { Accepted heap.now.bytes }
+    requires number { HasNumber heap.now.bytes db.0 }
+    ensures { StandsAs heap.now.bytes db.0 result }
+{
+    heap.sys_find(Name(db.0))
+}
+
+/// The bytes of a database, as `header_in` lends them.
 #[inline(always)]
 pub(crate) fn header_of(heap: &Heap, db: Db) -> &[u8]
     requires accepted { Accepted heap.now.bytes }
@@ -43,7 +82,7 @@ pub(crate) fn header_of(heap: &Heap, db: Db) -> &[u8]
     ensures spelled { IsSpelled (database_in result.now) result.now }
     ensures shape { HasShape result.now }
 {
-    heap.sys_body(Name(db.0))
+    header_in(heap, db, chunk_of(heap, db))
 }
 
 /// What the header in these bytes says.

@@ -2,6 +2,7 @@
 
 ghost use Rattle.std.specs.Prelude.{◌≡◌, false, map};
 ghost use Rattle.heap_model.specs.EntrySteps.{with_attributes, with_entries, MakesNone};
+ghost use Rattle.mem_manager.specs.Lookup.{StandsAs};
 ghost use Rattle.palm_store.specs.AttributeChanges.{MayChange};
 ghost use Rattle.palm_store.specs.Databases.{HasNumber};
 ghost use Rattle.palm_store.specs.EntryCalls.{resources_of_image, LeavesChanged};
@@ -9,20 +10,23 @@ ghost use Rattle.palm_store.specs.EntryCalls.{resources_of_image, LeavesChanged}
 use crate::store::Store;
 use database_edits::change_attributes;
 use heap_model::Db;
+use mem_manager::Found;
 use raw_region::ByteChange;
 
 impl Store {
     /// Gives each record of a database the attributes that a change makes of its own, in one pass. The
     /// database doesn't count the call.
-    pub fn change_attributes<C: ByteChange>(&mut self, db: Db, change: C)
+    pub fn change_attributes<C: ByteChange>(&mut self, db: Db, chunk: Found, change: C)
         requires number { HasNumber self.old.bytes db.0 }
+        requires chunk { StandsAs self.old.bytes db.0 chunk }
         requires records { resources_of_image self.old.bytes db ≡ false }
         requires change { MayChange (C.made change) }
         ensures changed { LeavesChanged self.old self.new
             (λ store. with_entries store db (map (with_attributes (C.made change)))) }
+        ensures stands { StandsAs self.new.bytes db.0 chunk }
         ensures none_made { MakesNone self.old.bytes self.new.bytes }
         ensures rest { self.new ≡ record self.old { bytes = self.new.bytes } }
     {
-        change_attributes(&mut self.heap, db, change);
+        change_attributes(&mut self.heap, db, chunk, change);
     }
 }

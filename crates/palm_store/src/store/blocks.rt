@@ -22,11 +22,12 @@ impl Store {
             (done_or_refused result) self.new }
         ensures refused { OnErr result (self.new ≡ self.old) }
     {
-        if find_writable_block(&self.heap, db, which)?.0 != 0 {
+        let found = find_writable_block(&self.heap, db, which)?;
+        if found.name.0 != 0 {
             return Err(Refusal::AlreadyExists);
         }
         self.check_given(name)?;
-        give_block(&mut self.heap, db, which, name);
+        give_block(&mut self.heap, db, found.chunk, which, name);
         self.known = NOTHING_KNOWN;
         Ok(())
     }
@@ -40,12 +41,15 @@ impl Store {
             (name_or_refused result) self.new }
         ensures refused { OnErr result (self.new ≡ self.old) }
     {
-        if find_writable_block(&self.heap, db, which)?.0 == 0 {
+        let found = find_writable_block(&self.heap, db, which)?;
+        if found.name.0 == 0 {
             return Err(Refusal::NoInfoBlock);
         }
         check_owner(owner)?;
         self.known = NOTHING_KNOWN;
-        Ok(take_block(&mut self.heap, db, which, owner))
+        let name = found.name;
+        take_block(&mut self.heap, db, found, which, owner);
+        Ok(name)
     }
 
     /// The name of an info block of a database.

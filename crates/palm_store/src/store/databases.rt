@@ -8,8 +8,8 @@ ghost use Rattle.palm_store.specs.Replies.{DoesDatabase, done_or_refused, databa
 use crate::databases::{empty_header, free_data, has_locked, list_new, unlist, with_info};
 use crate::entries::NOTHING_KNOWN;
 use crate::lookup::{
-    SLOT_SIZE, count_databases, directory_bytes, find_header, find_named, has_other_name, index_of,
-    info_in, listed_in,
+    SLOT_SIZE, count_databases, directory_bytes, find_chunk, find_header, find_named,
+    has_other_name, header_in, index_of, info_in, listed_in,
 };
 use crate::store::Store;
 use db_format::{DbHeader, MOST_DATABASES, NameField};
@@ -48,7 +48,8 @@ impl Store {
         let header = empty_header(field, kind, creator, resources, date);
         self.known = NOTHING_KNOWN;
         let slot = list_new(&mut self.heap)?;
-        self.heap.sys_write(slot, 0, &header.to_bytes());
+        let chunk = self.heap.sys_find(slot);
+        self.heap.sys_write(slot, chunk, 0, &header.to_bytes());
         Ok(Db(slot.0))
     }
 
@@ -58,13 +59,13 @@ impl Store {
     pub fn delete_database(&mut self, db: Db) -> Result<(), Refusal>
         ensures { DoesDatabase self.old (DatabaseCall.Delete db) (done_or_refused result) self.new }
     {
-        find_header(&self.heap, db)?;
-        if has_locked(&self.heap, db) {
+        let chunk = find_chunk(&self.heap, db)?;
+        if has_locked(&self.heap, db, chunk) {
             return Err(Refusal::ChunkLocked);
         }
         let index = index_of(&self.heap, db);
-        free_data(&mut self.heap, db);
-        self.heap.sys_free(Name(db.0));
+        free_data(&mut self.heap, db, chunk);
+        self.heap.sys_free(Name(db.0), chunk);
         unlist(&mut self.heap, index);
         self.known = NOTHING_KNOWN;
         Ok(())
@@ -119,7 +120,8 @@ impl Store {
         ensures { DoesDatabase self.old (DatabaseCall.SetInfo db info.now)
             (done_or_refused result) self.new }
     {
-        let header = find_header(&self.heap, db)?;
+        let chunk = find_chunk(&self.heap, db)?;
+        let header = header_in(&self.heap, db, chunk);
         let Some(name) = NameField::of_name(info.name.as_slice()) else {
             return Err(Refusal::InvalidName);
         };
@@ -127,7 +129,8 @@ impl Store {
             return Err(Refusal::AlreadyExists);
         }
         let header = with_info(DbHeader::read(header), name, info);
-        self.heap.sys_write(Name(db.0), 0, &header.to_bytes());
+        self.heap
+            .sys_write(Name(db.0), chunk, 0, &header.to_bytes());
         self.known = NOTHING_KNOWN;
         Ok(())
     }

@@ -10,6 +10,7 @@ ghost use Rattle.heap_model.specs.Refusals.{NoneHolds, FirstBrings};
 ghost use Rattle.heap_model.specs.StoreWords.{with_number};
 ghost use Rattle.heap_model.specs.EntrySteps.{data_freed, raised, MakesNone};
 ghost use Rattle.heap_model.specs.StoreSteps.{StoreAsBefore};
+ghost use Rattle.mem_manager.specs.Lookup.{StandsAs};
 ghost use Rattle.palm_store.specs.Databases.{HasNumber, HasDatabase};
 ghost use Rattle.palm_store.specs.EntryInfos.{makes_resource, MayOwn, dropped_to};
 ghost use Rattle.palm_store.specs.EntryCalls.{entries_of_image, resources_of_image, data_of_image, HasDbAttributes, HasLockedData, IsEntryData, IsHeard, MayHave, MayBeGiven, checks_of_giving, checks_of_making, checks_of_attaching, checks_of_growth, raised_if, LeavesChanged, LeavesMade, LeavesAttached, entry_informed, entry_given, entry_moved, data_sized};
@@ -19,12 +20,12 @@ use crate::entries::{
     EntryInfo, FoundEntry, NewEntry, count_entries, emptied, entry_at, entry_with, new_entry,
     put_in, read_entry, take_in, with_slot,
 };
-use crate::lookup::{find_header, header_of};
+use crate::lookup::{chunk_of, find_chunk, find_header, header_in};
 use crate::store::Store;
 use database_edits::{count_change, move_entry, remove_entry, write_entry};
 use db_format::{DatabaseView, DbAttrs};
 use heap_model::{Db, Name, Refusal};
-use mem_manager::DATA_OWNER;
+use mem_manager::{DATA_OWNER, Found};
 
 /// The most entries that a database may have.
 const MOST_ENTRIES: u32 = 65535;
@@ -43,13 +44,39 @@ impl Store {
         Ok(DatabaseView::of(header))
     }
 
-    /// The database of a number that there is, to be read.
-    pub fn database<'a>(&'a self, db: Db) -> DatabaseView<'a>
+    /// The chunk of the database of a number, as it stands, for the calls below: that is of use until a call makes,
+    /// frees or resizes a chunk, and behind those that promise that it stands.
+    ///
+    /// Refused: `NoSuchDatabase`.
+    #[inline(always)]
+    pub fn find_chunk(&self, db: Db) -> Result<Found, Refusal>
+        ensures accepted { Accepted self.now.bytes }
+        ensures known { OnOk result (HasNumber self.now.bytes db.0) }
+        ensures is { IfOk result (StandsAs self.now.bytes db.0) }
+        ensures unknown { OnErr result (with_number (store_of self.now.bytes) db.0 ≡ None) }
+        ensures refusal { IfErr result (λ refusal. refusal ≡ Refusal.NoSuchDatabase) }
+    {
+        find_chunk(&self.heap, db)
+    }
+
+    /// The chunk of a database that there is, as `find_chunk` answers it.
+    #[inline(always)]
+    pub fn chunk_of(&self, db: Db) -> Found
         requires { HasNumber self.now.bytes db.0 }
+        ensures { StandsAs self.now.bytes db.0 result }
+    {
+        chunk_of(&self.heap, db)
+    }
+
+    /// The database whose chunk was found, to be read.
+    #[inline(always)]
+    pub fn database_in<'a>(&'a self, db: Db, chunk: Found) -> DatabaseView<'a>
+        requires number { HasNumber self.now.bytes db.0 }
+        requires chunk { StandsAs self.now.bytes db.0 chunk }
         ensures accepted { Accepted self.now.bytes }
         ensures is { HasDatabase self.now.bytes db.0 result }
     {
-        DatabaseView::of(header_of(&self.heap, db))
+        DatabaseView::of(header_in(&self.heap, db, chunk))
     }
 
     /// The attributes of a database, and what its entry at an index says, if there is one.
@@ -61,12 +88,15 @@ impl Store {
         ensures known { OnOk result (HasNumber self.now.bytes db.0) }
         ensures attributes { IfOk result (λ found.
             HasDbAttributes self.now.bytes db found.attributes.0) }
+        ensures chunk { IfOk result (λ found. StandsAs self.now.bytes db.0 found.chunk) }
         ensures entry { IfOk result (λ found. IsHeard self.now.bytes db index found.entry) }
         ensures unknown { OnErr result (with_number (store_of self.now.bytes) db.0 ≡ None) }
         ensures refusal { IfErr result (λ refusal. refusal ≡ Refusal.NoSuchDatabase) }
     {
-        let header = find_header(&self.heap, db)?;
+        let chunk = find_chunk(&self.heap, db)?;
+        let header = header_in(&self.heap, db, chunk);
         Ok(FoundEntry {
+            chunk,
             attributes: DbAttrs(db_format::attributes(header)),
             entry: entry_at(header, index),
         })
@@ -77,14 +107,17 @@ impl Store {
     ///
     /// Refused: `TooManyEntries`, where there are 65,535; `NotEnoughSpace`, where no slot is free, or room for
     /// the data and for one entry more in the header can run out. Then nothing is left of it.
+    #[inline(always)]
     pub fn entry_new(
         &mut self,
         db: Db,
+        chunk: Found,
         at: u32,
         entry: NewEntry,
         size: u32,
     ) -> Result<Name, Refusal>
         requires number { HasNumber self.old.bytes db.0 }
+        requires chunk { StandsAs self.old.bytes db.0 chunk }
         requires inside { at ≤ length (entries_of_image self.old.bytes db) }
         requires kind { makes_resource entry ≡ resources_of_image self.old.bytes db }
         ensures made { IfOk result (λ name. LeavesMade self.old self.new db at entry name.0 size) }
@@ -95,10 +128,10 @@ impl Store {
         ensures as_before { OnErr result (StoreAsBefore self.old self.new) }
         ensures rest { self.new ≡ record self.old { bytes = self.new.bytes; slid = self.new.slid } }
     {
-        if count_entries(&self.heap, db) >= MOST_ENTRIES {
+        if count_entries(&self.heap, db, chunk) >= MOST_ENTRIES {
             return Err(Refusal::TooManyEntries);
         }
-        let made = new_entry(&self.heap, db, entry, self.known);
+        let made = new_entry(&self.heap, db, chunk, entry, self.known);
         let name = put_in(&mut self.heap, db, at, made.entry, size)?;
         self.known = made.known;
         Ok(name)
@@ -121,14 +154,17 @@ impl Store {
     ///
     /// Refused: `TooManyEntries`, where there are 65,535; `NotEnoughSpace`, where room for one entry more in
     /// the header can run out. Then nothing has changed.
+    #[inline(always)]
     pub fn entry_attach(
         &mut self,
         db: Db,
+        chunk: Found,
         at: u32,
         entry: NewEntry,
         name: Name,
     ) -> Result<(), Refusal>
         requires number { HasNumber self.old.bytes db.0 }
+        requires chunk { StandsAs self.old.bytes db.0 chunk }
         requires inside { at ≤ length (entries_of_image self.old.bytes db) }
         requires kind { makes_resource entry ≡ resources_of_image self.old.bytes db }
         requires given { MayBeGiven self.old.bytes name.0 }
@@ -139,11 +175,11 @@ impl Store {
         ensures refused { OnErr result (self.new ≡ self.old) }
         ensures rest { self.new ≡ record self.old { bytes = self.new.bytes; slid = self.new.slid } }
     {
-        if count_entries(&self.heap, db) >= MOST_ENTRIES {
+        if count_entries(&self.heap, db, chunk) >= MOST_ENTRIES {
             return Err(Refusal::TooManyEntries);
         }
-        let made = new_entry(&self.heap, db, entry, self.known);
-        take_in(&mut self.heap, db, at, made.entry, name)?;
+        let made = new_entry(&self.heap, db, chunk, entry, self.known);
+        take_in(&mut self.heap, db, chunk, at, made.entry, name)?;
         self.known = made.known;
         Ok(())
     }
@@ -165,13 +201,16 @@ impl Store {
         ensures one_stretch { MovesOneStretchAnd self.old.bytes self.new.bytes name.0 }
         ensures rest { self.new ≡ record self.old { bytes = self.new.bytes; slid = self.new.slid } }
     {
-        self.heap.sys_resize(name, size)?;
+        let found = self.heap.sys_find(name);
+        self.heap.sys_resize(name, found, size)?;
         Ok(())
     }
 
     /// Sets what an entry says. Its data stays. The database counts the call if `counts` says so.
-    pub fn entry_set(&mut self, db: Db, index: u32, info: EntryInfo, counts: bool)
+    #[inline(always)]
+    pub fn entry_set(&mut self, db: Db, chunk: Found, index: u32, info: EntryInfo, counts: bool)
         requires number { HasNumber self.old.bytes db.0 }
+        requires chunk { StandsAs self.old.bytes db.0 chunk }
         requires inside { index < length (entries_of_image self.old.bytes db) }
         requires info { MayHave self.old.bytes db index info }
         ensures set { LeavesChanged self.old self.new
@@ -179,16 +218,26 @@ impl Store {
         ensures none_made { MakesNone self.old.bytes self.new.bytes }
         ensures rest { self.new ≡ record self.old { bytes = self.new.bytes } }
     {
-        let entry = entry_with(read_entry(&self.heap, db, index), info);
-        write_entry(&mut self.heap, db, index as u16, entry, counts);
+        let entry = entry_with(read_entry(&self.heap, db, chunk, index), info);
+        write_entry(&mut self.heap, db, chunk, index as u16, entry, counts);
         self.known = self.known.without(info);
     }
 
     /// Gives an entry a movable chunk of a caller's for its data, and sets what it says. The chunk becomes one for
     /// data, and that of the data that the entry had gets an owner; both keep their locks. The database counts
     /// the call.
-    pub fn entry_swap(&mut self, db: Db, index: u32, info: EntryInfo, name: Name, owner: u8)
+    #[inline(always)]
+    pub fn entry_swap(
+        &mut self,
+        db: Db,
+        chunk: Found,
+        index: u32,
+        info: EntryInfo,
+        name: Name,
+        owner: u8,
+    )
         requires number { HasNumber self.old.bytes db.0 }
+        requires chunk { StandsAs self.old.bytes db.0 chunk }
         requires inside { index < length (entries_of_image self.old.bytes db) }
         requires info { MayHave self.old.bytes db index info }
         requires there { 0 < data_of_image self.old.bytes db index }
@@ -199,9 +248,9 @@ impl Store {
         ensures none_made { MakesNone self.old.bytes self.new.bytes }
         ensures rest { self.new ≡ record self.old { bytes = self.new.bytes } }
     {
-        let was = read_entry(&self.heap, db, index);
+        let was = read_entry(&self.heap, db, chunk, index);
         let entry = with_slot(entry_with(was, info), name);
-        write_entry(&mut self.heap, db, index as u16, entry, true);
+        write_entry(&mut self.heap, db, chunk, index as u16, entry, true);
         self.heap.sys_set_owner(Name(was.slot()), owner);
         self.heap.sys_set_owner(name, DATA_OWNER);
         self.known = self.known.without(info);
@@ -209,8 +258,10 @@ impl Store {
 
     /// Moves the entry at an index in front of the one that stands at another, or behind the last: `to` counts
     /// the entries as they stand before. The database counts the call.
-    pub fn entry_move(&mut self, db: Db, from: u32, to: u32)
+    #[inline(always)]
+    pub fn entry_move(&mut self, db: Db, chunk: Found, from: u32, to: u32)
         requires number { HasNumber self.old.bytes db.0 }
+        requires chunk { StandsAs self.old.bytes db.0 chunk }
         requires from_inside { from < length (entries_of_image self.old.bytes db) }
         requires to_inside { to ≤ length (entries_of_image self.old.bytes db) }
         ensures moved { LeavesChanged self.old self.new
@@ -218,31 +269,42 @@ impl Store {
         ensures none_made { MakesNone self.old.bytes self.new.bytes }
         ensures rest { self.new ≡ record self.old { bytes = self.new.bytes; slid = self.new.slid } }
     {
-        move_entry(&mut self.heap, db, from as u16, to as u16);
+        move_entry(&mut self.heap, db, chunk, from as u16, to as u16);
     }
 
     /// Frees the data of a record, if it has any. The record is deleted then, and keeps its ID and its other
     /// attributes. The database counts the call if `counts` says so.
     #[inline(always)]
-    pub fn entry_free_data(&mut self, db: Db, index: u32, counts: bool)
+    pub fn entry_free_data(&mut self, db: Db, chunk: Found, index: u32, counts: bool)
         requires number { HasNumber self.old.bytes db.0 }
+        requires chunk { StandsAs self.old.bytes db.0 chunk }
         requires records { resources_of_image self.old.bytes db ≡ false }
         requires inside { index < length (entries_of_image self.old.bytes db) }
         requires unlocked { HasLockedData self.old.bytes db index → ⊥ }
         ensures freed { LeavesChanged self.old self.new
             (λ store. raised_if counts (data_freed store db index) db) }
+        ensures stands { StandsAs self.new.bytes db.0 chunk }
         ensures none_made { MakesNone self.old.bytes self.new.bytes }
         ensures rest { self.new ≡ record self.old { bytes = self.new.bytes } }
     {
-        let entry = read_entry(&self.heap, db, index);
-        write_entry(&mut self.heap, db, index as u16, emptied(entry), counts);
+        let entry = read_entry(&self.heap, db, chunk, index);
+        write_entry(
+            &mut self.heap,
+            db,
+            chunk,
+            index as u16,
+            emptied(entry),
+            counts,
+        );
         free_chunk_of(&mut self.heap, Name(entry.slot()));
     }
 
     /// Drops an entry: its data, if it has any, is freed, or handed over to an owner. The database counts the
     /// call.
-    pub fn entry_drop(&mut self, db: Db, index: u32, owner: Option<u8>)
+    #[inline(always)]
+    pub fn entry_drop(&mut self, db: Db, chunk: Found, index: u32, owner: Option<u8>)
         requires number { HasNumber self.old.bytes db.0 }
+        requires chunk { StandsAs self.old.bytes db.0 chunk }
         requires inside { index < length (entries_of_image self.old.bytes db) }
         requires unlocked { IfNone owner (HasLockedData self.old.bytes db index → ⊥) }
         requires owner { IfSome owner MayOwn }
@@ -252,8 +314,8 @@ impl Store {
         ensures none_made { MakesNone self.old.bytes self.new.bytes }
         ensures rest { self.new ≡ record self.old { bytes = self.new.bytes; slid = self.new.slid } }
     {
-        let slot = Name(read_entry(&self.heap, db, index).slot());
-        remove_entry(&mut self.heap, db, index as u16);
+        let slot = Name(read_entry(&self.heap, db, chunk, index).slot());
+        remove_entry(&mut self.heap, db, chunk, index as u16);
         match owner {
             None => free_chunk_of(&mut self.heap, slot),
             Some(owner) => self.heap.sys_set_owner(slot, owner),
@@ -261,13 +323,15 @@ impl Store {
     }
 
     /// Counts a change of a database: raises its modification number by 1, modulo 2^32.
-    pub fn count_change(&mut self, db: Db)
+    #[inline(always)]
+    pub fn count_change(&mut self, db: Db, chunk: Found)
         requires number { HasNumber self.old.bytes db.0 }
+        requires chunk { StandsAs self.old.bytes db.0 chunk }
         ensures counted { LeavesChanged self.old self.new (λ store. raised store db) }
         ensures none_made { MakesNone self.old.bytes self.new.bytes }
         ensures unmoved { MovesNothing self.old.bytes self.new.bytes }
         ensures rest { self.new ≡ record self.old { bytes = self.new.bytes } }
     {
-        count_change(&mut self.heap, db);
+        count_change(&mut self.heap, db, chunk);
     }
 }

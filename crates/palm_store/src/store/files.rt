@@ -49,6 +49,7 @@ impl Store {
         ensures unmoved { MovesNothing self.old.bytes self.new.bytes }
         ensures rest { self.new ≡ record self.old { bytes = self.new.bytes } }
     {
-        self.heap.sys_write(name, 0, bytes);
+        let chunk = self.heap.sys_find(name);
+        self.heap.sys_write(name, chunk, 0, bytes);
     }
 }

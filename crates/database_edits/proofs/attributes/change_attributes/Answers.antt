@@ -8,22 +8,16 @@ use Rattle.heap_model.specs.Bytes.{overwritten}
 use Rattle.raw_region.specs.ByteChanges.{changed_every}
 use Rattle.database_edits.specs.Recorded.{attributes_changed}
 use Rattle.database_edits.proofs.Databases.{managers}
-use Rattle.database_edits.proofs.Chunks.{is_movable, written, leaves_as}
+use Rattle.database_edits.proofs.Chunks.{written, leaves_as}
 use Rattle.database_edits.proofs.Recorded.{body_changed}
 use Rattle.database_edits.proofs.attributes.change_attributes.Goals as goal
-
-pub sys_body-requires : goal.sys_body-requires
-sys_body-requires g c = is_movable c.args.heap.now.bytes c.args.db.0 (managers c.args.heap.now.bytes c.args.db.0 c.requires.spells)
-
-pub sys_change_every-requires-clause-movable : goal.sys_change_every-requires-clause-movable
-sys_change_every-requires-clause-movable g c = is_movable c.args.heap.now.bytes c.args.db.0 (managers c.args.heap.now.bytes c.args.db.0 c.requires.spells)
 
 pub returns-clause-changed : goal.returns-clause-changed
 returns-clause-changed g c =
     let old : List ℕ = c.args.heap.now.bytes in
     let db : ℕ = c.args.db.0 in
-    let count : ℕ = length c.sys_body.result.now - 78 in
+    let count : ℕ = length c.sys_body_found.result.now - 78 in
     let change : ℕ → ℕ = g.C.ByteChange.made c.args.change in
     leaves_as old c.sys_change_every.new.self.bytes db (overwritten (bytes_under old db) 78 (changed_every change 8 4 (slice_range (bytes_under old db) 78 (78 + count)))) (spelled (attributes_changed change (database_here old db)))
-    (body_changed change (database_here old db) (bytes_under old db) count c.requires.spells.spelled.bytes_are c.requires.spells.spelled.fits c.requires.records (ap (λ (bytes : List ℕ). length bytes - 78) c.sys_body.ensures))
+    (body_changed change (database_here old db) (bytes_under old db) count c.requires.spells.spelled.bytes_are c.requires.spells.spelled.fits c.requires.records (ap (λ (bytes : List ℕ). length bytes - 78) c.sys_body_found.ensures))
     (written old c.sys_change_every.new.self.bytes db 78 (changed_every change 8 4 (slice_range (bytes_under old db) 78 (78 + count))) (managers old db c.requires.spells) c.sys_change_every.ensures.leaves)

@@ -1,10 +1,6 @@
 -- The chunk of a database has no lock, so that only want of room refuses it to grow.
-use Rattle.database_edits.proofs.Chunks.{is_movable}
 use Rattle.database_edits.proofs.Lengths.{grew, no_room, by_space}
 use Rattle.database_edits.proofs.bodies.grow.Goals as goal
-
-pub sys_resize-requires : goal.sys_resize-requires
-sys_resize-requires c = record { movable = is_movable c.args.heap.now.bytes c.args.db.0 c.requires.managers }
 
 pub returns-clause-grows : goal.returns-clause-grows
 returns-clause-grows c = grew c.args.heap.now.bytes c.sys_resize.new.self.bytes c.args.db.0 c.args.size c.sys_resize.result c.requires.managers c.sys_resize.ensures.done

@@ -1,8 +1,5 @@
-use Rattle.database_edits.proofs.Chunks.{is_movable, written}
+use Rattle.database_edits.proofs.Chunks.{written}
 use Rattle.database_edits.proofs.bodies.put_part.Goals as goal
-
-pub sys_write-requires-clause-movable : goal.sys_write-requires-clause-movable
-sys_write-requires-clause-movable c = is_movable c.args.heap.now.bytes c.args.db.0 c.requires.managers
 
 pub returns-clause-writes : goal.returns-clause-writes
 returns-clause-writes c = written c.args.heap.now.bytes c.sys_write.new.self.bytes c.args.db.0 c.args.at c.args.part.now c.requires.managers c.sys_write.ensures.leaves

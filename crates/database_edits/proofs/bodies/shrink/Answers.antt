@@ -1,10 +1,6 @@
 -- A chunk without a lock is never refused to shrink.
-use Rattle.database_edits.proofs.Chunks.{is_movable}
 use Rattle.database_edits.proofs.Lengths.{shrinks_ok, shrank}
 use Rattle.database_edits.proofs.bodies.shrink.Goals as goal
-
-pub sys_resize-requires : goal.sys_resize-requires
-sys_resize-requires c = record { movable = is_movable c.args.heap.now.bytes c.args.db.0 c.requires.managers }
 
 pub unwrap-requires : goal.unwrap-requires
 unwrap-requires c = shrinks_ok c.args.heap.now.bytes c.args.db.0 c.args.size c.sys_resize.result c.requires.managers c.requires.inside c.sys_resize.ensures.why

@@ -4,12 +4,9 @@ use Rattle.heap_model.specs.Bytes.{overwritten}
 use Rattle.std.specs.Prelude.{slice_range}
 use Rattle.heap_model.specs.Database.{entry_offset}
 use Rattle.heap_model.specs.Store.{bytes_under}
-use Rattle.database_edits.proofs.Chunks.{is_movable, written, length_kept, stays}
+use Rattle.database_edits.proofs.Chunks.{written, length_kept, stays}
 use Rattle.database_edits.proofs.Entries.{offset_order, slid_range, slice_most, slide_fits, none_slid}
 use Rattle.database_edits.proofs.bodies.slide_entries.Goals as goal
-
-pub sys_slide-requires-clause-movable : goal.sys_slide-requires-clause-movable
-sys_slide-requires-clause-movable c = is_movable c.args.heap.now.bytes c.args.db.0 c.requires.managers
 
 pub returns-clause-slides : goal.returns-clause-slides
 returns-clause-slides c =

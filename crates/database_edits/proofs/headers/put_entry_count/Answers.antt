@@ -1,11 +1,7 @@
 use Rattle.std.proofs.Common.{arith}
 use Rattle.db_format.specs.Headers.{HasEntryCount}
-use Rattle.database_edits.proofs.Chunks.{is_movable}
 use Rattle.database_edits.proofs.HeadersHere.{field_put, put_managers, put_inside}
 use Rattle.database_edits.proofs.headers.put_entry_count.Goals as goal
-
-pub sys_write-requires-clause-movable : goal.sys_write-requires-clause-movable
-sys_write-requires-clause-movable c = is_movable c.args.heap.now.bytes c.args.db.0 c.requires.managers
 
 pub returns-clause-puts : goal.returns-clause-puts
 returns-clause-puts c =

@@ -3,13 +3,9 @@ use Rattle.heap_model.specs.Maps.{put}
 use Rattle.heap_model.specs.Reading.{held}
 use Rattle.heap_model.specs.Leaving.{Leaves}
 use Rattle.db_format.specs.Headers.{HasInfoBlock, info_block_at}
-use Rattle.database_edits.proofs.Chunks.{is_movable}
 use Rattle.database_edits.proofs.HeadersHere.{field_put, put_managers, put_inside}
 use Rattle.database_edits.proofs.InfoBlocks.{block_within}
 use Rattle.database_edits.proofs.headers.put_info_block.Goals as goal
-
-pub sys_write-requires-clause-movable : goal.sys_write-requires-clause-movable
-sys_write-requires-clause-movable c = is_movable c.args.heap.now.bytes c.args.db.0 c.requires.managers
 
 pub returns-clause-puts : goal.returns-clause-puts
 returns-clause-puts c =

@@ -6,9 +6,13 @@ use Rattle.heap_model.specs.StoreWords.{next_modification}
 use Rattle.db_format.specs.EitherEntry.{entry_of, is_resource}
 use Rattle.laws_heap.proofs.Results.{on_err}
 use Rattle.database_edits.specs.Edits.{HasNoRoomFor, entry_inserted}
+use Rattle.database_edits.proofs.Chunks.{is_movable}
 use Rattle.database_edits.proofs.HeadersHere.{heading_spelled}
 use Rattle.database_edits.proofs.InsertedEntries.{short_of, same_name, inserted, inserted_header, inserted_kept}
 use Rattle.database_edits.proofs.insertion.insert_entry.Goals as goal
+
+pub sys_find-grown-requires : goal.sys_find-grown-requires
+sys_find-grown-requires c = is_movable c.grow.new.heap.bytes c.args.db.0 c.in_ok-grow.ensures.grows.managers
 
 pub returns-in_err-grow-clause-no_room : goal.returns-in_err-grow-clause-no_room
 returns-in_err-grow-clause-no_room c =

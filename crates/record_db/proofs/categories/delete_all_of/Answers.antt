@@ -13,6 +13,7 @@ loop-index-init c =
     record {
       deleted = deleted_none c.args.store.now.bytes c.args.db c.args.category h c.requires.accepted;
       within = omega arith;
+      stands = c.requires.chunk;
       none_made = λ name there. there;
       rest = refl;
     }
@@ -64,6 +65,7 @@ loop-index-preserved c =
     record {
       deleted = deleted_next c.args.store.now.bytes c.loop-index.store.bytes c.entry_free_data.new.self.bytes c.args.db c.args.category c.loop-index.from c.in-Some.index h c.requires.accepted first c.loop-index.invariant.deleted c.entry_free_data.ensures.freed c.entry_free_data.ensures.none_made;
       within = omega (arith, count, below);
+      stands = c.entry_free_data.ensures.stands;
       none_made = λ name there. c.loop-index.invariant.none_made name (c.entry_free_data.ensures.none_made name there);
       rest = kept_then c.args.store.now c.loop-index.store c.entry_free_data.new.self c.loop-index.invariant.rest c.entry_free_data.ensures.rest;
     }

@@ -2,6 +2,7 @@
 use Rattle.std.proofs.Common.{◌≡◌, ◌≤◌, ◌-◌, length}
 use Rattle.heap_model.specs.Store.{store_of}
 use Rattle.heap_model.specs.EntrySteps.{entries_in, MakesNone}
+use Rattle.palm_store.specs.Found.{StandsAs}
 use Rattle.record_db.proofs.CategoryTurns.{HasDeletedSome}
 use Rattle.record_db.proofs.categories.delete_all_of.Given as goal
 
@@ -9,6 +10,7 @@ abbrev pub invariant-loop-index : goal.invariant-loop-index
 invariant-loop-index l = record {
   deleted : HasDeletedSome l.initial.store.bytes l.store.bytes l.db l.category l.from;
   within : l.from ≤ length (entries_in (store_of l.initial.store.bytes) l.db);
+  stands : StandsAs l.store.bytes l.db.0 l.chunk;
   none_made : MakesNone l.initial.store.bytes l.store.bytes;
   rest : l.store ≡ record l.initial.store { bytes = l.store.bytes };
 }

@@ -15,7 +15,7 @@ use Rattle.record_db.proofs.categories.delete_category.Goals as goal
 
 pub returns-then-has_locked_of-clause-does : goal.returns-then-has_locked_of-clause-does
 returns-then-has_locked_of-clause-does c =
-    let count = c.in_ok-count_entries.ensures in
+    let count = c.in_ok-opened.ensures in
     let none = count.passes in
     refused c.args.store.now (calls.Record (DeleteCategory c.args.db c.args.category)) ChunkLocked count.accepted
     (inr (none.0, inr (none.1.0, inr (none.1.1.0, inr (c.in_ok-check_category.ensures.passes.0, inl (c.has_locked_of.ensures.0 c.if-has_locked_of.true, refl))))))
@@ -26,15 +26,15 @@ returns-then-has_locked_of-clause-refused c = refl
 pub delete_all_of-requires-clause-unlocked : goal.delete_all_of-requires-clause-unlocked
 delete_all_of-requires-clause-unlocked c = λ is. (let found = c.has_locked_of.ensures.1 is in let none = c.if-has_locked_of.false in absurd cc)
 
-pub count_change-requires : goal.count_change-requires
-count_change-requires c =
-    let h = here c.args.store.now.bytes c.args.db.0 c.in_ok-count_entries.ensures.accepted c.in_ok-count_entries.ensures.known in
+pub count_change-requires-clause-number : goal.count_change-requires-clause-number
+count_change-requires-clause-number c =
+    let h = here c.args.store.now.bytes c.args.db.0 c.in_ok-opened.ensures.accepted c.in_ok-opened.ensures.known in
     let m = number_mid c.args.store.now.bytes c.delete_all_of.new.store.bytes c.args.db (map (deleted_category c.args.category)) (category_deleted (store_of c.args.store.now.bytes) c.args.db c.args.category) h c.delete_all_of.ensures.deleted.same refl in
-    record { number = number_read c.delete_all_of.new.store.bytes c.args.db _ m }
+    number_read c.delete_all_of.new.store.bytes c.args.db _ m
 
 pub returns-clause-does : goal.returns-clause-does
 returns-clause-does c =
-    let none = c.in_ok-count_entries.ensures.passes in
+    let none = c.in_ok-opened.ensures.passes in
     let leaves = raised_after c.args.store.now.bytes c.delete_all_of.new.store.bytes c.count_change.new.self.bytes c.args.db (category_deleted (store_of c.args.store.now.bytes) c.args.db c.args.category) c.delete_all_of.ensures.deleted c.count_change.ensures.counted c.count_change.ensures.none_made in
-    changes c.args.store.now c.count_change.new.self (calls.Record (DeleteCategory c.args.db c.args.category)) Done _ c.in_ok-count_entries.ensures.accepted leaves
+    changes c.args.store.now c.count_change.new.self (calls.Record (DeleteCategory c.args.db c.args.category)) Done _ c.in_ok-opened.ensures.accepted leaves
     ((none.0, (none.1.0, (none.1.1.0, (c.in_ok-check_category.ensures.passes.0, ((λ is. (let found = c.has_locked_of.ensures.1 is in let no_one = c.if-has_locked_of.false in absurd cc)), tt))))), (tt, leaves.same)) tt (kept_then c.args.store.now c.delete_all_of.new.store c.count_change.new.self c.delete_all_of.ensures.rest c.count_change.ensures.rest)

@@ -18,18 +18,18 @@ pub change_attributes-requires-clause-change : goal.change_attributes-requires-c
 change_attributes-requires-clause-change c =
     may_move c.args.to c.args.from c.args.dirty (below_categories c.args.to c.in_ok-check_category.ensures.passes.0)
 
-pub count_change-requires : goal.count_change-requires
-count_change-requires c =
-    let h = here c.args.store.now.bytes c.args.db.0 c.in_ok-count_entries.ensures.accepted c.in_ok-count_entries.ensures.known in
+pub count_change-requires-clause-number : goal.count_change-requires-clause-number
+count_change-requires-clause-number c =
+    let h = here c.args.store.now.bytes c.args.db.0 c.in_ok-opened.ensures.accepted c.in_ok-opened.ensures.known in
     let change = map (with_attributes (moved_attributes c.args.to c.args.from c.args.dirty)) in
     let m = number_mid c.args.store.now.bytes c.change_attributes.new.self.bytes c.args.db change (with_entries (store_of c.args.store.now.bytes) c.args.db change) h c.change_attributes.ensures.changed.same refl in
-    record { number = number_read c.change_attributes.new.self.bytes c.args.db _ m }
+    number_read c.change_attributes.new.self.bytes c.args.db _ m
 
 pub returns-clause-does : goal.returns-clause-does
 returns-clause-does c =
-    let h = here c.args.store.now.bytes c.args.db.0 c.in_ok-count_entries.ensures.accepted c.in_ok-count_entries.ensures.known in
-    let none = c.in_ok-count_entries.ensures.passes in
-    let moved = category_moved c.args.store.now.bytes c.change_attributes.new.self.bytes c.args.db c.args.to c.args.from c.args.dirty h c.in_ok-count_entries.ensures.accepted c.change_attributes.ensures.changed in
+    let h = here c.args.store.now.bytes c.args.db.0 c.in_ok-opened.ensures.accepted c.in_ok-opened.ensures.known in
+    let none = c.in_ok-opened.ensures.passes in
+    let moved = category_moved c.args.store.now.bytes c.change_attributes.new.self.bytes c.args.db c.args.to c.args.from c.args.dirty h c.in_ok-opened.ensures.accepted c.change_attributes.ensures.changed in
     let leaves = raised_after c.args.store.now.bytes c.change_attributes.new.self.bytes c.count_change.new.self.bytes c.args.db (with_entries (store_of c.args.store.now.bytes) c.args.db (map (moved_category c.args.to c.args.from c.args.dirty))) moved c.count_change.ensures.counted c.count_change.ensures.none_made in
-    changes c.args.store.now c.count_change.new.self (calls.Record (MoveCategory c.args.db c.args.to c.args.from c.args.dirty)) Done _ c.in_ok-count_entries.ensures.accepted leaves
+    changes c.args.store.now c.count_change.new.self (calls.Record (MoveCategory c.args.db c.args.to c.args.from c.args.dirty)) Done _ c.in_ok-opened.ensures.accepted leaves
     ((none.0, (none.1.0, (none.1.1.0, (c.in_ok-check_category.ensures.passes.0, (c.in_ok-check_category-2.ensures.passes.0, tt))))), (tt, leaves.same)) tt (kept_then c.args.store.now c.change_attributes.new.self c.count_change.new.self c.change_attributes.ensures.rest c.count_change.ensures.rest)

@@ -1,8 +1,12 @@
-use Rattle.mem_manager.proofs.StoreCalls.{owner_viewed, some_viewed}
+use Rattle.std.proofs.lemmas.Option.{IfSome_then}
+use Rattle.mem_manager.proofs.StoreCalls.{owner_viewed, some_viewed, lock_viewed}
 use Rattle.mem_manager.proofs.heap.Heap.sys_chunk.Goals as goal
 
 pub returns-clause-owner : goal.returns-clause-owner
-returns-clause-owner c = owner_viewed c.self.inside.space c.args.self.now c.args.name.0 _ c.self.view_is c.self.invariant.accepted c.in_ok-found.ensures.found
+returns-clause-owner c = IfSome_then c.named.result c.named.ensures.found (λ found f. owner_viewed c.self.inside.space c.args.self.now c.args.name.0 found c.self.view_is c.self.invariant.accepted f)
+
+pub returns-clause-lock : goal.returns-clause-lock
+returns-clause-lock c = IfSome_then c.named.result c.named.ensures.found (λ found f live is. lock_viewed c.self.inside.space c.args.self.now c.args.name.0 found live c.self.view_is c.self.invariant.accepted f is)
 
 pub returns-clause-there : goal.returns-clause-there
-returns-clause-there c = some_viewed c.self.inside.space c.args.self.now c.args.name.0 _ c.self.view_is c.self.invariant.accepted c.in_ok-found.ensures.found
+returns-clause-there c = IfSome_then c.named.result c.named.ensures.found (λ found f. some_viewed c.self.inside.space c.args.self.now c.args.name.0 found c.self.view_is c.self.invariant.accepted f)

@@ -2,28 +2,30 @@ use Rattle.std.proofs.Common.{◌-◌, subst}
 use Rattle.heap_model.specs.Memory.{Memory}
 use Rattle.heap_model.specs.Maps.{gone}
 use Rattle.heap_model.specs.Reading.{held}
+use Rattle.heap_model.specs.Space.{MovesNothing}
 use Rattle.heap_model.specs.Leaving.{Leaves}
 use Rattle.laws_heap.proofs.ExchangedNames.{freed_changes}
 use Rattle.mem_manager.proofs.NewChunks.{used_freed}
-use Rattle.mem_manager.proofs.StoreCalls.{leaves_gone, movable_there, movable_loose, movable_viewed}
+use Rattle.mem_manager.proofs.StoreCalls.{leaves_gone, gone_moves_nothing, found_viewed}
 use Rattle.mem_manager.proofs.heap.Heap.sys_free.Goals as goal
 
 pub invariant_of-self : goal.invariant_of-self
 invariant_of-self c =
-    let f = c.movable-found.ensures in
+    let f = found_viewed c.args.name.0 c.args.found c.self.view_is c.requires.stands in
     used_freed c.self.inside.space.bytes c.give_back.new.self.bytes c.self.inside.used c.used_without-self-inside.result c.args.name.0 c.forget.new.self.names c.self.invariant c.used_without-self-inside.ensures.fewer
     (c.used_without-self-inside.ensures.apart c.self.inside.space.bytes) c.forget.ensures
-    (freed_changes c.self.inside.space.bytes c.give_back.new.self.bytes c.args.name.0 (c.movable-found.result.place.0 - 8) f.live f.chunk c.self.invariant.accepted f.finds c.give_back.ensures.gone)
+    (freed_changes c.self.inside.space.bytes c.give_back.new.self.bytes c.args.name.0 (c.args.found.place.0 - 8) f.live f.chunk c.self.invariant.accepted f.finds c.give_back.ensures.gone)
 
 pub returns-clause-leaves : goal.returns-clause-leaves
 returns-clause-leaves c =
-    let f = c.movable-found.ensures in
+    let f = found_viewed c.args.name.0 c.args.found c.self.view_is c.requires.stands in
     subst (λ (m : Memory). Leaves m.bytes c.give_back.new.self.bytes (gone (held m.bytes) c.args.name.0)) c.self.view_is
     (leaves_gone c.self.inside.space.bytes c.give_back.new.self.bytes c.args.name.0
-    (freed_changes c.self.inside.space.bytes c.give_back.new.self.bytes c.args.name.0 (c.movable-found.result.place.0 - 8) f.live f.chunk c.self.invariant.accepted f.finds c.give_back.ensures.gone))
+    (freed_changes c.self.inside.space.bytes c.give_back.new.self.bytes c.args.name.0 (c.args.found.place.0 - 8) f.live f.chunk c.self.invariant.accepted f.finds c.give_back.ensures.gone))
 
-pub movable-found-requires-clause-there : goal.movable-found-requires-clause-there
-movable-found-requires-clause-there c = movable_there c.self.inside.space.bytes c.args.name.0 (movable_viewed c.args.name.0 c.self.view_is c.requires.movable)
-
-pub movable-found-requires-clause-movable : goal.movable-found-requires-clause-movable
-movable-found-requires-clause-movable c = movable_loose c.self.inside.space.bytes c.args.name.0 (movable_viewed c.args.name.0 c.self.view_is c.requires.movable)
+pub returns-clause-unmoved : goal.returns-clause-unmoved
+returns-clause-unmoved c =
+    let f = found_viewed c.args.name.0 c.args.found c.self.view_is c.requires.stands in
+    subst (λ (m : Memory). MovesNothing m.bytes c.give_back.new.self.bytes) c.self.view_is
+    (gone_moves_nothing c.self.inside.space.bytes c.give_back.new.self.bytes c.args.name.0
+    (freed_changes c.self.inside.space.bytes c.give_back.new.self.bytes c.args.name.0 (c.args.found.place.0 - 8) f.live f.chunk c.self.invariant.accepted f.finds c.give_back.ensures.gone))

@@ -4,8 +4,8 @@ use Rattle.palm_store.proofs.InfoBlocks.{set_block_steps}
 use Rattle.laws_store.proofs.Numbered.{accepted_spells}
 use Rattle.palm_store.proofs.databases.blocks.give_block.Goals as goal
 
-pub write_block-requires : goal.write_block-requires
-write_block-requires c = record { spells = accepted_spells c.args.heap.now.bytes c.args.db.0 c.requires.accepted c.requires.number }
+pub write_block-requires-clause-spells : goal.write_block-requires-clause-spells
+write_block-requires-clause-spells c = accepted_spells c.args.heap.now.bytes c.args.db.0 c.requires.accepted c.requires.number
 
 pub sys_set_owner-requires-clause-movable : goal.sys_set_owner-requires-clause-movable
 sys_set_owner-requires-clause-movable c =

@@ -1,46 +1,48 @@
 -- The header is as it was, so the next slot is that of the database that was given; its chunk is still there.
-use Rattle.std.proofs.Common.{refl, sym, subst, ◌∙◌, ◌≡◌, ◌<◌, ℕ, List, length}
+use Rattle.std.proofs.Common.{◌+◌, refl, sym, subst, ◌∙◌, ◌≡◌, ◌<◌, ℕ, List, length}
 use Rattle.heap_model.specs.Database.{IsSpelled, database_in, data_in}
 use Rattle.laws_store.proofs.CallSteps.{kept_then}
+use Rattle.mem_manager.proofs.StoreCalls.{stands_still}
 use Rattle.palm_store.proofs.Numbers.{number_spelled}
-use Rattle.palm_store.proofs.NamedChunks.{freed_none, freed_one, freed_next, named_at, header_movable, header_like, slot_left, slot_other}
+use Rattle.palm_store.proofs.NamedChunks.{freed_none, freed_one, freed_next, named_at, header_held, header_like, slot_left, slot_other}
 use Rattle.palm_store.proofs.databases.clearing.free_data.Goals as goal
 
 pub loop-index-init : goal.loop-index-init
-loop-index-init c = record { leaves = freed_none c.args.heap.now.bytes c.requires.accepted.heap; rest = refl }
-
-pub sys_body-requires : goal.sys_body-requires
-sys_body-requires c = header_movable c.args.heap.now.bytes c.loop-index.heap.bytes c.args.db.0 c.loop-index.index c.requires.accepted c.requires.number c.loop-index.invariant.leaves
+loop-index-init c = record { leaves = freed_none c.args.heap.now.bytes c.requires.accepted.heap; stands = c.requires.chunk; rest = refl }
 
 pub slot_at-slot-requires-clause-spelled : goal.slot_at-slot-requires-clause-spelled
 slot_at-slot-requires-clause-spelled c =
     subst (λ (body : List ℕ). IsSpelled (database_in body) body)
-    (sym (c.sys_body.ensures ∙ header_like c.args.heap.now.bytes c.loop-index.heap.bytes c.args.db.0 c.loop-index.index c.requires.accepted c.requires.number c.loop-index.invariant.leaves))
+    (sym (c.sys_body_found.ensures ∙ header_like c.args.heap.now.bytes c.loop-index.heap.bytes c.args.db.0 c.loop-index.index c.requires.accepted c.requires.number c.loop-index.invariant.leaves))
     (number_spelled c.args.heap.now.bytes c.args.db.0 c.requires.accepted c.requires.number)
 
 pub slot_at-slot-requires-clause-inside : goal.slot_at-slot-requires-clause-inside
 slot_at-slot-requires-clause-inside c =
-    let same : c.sys_body.result.now ≡ c.header_of.result.now = c.sys_body.ensures ∙ header_like c.args.heap.now.bytes c.loop-index.heap.bytes c.args.db.0 c.loop-index.index c.requires.accepted c.requires.number c.loop-index.invariant.leaves ∙ sym c.header_of.ensures.is in
-    let below : c.loop-index.index < length (data_in (database_in c.header_of.result.now)) = subst (λ (count : ℕ). c.loop-index.index < count) c.slot_count-count.ensures c.loop-index-test.true in
+    let same : c.sys_body_found.result.now ≡ c.header_in.result.now = c.sys_body_found.ensures ∙ header_like c.args.heap.now.bytes c.loop-index.heap.bytes c.args.db.0 c.loop-index.index c.requires.accepted c.requires.number c.loop-index.invariant.leaves ∙ sym c.header_in.ensures.is in
+    let below : c.loop-index.index < length (data_in (database_in c.header_in.result.now)) = subst (λ (count : ℕ). c.loop-index.index < count) c.slot_count-count.ensures c.loop-index-test.true in
     subst (λ (body : List ℕ). c.loop-index.index < length (data_in (database_in body))) (sym same) below
 
 pub free_chunk_of-requires-clause-movable : goal.free_chunk_of-requires-clause-movable
 free_chunk_of-requires-clause-movable c some =
-    let at = named_at c.args.heap.now.bytes c.header_of.result.now c.sys_body.result.now c.args.db.0 c.loop-index.index c.slot_count-count.result c.slot_at-slot.result.0 c.header_of.ensures.is
-    (c.sys_body.ensures ∙ header_like c.args.heap.now.bytes c.loop-index.heap.bytes c.args.db.0 c.loop-index.index c.requires.accepted c.requires.number c.loop-index.invariant.leaves) c.slot_count-count.ensures c.loop-index-test.true c.slot_at-slot.ensures in
+    let at = named_at c.args.heap.now.bytes c.header_in.result.now c.sys_body_found.result.now c.args.db.0 c.loop-index.index c.slot_count-count.result c.slot_at-slot.result.0 c.header_in.ensures.is
+    (c.sys_body_found.ensures ∙ header_like c.args.heap.now.bytes c.loop-index.heap.bytes c.args.db.0 c.loop-index.index c.requires.accepted c.requires.number c.loop-index.invariant.leaves) c.slot_count-count.ensures c.loop-index-test.true c.slot_at-slot.ensures in
     slot_left c.args.heap.now.bytes c.loop-index.heap.bytes c.args.db.0 c.loop-index.index c.slot_at-slot.result.0 c.requires.accepted c.requires.number c.loop-index.invariant.leaves at some
 
 pub free_chunk_of-requires-clause-no_directory : goal.free_chunk_of-requires-clause-no_directory
 free_chunk_of-requires-clause-no_directory c some directory =
-    let at = named_at c.args.heap.now.bytes c.header_of.result.now c.sys_body.result.now c.args.db.0 c.loop-index.index c.slot_count-count.result c.slot_at-slot.result.0 c.header_of.ensures.is
-    (c.sys_body.ensures ∙ header_like c.args.heap.now.bytes c.loop-index.heap.bytes c.args.db.0 c.loop-index.index c.requires.accepted c.requires.number c.loop-index.invariant.leaves) c.slot_count-count.ensures c.loop-index-test.true c.slot_at-slot.ensures in
+    let at = named_at c.args.heap.now.bytes c.header_in.result.now c.sys_body_found.result.now c.args.db.0 c.loop-index.index c.slot_count-count.result c.slot_at-slot.result.0 c.header_in.ensures.is
+    (c.sys_body_found.ensures ∙ header_like c.args.heap.now.bytes c.loop-index.heap.bytes c.args.db.0 c.loop-index.index c.requires.accepted c.requires.number c.loop-index.invariant.leaves) c.slot_count-count.ensures c.loop-index-test.true c.slot_at-slot.ensures in
     slot_other c.args.heap.now.bytes c.loop-index.heap.bytes c.args.db.0 c.loop-index.index c.slot_at-slot.result.0 c.requires.accepted c.requires.number c.loop-index.invariant.leaves.frame.directory at some directory
 
 pub loop-index-preserved : goal.loop-index-preserved
 loop-index-preserved c =
-    let at = named_at c.args.heap.now.bytes c.header_of.result.now c.sys_body.result.now c.args.db.0 c.loop-index.index c.slot_count-count.result c.slot_at-slot.result.0 c.header_of.ensures.is
-    (c.sys_body.ensures ∙ header_like c.args.heap.now.bytes c.loop-index.heap.bytes c.args.db.0 c.loop-index.index c.requires.accepted c.requires.number c.loop-index.invariant.leaves) c.slot_count-count.ensures c.loop-index-test.true c.slot_at-slot.ensures in
+    let at = named_at c.args.heap.now.bytes c.header_in.result.now c.sys_body_found.result.now c.args.db.0 c.loop-index.index c.slot_count-count.result c.slot_at-slot.result.0 c.header_in.ensures.is
+    (c.sys_body_found.ensures ∙ header_like c.args.heap.now.bytes c.loop-index.heap.bytes c.args.db.0 c.loop-index.index c.requires.accepted c.requires.number c.loop-index.invariant.leaves) c.slot_count-count.ensures c.loop-index-test.true c.slot_at-slot.ensures in
+    let next = freed_next c.args.heap.now.bytes c.loop-index.heap.bytes c.free_chunk_of.new.heap.bytes c.args.db.0 c.loop-index.index c.slot_at-slot.result.0 at c.loop-index.invariant.leaves (freed_one c.loop-index.heap.bytes c.free_chunk_of.new.heap.bytes c.slot_at-slot.result.0 c.free_chunk_of.ensures.leaves) in
     record {
-      leaves = freed_next c.args.heap.now.bytes c.loop-index.heap.bytes c.free_chunk_of.new.heap.bytes c.args.db.0 c.loop-index.index c.slot_at-slot.result.0 at c.loop-index.invariant.leaves (freed_one c.loop-index.heap.bytes c.free_chunk_of.new.heap.bytes c.slot_at-slot.result.0 c.free_chunk_of.ensures.leaves);
+      leaves = next;
+      stands = stands_still c.loop-index.heap.bytes c.free_chunk_of.new.heap.bytes c.args.db.0 c.args.chunk c.loop-index.invariant.leaves.frame.accepted next.frame.accepted c.loop-index.invariant.stands
+          (header_held c.args.heap.now.bytes c.free_chunk_of.new.heap.bytes c.args.db.0 (c.loop-index.index + 1) c.requires.accepted c.requires.number next
+          ∙ sym (header_held c.args.heap.now.bytes c.loop-index.heap.bytes c.args.db.0 c.loop-index.index c.requires.accepted c.requires.number c.loop-index.invariant.leaves)) c.free_chunk_of.ensures.unmoved;
       rest = kept_then c.args.heap.now c.loop-index.heap c.free_chunk_of.new.heap c.loop-index.invariant.rest c.free_chunk_of.ensures.rest;
     }

@@ -3,11 +3,13 @@ use Rattle.std.proofs.Common.{◌≡◌, take}
 use Rattle.heap_model.specs.Leaving.{Leaves}
 use Rattle.heap_model.specs.Reading.{held}
 use Rattle.heap_model.specs.StoreWords.{all_gone}
+use Rattle.mem_manager.specs.Lookup.{StandsAs}
 use Rattle.palm_store.specs.Databases.{named_under}
 use Rattle.palm_store.proofs.databases.clearing.free_data.Given as goal
 
 abbrev pub invariant-loop-index : goal.invariant-loop-index
 invariant-loop-index l = record {
   leaves : Leaves l.fn.heap.bytes l.heap.bytes (all_gone (held l.fn.heap.bytes) (take l.index (named_under l.fn.heap.bytes l.db.0)));
+  stands : StandsAs l.heap.bytes l.db.0 l.chunk;
   rest : l.heap ≡ record l.fn.heap { bytes = l.heap.bytes };
 }

@@ -11,13 +11,13 @@ use Rattle.palm_store.proofs.databases.clearing.has_locked.Goals as goal
 
 pub is_locked-requires-clause-movable : goal.is_locked-requires-clause-movable
 is_locked-requires-clause-movable c some =
-    let at = named_at c.args.heap.now.bytes c.header_of-body.result.now c.header_of-body.result.now c.args.db.0 c.loop-index.index c.slot_count-index-end.result c.slot_at.result.0 c.header_of-body.ensures.is c.header_of-body.ensures.is c.slot_count-index-end.ensures
+    let at = named_at c.args.heap.now.bytes c.header_in-body.result.now c.header_in-body.result.now c.args.db.0 c.loop-index.index c.slot_count-index-end.result c.slot_at.result.0 c.header_in-body.ensures.is c.header_in-body.ensures.is c.slot_count-index-end.ensures
     c.loop-index-test.true c.slot_at.ensures in
     slot_movable c.args.heap.now.bytes c.args.db.0 c.loop-index.index c.slot_at.result.0 c.requires.accepted c.requires.number at some
 
 pub returns-then-is_locked : goal.returns-then-is_locked
 returns-then-is_locked c =
-    let at = named_at c.args.heap.now.bytes c.header_of-body.result.now c.header_of-body.result.now c.args.db.0 c.loop-index.index c.slot_count-index-end.result c.slot_at.result.0 c.header_of-body.ensures.is c.header_of-body.ensures.is c.slot_count-index-end.ensures
+    let at = named_at c.args.heap.now.bytes c.header_in-body.result.now c.header_in-body.result.now c.args.db.0 c.loop-index.index c.slot_count-index-end.result c.slot_at.result.0 c.header_in-body.ensures.is c.header_in-body.ensures.is c.slot_count-index-end.ensures
     c.loop-index-test.true c.slot_at.ensures in
     let shown = slot_shown c.args.heap.now.bytes c.args.db.0 c.loop-index.index c.slot_at.result.0 c.requires.accepted c.requires.number at in
     let locked = subst (λ (o : Option LiveChunk). Of o IsLocked) (sym shown) (c.is_locked.ensures.0 c.if-is_locked.true) in
@@ -25,7 +25,7 @@ returns-then-is_locked c =
 
 pub loop-index-preserved : goal.loop-index-preserved
 loop-index-preserved c =
-    let at = named_at c.args.heap.now.bytes c.header_of-body.result.now c.header_of-body.result.now c.args.db.0 c.loop-index.index c.slot_count-index-end.result c.slot_at.result.0 c.header_of-body.ensures.is c.header_of-body.ensures.is c.slot_count-index-end.ensures
+    let at = named_at c.args.heap.now.bytes c.header_in-body.result.now c.header_in-body.result.now c.args.db.0 c.loop-index.index c.slot_count-index-end.result c.slot_at.result.0 c.header_in-body.ensures.is c.header_in-body.ensures.is c.slot_count-index-end.ensures
     c.loop-index-test.true c.slot_at.ensures in
     let shown = slot_shown c.args.heap.now.bytes c.args.db.0 c.loop-index.index c.slot_at.result.0 c.requires.accepted c.requires.number at in
     below_more _ _ c.loop-index.invariant (λ locked.
@@ -33,5 +33,5 @@ loop-index-preserved c =
 
 pub returns : goal.returns
 returns c =
-    let count = c.slot_count-index-end.ensures ∙ ap (λ (body : List ℕ). length (data_in (database_in body))) c.header_of-body.ensures.is in
+    let count = c.slot_count-index-end.ensures ∙ ap (λ (body : List ℕ). length (data_in (database_in body))) c.header_in-body.ensures.is in
     (λ locked. absurd (both_ways false refl locked), λ any. absurd (none_of (λ (name : ℕ). Of (callers_map c.args.heap.now.bytes name) IsLocked) (named_under c.args.heap.now.bytes c.args.db.0) (λ k below. c.loop-index.invariant k (omega arith)) any))

@@ -9,8 +9,8 @@ pub make_data_and_list-requires-clause-few : goal.make_data_and_list-requires-cl
 make_data_and_list-requires-clause-few c =
     subst (λ (bytes : List ℕ). length bytes ≤ 4096) (sym (made_directory c.args.heap.now.bytes c.sys_new.new.self.bytes c.in_ok-slot.slot.0 c.args.size c.requires.accepted.heap c.in_ok-slot.ensures.made)) (few_bytes c.args.heap.now.bytes c.requires.accepted)
 
-pub sys_free-requires-clause-movable : goal.sys_free-requires-clause-movable
-sys_free-requires-clause-movable c =
+pub sys_find-chunk-requires : goal.sys_find-chunk-requires
+sys_find-chunk-requires c =
     let m = made_movable c.args.heap.now.bytes c.sys_new.new.self.bytes c.in_ok-slot.slot.0 _ _ c.in_ok-slot.ensures.made in
     record { live = m.live; is_held = c.in-Err.ensures.refused.map c.in_ok-slot.slot.0 ∙ m.is_held; movable = m.movable }
 

@@ -10,14 +10,7 @@ use Rattle.palm_store.proofs.WholeBytes.{body_now, writes_none, entry_at, writes
 use Rattle.palm_store.proofs.databases.completing.write_entries.Goals as goal
 
 pub loop-index-init : goal.loop-index-init
-loop-index-init c = record { writes = writes_none c.args.heap.now.bytes c.args.slot.0 c.args.resources c.args.entries.now (numbers_in c.args.names.now) c.requires.heap c.requires.owner; rest = refl }
-
-pub sys_write-requires-clause-movable : goal.sys_write-requires-clause-movable
-sys_write-requires-clause-movable c =
-    is_movable c.loop-index.heap.bytes c.args.slot.0 (record {
-      heap = c.loop-index.invariant.writes.leaves.frame.accepted;
-      owner = (body_now c.args.heap.now.bytes c.loop-index.heap.bytes c.args.slot.0 _ c.requires.owner c.loop-index.invariant.writes.leaves).owner;
-    })
+loop-index-init c = record { writes = writes_none c.args.heap.now.bytes c.args.slot.0 c.args.resources c.args.entries.now (numbers_in c.args.names.now) c.requires.heap c.requires.owner; stands = c.requires.stands; rest = refl }
 
 pub sys_write-requires-clause-within : goal.sys_write-requires-clause-within
 sys_write-requires-clause-within c =
@@ -39,6 +32,7 @@ loop-index-preserved c =
     record {
       writes = writes_more c.args.heap.now.bytes c.loop-index.heap.bytes c.sys_write.new.self.bytes c.args.slot.0 c.args.resources c.args.entries.now (numbers_in c.args.names.now) c.loop-index.index (entry_of c.named_entry-entry.result) c.entry_offset-at.result c.as_slice.result.now
           c.requires.heap c.requires.owner c.requires.body c.loop-index.invariant.writes at c.entry_offset-at.ensures (c.as_slice.ensures ∙ c.to_bytes.ensures.is) c.sys_write.ensures.leaves;
+      stands = c.sys_write.ensures.stands;
       rest = kept_then c.args.heap.now c.loop-index.heap c.sys_write.new.self c.loop-index.invariant.rest c.sys_write.ensures.rest;
     }
 

@@ -11,8 +11,8 @@ use Rattle.palm_store.specs.WholeDatabases.{numbers_in, entries_named, whole_dat
 use Rattle.palm_store.proofs.WholeBytes.{length-named, puts_front, start_room, then_rebodied, whole_header, whole_spelled, whole_fits}
 use Rattle.palm_store.proofs.databases.completing.write_whole.Goals as goal
 
-pub sys_write-requires-clause-movable : goal.sys_write-requires-clause-movable
-sys_write-requires-clause-movable c = is_movable c.args.heap.now.bytes c.args.slot.0 (record { heap = c.requires.heap; owner = c.requires.owner })
+pub sys_find-chunk-requires : goal.sys_find-chunk-requires
+sys_find-chunk-requires c = is_movable c.args.heap.now.bytes c.args.slot.0 (record { heap = c.requires.heap; owner = c.requires.owner })
 
 pub write_entries-requires-clause-owner : goal.write_entries-requires-clause-owner
 write_entries-requires-clause-owner c =

@@ -7,8 +7,8 @@ use Rattle.palm_store.proofs.ListedSlots.{made_here, put_here, begun, chunk_of, 
 use Rattle.palm_store.proofs.Maps.{bytes_held, owner_held}
 use Rattle.palm_store.proofs.databases.creating.begin_directory.Goals as goal
 
-pub sys_write-requires-clause-movable : goal.sys_write-requires-clause-movable
-sys_write-requires-clause-movable c = loose_movable c.sys_new.new.self.bytes c.in_ok-directory.directory.0 (chunk_of (replicate 4 0)) (made_here c.args.heap.now.bytes c.sys_new.new.self.bytes c.in_ok-directory.directory.0 4 c.in_ok-directory.ensures.made) refl
+pub sys_find-chunk-requires : goal.sys_find-chunk-requires
+sys_find-chunk-requires c = loose_movable c.sys_new.new.self.bytes c.in_ok-directory.directory.0 (chunk_of (replicate 4 0)) (made_here c.args.heap.now.bytes c.sys_new.new.self.bytes c.in_ok-directory.directory.0 4 c.in_ok-directory.ensures.made) refl
 
 pub sys_write-requires-clause-within : goal.sys_write-requires-clause-within
 sys_write-requires-clause-within c =

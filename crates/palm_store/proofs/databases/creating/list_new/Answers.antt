@@ -13,8 +13,8 @@ pub list_last-requires-clause-few : goal.list_last-requires-clause-few
 list_last-requires-clause-few c =
     subst (λ (bytes : List ℕ). length bytes ≤ 4096) (sym (made_directory c.args.heap.now.bytes c.sys_new.new.self.bytes c.in_ok-slot.slot.0 78 c.requires.accepted.heap c.in_ok-slot.ensures.made)) (few_bytes c.args.heap.now.bytes c.requires.accepted)
 
-pub sys_free-requires-clause-movable : goal.sys_free-requires-clause-movable
-sys_free-requires-clause-movable c =
+pub sys_find-chunk-requires : goal.sys_find-chunk-requires
+sys_find-chunk-requires c =
     subst (λ (m : Memory). IsMovable m.bytes c.in_ok-slot.slot.0) (sym c.in-Err.ensures.refused) (made_movable c.args.heap.now.bytes c.sys_new.new.self.bytes c.in_ok-slot.slot.0 _ _ c.in_ok-slot.ensures.made)
 
 pub sys_free-requires-clause-no_directory : goal.sys_free-requires-clause-no_directory

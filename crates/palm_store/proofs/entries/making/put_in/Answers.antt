@@ -10,10 +10,17 @@ use Rattle.db_format.specs.EitherEntry.{entry_of}
 use Rattle.laws_store.proofs.Numbered.{accepted_spells, entries_here, kind_here}
 use Rattle.mem_manager.specs.Lookup.{IsMovable}
 use Rattle.heap_model.specs.EntrySteps.{most_entries}
+use Rattle.database_edits.proofs.Chunks.{is_movable}
+use Rattle.database_edits.proofs.Databases.{managers}
 use Rattle.palm_store.proofs.ListedSlots.{made_movable}
 use Rattle.palm_store.proofs.EntriesHere.{index_most}
 use Rattle.palm_store.proofs.NewEntries.{spells_still, database_still, made_no_directory, puts_in, no_header_room, given_back}
 use Rattle.palm_store.proofs.entries.making.put_in.Goals as goal
+
+pub sys_find-chunk-requires : goal.sys_find-chunk-requires
+sys_find-chunk-requires c =
+    is_movable c.sys_new.new.self.bytes c.args.db.0
+    (managers c.sys_new.new.self.bytes c.args.db.0 (spells_still c.args.heap.now.bytes c.sys_new.new.self.bytes c.args.db.0 c.in_ok-name.name.0 c.args.size (accepted_spells c.args.heap.now.bytes c.args.db.0 c.requires.accepted c.requires.number) c.in_ok-name.ensures.made))
 
 pub insert_entry-requires-clause-spells : goal.insert_entry-requires-clause-spells
 insert_entry-requires-clause-spells c = spells_still c.args.heap.now.bytes c.sys_new.new.self.bytes c.args.db.0 c.in_ok-name.name.0 c.args.size (accepted_spells c.args.heap.now.bytes c.args.db.0 c.requires.accepted c.requires.number) c.in_ok-name.ensures.made
@@ -33,8 +40,8 @@ insert_entry-requires-clause-kind c =
     let still = database_still c.args.heap.now.bytes c.sys_new.new.self.bytes c.args.db.0 c.in_ok-name.name.0 c.args.size (accepted_spells c.args.heap.now.bytes c.args.db.0 c.requires.accepted c.requires.number) c.in_ok-name.ensures.made in
     c.with_slot.ensures.kind ∙ c.requires.kind ∙ kind_here c.args.heap.now.bytes c.args.db c.requires.number ∙ ap (λ (d : Database ℕ). has_resources d.header.attributes) (sym still)
 
-pub sys_free-requires-clause-movable : goal.sys_free-requires-clause-movable
-sys_free-requires-clause-movable c =
+pub sys_find-made-requires : goal.sys_find-made-requires
+sys_find-made-requires c =
     subst (λ (m : Memory). IsMovable m.bytes c.in_ok-name.name.0) (sym c.in-Err.ensures.refused) (made_movable c.args.heap.now.bytes c.sys_new.new.self.bytes c.in_ok-name.name.0 _ _ c.in_ok-name.ensures.made)
 
 pub sys_free-requires-clause-no_directory : goal.sys_free-requires-clause-no_directory

@@ -5,10 +5,10 @@ use Rattle.heap_model.specs.Store.{store_of}
 use Rattle.palm_store.proofs.KnownIds.{raised_free}
 use Rattle.palm_store.proofs.store.Store.count_change.Goals as goal
 
-pub count_change-requires : goal.count_change-requires
-count_change-requires c =
+pub count_change-requires-clause-spells : goal.count_change-requires-clause-spells
+count_change-requires-clause-spells c =
     let number : HasNumber c.self.inside.heap.bytes c.args.db.0 = rw c.self.view_is c.requires.number in
-    record { spells = accepted_spells c.self.inside.heap.bytes c.args.db.0 c.self.invariant.accepted number }
+    accepted_spells c.self.inside.heap.bytes c.args.db.0 c.self.invariant.accepted number
 
 pub invariant_of-self : goal.invariant_of-self
 invariant_of-self c =

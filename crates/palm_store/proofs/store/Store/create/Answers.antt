@@ -57,8 +57,8 @@ returns-in_err-slot c =
     (handed_on (λ db. replies.Database db) (calls.Database (Create c.args.name.now c.args.kind c.args.creator c.args.resources c.args.date)) c.from_residual.result (let e = c.from_residual.ensures in (e.0, e.1))
     (not_created c.self.inside.heap c.list_new.new.heap c.args.name.now c.args.kind c.args.creator c.args.resources c.args.date c.in_err-slot.field-0.0 c.self.invariant.accepted named few free c.in_err-slot.ensures.no_room c.in_err-slot.ensures.refusal c.in_err-slot.ensures.refused c.list_new.ensures.rest))
 
-pub sys_write-requires-clause-movable : goal.sys_write-requires-clause-movable
-sys_write-requires-clause-movable c =
+pub sys_find-chunk-requires : goal.sys_find-chunk-requires
+sys_find-chunk-requires c =
     let listed_new : ListsNew c.self.inside.heap.bytes c.list_new.new.heap.bytes c.in_ok-slot.slot.0 (replicate header_size 0) = c.in_ok-slot.ensures.lists in
     loose_movable c.list_new.new.heap.bytes c.in_ok-slot.slot.0 (chunk_of (replicate header_size 0)) listed_new.chunk refl
 

@@ -1,21 +1,17 @@
 -- Where nothing is locked, all that goes is freed before the slot is taken out of the directory.
 use Rattle.std.proofs.lemmas.Bool.{both_ways}
 use Rattle.palm_store.proofs.MemoryCalls.{viewed, ask_viewed}
-use Rattle.palm_store.proofs.Deleted.{header_left, header_other, all_freed, lists_still, deleted, not_deleted}
+use Rattle.palm_store.proofs.Deleted.{header_other, all_freed, lists_still, deleted, not_deleted}
 use Rattle.palm_store.proofs.KnownIds.{nothing_known}
 use Rattle.palm_store.proofs.store.Store.delete_database.Goals as goal
 
 pub returns-then-has_locked : goal.returns-then-has_locked
 returns-then-has_locked c =
-    ask_viewed c.self.inside.heap c.args.self.now _ _ c.self.view_is (not_deleted c.self.inside.heap c.args.db c.self.invariant.accepted c.in_ok-find_header.ensures.known (c.has_locked.ensures.0 c.if-has_locked.true))
-
-pub sys_free-requires-clause-movable : goal.sys_free-requires-clause-movable
-sys_free-requires-clause-movable c =
-    header_left c.self.inside.heap.bytes c.free_data.new.heap.bytes c.args.db.0 c.self.invariant.accepted c.in_ok-find_header.ensures.known c.free_data.ensures.leaves
+    ask_viewed c.self.inside.heap c.args.self.now _ _ c.self.view_is (not_deleted c.self.inside.heap c.args.db c.self.invariant.accepted c.in_ok-chunk.ensures.known (c.has_locked.ensures.0 c.if-has_locked.true))
 
 pub sys_free-requires-clause-no_directory : goal.sys_free-requires-clause-no_directory
 sys_free-requires-clause-no_directory c =
-    header_other c.self.inside.heap.bytes c.free_data.new.heap.bytes c.args.db.0 c.self.invariant.accepted c.in_ok-find_header.ensures.known c.free_data.ensures.leaves
+    header_other c.self.inside.heap.bytes c.free_data.new.heap.bytes c.args.db.0 c.self.invariant.accepted c.in_ok-chunk.ensures.known c.free_data.ensures.leaves
 
 pub unlist-requires : goal.unlist-requires
 unlist-requires c =
@@ -26,13 +22,13 @@ unlist-requires c =
 pub invariant_of-self : goal.invariant_of-self
 invariant_of-self c =
     let freed = all_freed c.self.inside.heap.bytes c.free_data.new.heap.bytes c.sys_free.new.self.bytes c.args.db.0 c.free_data.ensures.leaves c.sys_free.ensures.leaves in
-    let does = deleted c.self.inside.heap c.sys_free.new.self c.unlist.new.heap c.args.db c.index_of-index.result c.self.invariant.accepted c.in_ok-find_header.ensures.known c.index_of-index.ensures
+    let does = deleted c.self.inside.heap c.sys_free.new.self c.unlist.new.heap c.args.db c.index_of-index.result c.self.invariant.accepted c.in_ok-chunk.ensures.known c.index_of-index.ensures
     (λ locked. both_ways _ c.if-has_locked.false (c.has_locked.ensures.1 locked)) freed c.unlist.ensures.unlists in
     nothing_known _ does.accepted
 
 pub returns : goal.returns
 returns c =
     let freed = all_freed c.self.inside.heap.bytes c.free_data.new.heap.bytes c.sys_free.new.self.bytes c.args.db.0 c.free_data.ensures.leaves c.sys_free.ensures.leaves in
-    let does = deleted c.self.inside.heap c.sys_free.new.self c.unlist.new.heap c.args.db c.index_of-index.result c.self.invariant.accepted c.in_ok-find_header.ensures.known c.index_of-index.ensures
+    let does = deleted c.self.inside.heap c.sys_free.new.self c.unlist.new.heap c.args.db c.index_of-index.result c.self.invariant.accepted c.in_ok-chunk.ensures.known c.index_of-index.ensures
     (λ locked. both_ways _ c.if-has_locked.false (c.has_locked.ensures.1 locked)) freed c.unlist.ensures.unlists in
     viewed c.self.inside.heap c.args.self.now c.unlist.new.heap _ _ c.self.view_is does

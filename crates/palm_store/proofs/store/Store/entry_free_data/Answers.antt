@@ -1,4 +1,4 @@
-use Rattle.std.proofs.Common.{arith, refl, ◌∙◌, subst, ℕ, List, false, length, ◌≡◌, ◌<◌}
+use Rattle.std.proofs.Common.{arith, refl, sym, None, ◌∙◌, subst, ℕ, List, false, length, ◌≡◌, ◌<◌}
 use Rattle.heap_model.specs.Database.{Entry}
 use Rattle.heap_model.specs.Maps.{gone}
 use Rattle.heap_model.specs.Leaving.{Leaves}
@@ -6,8 +6,11 @@ use Rattle.heap_model.specs.Reading.{held}
 use Rattle.heap_model.specs.EntrySteps.{without_data, data_freed, resources_under, entries_in}
 use Rattle.db_format.specs.EitherEntry.{entry_of}
 use Rattle.laws_store.proofs.Numbered.{accepted_spells}
+use Rattle.mem_manager.proofs.StoreCalls.{stands_still}
 use Rattle.palm_store.proofs.EntriesHere.{count_fits, fits_here, index_below}
-use Rattle.palm_store.proofs.EntryChanges.{free_steps, slot_movable, slot_no_directory}
+use Rattle.palm_store.proofs.EntryChanges.{free_steps, slot_owner, slot_movable, slot_no_directory}
+use Rattle.laws_store.proofs.Edited.{apart as updated_apart}
+use Rattle.palm_store.proofs.EntryChanges.{name_apart}
 use Rattle.palm_store.proofs.EntryInfos.{emptied_names, emptied_id, emptied_data}
 use Rattle.heap_model.specs.Store.{store_of}
 use Rattle.palm_store.specs.Databases.{HasNumber}
@@ -86,3 +89,12 @@ returns-clause-none_made c =
     (subst (λ (slot : ℕ). Leaves mid c.free_chunk_of.new.heap.bytes (gone (held mid) slot)) c.slot.ensures c.free_chunk_of.ensures.leaves)
     (fits_here (without_data entry) _ _ _ (c.emptied.ensures.kind ∙ c.read_entry-entry.ensures.kind) c.emptied.ensures.is c.emptied.ensures.fits)
     (emptied_names image c.args.db c.args.index entry c.self.invariant.accepted number c.read_entry-entry.ensures.is records) (emptied_id entry) (emptied_data entry)).1)
+
+pub returns-clause-stands : goal.returns-clause-stands
+returns-clause-stands c =
+    let number : HasNumber c.self.inside.heap.bytes c.args.db.0 = rw c.self.view_is c.requires.number in
+    let own = slot_owner c.self.inside.heap.bytes c.args.db c.args.index c.slot.result _ c.self.invariant.accepted number c.read_entry-entry.ensures.is c.slot.ensures in
+    let apart = name_apart c.self.inside.heap.bytes c.args.db.0 c.slot.result c.self.invariant.accepted number own in
+    let freed = c.free_chunk_of.ensures.leaves in
+    stands_still c.write_entry.new.heap.bytes c.free_chunk_of.new.heap.bytes c.args.db.0 c.args.chunk c.write_entry.ensures.written.frame.accepted freed.frame.accepted c.write_entry.ensures.stands
+    (freed.map c.args.db.0 ∙ updated_apart (held c.write_entry.new.heap.bytes) c.slot.result None c.args.db.0 (λ same. apart (sym same))) c.free_chunk_of.ensures.unmoved

@@ -9,10 +9,10 @@ use Rattle.heap_model.specs.Store.{store_of}
 use Rattle.palm_store.proofs.KnownIds.{stand_still}
 use Rattle.palm_store.proofs.store.Store.entry_resize.Goals as goal
 
-pub sys_resize-requires : goal.sys_resize-requires
-sys_resize-requires c =
+pub sys_find-found-requires : goal.sys_find-found-requires
+sys_find-found-requires c =
     let own : IsEntryData c.self.inside.heap.bytes c.args.name.0 = rw c.self.view_is c.requires.own in
-    record { movable = data_movable c.self.inside.heap.bytes c.args.name.0 c.self.invariant.accepted.heap (for_data c.self.inside.heap.bytes c.args.name.0 (named_owner c.self.inside.heap.bytes c.args.name.0 c.self.invariant.accepted own)) }
+    data_movable c.self.inside.heap.bytes c.args.name.0 c.self.invariant.accepted.heap (for_data c.self.inside.heap.bytes c.args.name.0 (named_owner c.self.inside.heap.bytes c.args.name.0 c.self.invariant.accepted own))
 
 pub invariant_of-self-2 : goal.invariant_of-self-2
 invariant_of-self-2 c =

@@ -5,8 +5,8 @@ use Rattle.palm_store.proofs.FilledData.{filled_movable, data_long, filled_steps
 use Rattle.palm_store.proofs.KnownIds.{stand_still}
 use Rattle.palm_store.proofs.store.Store.fill_data.Goals as goal
 
-pub sys_write-requires-clause-movable : goal.sys_write-requires-clause-movable
-sys_write-requires-clause-movable c =
+pub sys_find-chunk-requires : goal.sys_find-chunk-requires
+sys_find-chunk-requires c =
     let has : HasDataOf c.self.inside.heap.bytes c.args.name.0 (length c.args.bytes.now) = rw c.self.view_is c.requires in
     filled_movable c.self.inside.heap.bytes c.args.name.0 (length c.args.bytes.now) c.self.invariant.accepted.heap has
 

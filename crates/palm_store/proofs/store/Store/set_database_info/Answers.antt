@@ -1,30 +1,32 @@
 -- What was found of the database and of the name, and what was written, is what a header that is set has.
-use Rattle.std.proofs.Common.{ℕ, List, subst}
+use Rattle.std.proofs.Common.{ℕ, List, refl, subst, inl, inr}
 use Rattle.heap_model.specs.Database.{IsDatabaseName, IsSpelled, database_in}
 use Rattle.heap_model.specs.Bytes.{overwritten}
 use Rattle.heap_model.specs.Store.{store_of}
 use Rattle.heap_model.specs.DatabaseSteps.{IsTaken}
-use Rattle.palm_store.proofs.MemoryCalls.{viewed}
+use Rattle.heap_model.specs.declared.call.Call.TheVariants as calls
+use Rattle.heap_model.specs.declared.call.DatabaseCall.TheVariants.{SetInfo}
+use Rattle.heap_model.specs.declared.refusal.Refusal.TheVariants.{AlreadyExists}
+use Rattle.laws_store.proofs.CallSteps.{refused}
+use Rattle.palm_store.proofs.BlockCalls.{known_number}
+use Rattle.palm_store.proofs.MemoryCalls.{viewed, ask_viewed}
 use Rattle.palm_store.proofs.Creation.{not_taken}
 use Rattle.palm_store.proofs.Numbers.{number_movable}
 use Rattle.palm_store.proofs.HeaderInfos.{with_info, set_spelled, set_step}
 use Rattle.palm_store.proofs.KnownIds.{nothing_known}
 use Rattle.palm_store.proofs.store.Store.set_database_info.Goals as goal
 
-pub sys_write-requires-clause-movable : goal.sys_write-requires-clause-movable
-sys_write-requires-clause-movable c = number_movable c.self.inside.heap.bytes c.args.db.0 c.self.invariant.accepted c.in_ok-header.ensures.known
-
 pub invariant_of-self : goal.invariant_of-self
 invariant_of-self c =
     let image : List ℕ = c.self.inside.heap.bytes in
-    let body = c.in_ok-header.ensures.is in
+    let body = c.header_in-header.ensures.is in
     let given = c.as_slice.ensures.is in
     let named : IsDatabaseName c.args.info.now.name = subst (λ (name : List ℕ). IsDatabaseName name) given c.in-Some.ensures.0 in
     let free : IsTaken (store_of image) c.args.db.0 c.args.info.now.name → ⊥ = not_taken image _ c.args.info.now.name c.args.db.0 _ c.has_other_name.ensures.1 c.if-has_other_name.false c.as_slice-2.ensures.is in
-    let spelled = set_spelled c.in_ok-header.header.now c.to_bytes.result c.args.info.now c.read.result c.with_info-header.result c.in_ok-header.ensures.spelled c.read.ensures c.with_info-header.ensures.set c.with_info-header.ensures.keeps c.to_bytes.ensures.written in
+    let spelled = set_spelled c.header_in-header.result.now c.to_bytes.result c.args.info.now c.read.result c.with_info-header.result c.header_in-header.ensures.spelled c.read.ensures c.with_info-header.ensures.set c.with_info-header.ensures.keeps c.to_bytes.ensures.written in
     let does = set_step c.self.inside.heap c.sys_write.new.self c.args.db c.args.info.now c.self.invariant.accepted
     (record {
-      number = c.in_ok-header.ensures.known;
+      number = c.in_ok-chunk.ensures.known;
       name = named;
       free = free;
       bytes = c.to_bytes.result;
@@ -36,14 +38,14 @@ invariant_of-self c =
 pub returns : goal.returns
 returns c =
     let image : List ℕ = c.self.inside.heap.bytes in
-    let body = c.in_ok-header.ensures.is in
+    let body = c.header_in-header.ensures.is in
     let given = c.as_slice.ensures.is in
     let named : IsDatabaseName c.args.info.now.name = subst (λ (name : List ℕ). IsDatabaseName name) given c.in-Some.ensures.0 in
     let free : IsTaken (store_of image) c.args.db.0 c.args.info.now.name → ⊥ = not_taken image _ c.args.info.now.name c.args.db.0 _ c.has_other_name.ensures.1 c.if-has_other_name.false c.as_slice-2.ensures.is in
-    let spelled = set_spelled c.in_ok-header.header.now c.to_bytes.result c.args.info.now c.read.result c.with_info-header.result c.in_ok-header.ensures.spelled c.read.ensures c.with_info-header.ensures.set c.with_info-header.ensures.keeps c.to_bytes.ensures.written in
+    let spelled = set_spelled c.header_in-header.result.now c.to_bytes.result c.args.info.now c.read.result c.with_info-header.result c.header_in-header.ensures.spelled c.read.ensures c.with_info-header.ensures.set c.with_info-header.ensures.keeps c.to_bytes.ensures.written in
     let does = set_step c.self.inside.heap c.sys_write.new.self c.args.db c.args.info.now c.self.invariant.accepted
     (record {
-      number = c.in_ok-header.ensures.known;
+      number = c.in_ok-chunk.ensures.known;
       name = named;
       free = free;
       bytes = c.to_bytes.result;
@@ -51,3 +53,11 @@ returns c =
       leaves = c.sys_write.ensures.leaves;
     }) c.sys_write.ensures.rest in
     viewed c.self.inside.heap c.args.self.now c.sys_write.new.self _ _ c.self.view_is does
+
+pub returns-then-has_other_name : goal.returns-then-has_other_name
+returns-then-has_other_name c =
+    let image : List ℕ = c.self.inside.heap.bytes in
+    let named : IsDatabaseName c.args.info.now.name = subst (λ (name : List ℕ). IsDatabaseName name) c.as_slice.ensures.is c.in-Some.ensures.0 in
+    let taken : IsTaken (store_of image) c.args.db.0 c.args.info.now.name = subst (λ (name : List ℕ). IsTaken (store_of image) c.args.db.0 name) c.as_slice-2.ensures.is (c.has_other_name.ensures.0 c.if-has_other_name.true) in
+    ask_viewed c.self.inside.heap c.args.self.now _ _ c.self.view_is
+    (refused c.self.inside.heap (calls.Database (SetInfo c.args.db c.args.info.now)) AlreadyExists c.self.invariant.accepted (inr (known_number image c.args.db c.in_ok-chunk.ensures.known, inr ((λ bad. bad named), inl (taken, refl)))))

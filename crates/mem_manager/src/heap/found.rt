@@ -1,0 +1,131 @@
+//! Calls for the store above on a movable chunk that it has found. Where the chunk stands is looked up once, and handed
+//! to each call: that is of use until the chunk moves, is freed, or gets another length, owner or lock.
+
+ghost use Rattle.std.specs.Prelude.{◌≡◌, ◌≢◌, ◌≤◌, ◌<◌, ◌+◌, length, slice_range, IfErr, OnOk, OnErr};
+ghost use Rattle.heap_model.specs.Heap.{directory_of};
+ghost use Rattle.heap_model.specs.Reading.{held};
+ghost use Rattle.heap_model.specs.Space.{MovesNothing, MovesOneStretchAnd};
+ghost use Rattle.heap_model.specs.Maps.{gone, put, sized};
+ghost use Rattle.heap_model.specs.Store.{bytes_under};
+ghost use Rattle.heap_model.specs.Leaving.{Leaves};
+ghost use Rattle.heap_model.specs.Refusals.{NoneHolds, FirstBrings};
+ghost use Rattle.raw_region.specs.ByteChanges.{changed_every};
+ghost use Rattle.mem_manager.specs.Lookup.{IsMovable, StandsAs, MovesOnlyToGrow, checks_of_growth};
+
+use crate::heap::Heap;
+use crate::heap::making::used_without;
+use crate::heap::moving::resize_found;
+use heap_model::{Name, Refusal};
+use heap_place::Found;
+use raw_region::ByteChange;
+
+impl Heap {
+    /// A movable chunk, as it stands.
+    #[inline(always)]
+    pub fn sys_find(&self, name: Name) -> Found
+        requires { IsMovable self.now.bytes name.0 }
+        ensures { StandsAs self.now.bytes name.0 result }
+    {
+        self.space.movable(name)
+    }
+
+    /// Its bytes, as they lie in the image.
+    #[inline(always)]
+    pub fn sys_body_found(&self, name: Name, found: Found) -> &[u8]
+        requires { StandsAs self.now.bytes name.0 found }
+        ensures { result.now ≡ bytes_under self.now.bytes name.0 }
+    {
+        self.body_of(found)
+    }
+
+    /// Writes bytes over its own, from `at` within it on.
+    #[inline(always)]
+    pub fn sys_write(&mut self, name: Name, found: Found, at: u32, bytes: &[u8])
+        requires stands { StandsAs self.old.bytes name.0 found }
+        requires within { at + length bytes.now ≤ length (bytes_under self.old.bytes name.0) }
+        ensures leaves { Leaves self.old.bytes self.new.bytes
+            (put (held self.old.bytes) name.0 at bytes.now) }
+        ensures unmoved { MovesNothing self.old.bytes self.new.bytes }
+        ensures stands { StandsAs self.new.bytes name.0 found }
+        ensures rest { self.new ≡ record self.old { bytes = self.new.bytes } }
+    {
+        self.space.write(found, at, bytes);
+    }
+
+    /// Of `count` of its bytes, from `at` within it on, changes each that stands behind `skip` others, or `step`
+    /// further, or as often that much.
+    #[inline(always)]
+    pub fn sys_change_every<C: ByteChange>(
+        &mut self,
+        name: Name,
+        found: Found,
+        at: u32,
+        count: u32,
+        skip: u32,
+        step: u32,
+        change: C,
+    )
+        requires stands { StandsAs self.old.bytes name.0 found }
+        requires within { at + count ≤ length (bytes_under self.old.bytes name.0) }
+        requires step { 0 < step }
+        ensures leaves { Leaves self.old.bytes self.new.bytes (put (held self.old.bytes) name.0 at
+            (changed_every (C.made change) step skip
+            (slice_range (bytes_under self.old.bytes name.0) at (at + count)))) }
+        ensures unmoved { MovesNothing self.old.bytes self.new.bytes }
+        ensures stands { StandsAs self.new.bytes name.0 found }
+        ensures rest { self.new ≡ record self.old { bytes = self.new.bytes } }
+    {
+        self.space
+            .change_every(found, at, count, skip, step, change);
+    }
+
+    /// Copies `count` of its bytes from `from` within it to `to` within it; the ranges may overlap.
+    #[inline(always)]
+    pub fn sys_slide(&mut self, name: Name, found: Found, from: u32, to: u32, count: u32)
+        requires stands { StandsAs self.old.bytes name.0 found }
+        requires from_within { from + count ≤ length (bytes_under self.old.bytes name.0) }
+        requires to_within { to + count ≤ length (bytes_under self.old.bytes name.0) }
+        ensures leaves { Leaves self.old.bytes self.new.bytes (put (held self.old.bytes) name.0 to
+            (slice_range (bytes_under self.old.bytes name.0) from (from + count))) }
+        ensures stands { StandsAs self.new.bytes name.0 found }
+        ensures rest { self.new ≡ record self.old
+            { bytes = self.new.bytes; slid = self.old.slid + count } }
+    {
+        self.space.slide_within(found, from, to, count);
+    }
+
+    /// Gives it `size` bytes: its first ones, or all of them and zeros behind. What moves is as with `resize`; where
+    /// it stands then has to be found anew.
+    ///
+    /// Refused: `ChunkLocked`, where it is locked and would have to move; `NotEnoughSpace`, where it is not
+    /// locked and no stretch has the room. Then nothing has changed.
+    #[inline(always)]
+    pub fn sys_resize(&mut self, name: Name, found: Found, size: u32) -> Result<(), Refusal>
+        requires stands { StandsAs self.old.bytes name.0 found }
+        ensures done { OnOk result (Leaves self.old.bytes self.new.bytes
+            (sized (held self.old.bytes) name.0 size)) }
+        ensures could { OnOk result (NoneHolds (checks_of_growth self.old.bytes name.0 size)) }
+        ensures refused { OnErr result (self.new ≡ self.old) }
+        ensures why { IfErr result
+            (λ refusal. FirstBrings (checks_of_growth self.old.bytes name.0 size) refusal) }
+        ensures unmoved { MovesOnlyToGrow self.old.bytes self.new.bytes name.0 size }
+        ensures one_stretch { MovesOneStretchAnd self.old.bytes self.new.bytes name.0 }
+        ensures rest { self.new ≡ record self.old { bytes = self.new.bytes; slid = self.new.slid } }
+    {
+        resize_found(&mut self.space, found, size)
+    }
+
+    /// Frees it; the directory is never freed.
+    #[inline(always)]
+    pub fn sys_free(&mut self, name: Name, found: Found)
+        requires stands { StandsAs self.old.bytes name.0 found }
+        requires no_directory { name.0 ≢ directory_of self.old.bytes }
+        ensures leaves { Leaves self.old.bytes self.new.bytes (gone (held self.old.bytes) name.0) }
+        ensures unmoved { MovesNothing self.old.bytes self.new.bytes }
+        ensures rest { self.new ≡ record self.old { bytes = self.new.bytes } }
+    {
+        self.used = used_without(self.used, name);
+        self.known.forget(name);
+        self.space.give_back(found);
+    }
+}

@@ -1,0 +1,8 @@
+use Rattle.palm_store.proofs.Numbers.{number_spelled, number_shape}
+use Rattle.palm_store.proofs.lookup.header.header_in.Goals as goal
+
+pub returns-clause-spelled : goal.returns-clause-spelled
+returns-clause-spelled c = rw c.sys_body_found.ensures (number_spelled c.args.heap.now.bytes c.args.db.0 c.requires.accepted c.requires.number)
+
+pub returns-clause-shape : goal.returns-clause-shape
+returns-clause-shape c = rw c.sys_body_found.ensures (number_shape c.args.heap.now.bytes c.args.db.0 c.requires.accepted c.requires.number)
