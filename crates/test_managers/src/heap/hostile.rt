@@ -1,11 +1,11 @@
 //! Heaps whose free chunks are as bad as can be: of one class that has room in its last one alone, of 8 bytes
 //! each, unjoined, with second words that lead anywhere.
 
-use crate::beside::{Beside, adopt};
-use crate::by_hand::check_on;
-use crate::calls::do_call;
-use crate::classes::{blank, check, check_freed, make_all, name};
-use crate::notation::{call_of, check_reply, sides_of};
+use crate::heap::beside::{Beside, adopt};
+use crate::heap::by_hand::check_on;
+use crate::heap::calls::do_call;
+use crate::heap::classes::{blank, check, check_freed, make_all, name};
+use crate::heap::notation::{call_of, check_reply, sides_of};
 use heap_model::{MemoryCall, Place, Reply};
 use mem_manager::Heap;
 use raw_region::Region;

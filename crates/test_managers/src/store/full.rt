@@ -1,7 +1,7 @@
 //! As many databases as there may be, as many records, and as many resources as there are slots for.
 
-use crate::images::{crowded_program, full_database, with_databases};
-use crate::steps::{Step, check_anew};
+use crate::store::images::{crowded_program, full_database, with_databases};
+use crate::store::steps::{Step, check_anew};
 use heap_model::{
     Call, DatabaseCall, Db, MemoryCall, Name, RecordCall, Refusal, Reply, ResourceCall,
 };

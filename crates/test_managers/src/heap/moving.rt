@@ -1,9 +1,9 @@
 //! Calls that may move chunks, with the replies and the words that they must leave.
 
-use crate::beside::Beside;
-use crate::by_hand::{Example, check_all, check_on};
-use crate::images::{FIVE, OVERLAPPING};
-use crate::linked::word_at;
+use crate::heap::beside::Beside;
+use crate::heap::by_hand::{Example, check_all, check_on};
+use crate::heap::images::{FIVE, OVERLAPPING};
+use crate::heap::linked::word_at;
 use std::test::*;
 use test_fakes::equal;
 use test_images::{THREE_CHUNKS, image};

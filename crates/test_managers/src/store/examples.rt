@@ -1,6 +1,6 @@
 //! Calls with the replies that they must have, by hand: what lists seldom meet.
 
-use crate::steps::{Step, check_listed};
+use crate::store::steps::{Step, check_listed};
 use heap_model::{Call, DatabaseCall, Db, MemoryCall, Name, Place, RecordCall, Refusal, Reply};
 use std::test::*;
 use test_beside::MIXED;

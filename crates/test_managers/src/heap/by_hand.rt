@@ -1,8 +1,8 @@
 //! Calls with the replies that they must have, as lines of text: a line has a call and its reply, with `=`
 //! between.
 
-use crate::beside::Beside;
-use crate::notation::{call_of, check_reply, sides_of};
+use crate::heap::beside::Beside;
+use crate::heap::notation::{call_of, check_reply, sides_of};
 use std::alloc::Global;
 use std::test::*;
 use test_images::image;

@@ -1,7 +1,7 @@
 //! A call on a heap, and the same on the plain model beside it.
 
-use crate::calls::do_call;
-use crate::linked::{are_built, class_with_a_gap};
+use crate::heap::calls::do_call;
+use crate::heap::linked::{are_built, class_with_a_gap};
 use heap_model::{MemoryCall, Reply};
 use mem_manager::Heap;
 use raw_region::Region;

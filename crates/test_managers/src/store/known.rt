@@ -1,6 +1,6 @@
 //! IDs of new records on one store, which knows of some that are free.
 
-use crate::steps::{Step, check_on_one};
+use crate::store::steps::{Step, check_on_one};
 use heap_model::{Call, DatabaseCall, Db, Refusal, Reply};
 use std::test::*;
 use test_beside::blank_image;

@@ -1,7 +1,7 @@
 //! Lists of calls that look random, on a heap and on the plain model beside it.
 
-use crate::beside::Beside;
-use crate::images::{FIVE, LARGE, ODD};
+use crate::heap::beside::Beside;
+use crate::heap::images::{FIVE, LARGE, ODD};
 use rand_pcg::Pcg32;
 use raw_region::Region;
 use std::alloc::Global;

@@ -1,6 +1,6 @@
 //! Files of databases that are read and written, by hand.
 
-use crate::steps::{Step, check_listed};
+use crate::store::steps::{Step, check_listed};
 use heap_model::{
     Call, DatabaseCall, Db, FileCall, FileFault, MemoryCall, Name, RecordCall, RecordInfo, Refusal,
     Reply, ResourceCall, Which,

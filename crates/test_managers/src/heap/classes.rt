@@ -1,8 +1,8 @@
 //! Free chunks of many sizes, on one heap from end to end, whose image is checked behind each call.
 
-use crate::beside::Beside;
-use crate::by_hand::{Example, check_all, check_on};
-use crate::images::EIGHT_SLOTS;
+use crate::heap::beside::Beside;
+use crate::heap::by_hand::{Example, check_all, check_on};
+use crate::heap::images::EIGHT_SLOTS;
 use heap_model::{MemoryCall, Name, Reply};
 use std::alloc::Global;
 use std::test::*;
