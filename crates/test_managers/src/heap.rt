@@ -13,4 +13,3 @@ mod images;
 mod linked;
 mod lists;
 mod moving;
-mod notation;

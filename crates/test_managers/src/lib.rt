@@ -7,4 +7,6 @@
 #[cfg(test)]
 mod heap;
 #[cfg(test)]
+mod notation;
+#[cfg(test)]
 mod store;

@@ -1,5 +1,6 @@
 //! Calls on a store, and on a plain list of databases beside it.
 
+mod calls;
 mod examples;
 mod files;
 mod full;

@@ -1,98 +1,60 @@
 //! Calls with the replies that they must have, by hand: what lists seldom meet.
 
-use crate::store::steps::{Step, check_listed};
-use heap_model::{Call, DatabaseCall, Db, MemoryCall, Name, Place, RecordCall, Refusal, Reply};
+use crate::store::steps::{Example, Step, check_all};
+use heap_model::Name;
 use std::test::*;
 use test_beside::MIXED;
 use test_images::TWO_DATABASES;
 
-/// A chunk is locked.
-const LOCKED: Reply = Reply::Refused(Refusal::ChunkLocked);
-
 /// The first database is deleted once one of its info blocks isn't locked, and the other once an info block and
 /// the data of two records aren't.
 const DELETED: [Step; 10] = [
-    Step::Does(
-        Call::Memory(MemoryCall::Lock(Name(56))),
-        Reply::Locked {
-            place: Place(552),
-            count: 1,
-        },
-    ),
-    Step::Does(Call::Database(DatabaseCall::Delete(Db(24))), LOCKED),
+    Step::Does("lock 56 = at 552 locks 1"),
+    Step::Does("delete 24 = refused ChunkLocked"),
     Step::Unlocks(Name(56), 1),
-    Step::Does(Call::Database(DatabaseCall::Delete(Db(24))), Reply::Done),
+    Step::Does("delete 24 = done"),
     Step::Unlocks(Name(28), 2),
     Step::Unlocks(Name(64), 14),
-    Step::Does(
-        Call::Memory(MemoryCall::Lock(Name(20))),
-        Reply::Locked {
-            place: Place(336),
-            count: 1,
-        },
-    ),
-    Step::Does(Call::Database(DatabaseCall::Delete(Db(36))), LOCKED),
+    Step::Does("lock 20 = at 336 locks 1"),
+    Step::Does("delete 36 = refused ChunkLocked"),
     Step::Unlocks(Name(20), 1),
-    Step::Does(Call::Database(DatabaseCall::Delete(Db(36))), Reply::Done),
-];
-
-/// The info blocks of a database are locked, and of the entries none.
-#[test]
-fn locked_info_blocks_keep_a_database(rt: HostRuntime) -> Result<(), Fail> {
-    check_listed(rt.alloc(), MIXED, &DELETED)
-}
-
-const NOT_LISTED: [Step; 3] = [
-    Step::Creates(b"C", Reply::Refused(Refusal::NotEnoughSpace)),
-    Step::Does(Call::Memory(MemoryCall::FreeBytes), Reply::Number(88)),
-    Step::Does(Call::Database(DatabaseCall::Count), Reply::Number(2)),
+    Step::Does("delete 36 = done"),
 ];
 
 /// The header of a database has room, and behind it the longer directory has none.
-#[test]
-fn a_header_that_is_not_listed_is_given_back(rt: HostRuntime) -> Result<(), Fail> {
-    check_listed(rt.alloc(), TWO_DATABASES, &NOT_LISTED)
-}
+const NOT_LISTED: [Step; 3] = [
+    Step::Creates("C", "refused NotEnoughSpace"),
+    Step::Does("free_bytes = 88"),
+    Step::Does("count = 2"),
+];
 
-/// All records come into one category, which is deleted.
+/// All records come into one category, which is deleted. The data of the first has two locks: while it has them
+/// nothing is deleted.
 const CATEGORY_DELETED: [Step; 7] = [
-    Step::Does(
-        Call::Record(RecordCall::MoveCategory {
-            db: Db(36),
-            to: 0,
-            from: 3,
-            dirty: true,
-        }),
-        Reply::Done,
-    ),
-    Step::Does(
-        Call::Record(RecordCall::MoveCategory {
-            db: Db(36),
-            to: 0,
-            from: 5,
-            dirty: true,
-        }),
-        Reply::Done,
-    ),
-    Step::Does(Call::Record(RecordCall::DeleteCategory(Db(36), 0)), LOCKED),
-    Step::Does(
-        Call::Record(RecordCall::CountInCategory(Db(36), 0xFF)),
-        Reply::Number(3),
-    ),
+    Step::Does("move_category 36 0 3 = done"),
+    Step::Does("move_category 36 0 5 = done"),
+    Step::Does("delete_category 36 0 = refused ChunkLocked"),
+    Step::Does("num_in_category 36 255 = 3"),
     Step::Unlocks(Name(28), 2),
-    Step::Does(
-        Call::Record(RecordCall::DeleteCategory(Db(36), 0)),
-        Reply::Done,
+    Step::Does("delete_category 36 0 = done"),
+    Step::Does("num_in_category 36 255 = 0"),
+];
+
+static EXAMPLES: [Example; 3] = [
+    ("locked info blocks keep a database", MIXED, &DELETED),
+    (
+        "a header that is not listed is given back",
+        TWO_DATABASES,
+        &NOT_LISTED,
     ),
-    Step::Does(
-        Call::Record(RecordCall::CountInCategory(Db(36), 0xFF)),
-        Reply::Number(0),
+    (
+        "a locked record keeps its category",
+        MIXED,
+        &CATEGORY_DELETED,
     ),
 ];
 
-/// All records are of one category, and the data of the first has two locks: while it has them nothing is
-/// deleted.
 #[test]
-fn a_locked_record_keeps_its_category(rt: HostRuntime) -> Result<(), Fail> {
-    check_listed(rt.alloc(), MIXED, &CATEGORY_DELETED)
+fn examples_are_done(rt: HostRuntime) -> Result<(), Fail> {
+    check_all(&rt, &EXAMPLES)
 }

@@ -1,10 +1,7 @@
 //! Files of databases that are read and written, by hand.
 
-use crate::store::steps::{Step, check_listed};
-use heap_model::{
-    Call, DatabaseCall, Db, FileCall, FileFault, MemoryCall, Name, RecordCall, RecordInfo, Refusal,
-    Reply, ResourceCall, Which,
-};
+use crate::store::steps::{Example, Step, check_all};
+use heap_model::Db;
 use std::test::*;
 use test_images::{BLANK, EMPTY_FILE, EMPTY_WRITTEN, ORDER_FILE, ORDER_WRITTEN, TINY_FILE, WIDE};
 
@@ -34,183 +31,104 @@ const ODD: &str = "4141414141414141414141414141414141414141414141414141414141414
     0000007c 33 000007 00000078 00 000007 00000000 e0 000007 00000082 a0 000000 0000007a 40 000000 \
     0909 0102030405060708090a";
 
-/// The number of the first database of a store.
-const FIRST: Db = Db(16);
-
-/// It is read.
-const IS_FIRST: Reply = Reply::Database(FIRST);
-
-const READ_ONCE: [Step; 3] = [
-    Step::Reads(EMPTY_FILE, IS_FIRST),
-    Step::Writes(FIRST, EMPTY_WRITTEN),
-    Step::Reads(EMPTY_FILE, Reply::Refused(Refusal::AlreadyExists)),
-];
+/// The first database of a store is read.
+const IS_FIRST: &str = "Database(Db(16))";
 
 /// What is written of one has the two zeros too.
-#[test]
-fn a_database_without_entries_is_read_once(rt: HostRuntime) -> Result<(), Fail> {
-    check_listed(rt.alloc(), WIDE, &READ_ONCE)
-}
+const READ_ONCE: [Step; 3] = [
+    Step::Reads(EMPTY_FILE, IS_FIRST),
+    Step::Writes(Db(16), EMPTY_WRITTEN),
+    Step::Reads(EMPTY_FILE, "refused AlreadyExists"),
+];
 
 const RECORDS: [Step; 5] = [
     Step::Reads(ORDER_FILE, IS_FIRST),
-    Step::Writes(FIRST, ORDER_WRITTEN),
-    Step::Reads(BACKWARD, Reply::Database(Db(36))),
+    Step::Writes(Db(16), ORDER_WRITTEN),
+    Step::Reads(BACKWARD, "Database(Db(36))"),
     Step::Writes(Db(36), BACKWARD_WRITTEN),
-    Step::Writes(FIRST, ORDER_WRITTEN),
-];
-
-#[test]
-fn records_are_read_in_their_order(rt: HostRuntime) -> Result<(), Fail> {
-    check_listed(rt.alloc(), WIDE, &RECORDS)
-}
-
-const NEXT_ID: [Step; 3] = [
-    Step::Reads(IDS, IS_FIRST),
-    Step::Does(
-        Call::Record(RecordCall::New {
-            db: FIRST,
-            at: 65_535,
-            size: 0,
-        }),
-        Reply::Made {
-            index: 2,
-            name: Name(32),
-        },
-    ),
-    Step::Does(
-        Call::Record(RecordCall::Info(FIRST, 2)),
-        Reply::Record(RecordInfo {
-            attributes: 0x60,
-            id: 2,
-            data: Some(Name(32)),
-        }),
-    ),
+    Step::Writes(Db(16), ORDER_WRITTEN),
 ];
 
 /// The last ID is taken, and the first behind it.
-#[test]
-fn a_record_gets_an_id_behind_those_of_the_file(rt: HostRuntime) -> Result<(), Fail> {
-    check_listed(rt.alloc(), WIDE, &NEXT_ID)
-}
+const NEXT_ID: [Step; 3] = [
+    Step::Reads(IDS, IS_FIRST),
+    Step::Does("new_record 16 65535 0 = Made { index: 2, name: Name(32) }"),
+    Step::Does(
+        "record_info 16 2 = Record(RecordInfo { attributes: 96, id: 2, data: Some(Name(32)) })",
+    ),
+];
 
 const RESOURCES: [Step; 4] = [
     Step::Reads(TINY_FILE, IS_FIRST),
-    Step::Does(
-        Call::Resource(ResourceCall::Find {
-            db: FIRST,
-            kind: 0x7453_5452,
-            id: 1001,
-        }),
-        Reply::Number(1),
-    ),
-    Step::Does(Call::Resource(ResourceCall::Remove(FIRST, 0)), Reply::Done),
-    Step::Writes(FIRST, TINY_WRITTEN),
+    Step::Does("find_resource 16 tSTR 1001 = 1"),
+    Step::Does("remove_resource 16 0 = done"),
+    Step::Writes(Db(16), TINY_WRITTEN),
 ];
 
-#[test]
-fn resources_are_read_and_written(rt: HostRuntime) -> Result<(), Fail> {
-    check_listed(rt.alloc(), WIDE, &RESOURCES)
-}
-
+/// The block begins where the file ends.
 const EMPTY_BLOCK: [Step; 4] = [
     Step::Reads(
         "456d707479 00*27 0000 0000 00*16 0000004e 00*4 44415441 54657374 00*8 0000",
         IS_FIRST,
     ),
-    Step::Does(
-        Call::Database(DatabaseCall::InfoBlock(FIRST, Which::App)),
-        Reply::Named(Name(20)),
-    ),
-    Step::Does(Call::Memory(MemoryCall::Size(Name(20))), Reply::Number(0)),
+    Step::Does("app_info 16 = named 20"),
+    Step::Does("size 20 = 0"),
     Step::Writes(
-        FIRST,
+        Db(16),
         "456d707479 00*27 0000 0000 00*16 00000050 00*4 44415441 54657374 00*8 0000 0000",
     ),
 ];
 
-/// The block begins where the file ends.
-#[test]
-fn an_info_block_may_be_empty(rt: HostRuntime) -> Result<(), Fail> {
-    check_listed(rt.alloc(), WIDE, &EMPTY_BLOCK)
-}
-
+/// What stands in the file at the offset 0 isn't the data of a deleted record.
 const NO_DATA: [Step; 2] = [
     Step::Reads(ODD, IS_FIRST),
-    Step::Does(
-        Call::Record(RecordCall::Info(FIRST, 2)),
-        Reply::Record(RecordInfo {
-            attributes: 0xC0,
-            id: 2,
-            data: None,
-        }),
-    ),
+    Step::Does("record_info 16 2 = Record(RecordInfo { attributes: 192, id: 2, data: None })"),
 ];
-
-/// What stands in the file at the offset 0 isn't the data of a deleted record.
-#[test]
-fn a_deleted_record_may_have_no_data(rt: HostRuntime) -> Result<(), Fail> {
-    check_listed(rt.alloc(), WIDE, &NO_DATA)
-}
 
 /// Files that have no database, and why.
 const FAULTS: [Step; 7] = [
-    Step::Reads("", Reply::Refused(Refusal::BadFile(FileFault::Truncated))),
-    Step::Reads(
-        "61 00*76",
-        Reply::Refused(Refusal::BadFile(FileFault::Truncated)),
-    ),
-    Step::Reads(
-        "61 00*71 00000001 0000",
-        Reply::Refused(Refusal::BadFile(FileFault::ChainedList)),
-    ),
-    Step::Reads(
-        "00*78",
-        Reply::Refused(Refusal::BadFile(FileFault::EmptyName)),
-    ),
-    Step::Reads(
-        "61 00*51 00000010 00*22",
-        Reply::Refused(Refusal::BadFile(FileFault::BadInfo(Which::App))),
-    ),
-    Step::Reads(
-        "61 00*55 0000004F 00*18",
-        Reply::Refused(Refusal::BadFile(FileFault::BadInfo(Which::Sort))),
-    ),
-    Step::Reads(
-        "61 00*75 0001 00*8",
-        Reply::Refused(Refusal::BadFile(FileFault::BadOffset(0))),
-    ),
-];
-
-#[test]
-fn files_without_a_database_are_refused(rt: HostRuntime) -> Result<(), Fail> {
-    check_listed(rt.alloc(), WIDE, &FAULTS)
-}
-
-const GIVEN_BACK: [Step; 2] = [
-    Step::Reads(ORDER_FILE, Reply::Refused(Refusal::NotEnoughSpace)),
-    Step::Does(Call::Memory(MemoryCall::FreeBytes), Reply::Number(96)),
+    Step::Reads("", "refused BadFile(Truncated)"),
+    Step::Reads("61 00*76", "refused BadFile(Truncated)"),
+    Step::Reads("61 00*71 00000001 0000", "refused BadFile(ChainedList)"),
+    Step::Reads("00*78", "refused BadFile(EmptyName)"),
+    Step::Reads("61 00*51 00000010 00*22", "refused BadFile(BadInfo(App))"),
+    Step::Reads("61 00*55 0000004F 00*18", "refused BadFile(BadInfo(Sort))"),
+    Step::Reads("61 00*75 0001 00*8", "refused BadFile(BadOffset(0))"),
 ];
 
 /// All parts of it that were made are given back.
-#[test]
-fn a_database_that_finds_no_room_is_given_back(rt: HostRuntime) -> Result<(), Fail> {
-    check_listed(rt.alloc(), BLANK, &GIVEN_BACK)
-}
-
-const CHUNK_WRITTEN: [Step; 2] = [
-    Step::Does(
-        Call::Memory(MemoryCall::HandleNew { size: 78, owner: 1 }),
-        Reply::Named(Name(16)),
-    ),
-    Step::Does(
-        Call::File(FileCall::Export(Db(16))),
-        Reply::Refused(Refusal::NoSuchDatabase),
-    ),
+const GIVEN_BACK: [Step; 2] = [
+    Step::Reads(ORDER_FILE, "refused NotEnoughSpace"),
+    Step::Does("free_bytes = 96"),
 ];
 
 /// No database has the number of a chunk.
+const CHUNK_WRITTEN: [Step; 2] = [
+    Step::Does("handle_new 78 1 = named 16"),
+    Step::Does("export 16 = refused NoSuchDatabase"),
+];
+
+static EXAMPLES: [Example; 9] = [
+    ("a database without entries is read once", WIDE, &READ_ONCE),
+    ("records are read in their order", WIDE, &RECORDS),
+    (
+        "a record gets an ID behind those of the file",
+        WIDE,
+        &NEXT_ID,
+    ),
+    ("resources are read and written", WIDE, &RESOURCES),
+    ("an info block may be empty", WIDE, &EMPTY_BLOCK),
+    ("a deleted record may have no data", WIDE, &NO_DATA),
+    ("files without a database are refused", WIDE, &FAULTS),
+    (
+        "a database that finds no room is given back",
+        BLANK,
+        &GIVEN_BACK,
+    ),
+    ("a chunk is not written as a file", WIDE, &CHUNK_WRITTEN),
+];
+
 #[test]
-fn a_chunk_is_not_written_as_a_file(rt: HostRuntime) -> Result<(), Fail> {
-    check_listed(rt.alloc(), WIDE, &CHUNK_WRITTEN)
+fn files_are_read_and_written(rt: HostRuntime) -> Result<(), Fail> {
+    check_all(&rt, &EXAMPLES)
 }
