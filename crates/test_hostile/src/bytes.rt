@@ -128,9 +128,15 @@ fn replies(alloc: Global, calls: &[(&str, &str)]) -> Result<String, Fail> {
 
 /// Runs calls on a store, and answers what they print. What they leave is a store.
 fn run_on(alloc: Global, mut store: Store, calls: &Script) -> Result<Vec<u8>, Fail> {
-    let mut out = Counted::new(Vec::new(alloc));
-    run(alloc, &mut store, calls, &[], &mut out)?;
+    let said = printed(alloc, &mut store, calls)?;
     store_of(alloc, &image_of(alloc, &store)?)?;
+    Ok(said)
+}
+
+/// What calls print on a store.
+fn printed(alloc: Global, store: &mut Store, calls: &Script) -> Result<Vec<u8>, Fail> {
+    let mut out = Counted::new(Vec::new(alloc));
+    run(alloc, store, calls, &[], &mut out)?;
     Ok(out.into_inner())
 }
 

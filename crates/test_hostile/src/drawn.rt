@@ -29,11 +29,13 @@ impl Drawn {
     /// A list without calls, from an image.
     pub(crate) fn new(alloc: Global, start: Vec<u8>) -> Result<Drawn, Fail> {
         let staying = staying_in(alloc, &Image::decode(alloc, &start)?)?;
+        let store = store_of(alloc, &start)?;
+        let beside = Beside::new(alloc, start.clone()?)?;
         Ok(Drawn {
             calls: Vec::new(alloc),
             replies: Vec::new(alloc),
-            beside: Beside::new(alloc, start.clone()?)?,
-            store: store_of(alloc, &start)?,
+            beside,
+            store,
             start,
             staying,
         })
@@ -79,12 +81,17 @@ impl Drawn {
     }
 
     /// Runs the list as a whole, from the image that it begins with. It must be answered as by the model, call by
-    /// call, and what it leaves must be accepted and mean the model's store, with each chunk that stayed in its place.
+    /// call.
     pub(crate) fn check_run(&mut self, alloc: Global) -> Result<(), Fail> {
         let (replies, image) = run_from(alloc, &self.start, &self.calls)?;
         self.check_replies(&replies)?;
-        self.beside.check_meant(alloc, &image)?;
-        self.check_places(alloc, &Image::decode(alloc, &image)?)
+        self.check_left(alloc, &image)
+    }
+
+    /// What the list leaves must be accepted and mean the model's store, with each chunk that stayed in its place.
+    fn check_left(&mut self, alloc: Global, image: &[u8]) -> Result<(), Fail> {
+        self.beside.check_meant(alloc, image)?;
+        self.check_places(alloc, &Image::decode(alloc, image)?)
     }
 
     fn check_replies(&self, replies: &[Reply]) -> Result<(), Fail> {

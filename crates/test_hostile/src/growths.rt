@@ -142,13 +142,15 @@ fn ran_with(
 const CHUNK: Name = Name(16);
 
 /// A list of calls on the blank image.
-const LIST: [Call; 5] = [
-    Call::Memory(MemoryCall::HandleNew { size: 10, owner: 1 }),
-    Call::Memory(MemoryCall::FreeBytes),
-    Call::Memory(MemoryCall::Lock(CHUNK)),
-    Call::Memory(MemoryCall::Recover(Place(40))),
-    Call::Memory(MemoryCall::Recover(Place(48))),
-];
+fn calls_in_list() -> [Call; 5] {
+    [
+        Call::Memory(MemoryCall::HandleNew { size: 10, owner: 1 }),
+        Call::Memory(MemoryCall::FreeBytes),
+        Call::Memory(MemoryCall::Lock(CHUNK)),
+        Call::Memory(MemoryCall::Recover(Place(40))),
+        Call::Memory(MemoryCall::Recover(Place(48))),
+    ]
+}
 
 fn list_with(memory: &RefusesOne, alloc: Global) -> Result<Came, Fail> {
     let image = bytes_of(alloc, BLANK)?;
@@ -159,13 +161,20 @@ fn list_with(memory: &RefusesOne, alloc: Global) -> Result<Came, Fail> {
 
 /// Whether the list wants memory.
 fn wants_list(memory: &RefusesOne, store: &mut Store) -> bool {
-    matches!(run_calls_from(memory, store, &LIST), Err(OutOfMemory))
+    matches!(
+        run_calls_from(memory, store, &calls_in_list()),
+        Err(OutOfMemory)
+    )
+}
+
+fn run_list(memory: &RefusesOne, region: Region) -> Result<(Store, Vec<Reply>), NotRun> {
+    check_and_run_from(memory, region, &calls_in_list())
 }
 
 /// The region is handed back as it was, and so is the store.
 fn checked_list_with(memory: &RefusesOne, alloc: Global) -> Result<Came, Fail> {
     let image = bytes_of(alloc, BLANK)?;
-    match check_and_run_from(memory, Region::from_bytes(alloc, &image)?, &LIST) {
+    match run_list(memory, Region::from_bytes(alloc, &image)?) {
         Ok(_) => Ok(outcome(memory, false, true)),
         Err(NotRun::NotAStore(refused)) => {
             let is_want = refused.fault == StoreFault::OutOfMemory;
@@ -242,7 +251,7 @@ fn tried(memory: &RefusesOne, alloc: Global, trial: &Trial) -> Result<Came, Fail
 }
 
 /// Calls, and how many growths each has.
-const TRIALS: [(Trial, u32); 23] = [
+static TRIALS: [(Trial, u32); 23] = [
     (Trial::Zeros, 1),
     (Trial::Copy, 1),
     (Trial::Check(BLANK, ""), 2),

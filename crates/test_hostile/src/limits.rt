@@ -10,7 +10,7 @@ use std::alloc::{AllocError, Global};
 use std::test::*;
 use test_beside::{blank_image, store_of};
 use test_fakes::{equal, holds};
-use test_images::{bytes_of, changed_words};
+use test_images::changed_words;
 
 /// The most bytes of an image.
 const MOST: u32 = 16_777_208;
@@ -153,16 +153,14 @@ fn length_of(reply: &Reply) -> Option<usize> {
 
 /// A script as long as an input file may be: lines of 4,096 bytes that are passed over, and one behind them.
 fn longest(alloc: Global) -> Result<String, AllocError> {
-    let filling = repeated(alloc, "x", 4_094)?;
-    let line = format!(in alloc; "#{filling}\n")?;
-    let lines = repeated(alloc, line.as_str(), 4_095)?;
-    let empty_lines = repeated(alloc, "\n", 4_086)?;
+    let lines = long_line(alloc)?.as_str().repeat(alloc, 4_095)?;
+    let empty_lines = "\n".repeat(alloc, 4_086)?;
     format!(in alloc; "{lines}{empty_lines}freebytes\n")
 }
 
-/// A text so many times.
-fn repeated(alloc: Global, text: &str, count: usize) -> Result<String, AllocError> {
-    text.repeat(alloc, count)
+fn long_line(alloc: Global) -> Result<String, AllocError> {
+    let filling = "x".repeat(alloc, 4_094)?;
+    format!(in alloc; "#{filling}\n")
 }
 
 #[test]
@@ -200,12 +198,12 @@ fn a_script_has_1025_labels_of_databases(rt: HostRuntime) -> Result<(), Fail> {
 
 /// An image of one slot, and of fixed chunks without a byte.
 fn fixed_chunks(alloc: Global, size: u32) -> Result<Vec<u8>, Fail> {
-    let mut bytes = bytes_of(alloc, "50484931")?;
+    let mut bytes = Vec::from_slice(alloc, b"PHI1")?;
     bytes.extend_from_slice(&size.to_be_bytes())?;
-    bytes.extend_from_slice(&bytes_of(alloc, "0001 0000 00000000 00*8")?)?;
-    let chunk = bytes_of(alloc, "00000008 F1000000")?;
-    let chunks = chunk.repeat(alloc, size.saturating_sub(24) as usize / 8)?;
-    bytes.extend_from_slice(&chunks)?;
+    bytes.extend_from_slice(&[0, 1, 0, 0, 0, 0, 0, 0, 0, 0, 0, 0, 0, 0, 0, 0])?;
+    for _ in 0..size.saturating_sub(24) / 8 {
+        bytes.extend_from_slice(&[0, 0, 0, 8, 0xF1, 0, 0, 0])?;
+    }
     Ok(bytes)
 }
 

@@ -12,7 +12,7 @@ const PROGRAM: &str = "50484931 000000D8 0008 0000 00000010 \
     00000010 0FFFFFB4 4141414141414141 00000010 0FFFFFAE 4242424242424242 80000008 00*4";
 
 /// Calls on the resources, each with its reply on the image as it is.
-const CALLS: [(&str, &str); 27] = [
+static CALLS: [(&str, &str); 27] = [
     ("find p \"P\"", "ok"),
     ("rescount p", "ok 2"),
     ("resinfo p 1 x", "ok \"tSTR\" 1000"),
@@ -48,7 +48,7 @@ const CALLS: [(&str, &str); 27] = [
 
 /// Ranges of bytes, and with how many values of each byte of a range the image is accepted. Every other byte
 /// has one.
-const VALUES: [(usize, usize, usize); 20] = [
+static VALUES: [(usize, usize, usize); 20] = [
     // 8 slots or 7, where the place of the eighth has the zeros behind them
     (9, 10, 2),
     // what is behind the number in the directory

@@ -176,12 +176,22 @@ fn run_is_cut(
     cut: Cut,
 ) -> Result<bool, Fail> {
     let mut store = listed_store(alloc, listing)?;
-    let mut out = narrow(alloc, cut);
-    let fault = ran(alloc, &mut store, text, &mut out)?;
-    let out = out.into_inner();
+    let (fault, out) = cut_run(alloc, &mut store, text, cut)?;
     let is_right = is_cut(&out, said, cut.0, fault.is_none());
     let has_memory = fault != Some(RunFault::OutOfMemory);
     Ok(has_memory && is_right && is_behind(alloc, &store, images, &out.taken)?)
+}
+
+/// Why a run ended early, if it did, and what was written.
+fn cut_run(
+    alloc: Global,
+    store: &mut Store,
+    text: &str,
+    cut: Cut,
+) -> Result<(Option<RunFault>, Narrow), Fail> {
+    let mut out = narrow(alloc, cut);
+    let fault = ran(alloc, store, text, &mut out)?;
+    Ok((fault, out.into_inner()))
 }
 
 /// Whether a store has the image behind the line in which this output breaks off.

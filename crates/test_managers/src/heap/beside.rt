@@ -1,7 +1,7 @@
 //! A call on a heap, and the same on the plain model beside it.
 
-use crate::calls::do_call;
-use crate::linked::{are_built, class_with_a_gap};
+use crate::heap::calls::do_call;
+use crate::heap::linked::{are_built, class_with_a_gap};
 use heap_model::{MemoryCall, Reply};
 use mem_manager::Heap;
 use raw_region::Region;
@@ -40,7 +40,7 @@ impl Beside {
         Ok(())
     }
 
-    /// Does a call on both, and checks what came of it. What it leaves must be an image that can be adopted.
+    /// Does a call on both, and checks what came of it.
     pub(crate) fn call(
         &mut self,
         alloc: Global,
@@ -49,49 +49,60 @@ impl Beside {
     ) -> Result<Reply, Fail> {
         let before = Vec::from_slice(alloc, self.heap.image())?;
         let reply = do_call(alloc, &mut self.heap, call);
-        let after = Vec::from_slice(alloc, self.heap.image())?;
-        adopt(Region::from_bytes(alloc, &after)?)?;
-        let before = Image::decode(alloc, &before)?;
-        let after = Image::decode(alloc, &after)?;
-        self.check(alloc, spot, (call, &reply), &before, &after)?;
-        self.check_lists(alloc, spot, (call, &reply), &before, &after)?;
+        self.check(alloc, spot, (call, &reply), &before)?;
         Ok(reply)
     }
 
-    /// Does a call on the model. The replies must be the same, the image must hold just the chunks of the
-    /// model, and the call must have kept to its rules.
+    /// Checks a call that was done on the heap, with the image that was there before.
     fn check(
         &mut self,
         alloc: Global,
         spot: &str,
         (call, reply): (&MemoryCall, &Reply),
-        before: &Image,
-        after: &Image,
+        before: &[u8],
     ) -> Result<(), Fail> {
-        let expected = self.chunks.call(alloc, call, before, after, reply);
-        equal(spot, reply, &expected)?;
-        let odd = (
-            self.chunks.difference(after),
-            broken_rule(call, reply, before, after),
-        );
-        equal(spot, odd, (None, None))
+        let before = Image::decode(alloc, before)?;
+        let after = Image::decode(alloc, self.heap.image())?;
+        self.are_built = are_built(self.are_built, call, reply, &before, &after);
+        check_call(
+            alloc,
+            spot,
+            &mut self.chunks,
+            (call, reply),
+            &before,
+            &after,
+        )?;
+        check_left(alloc, spot, self.are_built, &after)
     }
+}
 
-    /// While the lists are built, each free chunk must be in the one of its class.
-    fn check_lists(
-        &mut self,
-        alloc: Global,
-        spot: &str,
-        (call, reply): (&MemoryCall, &Reply),
-        before: &Image,
-        after: &Image,
-    ) -> Result<(), Fail> {
-        self.are_built = are_built(self.are_built, call, reply, before, after);
-        if self.are_built {
-            equal(spot, class_with_a_gap(alloc, after)?, None)?;
-        }
-        Ok(())
+/// Does a call on the model. The replies must be the same, the image must hold just the chunks of the model, and the
+/// call must have kept to its rules.
+fn check_call(
+    alloc: Global,
+    spot: &str,
+    chunks: &mut PlainHeap,
+    (call, reply): (&MemoryCall, &Reply),
+    before: &Image,
+    after: &Image,
+) -> Result<(), Fail> {
+    let expected = chunks.call(alloc, call, before, after, reply);
+    equal(spot, reply, &expected)?;
+    let odd = (
+        chunks.difference(after),
+        broken_rule(call, reply, before, after),
+    );
+    equal(spot, odd, (None, None))
+}
+
+/// What a call leaves must be an image that can be adopted. While the lists are built, each free chunk must be in the
+/// one of its class.
+fn check_left(alloc: Global, spot: &str, are_built: bool, image: &Image) -> Result<(), Fail> {
+    adopt(Region::from_bytes(alloc, image.bytes)?)?;
+    if are_built {
+        equal(spot, class_with_a_gap(alloc, image)?, None)?;
     }
+    Ok(())
 }
 
 /// The heap of a region.

@@ -1,6 +1,6 @@
 //! Which images are taken as heaps.
 
-use crate::images::{FIVE, ODD};
+use crate::heap::images::{FIVE, ODD};
 use mem_manager::Heap;
 use raw_region::Region;
 use std::alloc::Global;

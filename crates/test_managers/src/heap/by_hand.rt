@@ -1,8 +1,8 @@
 //! Calls with the replies that they must have, as lines of text: a line has a call and its reply, with `=`
 //! between.
 
-use crate::beside::Beside;
-use crate::notation::{call_of, check_reply, sides_of};
+use crate::heap::beside::Beside;
+use crate::notation::{check_reply, memory_call_of, sides_of};
 use std::alloc::Global;
 use std::test::*;
 use test_images::image;
@@ -13,9 +13,17 @@ pub(crate) type Example = (&'static str, &'static str, &'static str);
 /// Does the call of a line.
 fn check_line(alloc: Global, beside: &mut Beside, about: &str, line: &str) -> Result<(), Fail> {
     let spot = format!(in alloc; "{about}: {line}")?;
-    let (call, right) = sides_of(line)?;
-    let reply = beside.call(alloc, spot.as_str(), &call_of(alloc, call)?)?;
-    check_reply(alloc, spot.as_str(), &reply, right)
+    check_call(alloc, beside, spot.as_str(), sides_of(line)?)
+}
+
+fn check_call(
+    alloc: Global,
+    beside: &mut Beside,
+    spot: &str,
+    (call, right): (&str, &str),
+) -> Result<(), Fail> {
+    let reply = beside.call(alloc, spot, &memory_call_of(alloc, call)?)?;
+    check_reply(alloc, spot, &reply, right)
 }
 
 /// Does the calls of some lines, one after the other: each on a heap that is adopted for it, if `anew`, and else on

@@ -1,9 +1,10 @@
 //! Calls that may move chunks, with the replies and the words that they must leave.
 
-use crate::beside::Beside;
-use crate::by_hand::{Example, check_all, check_on};
-use crate::images::{FIVE, OVERLAPPING};
-use crate::linked::word_at;
+use crate::heap::beside::Beside;
+use crate::heap::by_hand::{Example, check_all, check_on};
+use crate::heap::images::{FIVE, OVERLAPPING};
+use crate::heap::linked::word_at;
+use std::alloc::Global;
 use std::test::*;
 use test_fakes::equal;
 use test_images::{THREE_CHUNKS, image};
@@ -24,7 +25,11 @@ static PACKED: [(usize, u32); 4] = [
 #[test]
 fn compaction_leaves_the_room_behind(rt: HostRuntime) -> Result<(), Fail> {
     let mut beside = Beside::new(rt.alloc(), image(rt.alloc(), THREE_CHUNKS, "")?)?;
-    check_on(rt.alloc(), &mut beside, ("packed", ROOM_LEFT), true)?;
+    check_packed(rt.alloc(), &mut beside)
+}
+
+fn check_packed(alloc: Global, beside: &mut Beside) -> Result<(), Fail> {
+    check_on(alloc, beside, ("packed", ROOM_LEFT), true)?;
     for (at, word) in &PACKED {
         equal(*at, word_at(beside.image(), *at), Some(*word))?;
     }

@@ -1,11 +1,11 @@
 //! Heaps whose free chunks are as bad as can be: of one class that has room in its last one alone, of 8 bytes
 //! each, unjoined, with second words that lead anywhere.
 
-use crate::beside::{Beside, adopt};
-use crate::by_hand::check_on;
-use crate::calls::do_call;
-use crate::classes::{blank, check, check_freed, make_all, name};
-use crate::notation::{call_of, check_reply, sides_of};
+use crate::heap::beside::{Beside, adopt};
+use crate::heap::by_hand::check_on;
+use crate::heap::calls::do_call;
+use crate::heap::classes::{blank, check, check_freed, make_all, name};
+use crate::notation::{check_reply, memory_call_of, sides_of};
 use heap_model::{MemoryCall, Place, Reply};
 use mem_manager::Heap;
 use raw_region::Region;
@@ -16,7 +16,7 @@ use test_images::changed_words;
 /// Does the call of a line on a heap, with no model beside it.
 fn check_line(alloc: Global, heap: &mut Heap, line: &str) -> Result<(), Fail> {
     let (call, right) = sides_of(line)?;
-    let reply = do_call(alloc, heap, &call_of(alloc, call)?);
+    let reply = do_call(alloc, heap, &memory_call_of(alloc, call)?);
     check_reply(alloc, line, &reply, right)
 }
 
@@ -140,13 +140,12 @@ const ONE_MORE_FREED: &str = "free_bytes = 64
 #[test]
 fn free_chunks_of_8_bytes(rt: HostRuntime) -> Result<(), Fail> {
     let mut beside = blank(rt.alloc(), 80 + 16 * 8, 16)?;
-    make_all(rt.alloc(), &mut beside, 0, 16)?;
-    lock_all(rt.alloc(), &mut beside)?;
-    free_even(rt.alloc(), &mut beside)?;
-    check_on(
-        rt.alloc(),
-        &mut beside,
-        ("one more freed", ONE_MORE_FREED),
-        false,
-    )
+    check_even(rt.alloc(), &mut beside)
+}
+
+fn check_even(alloc: Global, beside: &mut Beside) -> Result<(), Fail> {
+    make_all(alloc, beside, 0, 16)?;
+    lock_all(alloc, beside)?;
+    free_even(alloc, beside)?;
+    check_on(alloc, beside, ("one more freed", ONE_MORE_FREED), false)
 }

@@ -1,7 +1,7 @@
 //! Calls with the replies that they must have, each on a heap that is adopted for it.
 
-use crate::by_hand::{Example, check_all};
-use crate::images::{FIVE, ONE_SLOT};
+use crate::heap::by_hand::{Example, check_all};
+use crate::heap::images::{FIVE, ONE_SLOT};
 use std::test::*;
 use test_images::BLANK;
 

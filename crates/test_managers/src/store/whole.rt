@@ -3,7 +3,7 @@
 ghost use Rattle.std.specs.Prelude.{◌≡◌, length, take};
 ghost use Rattle.heap_model.specs.DatabaseFields.{name_size};
 
-use crate::images::with_databases;
+use crate::store::images::with_databases;
 use heap_model::{Db, DbInfo, DbName, Entry, Name, RecordInfo, Refusal, ResourceInfo, Which};
 use palm_store::{BlockSizes, Store, WholeEntry};
 use std::alloc::Global;

@@ -1,7 +1,7 @@
 //! Fixed chunks that are named again and again on one heap, which remembers their names.
 
-use crate::by_hand::{Example, check_all};
-use crate::images::{FIVE, SPACIOUS};
+use crate::heap::by_hand::{Example, check_all};
+use crate::heap::images::{FIVE, SPACIOUS};
 use std::test::*;
 use test_images::BLANK;
 

@@ -1,8 +1,8 @@
 //! Free chunks of many sizes, on one heap from end to end, whose image is checked behind each call.
 
-use crate::beside::Beside;
-use crate::by_hand::{Example, check_all, check_on};
-use crate::images::EIGHT_SLOTS;
+use crate::heap::beside::Beside;
+use crate::heap::by_hand::{Example, check_all, check_on};
+use crate::heap::images::EIGHT_SLOTS;
 use heap_model::{MemoryCall, Name, Reply};
 use std::alloc::Global;
 use std::test::*;
@@ -98,6 +98,14 @@ fn remake_classes(alloc: Global, beside: &mut Beside) -> Result<(), Fail> {
     Ok(())
 }
 
+/// Makes the chunks of all classes, frees them and makes them again, which leaves nothing free.
+fn check_classes(alloc: Global, beside: &mut Beside) -> Result<(), Fail> {
+    make_classes(alloc, beside)?;
+    free_classes(alloc, beside)?;
+    remake_classes(alloc, beside)?;
+    check(alloc, beside, MemoryCall::FreeBytes, Reply::Number(0))
+}
+
 /// Chunks of 2, 4, 8 and so on up to 65,536 units of 8 bytes are made, each with one of 8 bytes behind it. They
 /// are freed and made again, where they were: each is the only one of its class. Between them lies no
 /// free byte, so none could go elsewhere.
@@ -105,15 +113,7 @@ fn remake_classes(alloc: Global, beside: &mut Beside) -> Result<(), Fail> {
 fn the_only_chunk_of_a_class_is_found_again(rt: HostRuntime) -> Result<(), Fail> {
     // 2^17 - 2 units of 8 bytes, 16 chunks of 8 bytes, and 16 bytes and 32 slots in front of them.
     let mut beside = blank(rt.alloc(), 144 + 128 + 1_048_560, 32)?;
-    make_classes(rt.alloc(), &mut beside)?;
-    free_classes(rt.alloc(), &mut beside)?;
-    remake_classes(rt.alloc(), &mut beside)?;
-    check(
-        rt.alloc(),
-        &mut beside,
-        MemoryCall::FreeBytes,
-        Reply::Number(0),
-    )
+    check_classes(rt.alloc(), &mut beside)
 }
 
 /// A chunk gets another size, which leaves so many free bytes.
@@ -133,14 +133,13 @@ fn check_resized(
 
 /// Of 16 chunks every second one is freed. The one of this number grows over the next one and gives it back; then
 /// all but the last are made again.
-fn check_grown(alloc: Global, number: u32) -> Result<(), Fail> {
-    let mut beside = blank(alloc, 80 + 16 * 32, 16)?;
-    make_all(alloc, &mut beside, 24, 16)?;
-    free_odd(alloc, &mut beside, 8)?;
-    check_resized(alloc, &mut beside, number, (40, 240))?;
-    check_resized(alloc, &mut beside, number, (0, 280))?;
+fn check_grown(alloc: Global, beside: &mut Beside, number: u32) -> Result<(), Fail> {
+    make_all(alloc, beside, 24, 16)?;
+    free_odd(alloc, beside, 8)?;
+    check_resized(alloc, beside, number, (40, 240))?;
+    check_resized(alloc, beside, number, (0, 280))?;
     for number in 0..7u32 {
-        check_made(alloc, &mut beside, 24, number * 2 + 1)?;
+        check_made(alloc, beside, 24, number * 2 + 1)?;
     }
     Ok(())
 }
@@ -150,7 +149,8 @@ fn check_grown(alloc: Global, number: u32) -> Result<(), Fail> {
 #[test]
 fn chunks_grow_over_any_of_a_list(rt: HostRuntime) -> Result<(), Fail> {
     for taken in 0..8u32 {
-        check_grown(rt.alloc(), taken * 2)?;
+        let mut beside = blank(rt.alloc(), 80 + 16 * 32, 16)?;
+        check_grown(rt.alloc(), &mut beside, taken * 2)?;
     }
     Ok(())
 }
@@ -199,11 +199,15 @@ const GROWN_OVER_THE_LAST: &str = "resize 16 8 = done
 #[test]
 fn a_chunk_grows_over_one_far_in_a_list(rt: HostRuntime) -> Result<(), Fail> {
     let mut beside = blank(rt.alloc(), 16 + 4 * 144 + 144 * 8, 144)?;
-    make_all(rt.alloc(), &mut beside, 0, 144)?;
-    free_odd(rt.alloc(), &mut beside, 72)?;
+    check_far(rt.alloc(), &mut beside)
+}
+
+fn check_far(alloc: Global, beside: &mut Beside) -> Result<(), Fail> {
+    make_all(alloc, beside, 0, 144)?;
+    free_odd(alloc, beside, 72)?;
     check_on(
-        rt.alloc(),
-        &mut beside,
+        alloc,
+        beside,
         ("grown over the last", GROWN_OVER_THE_LAST),
         false,
     )

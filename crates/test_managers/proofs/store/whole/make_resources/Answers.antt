@@ -1,5 +1,5 @@
-use Rattle.test_palm_store.proofs.Wholes.{resources_can}
-use Rattle.test_palm_store.proofs.whole.make_resources.Goals as goal
+use Rattle.test_managers.proofs.Wholes.{resources_can}
+use Rattle.test_managers.proofs.store.whole.make_resources.Goals as goal
 
 pub create_whole-requires-clause-whole : goal.create_whole-requires-clause-whole
 create_whole-requires-clause-whole c = resources_can c.info_of_two.result c.info_of_two.ensures.name c.info_of_two.ensures.attributes c.info_of_two.ensures.entry_count

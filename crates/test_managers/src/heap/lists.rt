@@ -1,7 +1,8 @@
 //! Lists of calls that look random, on a heap and on the plain model beside it.
 
-use crate::beside::Beside;
-use crate::images::{FIVE, LARGE, ODD};
+use crate::heap::beside::Beside;
+use crate::heap::images::{FIVE, LARGE, ODD};
+use heap_model::MemoryCall;
 use rand_pcg::Pcg32;
 use raw_region::Region;
 use std::alloc::Global;
@@ -10,10 +11,22 @@ use test_calls::memory_call;
 use test_images::{changed_words, image};
 use test_model::Image;
 
-/// Does the next call of a list, drawn from what the image has.
-fn step(alloc: Global, beside: &mut Beside, random: &mut Pcg32, spot: &str) -> Result<(), Fail> {
-    let call = memory_call(random, alloc, &Image::decode(alloc, beside.image())?)?;
-    beside.call(alloc, spot, &call)?;
+/// The next call of a list, drawn from what the image has.
+fn next_call(alloc: Global, beside: &Beside, random: &mut Pcg32) -> Result<MemoryCall, Fail> {
+    let image = Image::decode(alloc, beside.image())?;
+    Ok(memory_call(random, alloc, &image)?)
+}
+
+/// Does the next call of the list of a seed.
+fn step(
+    alloc: Global,
+    beside: &mut Beside,
+    random: &mut Pcg32,
+    (seed, number): (u64, u32),
+) -> Result<(), Fail> {
+    let call = next_call(alloc, beside, random)?;
+    let spot = format!(in alloc; "call {number} of list {seed}")?;
+    beside.call(alloc, spot.as_str(), &call)?;
     Ok(())
 }
 
@@ -32,8 +45,7 @@ fn run_list(
         if anew {
             beside.adopt_anew(alloc)?;
         }
-        let spot = format!(in alloc; "call {number} of list {seed}")?;
-        step(alloc, &mut beside, &mut random, spot.as_str())?;
+        step(alloc, &mut beside, &mut random, (seed, number))?;
     }
     Ok(())
 }

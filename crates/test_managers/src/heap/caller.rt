@@ -3,7 +3,7 @@
 ghost use Rattle.std.specs.Prelude.{◌≡◌, length};
 ghost use Rattle.heap_model.specs.Heap.{HeapAccepted, directory_of};
 
-use crate::beside::adopt;
+use crate::heap::beside::adopt;
 use heap_model::{Name, Refusal};
 use mem_manager::Heap;
 use std::test::*;

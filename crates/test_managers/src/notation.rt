@@ -1,9 +1,10 @@
 //! Calls and replies as text, a line each: `lock 16 = at 40 locks 1`, `write 16 0: 4142 = done`,
-//! `read 16 0 2 = x4142`.
+//! `read 16 0 2 = x4142`, `find_resource 16 code 1 = 0`.
 
 use heap_model::{Bytes, MemoryCall, Name, Place, Reply};
 use std::alloc::{AllocError, Global};
-use std::test::*;
+use std::fmt::Display;
+use std::test::Fail;
 use test_fakes::equal;
 
 /// The two sides of a line: a call, and the reply that it must have.
@@ -11,45 +12,64 @@ pub(crate) fn sides_of(line: &str) -> Result<(&str, &str), Fail> {
     Ok(line.split_once(" = ").ok_or("no reply")?)
 }
 
-/// What a reply to a line's call must be.
-pub(crate) fn check_reply(
+/// What a reply must be.
+pub(crate) fn check_reply<D: Display + Drop>(
     alloc: Global,
-    line: &str,
+    spot: D,
     reply: &Reply,
     right: &str,
 ) -> Result<(), Fail> {
     let said = text_of(alloc, reply)?;
-    equal(line, said.as_str(), right)
+    equal(spot, said.as_str(), right)
 }
 
-/// The call of a text: a word, numbers, and bytes in hex behind a colon, if there are some.
-pub(crate) fn call_of(alloc: Global, text: &str) -> Result<MemoryCall, Fail> {
+/// The memory manager's call of a text: a word, numbers, and bytes in hex behind a colon, if there are some.
+pub(crate) fn memory_call_of(alloc: Global, text: &str) -> Result<MemoryCall, Fail> {
     let (front, digits) = text.split_once(": ").unwrap_or((text, ""));
     let bytes = Bytes::of(hex::decode(alloc, digits)?);
-    let mut words = front.split_whitespace();
+    let (word, numbers) = words_of(alloc, front)?;
+    Ok(memory_call(word, &numbers, bytes).ok_or("no call")?)
+}
+
+/// The word that a text begins with, and the numbers behind it.
+pub(crate) fn words_of(alloc: Global, text: &str) -> Result<(&str, Vec<u32>), Fail> {
+    let mut words = text.split_whitespace();
     let word = words.next().unwrap_or("");
     let mut numbers = Vec::new(alloc);
     for number in words {
-        numbers.push(number.parse::<u32>()?)?;
+        numbers.push(number_of(number)?)?;
     }
-    let call = match numbers.as_slice() {
+    Ok((word, numbers))
+}
+
+/// A number in decimal digits, or a type of resources by its letters.
+fn number_of(word: &str) -> Result<u32, Fail> {
+    if let Ok(number) = word.parse::<u32>() {
+        return Ok(number);
+    }
+    let letters = word.as_bytes().first_chunk().ok_or("no number")?;
+    Ok(u32::from_be_bytes(*letters))
+}
+
+/// The memory manager's call of a word and the numbers and bytes behind it.
+fn memory_call(word: &str, numbers: &[u32], bytes: Bytes) -> Option<MemoryCall> {
+    match numbers {
         [] => call_alone(word),
         [number] => call_on(word, *number),
         [first, second] => call_with(word, *first, *second, bytes),
-        [name, at, count] => Some(MemoryCall::Read {
+        [name, at, count] if word == "read" => Some(MemoryCall::Read {
             name: Name(*name),
             at: *at,
             count: *count,
         }),
-        [name, at, count, byte] => Some(MemoryCall::Set {
+        [name, at, count, byte] if word == "set" => Some(MemoryCall::Set {
             name: Name(*name),
             at: *at,
             count: *count,
             byte: as_u8(*byte),
         }),
         _ => None,
-    };
-    Ok(call.ok_or("no call")?)
+    }
 }
 
 /// A call without a number.
@@ -111,11 +131,11 @@ fn call_with(word: &str, first: u32, second: u32, bytes: Bytes) -> Option<Memory
     }
 }
 
-fn as_u8(number: u32) -> u8 {
+pub(crate) fn as_u8(number: u32) -> u8 {
     u8::try_from(number).unwrap_or(u8::MAX)
 }
 
-/// A reply as text. A heap gives those that are written out here alone.
+/// A reply as text. A heap gives those that are written out here alone; others are as `Debug` has them.
 fn text_of(alloc: Global, reply: &Reply) -> Result<String, AllocError> {
     match reply {
         Reply::Refused(refusal) => format!(in alloc; "refused {refusal:?}"),

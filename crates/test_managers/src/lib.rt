@@ -1,0 +1,12 @@
+//! Tests of the managers: calls on a heap and on a store, each done on a plain model beside it, by hand and
+//! in lists that look random; and which images are taken.
+//!
+//! This crate has no code but its tests.
+#![tactic(auto)]
+
+#[cfg(test)]
+mod heap;
+#[cfg(test)]
+mod notation;
+#[cfg(test)]
+mod store;

@@ -1,0 +1,12 @@
+//! Calls on a store, and on a plain list of databases beside it.
+
+mod calls;
+mod examples;
+mod files;
+mod full;
+mod images;
+mod known;
+mod lists;
+mod steps;
+mod taken;
+mod whole;
