@@ -306,9 +306,12 @@ const CALLS: [Call; 14] = [
 #[test]
 fn calls_on_records_are_answered(rt: HostRuntime) -> Result<(), Fail> {
     let mut store = listed_store(rt.alloc(), WIDE)?;
-    let first = [creation(b"Notes", false)];
-    let said = "database 16; made 0, name 24; made 0, name 28; 2; refused 16; done; name 28; done; \
-        96, 1, true; done; done; done; 192, 2, false; done; refused 10; ";
+    let first = [creation("Notes", false)];
+    let said =
+        "Database(Db(16)); Made { index: 0, name: Name(24) }; Made { index: 0, name: Name(28) }; Number(2); \
+        Refused(RecordBusy); Done; Named(Name(28)); Done; \
+        Record(RecordInfo { attributes: 96, id: 1, data: Some(Name(24)) }); Done; Done; Done; \
+        Record(RecordInfo { attributes: 192, id: 2, data: None }); Done; Refused(NoSuchDatabase); ";
     check_calls(rt.alloc(), &mut store, &[&first, &CALLS], said)
 }
 
