@@ -282,20 +282,25 @@ fn a_place_has_its_name(rt: HostRuntime) -> Result<(), Fail> {
     check_calls(rt.alloc(), &mut store, &[&PLACES], said)
 }
 
-/// Runs the script on a writer with room for 4 bytes.
-fn run_cut(alloc: Global, store: &mut Store, room: &mut [u8; 4]) -> Result<Option<RunFault>, Fail> {
-    let script = parse(alloc, SCRIPT.as_bytes())?;
+/// Runs a script on a writer with room for 4 bytes.
+fn run_cut(
+    alloc: Global,
+    store: &mut Store,
+    script: &Script,
+    room: &mut [u8; 4],
+) -> Option<RunFault> {
     let mut out = Counted::new(room.as_mut_slice());
-    let ran = run(alloc, store, &script, &[], &mut out);
+    let ran = run(alloc, store, script, &[], &mut out);
     drop(out.into_inner());
-    Ok(ran.err())
+    ran.err()
 }
 
 #[test]
 fn the_line_that_breaks_off_was_done(rt: HostRuntime) -> Result<(), Fail> {
+    let script = parse(rt.alloc(), SCRIPT.as_bytes())?;
     let mut store = small_store(rt.alloc())?;
     let mut room = [0; 4];
-    let fault = run_cut(rt.alloc(), &mut store, &mut room)?;
+    let fault = run_cut(rt.alloc(), &mut store, &script, &mut room);
     equal(
         "the run",
         (fault, store.locks(CHUNK), room),

@@ -3,15 +3,11 @@
 use crate::calls::{check_calls, creation, listed_store};
 use crate::commands::check_image;
 use crate::runs::{check_lines, check_runs};
-use heap_model::{
-    Call, DatabaseCall, Db, FileCall, Name, RecordCall, Refusal, Reply, ResourceCall, Which,
-};
-use palm_script::do_call;
+use heap_model::{Call, DatabaseCall, Db, FileCall, Name, RecordCall, ResourceCall, Which};
 use palm_store::Store;
 use program_io::Status;
 use std::alloc::{AllocError, Global};
 use std::test::Fail;
-use test_fakes::equal;
 use test_images::{DATABASE, WIDE, bytes_of};
 
 /// A blank image of 168 bytes with 8 slots.
@@ -333,14 +329,8 @@ fn calls_on(db: Db) -> [Call; 9] {
 
 /// A chunk is no database: calls of each kind say so.
 fn check_no_database(alloc: Global, store: &mut Store, number: u32) -> Result<(), Fail> {
-    for call in &calls_on(Db(number)) {
-        equal(
-            format_args!("{call:?}"),
-            do_call(alloc, store, call),
-            Reply::Refused(Refusal::NoSuchDatabase),
-        )?;
-    }
-    Ok(())
+    let said = "Refused(NoSuchDatabase); ".repeat(alloc, 9)?;
+    check_calls(alloc, store, &[&calls_on(Db(number))], said.as_str())
 }
 
 /// The directory, the data of a record and a caller's chunk are no databases.
