@@ -1,10 +1,9 @@
 //! Lists of calls, done one behind another; and images that are checked for them.
 
-use crate::calls::{put_reply, small_store};
+use crate::calls::small_store;
 use heap_model::{Call, DatabaseCall, MemoryCall, Name, Place, Reply};
-use palm_script::{NotRun, OutOfMemory, check_and_run, run_calls, run_calls_from};
-use palm_store::Store;
-use std::alloc::{AllocError, Global};
+use palm_script::{NotRun, check_and_run, run_calls, run_calls_from};
+use std::alloc::Global;
 use std::test::Fail;
 use test_fakes::{RefusesOne, equal};
 use test_images::{BLANK, image};
@@ -47,41 +46,32 @@ const WITH_READ: [Call; 3] = [
     Call::Memory(MemoryCall::Size(CHUNK)),
 ];
 
-/// The replies to a list, as text.
-fn told(alloc: Global, replies: &[Reply]) -> Result<String, AllocError> {
-    let mut text = String::new(alloc);
-    for reply in replies {
-        put_reply(&mut text, reply)?;
-    }
-    Ok(text)
-}
-
-/// What a list is answered on a store.
-fn check_list(alloc: Global, store: &mut Store, calls: &[Call], wanted: &str) -> Result<(), Fail> {
-    let replies = run_calls(alloc, store, calls)?;
-    let said = told(alloc, &replies)?;
+/// What a list is answered on the small store.
+fn check_list(alloc: Global, calls: &[Call], wanted: &str) -> Result<(), Fail> {
+    let mut store = small_store(alloc)?;
+    let replies = run_calls(alloc, &mut store, calls)?;
+    let said = format!(in alloc; "{replies:?}")?;
     equal("replies", said.as_str(), wanted)
 }
 
 #[test]
 fn a_list_is_answered_in_order(rt: HostRuntime) -> Result<(), Fail> {
-    let mut store = small_store(rt.alloc())?;
-    check_list(rt.alloc(), &mut store, &IN_ORDER, "name 16; 72; ")?;
-    check_list(rt.alloc(), &mut store, &[], "")
+    check_list(rt.alloc(), &IN_ORDER, "[Named(Name(16)), Number(72)]")?;
+    check_list(rt.alloc(), &[], "[]")
 }
 
 #[test]
 fn a_place_in_a_list_has_its_name(rt: HostRuntime) -> Result<(), Fail> {
-    let mut store = small_store(rt.alloc())?;
-    let said = "name 16; at 40, 1; name 16; refused 1; ";
-    check_list(rt.alloc(), &mut store, &PLACES, said)
+    let said =
+        "[Named(Name(16)), Locked { place: Place(40), count: 1 }, Named(Name(16)), Refused(InvalidHandle)]";
+    check_list(rt.alloc(), &PLACES, said)
 }
 
 #[test]
 fn a_list_goes_on_behind_a_refusal(rt: HostRuntime) -> Result<(), Fail> {
-    let mut store = small_store(rt.alloc())?;
-    let said = "refused 1; refused 8; name 16; at 40, 1; refused 3; 2; ";
-    check_list(rt.alloc(), &mut store, &WITH_REFUSALS, said)
+    let said = "[Refused(InvalidHandle), Refused(NotEnoughSpace), Named(Name(16)), \
+        Locked { place: Place(40), count: 1 }, Refused(ChunkLocked), Number(2)]";
+    check_list(rt.alloc(), &WITH_REFUSALS, said)
 }
 
 /// What comes of the list with a read where a growth behind so many is refused: the replies, and how many bytes are
@@ -89,10 +79,8 @@ fn a_list_goes_on_behind_a_refusal(rt: HostRuntime) -> Result<(), Fail> {
 fn check_without(alloc: Global, before: u32, wanted: (&str, u32)) -> Result<(), Fail> {
     let mut store = small_store(alloc)?;
     let memory = RefusesOne::behind(alloc, before);
-    let said = match run_calls_from(&memory, &mut store, &WITH_READ) {
-        Ok(replies) => told(alloc, &replies)?,
-        Err(OutOfMemory) => String::from_str(alloc, "nothing; ")?,
-    };
+    let ran = run_calls_from(&memory, &mut store, &WITH_READ);
+    let said = format!(in alloc; "{ran:?}")?;
     equal(
         format_args!("after {before}"),
         (said.as_str(), store.free_bytes()),
@@ -101,9 +89,18 @@ fn check_without(alloc: Global, before: u32, wanted: (&str, u32)) -> Result<(), 
 }
 
 static WITHOUT: [(u32, (&str, u32)); 3] = [
-    (0, ("nothing; ", 96)),
-    (1, ("name 16; refused 26; 2; ", 80)),
-    (2, ("name 16; [0, 0]; 2; ", 80)),
+    (0, ("Err(OutOfMemory)", 96)),
+    (
+        1,
+        ("Ok([Named(Name(16)), Refused(OutOfMemory), Number(2)])", 80),
+    ),
+    (
+        2,
+        (
+            "Ok([Named(Name(16)), Data(Bytes { bytes: [0, 0] }), Number(2)])",
+            80,
+        ),
+    ),
 ];
 
 /// Room for the replies comes first: without it nothing is done.
@@ -119,11 +116,9 @@ fn every_growth_of_a_list_may_be_refused(rt: HostRuntime) -> Result<(), Fail> {
 fn an_image_is_checked_for_a_list(rt: HostRuntime) -> Result<(), Fail> {
     let region = image(rt.alloc(), BLANK, "")?;
     let calls = [Call::Database(DatabaseCall::Count)];
-    let Ok((store, replies)) = check_and_run(rt.alloc(), region, &calls) else {
-        return Err("not run")?;
-    };
-    let said = told(rt.alloc(), &replies)?;
-    equal("replies", (said.as_str(), store.free_bytes()), ("0; ", 96))
+    let (store, replies) = check_and_run(rt.alloc(), region, &calls)?;
+    let came = (replies.as_slice(), store.free_bytes());
+    equal("replies", came, (&[Reply::Number(0)], 96))
 }
 
 /// What is wrong with a region that is no accepted image is said.

@@ -3,20 +3,18 @@
 use crate::call_lists::PLACES;
 use chunk_format::blank;
 use heap_model::{Bytes, Call, DatabaseCall, DbName, MemoryCall, Name, Reply};
-use palm_script::{RunFault, do_call, do_call_from, parse, run, run_from};
+use palm_script::{RunFault, Script, do_call, do_call_from, parse, run, run_from};
 use palm_store::Store;
 use palm_text::Counted;
 use std::alloc::{AllocError, Global};
+use std::io::Write;
 use std::test::Fail;
 use test_fakes::{RefusesOne, equal};
 use test_images::{BLANK, image};
 
 /// The store of a listed image.
 pub(crate) fn listed_store(alloc: Global, listing: &str) -> Result<Store, Fail> {
-    match Store::check(alloc, image(alloc, listing, "")?) {
-        Ok(store) => Ok(store),
-        Err(_) => Err("no store")?,
-    }
+    Ok(Store::check(alloc, image(alloc, listing, "")?)?)
 }
 
 /// A store of 128 bytes with 4 slots, and one free chunk of 96.
@@ -26,49 +24,54 @@ pub(crate) fn small_store(alloc: Global) -> Result<Store, Fail> {
 
 /// A store of the most bytes.
 fn largest_store(alloc: Global) -> Result<Store, Fail> {
-    match Store::check(alloc, blank(alloc, 16_777_208, 4)?) {
-        Ok(store) => Ok(store),
-        Err(_) => Err("no store")?,
-    }
+    Ok(Store::check(alloc, blank(alloc, 16_777_208, 4)?)?)
 }
 
-const SCRIPT: &[u8] = b"new a 10 1\nlock a\nread a 0 2\n";
+const SCRIPT: &str = "new a 10 1\nlock a\nread a 0 2\n";
 
 /// How many files come of a run, or why it ended early.
 type Ended = Result<usize, RunFault>;
 
-/// Runs the script: how that ends, and what is printed.
-fn run_with(
+/// Runs a script: how that ends, and what is printed.
+fn run_with<W: Write>(
     memory: &RefusesOne,
-    alloc: Global,
     store: &mut Store,
-) -> Result<(Ended, Vec<u8>), Fail> {
-    let script = parse(alloc, SCRIPT)?;
-    let mut out = Counted::new(Vec::new(alloc));
-    let ended = match run_from(memory, store, &script, &[], &mut out) {
+    script: &Script,
+    out: W,
+) -> (Ended, W) {
+    let mut out = Counted::new(out);
+    let ended = match run_from(memory, store, script, &[], &mut out) {
         Ok(files) => Ok(files.len()),
         Err(fault) => Err(fault),
     };
-    Ok((ended, out.into_inner()))
+    (ended, out.into_inner())
 }
 
 /// What comes of the script where a growth behind so many is refused: how it ends, how many bytes are free, and
 /// what is printed.
-fn check_without(alloc: Global, before: u32, wanted: (Ended, u32, &[u8])) -> Result<(), Fail> {
+fn check_without(
+    alloc: Global,
+    before: u32,
+    (ended, free, said): (Ended, u32, &str),
+) -> Result<(), Fail> {
+    let script = parse(alloc, SCRIPT.as_bytes())?;
     let mut store = small_store(alloc)?;
     let memory = RefusesOne::behind(alloc, before);
-    let (ended, out) = run_with(&memory, alloc, &mut store)?;
-    let came = (ended, store.free_bytes(), out.as_slice());
-    equal(format_args!("after {before}"), came, wanted)
+    let (came, out) = run_with(&memory, &mut store, &script, Vec::new(alloc));
+    equal(
+        format_args!("after {before}"),
+        (came, store.free_bytes(), out.as_slice()),
+        (ended, free, said.as_bytes()),
+    )
 }
 
 /// How many growths are granted, and what comes of the script: nothing but the tables of labels and the list of
 /// files grows.
-static RUNS: [(u32, (Ended, u32, &[u8])); 4] = [
-    (0, (Err(RunFault::OutOfMemory), 96, b"")),
-    (1, (Err(RunFault::OutOfMemory), 96, b"")),
-    (2, (Err(RunFault::OutOfMemory), 96, b"")),
-    (3, (Ok(0), 72, b"ok\nok 1\nok 0000\n")),
+static RUNS: [(u32, (Ended, u32, &str)); 4] = [
+    (0, (Err(RunFault::OutOfMemory), 96, "")),
+    (1, (Err(RunFault::OutOfMemory), 96, "")),
+    (2, (Err(RunFault::OutOfMemory), 96, "")),
+    (3, (Ok(0), 72, "ok\nok 1\nok 0000\n")),
 ];
 
 #[test]
@@ -201,24 +204,17 @@ const LAST_CALLS: [Call; 13] = [
     Call::Memory(MemoryCall::Free(CHUNK)),
 ];
 
-fn bytes_of(alloc: Global, bytes: &[u8]) -> Result<Bytes, AllocError> {
-    Ok(Bytes::of(Vec::from_slice(alloc, bytes)?))
+fn bytes_of(alloc: Global, text: &str) -> Result<Bytes, AllocError> {
+    Ok(Bytes::of(Vec::from_slice(alloc, text.as_bytes())?))
 }
 
-fn write_of(alloc: Global, bytes: &[u8]) -> Result<Call, AllocError> {
-    Ok(Call::Memory(MemoryCall::Write {
-        name: CHUNK,
-        at: 0,
-        bytes: bytes_of(alloc, bytes)?,
-    }))
-}
-
-fn copy_of(alloc: Global, text: &[u8]) -> Result<Call, AllocError> {
-    Ok(Call::Memory(MemoryCall::StrCopy {
-        name: CHUNK,
-        at: 2,
-        text: bytes_of(alloc, text)?,
-    }))
+/// The two that carry bytes.
+fn with_bytes(bytes: Bytes, text: Bytes) -> [Call; 2] {
+    let name = CHUNK;
+    [
+        Call::Memory(MemoryCall::Write { name, at: 0, bytes }),
+        Call::Memory(MemoryCall::StrCopy { name, at: 2, text }),
+    ]
 }
 
 /// Does calls one by one, and adds the replies to a text.
@@ -229,7 +225,8 @@ fn put_replies(
     calls: &[Call],
 ) -> Result<(), AllocError> {
     for call in calls {
-        put_reply(text, &do_call(alloc, store, call))?;
+        let reply = do_call(alloc, store, call);
+        write!(text, "{reply:?}; ")?;
     }
     Ok(())
 }
@@ -251,10 +248,12 @@ pub(crate) fn check_calls(
 #[test]
 fn calls_are_done_one_by_one(rt: HostRuntime) -> Result<(), Fail> {
     let alloc = rt.alloc();
+    let with_bytes = with_bytes(bytes_of(alloc, "ab")?, bytes_of(alloc, "x")?);
+    let said =
+        "Named(Name(16)); Refused(InvalidOwner); Locked { place: Place(40), count: 1 }; Done; Done; Done; \
+        Data(Bytes { bytes: [97, 98, 120, 0, 7, 7] }); Number(1); Number(0); Done; Number(3); Number(10); Done; \
+        Number(64); Number(64); Number(0); Number(1); Refused(InvalidHandle); ";
     let mut store = small_store(alloc)?;
-    let with_bytes = [write_of(alloc, b"ab")?, copy_of(alloc, b"x")?];
-    let said = "name 16; refused 7; at 40, 1; done; done; done; \
-        [97, 98, 120, 0, 7, 7]; 1; 0; done; 3; 10; done; 64; 64; 0; 1; refused 1; ";
     check_calls(
         alloc,
         &mut store,
@@ -263,38 +262,10 @@ fn calls_are_done_one_by_one(rt: HostRuntime) -> Result<(), Fail> {
     )
 }
 
-/// A reply as text.
-pub(crate) fn put_reply(text: &mut String, reply: &Reply) -> Result<(), AllocError> {
-    match reply {
-        Reply::Refused(refusal) => write!(text, "refused {}; ", refusal.number()),
-        Reply::Done => write!(text, "done; "),
-        Reply::Number(number) => write!(text, "{number}; "),
-        Reply::Named(name) => write!(text, "name {}; ", name.0),
-        Reply::Locked { place, count } => write!(text, "at {}, {count}; ", place.0),
-        Reply::Data(bytes) => write!(text, "{:?}; ", bytes.as_slice()),
-        Reply::Database(db) => write!(text, "database {}; ", db.0),
-        Reply::Info(info) => write!(
-            text,
-            "{} of {}; ",
-            info.entry_count,
-            info.name.as_slice().len()
-        ),
-        Reply::Made { index, name } => write!(text, "made {index}, name {}; ", name.0),
-        Reply::Record(info) => write!(
-            text,
-            "{}, {}, {}; ",
-            info.attributes,
-            info.id,
-            info.data.is_some()
-        ),
-        Reply::Resource(info) => write!(text, "{}, {}, name {}; ", info.kind, info.id, info.data.0),
-    }
-}
-
 /// A call that makes a database.
-pub(crate) fn creation(name: &[u8], resources: bool) -> Call {
+pub(crate) fn creation(name: &str, resources: bool) -> Call {
     Call::Database(DatabaseCall::Create {
-        name: DbName::of(name),
+        name: DbName::of(name.as_bytes()),
         kind: 1,
         creator: 2,
         resources,
@@ -306,24 +277,30 @@ pub(crate) fn creation(name: &[u8], resources: bool) -> Call {
 #[test]
 fn a_place_has_its_name(rt: HostRuntime) -> Result<(), Fail> {
     let mut store = small_store(rt.alloc())?;
-    let said = "name 16; at 40, 1; name 16; refused 1; ";
+    let said =
+        "Named(Name(16)); Locked { place: Place(40), count: 1 }; Named(Name(16)); Refused(InvalidHandle); ";
     check_calls(rt.alloc(), &mut store, &[&PLACES], said)
 }
 
-/// Runs the script on a writer with room for 4 bytes.
-fn run_cut(alloc: Global, store: &mut Store, room: &mut [u8; 4]) -> Result<Option<RunFault>, Fail> {
-    let script = parse(alloc, SCRIPT)?;
+/// Runs a script on a writer with room for 4 bytes.
+fn run_cut(
+    alloc: Global,
+    store: &mut Store,
+    script: &Script,
+    room: &mut [u8; 4],
+) -> Option<RunFault> {
     let mut out = Counted::new(room.as_mut_slice());
-    let ran = run(alloc, store, &script, &[], &mut out);
+    let ran = run(alloc, store, script, &[], &mut out);
     drop(out.into_inner());
-    Ok(ran.err())
+    ran.err()
 }
 
 #[test]
 fn the_line_that_breaks_off_was_done(rt: HostRuntime) -> Result<(), Fail> {
+    let script = parse(rt.alloc(), SCRIPT.as_bytes())?;
     let mut store = small_store(rt.alloc())?;
     let mut room = [0; 4];
-    let fault = run_cut(rt.alloc(), &mut store, &mut room)?;
+    let fault = run_cut(rt.alloc(), &mut store, &script, &mut room);
     equal(
         "the run",
         (fault, store.locks(CHUNK), room),

@@ -105,7 +105,7 @@ pub(crate) fn check_image(
 }
 
 /// The same, of a listing in which this is changed.
-pub(crate) fn check_changed(
+fn check_changed(
     alloc: Global,
     listing: &str,
     changes: &str,
@@ -115,11 +115,22 @@ pub(crate) fn check_changed(
     check_image(alloc, changes, region.as_slice(), wanted)
 }
 
-/// Listings, what is changed in them, and what `check` comes to and prints.
-static CHECKS: [(&str, &str, (Status, &str)); 19] = [
+/// The same, of a listing in which one thing after another is changed: each change, and its fault.
+pub(crate) fn check_faults(
+    alloc: Global,
+    listing: &str,
+    faults: &[(&str, &str)],
+) -> Result<(), Fail> {
+    for (changes, fault) in faults {
+        check_changed(alloc, listing, changes, (Status::Refused, fault))?;
+    }
+    Ok(())
+}
+
+/// Listings, and what `check` comes to and prints.
+static CHECKS: [(&str, (Status, &str)); 7] = [
     (
         BLANK,
-        "",
         (
             Status::Done,
             "ok size 128 slots 4 movable 0 fixed 0 free 96\ndatabases 0\n",
@@ -127,7 +138,6 @@ static CHECKS: [(&str, &str, (Status, &str)); 19] = [
     ),
     (
         ONE_CHUNK,
-        "",
         (
             Status::Done,
             "ok size 128 slots 4 movable 1 fixed 0 free 72\ndatabases 0\n",
@@ -135,61 +145,52 @@ static CHECKS: [(&str, &str, (Status, &str)); 19] = [
     ),
     (
         DATABASE,
-        "",
         (
             Status::Done,
             "ok size 208 slots 8 movable 4 fixed 0 free 8\ndatabases 1\n",
         ),
     ),
-    ("", "", (Status::Refused, "bad TooShort\n")),
-    ("5048 49", "", (Status::Refused, "bad TooShort\n")),
+    ("", (Status::Refused, "bad TooShort\n")),
+    ("5048 49", (Status::Refused, "bad TooShort\n")),
     (
         "50484931 00000080 00*8",
-        "",
         (Status::Refused, "bad TooShort\n"),
     ),
-    // the blank image without its last byte, and with a chunk that reaches beyond its end
+    // the blank image without its last byte
     (
         "50484931 00000080 0004 0000 00000000 00*16 80000060 00*91",
-        "",
         (Status::Refused, "bad TooShort\n"),
     ),
-    (
-        BLANK,
-        "32: 80000068",
-        (Status::Refused, "bad BadChunk 32\n"),
-    ),
-    (DATABASE, "3: 33", (Status::Refused, "bad BadMagic\n")),
-    (DATABASE, "7: D8", (Status::Refused, "bad TooShort\n")),
-    (DATABASE, "7: C8", (Status::Refused, "bad BadSize\n")),
-    (DATABASE, "9: 00", (Status::Refused, "bad BadSlotCount\n")),
-    (DATABASE, "9: 09", (Status::Refused, "bad BadPadding\n")),
-    (DATABASE, "10: 01", (Status::Refused, "bad BadReserved\n")),
-    (DATABASE, "15: 18", (Status::Refused, "bad BadDirectory\n")),
-    (DATABASE, "172: FF", (Status::Refused, "bad BadChunk 168\n")),
-    (
-        DATABASE,
-        "175: BA",
-        (Status::Refused, "bad SlotMismatch 24\n"),
-    ),
-    (
-        DATABASE,
-        "31: 00",
-        (Status::Refused, "bad ChunkWithoutSlot 184\n"),
-    ),
-    (
-        DATABASE,
-        "27: 00, 172: FF000000",
-        (Status::Refused, "bad BadFixedOwner 168\n"),
-    ),
+];
+
+/// What is changed in an image with a database, and what `check` says of it.
+static FAULTS: [(&str, &str); 11] = [
+    ("3: 33", "bad BadMagic\n"),
+    ("7: D8", "bad TooShort\n"),
+    ("7: C8", "bad BadSize\n"),
+    ("9: 00", "bad BadSlotCount\n"),
+    ("9: 09", "bad BadPadding\n"),
+    ("10: 01", "bad BadReserved\n"),
+    ("15: 18", "bad BadDirectory\n"),
+    ("172: FF", "bad BadChunk 168\n"),
+    ("175: BA", "bad SlotMismatch 24\n"),
+    ("31: 00", "bad ChunkWithoutSlot 184\n"),
+    ("27: 00, 172: FF000000", "bad BadFixedOwner 168\n"),
 ];
 
 #[test]
 fn check_says_what_is_there(rt: HostRuntime) -> Result<(), Fail> {
-    for (listing, changes, wanted) in &CHECKS {
-        check_changed(rt.alloc(), listing, changes, *wanted)?;
+    for (listing, wanted) in &CHECKS {
+        check_changed(rt.alloc(), listing, "", *wanted)?;
     }
     Ok(())
+}
+
+#[test]
+fn check_names_what_is_wrong(rt: HostRuntime) -> Result<(), Fail> {
+    let too_long = ("32: 80000068", "bad BadChunk 32\n");
+    check_faults(rt.alloc(), BLANK, &[too_long])?;
+    check_faults(rt.alloc(), DATABASE, &FAULTS)
 }
 
 /// After how many bytes a writer takes no more, and how it says so.

@@ -2,7 +2,7 @@
 //! them.
 
 use crate::calls::{check_calls, creation, listed_store};
-use crate::commands::{check_changed, check_on};
+use crate::commands::{check_faults, check_on};
 use crate::runs::{check_runs, run_on};
 use heap_model::{Call, DatabaseCall, Db, DbName};
 use program_io::Status;
@@ -15,32 +15,33 @@ use test_images::{BLANK, DATABASE, TWO_DATABASES, WIDE, bytes_of};
 const TWO_ROOMS: &str = "50484931 00000090 0004 0000 00000000 00000080 00*12 80000058 00*84 \
     00000008 11FFFFCC 80000010 00*12";
 
-/// What is changed in an image, and what `check` says of it.
-static FAULTS: [(&str, &str, &str); 15] = [
-    (DATABASE, "59: 10", "bad BadDirectorySlot 0\n"),
-    (DATABASE, "149: 03", "bad BadHeader 0\n"),
-    (DATABASE, "147: 01", "bad BadHeader 0\n"),
-    (DATABASE, "127: 14", "bad BadHeader 0\n"),
-    (DATABASE, "158: 00000014", "bad BadEntry 0 1\n"),
-    (DATABASE, "158: 00000000", "bad BadEntry 0 1\n"),
-    (DATABASE, "158: 00000018", "bad SharedChunk 24\n"),
-    (DATABASE, "158: 0000000080", "bad StrayChunk 28\n"),
-    (DATABASE, "15: 00", "bad StrayChunk 16\n"),
-    (DATABASE, "163: 000001", "bad BadId 0 1\n"),
-    (DATABASE, "163: 000000", "bad BadId 0 1\n"),
-    (DATABASE, "72: 00", "bad BadName 0\n"),
-    // in the second of two databases
-    (TWO_DATABASES, "251: 000000", "bad BadId 1 0\n"),
-    (TWO_DATABASES, "168: 00", "bad BadName 1\n"),
-    (TWO_DATABASES, "168: 41", "bad SameName 1\n"),
+/// What is changed in an image with a database, and what `check` says of it.
+static FAULTS: [(&str, &str); 12] = [
+    ("59: 10", "bad BadDirectorySlot 0\n"),
+    ("149: 03", "bad BadHeader 0\n"),
+    ("147: 01", "bad BadHeader 0\n"),
+    ("127: 14", "bad BadHeader 0\n"),
+    ("158: 00000014", "bad BadEntry 0 1\n"),
+    ("158: 00000000", "bad BadEntry 0 1\n"),
+    ("158: 00000018", "bad SharedChunk 24\n"),
+    ("158: 0000000080", "bad StrayChunk 28\n"),
+    ("15: 00", "bad StrayChunk 16\n"),
+    ("163: 000001", "bad BadId 0 1\n"),
+    ("163: 000000", "bad BadId 0 1\n"),
+    ("72: 00", "bad BadName 0\n"),
+];
+
+/// The same, in the second of two databases.
+static IN_THE_SECOND: [(&str, &str); 3] = [
+    ("251: 000000", "bad BadId 1 0\n"),
+    ("168: 00", "bad BadName 1\n"),
+    ("168: 41", "bad SameName 1\n"),
 ];
 
 #[test]
 fn check_names_what_is_wrong_with_databases(rt: HostRuntime) -> Result<(), Fail> {
-    for (listing, changes, fault) in &FAULTS {
-        check_changed(rt.alloc(), listing, changes, (Status::Refused, fault))?;
-    }
-    Ok(())
+    check_faults(rt.alloc(), DATABASE, &FAULTS)?;
+    check_faults(rt.alloc(), TWO_DATABASES, &IN_THE_SECOND)
 }
 
 #[test]
@@ -182,17 +183,22 @@ const CALLS: [Call; 5] = [
     Call::Database(DatabaseCall::Delete(NOTES)),
 ];
 
-fn search(name: &[u8]) -> Call {
-    Call::Database(DatabaseCall::Find(DbName::of(name)))
+fn search(name: &str) -> Call {
+    Call::Database(DatabaseCall::Find(DbName::of(name.as_bytes())))
 }
 
 /// The calls in their order, and what each is answered.
 #[test]
 fn calls_on_databases_are_answered(rt: HostRuntime) -> Result<(), Fail> {
     let mut store = listed_store(rt.alloc(), WIDE)?;
-    let front = [creation(b"Notes", false), search(b"Notes")];
-    let behind = [search(b"Notes")];
-    let said = "database 16; database 16; database 16; 1; 0 of 5; refused 10; done; refused 10; ";
+    let front = [creation("Notes", false), search("Notes")];
+    let behind = [search("Notes")];
+    let said =
+        "Database(Db(16)); Database(Db(16)); Database(Db(16)); Number(1); Info(DbInfo { name: DbName { \
+        bytes: [78, 111, 116, 101, 115, 0, 0, 0, 0, 0, 0, 0, 0, 0, 0, 0, 0, 0, 0, 0, 0, 0, 0, 0, 0, 0, 0, 0, 0, 0, 0, \
+        0], length: 5 }, attributes: 0, version: 0, creation_date: 3, modification_date: 3, backup_date: 0, \
+        modification_number: 0, kind: 1, creator: 2, seed: 0, entry_count: 0 }); Refused(NoSuchDatabase); Done; \
+        Refused(NoSuchDatabase); ";
     check_calls(rt.alloc(), &mut store, &[&front, &CALLS, &behind], said)?;
     equal("databases", store.summary().databases, 0)
 }

@@ -5,6 +5,7 @@ use program_io::{Noted, OutputFile, Status, say};
 use std::alloc::AllocError;
 use std::io::Write;
 use std::os::unix::fs::symlink;
+use std::rt::Files;
 use std::test::Fail;
 use std::{fs, io};
 use test_fakes::{equal, holds};
@@ -17,7 +18,7 @@ fn path_of(rt: &HostRuntime, name: &str) -> Result<String, Fail> {
 }
 
 /// Writes a text through an output file, and answers whether that got through.
-fn replace(rt: &HostRuntime, path: &str, text: &str) -> Result<bool, Fail> {
+fn replace<R: Files + AllocGlobal>(rt: &R, path: &str, text: &str) -> Result<bool, Fail> {
     let mut file = Counted::new(OutputFile::new(rt, path)?);
     let written = put(&mut file, text.as_bytes());
     file.into_inner().close();
@@ -25,42 +26,46 @@ fn replace(rt: &HostRuntime, path: &str, text: &str) -> Result<bool, Fail> {
 }
 
 /// A file has just this text.
-fn check_text(rt: &HostRuntime, path: &str, text: &str) -> Result<(), Fail> {
+fn check_text<R: Files + AllocGlobal>(rt: &R, path: &str, text: &str) -> Result<(), Fail> {
     let bytes = fs::read(rt, path)?;
     holds(text, bytes.as_slice() == text.as_bytes())
 }
 
 /// A text takes the place of a file.
-fn check_taken(rt: &HostRuntime, path: &str, text: &str) -> Result<(), Fail> {
+fn check_taken<R: Files + AllocGlobal>(rt: &R, path: &str, text: &str) -> Result<(), Fail> {
     let is_written = replace(rt, path, text)?;
     holds(text, is_written)?;
     check_text(rt, path, text)
 }
 
 /// The path of what is written beside a file.
-fn beside(rt: &HostRuntime, path: &str) -> Result<String, AllocError> {
+fn beside<R: Files + AllocGlobal>(rt: &R, path: &str) -> Result<String, AllocError> {
     format!(in rt.alloc(); "{path}.palmheap-new")
 }
 
 /// Whether something is there, and something beside it.
-fn found(rt: &HostRuntime, path: &str) -> Option<(bool, bool)> {
+fn found<R: Files + AllocGlobal>(rt: &R, path: &str) -> Option<(bool, bool)> {
     let beside = beside(rt, path).ok()?;
     let is_there = fs::exists(rt, path).ok()?;
     Some((is_there, fs::exists(rt, beside.as_str()).ok()?))
 }
 
-fn check_found(rt: &HostRuntime, path: &str, wanted: (bool, bool)) -> Result<(), Fail> {
+fn check_found<R: Files + AllocGlobal>(
+    rt: &R,
+    path: &str,
+    wanted: (bool, bool),
+) -> Result<(), Fail> {
     equal("what is there", found(rt, path), Some(wanted))
 }
 
 /// Makes a file like one that a killed run leaves.
-fn leave_beside(rt: &HostRuntime, path: &str) -> Result<(), Fail> {
+fn leave_beside<R: Files + AllocGlobal>(rt: &R, path: &str) -> Result<(), Fail> {
     let beside = beside(rt, path)?;
     Ok(fs::write(rt, beside.as_str(), "what another run left behind")?)
 }
 
 /// A file gets one text and then another in its place, also where another run left a file beside it.
-fn check_replaced(rt: &HostRuntime, path: &str) -> Result<(), Fail> {
+fn check_replaced<R: Files + AllocGlobal>(rt: &R, path: &str) -> Result<(), Fail> {
     check_taken(rt, path, "the first")?;
     leave_beside(rt, path)?;
     check_taken(rt, path, "new")?;
@@ -78,7 +83,7 @@ fn a_file_is_replaced_as_a_whole(rt: HostRuntime) -> Result<(), Fail> {
 type BrokenOff = (Option<(bool, bool)>, Option<io::ErrorKind>);
 
 /// Writes a text and doesn't flush.
-fn break_off(rt: &HostRuntime, path: &str) -> Result<BrokenOff, AllocError> {
+fn break_off<R: Files + AllocGlobal>(rt: &R, path: &str) -> Result<BrokenOff, AllocError> {
     let mut file = OutputFile::new(rt, path)?;
     let written = file.write_all(b"new");
     let meanwhile = found(rt, path);
@@ -86,13 +91,17 @@ fn break_off(rt: &HostRuntime, path: &str) -> Result<BrokenOff, AllocError> {
     Ok((meanwhile, written.err().map(|error| error.kind())))
 }
 
-fn check_broken_off(rt: &HostRuntime, path: &str, wanted: BrokenOff) -> Result<(), Fail> {
+fn check_broken_off<R: Files + AllocGlobal>(
+    rt: &R,
+    path: &str,
+    wanted: BrokenOff,
+) -> Result<(), Fail> {
     let broken_off = break_off(rt, path)?;
     equal("a text that isn't flushed", broken_off, wanted)
 }
 
 /// A file stays as it was, and none beside it, where the writing breaks off.
-fn check_stays(rt: &HostRuntime, path: &str) -> Result<(), Fail> {
+fn check_stays<R: Files + AllocGlobal>(rt: &R, path: &str) -> Result<(), Fail> {
     fs::write(rt, path, "old")?;
     check_broken_off(rt, path, (Some((true, true)), None))?;
     check_found(rt, path, (true, false))?;
@@ -106,7 +115,7 @@ fn a_file_stays_where_the_writing_breaks_off(rt: HostRuntime) -> Result<(), Fail
     check_stays(&rt, path.as_str())
 }
 
-fn check_none(rt: &HostRuntime, path: &str) -> Result<(), Fail> {
+fn check_none<R: Files + AllocGlobal>(rt: &R, path: &str) -> Result<(), Fail> {
     check_broken_off(rt, path, (Some((false, true)), None))?;
     check_found(rt, path, (false, false))
 }
@@ -118,7 +127,7 @@ fn where_no_file_was_a_writing_that_breaks_off_leaves_none(rt: HostRuntime) -> R
 }
 
 /// A link stays one, and the file that it leads to is replaced.
-fn check_followed(rt: &HostRuntime, path: &str, link: &str) -> Result<(), Fail> {
+fn check_followed<R: Files + AllocGlobal>(rt: &R, path: &str, link: &str) -> Result<(), Fail> {
     fs::write(rt, path, "old")?;
     symlink(rt, path, link)?;
     check_taken(rt, link, "new")?;
@@ -136,7 +145,7 @@ fn a_link_is_followed(rt: HostRuntime) -> Result<(), Fail> {
 }
 
 /// Makes a file that is read-only, or writable.
-fn make(rt: &HostRuntime, path: &str, is_read_only: bool) -> Result<(), Fail> {
+fn make<R: Files + AllocGlobal>(rt: &R, path: &str, is_read_only: bool) -> Result<(), Fail> {
     fs::write(rt, path, "old")?;
     let mut permissions = fs::metadata(rt, path)?.permissions();
     permissions.set_readonly(is_read_only);
@@ -144,7 +153,7 @@ fn make(rt: &HostRuntime, path: &str, is_read_only: bool) -> Result<(), Fail> {
 }
 
 /// A file that is replaced stays read-only, or writable.
-fn check_kept(rt: &HostRuntime, path: &str, is_read_only: bool) -> Result<(), Fail> {
+fn check_kept<R: Files + AllocGlobal>(rt: &R, path: &str, is_read_only: bool) -> Result<(), Fail> {
     make(rt, path, is_read_only)?;
     check_taken(rt, path, "new")?;
     let kept = fs::metadata(rt, path)?.permissions();
@@ -161,7 +170,11 @@ fn permissions_are_kept(rt: HostRuntime) -> Result<(), Fail> {
 
 /// A path takes no bytes for this reason, and nothing is made beside it. They aren't flushed, so that they take
 /// no place.
-fn check_refused(rt: &HostRuntime, path: &str, kind: io::ErrorKind) -> Result<(), Fail> {
+fn check_refused<R: Files + AllocGlobal>(
+    rt: &R,
+    path: &str,
+    kind: io::ErrorKind,
+) -> Result<(), Fail> {
     check_broken_off(rt, path, (Some((true, false)), Some(kind)))
 }
 
@@ -173,17 +186,23 @@ fn what_is_no_file_is_not_replaced(rt: HostRuntime) -> Result<(), Fail> {
     check_refused(&rt, folder.as_str(), io::ErrorKind::IsADirectory)
 }
 
-/// What a text comes to on a file, and the reason.
-fn say_to(file: OutputFile<HostRuntime>) -> (Status, Option<io::Error>) {
-    let mut file = Counted::new(Noted::new(file));
+/// What a text comes to on a file.
+fn said<W: Write>(file: W) -> (Status, W) {
+    let mut file = Counted::new(file);
     let status = say(b"new", Status::Done, &mut file);
-    let (file, reason) = file.into_inner().into_parts();
+    (status, file.into_inner())
+}
+
+/// The same, and the reason.
+fn say_to<R: Files + AllocGlobal>(file: OutputFile<R>) -> (Status, Option<io::Error>) {
+    let (status, noted) = said(Noted::new(file));
+    let (file, reason) = noted.into_parts();
     file.close();
     (status, reason)
 }
 
 /// A text whose file is to take the place of a folder is a write fault.
-fn check_over_folder(rt: &HostRuntime, path: &str) -> Result<(), Fail> {
+fn check_over_folder<R: Files + AllocGlobal>(rt: &R, path: &str) -> Result<(), Fail> {
     let file = OutputFile::new(rt, path)?;
     let made = fs::create_dir(rt, path);
     let (status, reason) = say_to(file);
@@ -194,7 +213,7 @@ fn check_over_folder(rt: &HostRuntime, path: &str) -> Result<(), Fail> {
 }
 
 /// It leaves the folder and nothing beside it.
-fn check_folder(rt: &HostRuntime, path: &str) -> Result<(), Fail> {
+fn check_folder<R: Files + AllocGlobal>(rt: &R, path: &str) -> Result<(), Fail> {
     check_over_folder(rt, path)?;
     check_found(rt, path, (true, false))?;
     Ok(fs::remove_dir(rt, path)?)
@@ -213,10 +232,10 @@ fn put_in_place<W: Write>(file: &mut W) -> io::Result<()> {
 }
 
 /// How many bytes a file takes behind that, and what is there then; and it is flushed again.
-fn write_behind(
-    rt: &HostRuntime,
+fn write_behind<R: Files + AllocGlobal>(
+    rt: &R,
     path: &str,
-    file: &mut OutputFile<HostRuntime>,
+    file: &mut OutputFile<R>,
 ) -> io::Result<(usize, Option<(bool, bool)>)> {
     put_in_place(file)?;
     let behind = file.write(b"more")?;
@@ -226,7 +245,7 @@ fn write_behind(
 }
 
 /// A file takes none, and has what was written before.
-fn check_closed(rt: &HostRuntime, path: &str) -> Result<(), Fail> {
+fn check_closed<R: Files + AllocGlobal>(rt: &R, path: &str) -> Result<(), Fail> {
     let mut file = OutputFile::new(rt, path)?;
     let written = write_behind(rt, path, &mut file);
     file.close();

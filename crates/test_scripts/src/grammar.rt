@@ -2,11 +2,46 @@
 //! word numbers, and the order of faults; and memory that is refused. The expected values are those of
 //! the format's own words.
 
-use crate::shown::shown;
-use script_lines::{LineFault, Script, ScriptFault, parse, parse_from};
-use std::alloc::Global;
+use script_lines::{Line, LineFault, Script, ScriptFault, parse, parse_from};
+use std::alloc::{AllocError, Global};
+use std::fmt::Debug;
 use std::test::*;
 use test_fakes::{RefusesOne, equal};
+
+fn put<T: Debug>(text: &mut String, word: &str, line: &T) -> Result<(), AllocError> {
+    write!(text, "{word}{line:?};")
+}
+
+/// A line as its call, in a pair behind the label that it binds. A call whose answer isn't printed stands
+/// behind `silent`.
+fn put_line(text: &mut String, line: &Line) -> Result<(), AllocError> {
+    match line {
+        Line::Bind { label, name } => put(text, "", &(label, name)),
+        Line::Print(call) => put(text, "", call),
+        Line::Silent(call) => put(text, "silent ", call),
+        Line::BindChunk(label, call) => put(text, "", &(label, call)),
+        Line::BindDatabase(label, call) => put(text, "", &(label, call)),
+        Line::Import { label, file } => put(text, "import ", &(label, file)),
+        Line::Export(db) => put(text, "export ", db),
+    }
+}
+
+fn put_lines(text: &mut String, script: &Script) -> Result<(), AllocError> {
+    for line in script.lines() {
+        put_line(text, line)?;
+    }
+    Ok(())
+}
+
+/// What a script reads as: its lines, `;` behind each, or its fault.
+fn shown(alloc: Global, script: &[u8]) -> Result<String, AllocError> {
+    let mut text = String::new(alloc);
+    match parse(alloc, script) {
+        Ok(script) => put_lines(&mut text, &script)?,
+        Err(fault) => write!(text, "{fault}")?,
+    }
+    Ok(text)
+}
 
 /// A script reads as this.
 fn check_case(alloc: Global, script: &[u8], wanted: &str) -> Result<(), Fail> {
@@ -50,25 +85,25 @@ fn scripts_that_are_no_text_are_read(rt: HostRuntime) -> Result<(), Fail> {
 /// Lines, and behind ` => ` what each reads as, as a script of its own.
 static LINES: [&str; 35] = [
     // commands
-    "bind a 16 => bind 0 16;
-    new a 8 1 => new 0 8 1;
-    ptrnew a 8 1 => ptrnew 0 8 1;
-    free a => free 0;
-    resize a 4294967295 => resize 0 4294967295;
-    setowner a 14 => setowner 0 14;
-    lock a => lock 0;
-    unlock a => unlock 0;
-    size a => size 0;
-    owner a => owner 0;
-    locks a => locks 0;
-    read a 1 2 => read 0 1 2;
-    write a 9 4142 => write 0 9 /4142;
-    set a 1 2 3 => set 0 1 2 3;
-    strcopy a 8 \"x\" => strcopy 0 8 /78;
-    freeowner 3 => freeowner 3;
-    freebytes => freebytes;
-    largest => largest;
-    compact => compact;",
+    "bind a 16 => (ChunkLabel(0), 16);
+    new a 8 1 => (ChunkLabel(0), Memory(HandleNew { size: 8, owner: 1 }));
+    ptrnew a 8 1 => (ChunkLabel(0), Memory(PtrNew { size: 8, owner: 1 }));
+    free a => Memory(Free(ChunkLabel(0)));
+    resize a 4294967295 => Memory(Resize { name: ChunkLabel(0), size: 4294967295 });
+    setowner a 14 => Memory(SetOwner { name: ChunkLabel(0), owner: 14 });
+    lock a => Memory(Lock(ChunkLabel(0)));
+    unlock a => Memory(Unlock(ChunkLabel(0)));
+    size a => Memory(Size(ChunkLabel(0)));
+    owner a => Memory(Owner(ChunkLabel(0)));
+    locks a => Memory(Locks(ChunkLabel(0)));
+    read a 1 2 => Memory(Read { name: ChunkLabel(0), at: 1, count: 2 });
+    write a 9 4142 => Memory(Write { name: ChunkLabel(0), at: 9, bytes: Bytes { bytes: [65, 66] } });
+    set a 1 2 3 => Memory(Set { name: ChunkLabel(0), at: 1, count: 2, byte: 3 });
+    strcopy a 8 \"x\" => Memory(StrCopy { name: ChunkLabel(0), at: 8, text: Bytes { bytes: [120] } });
+    freeowner 3 => Memory(FreeByOwner(3));
+    freebytes => Memory(FreeBytes);
+    largest => Memory(LargestStretch);
+    compact => silent Memory(Compact);",
     // no commands: others of the managers, other cases, parts, quoted words
     "recover 40 => line 1 UnknownCommand
     New a 8 1 => line 1 UnknownCommand
@@ -79,21 +114,21 @@ static LINES: [&str; 35] = [
     frob \"a\" => line 1 UnknownCommand
     \"#\" => line 1 UnknownCommand",
     // numbers
-    "freeowner 0 => freeowner 0;
-    freeowner 255 => freeowner 255;
+    "freeowner 0 => Memory(FreeByOwner(0));
+    freeowner 255 => Memory(FreeByOwner(255));
     freeowner 256 => line 1 BadWord 2
-    freeowner 0xff => freeowner 255;
-    freeowner 0x000000Ff => freeowner 255;
+    freeowner 0xff => Memory(FreeByOwner(255));
+    freeowner 0x000000Ff => Memory(FreeByOwner(255));
     freeowner 0x100 => line 1 BadWord 2
-    freeowner 0000000255 => freeowner 255;
+    freeowner 0000000255 => Memory(FreeByOwner(255));
     freeowner 00000000255 => line 1 BadWord 2
-    bind a 4294967295 => bind 0 4294967295;
+    bind a 4294967295 => (ChunkLabel(0), 4294967295);
     bind a 4294967296 => line 1 BadWord 3
     bind a 9999999999 => line 1 BadWord 3
     bind a 04294967295 => line 1 BadWord 3
-    bind a 0xFFFFFFFF => bind 0 4294967295;
-    bind a 0xfffffff0 => bind 0 4294967280;
-    bind a 0x0 => bind 0 0;
+    bind a 0xFFFFFFFF => (ChunkLabel(0), 4294967295);
+    bind a 0xfffffff0 => (ChunkLabel(0), 4294967280);
+    bind a 0x0 => (ChunkLabel(0), 0);
     bind a 0x => line 1 BadWord 3
     bind a 0x000000001 => line 1 BadWord 3
     bind a 0X1 => line 1 BadWord 3
@@ -107,15 +142,15 @@ static LINES: [&str; 35] = [
     bind a \"1\" => line 1 BadWord 3
     bind a 1/ => line 1 BadWord 3
     bind a 1: => line 1 BadWord 3
-    bind a 0000000001 => bind 0 1;
+    bind a 0000000001 => (ChunkLabel(0), 1);
     bind a 00000000001 => line 1 BadWord 3
-    bind a 0xfFfFfFfF => bind 0 4294967295;
+    bind a 0xfFfFfFfF => (ChunkLabel(0), 4294967295);
     read a 0 0x1G => line 1 BadWord 4",
     // labels
-    "free Z => free 0;
-    free z_9A => free 0;
-    free a_1 => free 0;
-    free abcdefghijabcdefghijabcdefghijk => free 0;
+    "free Z => Memory(Free(ChunkLabel(0)));
+    free z_9A => Memory(Free(ChunkLabel(0)));
+    free a_1 => Memory(Free(ChunkLabel(0)));
+    free abcdefghijabcdefghijabcdefghijk => Memory(Free(ChunkLabel(0)));
     free abcdefghijabcdefghijabcdefghijkl => line 1 BadWord 2
     free 1a => line 1 BadWord 2
     free _a => line 1 BadWord 2
@@ -125,10 +160,10 @@ static LINES: [&str; 35] = [
     free ` => line 1 BadWord 2
     free { => line 1 BadWord 2
     free \"a\" => line 1 BadWord 2
-    free new => free 0;",
+    free new => Memory(Free(ChunkLabel(0)));",
     // bytes, and texts
-    "write a 0 - => write 0 0 /;
-    write a 0 00fFa9 => write 0 0 /00ffa9;
+    "write a 0 - => Memory(Write { name: ChunkLabel(0), at: 0, bytes: Bytes { bytes: [] } });
+    write a 0 00fFa9 => Memory(Write { name: ChunkLabel(0), at: 0, bytes: Bytes { bytes: [0, 255, 169] } });
     write a 0 4 => line 1 BadWord 4
     write a 0 414 => line 1 BadWord 4
     write a 0 4g => line 1 BadWord 4
@@ -138,11 +173,11 @@ static LINES: [&str; 35] = [
     write a 0 0x41 => line 1 BadWord 4
     write a 0 x:41 => line 1 BadWord 4
     write a 0 \"41\" => line 1 BadWord 4
-    strcopy a 0 \"\" => strcopy 0 0 /;
-    strcopy a 0 \" ~\" => strcopy 0 0 /207e;
-    strcopy a 0 \"#\" => strcopy 0 0 /23;
-    strcopy a 0 x: => strcopy 0 0 /;
-    strcopy a 0 x:7E22 => strcopy 0 0 /7e22;
+    strcopy a 0 \"\" => Memory(StrCopy { name: ChunkLabel(0), at: 0, text: Bytes { bytes: [] } });
+    strcopy a 0 \" ~\" => Memory(StrCopy { name: ChunkLabel(0), at: 0, text: Bytes { bytes: [32, 126] } });
+    strcopy a 0 \"#\" => Memory(StrCopy { name: ChunkLabel(0), at: 0, text: Bytes { bytes: [35] } });
+    strcopy a 0 x: => Memory(StrCopy { name: ChunkLabel(0), at: 0, text: Bytes { bytes: [] } });
+    strcopy a 0 x:7E22 => Memory(StrCopy { name: ChunkLabel(0), at: 0, text: Bytes { bytes: [126, 34] } });
     strcopy a 0 x:7 => line 1 BadWord 4
     strcopy a 0 x:7e2 => line 1 BadWord 4
     strcopy a 0 x:7g => line 1 BadWord 4
@@ -152,18 +187,18 @@ static LINES: [&str; 35] = [
     strcopy a 0 7e => line 1 BadWord 4
     strcopy a 0 a\"b\" => line 1 BadWord 4",
     // records
-    "recnew d 1 2 h => recnew 0 1 2 0;
-    recdelete d 4294967295 => recdelete 0 4294967295;
-    recarchive d 0 => recarchive 0 0;
-    recremove d 0xff => recremove 0 255;
-    recmove d 1 2 => recmove 0 1 2;
-    recget d 3 h => recget 0 3 0;
-    recquery d 3 h => recquery 0 3 0;
-    recrelease d 3 0 => recrelease 0 3 false;
-    recrelease d 3 1 => recrelease 0 3 true;
-    recinfo d 3 => recinfo 0 3;
-    recresize d 1 2 => recresize 0 1 2;
-    reccount d => reccount 0;",
+    "recnew d 1 2 h => (ChunkLabel(0), Record(New { db: DatabaseLabel(0), at: 1, size: 2 }));
+    recdelete d 4294967295 => Record(Delete(DatabaseLabel(0), 4294967295));
+    recarchive d 0 => Record(Archive(DatabaseLabel(0), 0));
+    recremove d 0xff => Record(Remove(DatabaseLabel(0), 255));
+    recmove d 1 2 => Record(Move { db: DatabaseLabel(0), from: 1, to: 2 });
+    recget d 3 h => (ChunkLabel(0), Record(Get(DatabaseLabel(0), 3)));
+    recquery d 3 h => (ChunkLabel(0), Record(Query(DatabaseLabel(0), 3)));
+    recrelease d 3 0 => Record(Release { db: DatabaseLabel(0), index: 3, dirty: false });
+    recrelease d 3 1 => Record(Release { db: DatabaseLabel(0), index: 3, dirty: true });
+    recinfo d 3 => Record(Info(DatabaseLabel(0), 3));
+    recresize d 1 2 => Record(Resize { db: DatabaseLabel(0), index: 1, size: 2 });
+    reccount d => Record(Count(DatabaseLabel(0)));",
     // too few words, and too many
     "recnew d 1 2 => line 1 WrongCount
     recnew d 1 2 h 0 => line 1 WrongCount
@@ -190,15 +225,15 @@ static LINES: [&str; 35] = [
     reccount 1d => line 1 BadWord 2
     recfree d 0 => line 1 UnknownCommand",
     // categories
-    "recdetach d 1 2 h => recdetach 0 1 2 0;
-    recset d 1 0xF3 4294967295 => recset 0 1 243 4294967295;
-    recfind d 9 => recfind 0 9;
-    catcount d 255 => catcount 0 255;
-    catnext d 4294967295 3 => catnext 0 4294967295 3;
-    catpos d 4 16 => catpos 0 4 16;
-    catmove d 5 3 0 => catmove 0 5 3 false;
-    catmove d 5 3 1 => catmove 0 5 3 true;
-    catdelete d 0x0f => catdelete 0 15;",
+    "recdetach d 1 2 h => (ChunkLabel(0), Record(Detach { db: DatabaseLabel(0), index: 1, owner: 2 }));
+    recset d 1 0xF3 4294967295 => Record(SetInfo { db: DatabaseLabel(0), index: 1, attributes: 243, id: 4294967295 });
+    recfind d 9 => Record(FindById(DatabaseLabel(0), 9));
+    catcount d 255 => Record(CountInCategory(DatabaseLabel(0), 255));
+    catnext d 4294967295 3 => Record(NextInCategory { db: DatabaseLabel(0), from: 4294967295, category: 3 });
+    catpos d 4 16 => Record(PositionInCategory { db: DatabaseLabel(0), index: 4, category: 16 });
+    catmove d 5 3 0 => Record(MoveCategory { db: DatabaseLabel(0), to: 5, from: 3, dirty: false });
+    catmove d 5 3 1 => Record(MoveCategory { db: DatabaseLabel(0), to: 5, from: 3, dirty: true });
+    catdelete d 0x0f => Record(DeleteCategory(DatabaseLabel(0), 15));",
     // too few words, and too many
     "recdetach d 1 2 => line 1 WrongCount
     recdetach d 1 2 h 0 => line 1 WrongCount
@@ -230,16 +265,18 @@ static LINES: [&str; 35] = [
     catdelete d - => line 1 BadWord 3
     catset d 0 0 => line 1 UnknownCommand",
     // resources
-    "resnew d \"code\" 65535 4294967295 h => resnew 0 636f6465 65535 4294967295 0;
-    resattach d x:00fF1022 0xffff h => resattach 0 00ff1022 65535 0;
-    resdetach d 1 14 h => resdetach 0 1 14 0;
-    resremove d 4294967295 => resremove 0 4294967295;
-    resresize d 1 2 => resresize 0 1 2;
-    resinfo d 1 h => resinfo 0 1 0;
-    resset d 1 \"a ~b\" 0 => resset 0 1 61207e62 0;
-    resfind d \"code\" 2 => resfind 0 636f6465 2;
-    restype d \"code\" 4294967295 => restype 0 636f6465 4294967295;
-    rescount d => rescount 0;",
+    "resnew d \"code\" 65535 4294967295 h => (ChunkLabel(0), Resource(New { db: DatabaseLabel(0), kind: 1668244581, \
+        id: 65535, size: 4294967295 }));
+    resattach d x:00fF1022 0xffff h => Resource(Attach { db: DatabaseLabel(0), kind: 16715810, id: 65535, \
+        name: ChunkLabel(0) });
+    resdetach d 1 14 h => (ChunkLabel(0), Resource(Detach { db: DatabaseLabel(0), index: 1, owner: 14 }));
+    resremove d 4294967295 => Resource(Remove(DatabaseLabel(0), 4294967295));
+    resresize d 1 2 => Resource(Resize { db: DatabaseLabel(0), index: 1, size: 2 });
+    resinfo d 1 h => (ChunkLabel(0), Resource(Info(DatabaseLabel(0), 1)));
+    resset d 1 \"a ~b\" 0 => Resource(SetInfo { db: DatabaseLabel(0), index: 1, kind: 1629519458, id: 0 });
+    resfind d \"code\" 2 => Resource(Find { db: DatabaseLabel(0), kind: 1668244581, id: 2 });
+    restype d \"code\" 4294967295 => Resource(FindType { db: DatabaseLabel(0), kind: 1668244581, nth: 4294967295 });
+    rescount d => Resource(Count(DatabaseLabel(0)));",
     // too few words, and too many
     "resnew d \"code\" 0 1 => line 1 WrongCount
     resnew d \"code\" 0 1 h i => line 1 WrongCount
@@ -284,15 +321,17 @@ static LINES: [&str; 35] = [
     restype d \"code\" x => line 1 BadWord 4
     resmove d 0 1 => line 1 UnknownCommand",
     // chunks that are given
-    "recattach d 4294967295 h => recattach 0 4294967295 0;
-    recreplace d 1 h 14 o => recreplace 0 1 0 14 1;
-    recreplace d 1 h 0 h => recreplace 0 1 0 0 0;
-    infoset d app h => infoset 0 App 0;
-    infoset d sort h => infoset 0 Sort 0;
-    infotake d app 255 h => infotake 0 App 255 0;
-    infotake d sort 1 h => infotake 0 Sort 1 0;
-    info d app h => info 0 App 0;
-    info d sort h => info 0 Sort 0;",
+    "recattach d 4294967295 h => Record(Attach { db: DatabaseLabel(0), at: 4294967295, name: ChunkLabel(0) });
+    recreplace d 1 h 14 o => (ChunkLabel(1), Record(AttachReplacing { db: DatabaseLabel(0), index: 1, \
+        name: ChunkLabel(0), owner: 14 }));
+    recreplace d 1 h 0 h => (ChunkLabel(0), Record(AttachReplacing { db: DatabaseLabel(0), index: 1, \
+        name: ChunkLabel(0), owner: 0 }));
+    infoset d app h => Database(SetInfoBlock { db: DatabaseLabel(0), which: App, name: ChunkLabel(0) });
+    infoset d sort h => Database(SetInfoBlock { db: DatabaseLabel(0), which: Sort, name: ChunkLabel(0) });
+    infotake d app 255 h => (ChunkLabel(0), Database(TakeInfoBlock { db: DatabaseLabel(0), which: App, owner: 255 }));
+    infotake d sort 1 h => (ChunkLabel(0), Database(TakeInfoBlock { db: DatabaseLabel(0), which: Sort, owner: 1 }));
+    info d app h => (ChunkLabel(0), Database(InfoBlock(DatabaseLabel(0), App)));
+    info d sort h => (ChunkLabel(0), Database(InfoBlock(DatabaseLabel(0), Sort)));",
     // too few words, and too many
     "recattach d 0 => line 1 WrongCount
     recattach d 0 h o => line 1 WrongCount
@@ -324,16 +363,26 @@ static LINES: [&str; 35] = [
     info d app 0 => line 1 BadWord 4
     infofree d app => line 1 UnknownCommand",
     // databases
-    "create d \"No\" \"DATA\" \"Test\" 0 7 => create 0 /4e6f 44415441 54657374 false 7;
-    create d x: x:00fF1022 \"a ~b\" 1 0xffffffff => create 0 / 00ff1022 61207e62 true 4294967295;
-    find d \"Order\" => find 0 /4f72646572;",
+    "create d \"No\" \"DATA\" \"Test\" 0 7 => (DatabaseLabel(0), Database(Create { name: DbName { bytes: [78, 111, \
+        0, 0, 0, 0, 0, 0, 0, 0, 0, 0, 0, 0, 0, 0, 0, 0, 0, 0, 0, 0, 0, 0, 0, 0, 0, 0, 0, 0, 0, 0], length: 2 }, \
+        kind: 1145132097, creator: 1415934836, resources: false, date: 7 }));
+    create d x: x:00fF1022 \"a ~b\" 1 0xffffffff => (DatabaseLabel(0), Database(Create { name: DbName { bytes: [0, \
+        0, 0, 0, 0, 0, 0, 0, 0, 0, 0, 0, 0, 0, 0, 0, 0, 0, 0, 0, 0, 0, 0, 0, 0, 0, 0, 0, 0, 0, 0, 0], length: 0 }, \
+        kind: 16715810, creator: 1629519458, resources: true, date: 4294967295 }));
+    find d \"Order\" => (DatabaseLabel(0), Database(Find(DbName { bytes: [79, 114, 100, 101, 114, 0, 0, 0, 0, 0, 0, \
+        0, 0, 0, 0, 0, 0, 0, 0, 0, 0, 0, 0, 0, 0, 0, 0, 0, 0, 0, 0, 0], length: 5 })));",
     // of a name the first 32 bytes are kept, one more than a name may have
-    "find d \"abcdefghijabcdefghijabcdefghijabcdefghij\" => find 0 /6162636465666768696a6162636465666768696a6162636465666768696a6162;
-    nth d 4294967295 => nth 0 4294967295;
-    dbcount => dbcount;
-    dbdelete d => dbdelete 0;
-    dbinfo d => dbinfo 0;
-    dbset d \"N\" 0xFFFF 65535 1 2 3 \"DATA\" x:54657374 => dbset 0 /4e 65535 65535 1 2 3 44415441 54657374 (0 0 0);",
+    "find d \"abcdefghijabcdefghijabcdefghijabcdefghij\" => (DatabaseLabel(0), Database(Find(DbName { bytes: [97, \
+        98, 99, 100, 101, 102, 103, 104, 105, 106, 97, 98, 99, 100, 101, 102, 103, 104, 105, 106, 97, 98, 99, 100, \
+        101, 102, 103, 104, 105, 106, 97, 98], length: 32 })));
+    nth d 4294967295 => (DatabaseLabel(0), Database(Nth(4294967295)));
+    dbcount => Database(Count);
+    dbdelete d => Database(Delete(DatabaseLabel(0)));
+    dbinfo d => Database(Info(DatabaseLabel(0)));
+    dbset d \"N\" 0xFFFF 65535 1 2 3 \"DATA\" x:54657374 => Database(SetInfo(DatabaseLabel(0), DbInfo { \
+        name: DbName { bytes: [78, 0, 0, 0, 0, 0, 0, 0, 0, 0, 0, 0, 0, 0, 0, 0, 0, 0, 0, 0, 0, 0, 0, 0, 0, 0, 0, 0, \
+        0, 0, 0, 0], length: 1 }, attributes: 65535, version: 65535, creation_date: 1, modification_date: 2, \
+        backup_date: 3, modification_number: 0, kind: 1145132097, creator: 1415934836, seed: 0, entry_count: 0 }));",
     // texts
     "create d \"No => line 1 BadWord 3
     create d \"No\"x \"DATA\" \"Test\" 0 0 => line 1 BadWord 3
@@ -371,10 +420,10 @@ static LINES: [&str; 35] = [
     create d \"N\" \"DAT\" \"Test\" 0 => line 1 WrongCount
     dbDelete d => line 1 UnknownCommand",
     // files
-    "import d 1 => import 0 1;
-    import d 0 => import 0 0;
-    import d 0xFFFFFFFF => import 0 4294967295;
-    export d => export 0;",
+    "import d 1 => import (DatabaseLabel(0), 1);
+    import d 0 => import (DatabaseLabel(0), 0);
+    import d 0xFFFFFFFF => import (DatabaseLabel(0), 4294967295);
+    export d => export DatabaseLabel(0);",
     // too few words, and too many; words that aren't of their kinds, and commands of other cases
     "import d => line 1 WrongCount
     import d 1 2 => line 1 WrongCount
@@ -393,7 +442,7 @@ static LINES: [&str; 35] = [
     "free a # => line 1 WrongCount
     free # => line 1 BadWord 2",
     // quoted words: with blanks, closed, not closed, followed
-    "strcopy a 0 \"a b\" => strcopy 0 0 /612062;
+    "strcopy a 0 \"a b\" => Memory(StrCopy { name: ChunkLabel(0), at: 0, text: Bytes { bytes: [97, 32, 98] } });
     strcopy a 0 \"a => line 1 BadWord 4
     strcopy a 0 \" => line 1 BadWord 4
     strcopy a 0 \"a\"b => line 1 BadWord 4
@@ -433,16 +482,21 @@ static SCRIPTS: [(&str, &str); 45] = [
     // labels are numbered in the order in which they first appear, each case apart
     (
         "free b\nfree a\nfree b\nfree B\nfree a",
-        "free 0;free 1;free 0;free 2;free 1;",
+        "Memory(Free(ChunkLabel(0)));Memory(Free(ChunkLabel(1)));Memory(Free(ChunkLabel(0)));\
+            Memory(Free(ChunkLabel(2)));Memory(Free(ChunkLabel(1)));",
     ),
     (
         "free ab\nfree a\nfree abc\nfree ab",
-        "free 0;free 1;free 2;free 0;",
+        "Memory(Free(ChunkLabel(0)));Memory(Free(ChunkLabel(1)));Memory(Free(ChunkLabel(2)));\
+            Memory(Free(ChunkLabel(0)));",
     ),
-    ("# a\nfree b\n\nfree a", "free 0;free 1;"),
+    (
+        "# a\nfree b\n\nfree a",
+        "Memory(Free(ChunkLabel(0)));Memory(Free(ChunkLabel(1)));",
+    ),
     (
         "freebytes\nfreeowner 1\nfree x",
-        "freebytes;freeowner 1;free 0;",
+        "Memory(FreeBytes);Memory(FreeByOwner(1));Memory(Free(ChunkLabel(0)));",
     ),
     // texts have characters that can be printed
     ("strcopy a 0 \"a b\t\"", "line 1 BadWord 4"),
@@ -451,22 +505,31 @@ static SCRIPTS: [(&str, &str); 45] = [
     // the two tables of labels are apart
     (
         "new h 0 1\nrecget d 0 r\nrecquery e 0 d\nsize r\nreccount e",
-        "new 0 0 1;recget 0 0 1;recquery 1 0 2;size 1;reccount 1;",
+        "(ChunkLabel(0), Memory(HandleNew { size: 0, owner: 1 }));(ChunkLabel(1), Record(Get(DatabaseLabel(0), 0)));\
+            (ChunkLabel(2), Record(Query(DatabaseLabel(1), 0)));Memory(Size(ChunkLabel(1)));\
+            Record(Count(DatabaseLabel(1)));",
     ),
     // a label is bound to the data that is detached
     (
         "free a\nrecdetach d 0 1 h\nsize h\ncatcount e 0",
-        "free 0;recdetach 0 0 1 1;size 1;catcount 1 0;",
+        "Memory(Free(ChunkLabel(0)));(ChunkLabel(1), Record(Detach { db: DatabaseLabel(0), index: 0, owner: 1 }));\
+            Memory(Size(ChunkLabel(1)));Record(CountInCategory(DatabaseLabel(1), 0));",
     ),
     // labels are bound to the data of what is made, asked for and detached
     (
         "free a\nresnew d \"code\" 0 1 h\nresinfo e 0 i\nresdetach d 0 1 j\nresattach d \"code\" 0 h",
-        "free 0;resnew 0 636f6465 0 1 1;resinfo 1 0 2;resdetach 0 0 1 3;resattach 0 636f6465 0 1;",
+        "Memory(Free(ChunkLabel(0)));(ChunkLabel(1), Resource(New { db: DatabaseLabel(0), kind: 1668244581, id: 0, \
+            size: 1 }));(ChunkLabel(2), Resource(Info(DatabaseLabel(1), 0)));\
+            (ChunkLabel(3), Resource(Detach { db: DatabaseLabel(0), index: 0, owner: 1 }));\
+            Resource(Attach { db: DatabaseLabel(0), kind: 1668244581, id: 0, name: ChunkLabel(1) });",
     ),
     // chunks and databases have labels of their own, and a label may be a word for an info block
     (
         "new a 0 1\ninfo app app app\nrecreplace a 0 a 1 b\nsize app\nsize b",
-        "new 0 0 1;info 0 App 1;recreplace 1 0 0 1 2;size 1;size 2;",
+        "(ChunkLabel(0), Memory(HandleNew { size: 0, owner: 1 }));\
+            (ChunkLabel(1), Database(InfoBlock(DatabaseLabel(0), App)));\
+            (ChunkLabel(2), Record(AttachReplacing { db: DatabaseLabel(1), index: 0, name: ChunkLabel(0), \
+            owner: 1 }));Memory(Size(ChunkLabel(1)));Memory(Size(ChunkLabel(2)));",
     ),
     // types and creators have four bytes
     (
@@ -476,20 +539,25 @@ static SCRIPTS: [(&str, &str); 45] = [
     // labels of chunks and of databases are apart
     (
         "free a\nnth d 0\nnth a 1\nfree d\nnth d 2\nfree a",
-        "free 0;nth 0 0;nth 1 1;free 1;nth 0 2;free 0;",
+        "Memory(Free(ChunkLabel(0)));(DatabaseLabel(0), Database(Nth(0)));(DatabaseLabel(1), Database(Nth(1)));\
+            Memory(Free(ChunkLabel(1)));(DatabaseLabel(0), Database(Nth(2)));Memory(Free(ChunkLabel(0)));",
     ),
     // labels of lines with files are those of databases
     (
         "nth a 0\nimport b 1\nexport a\nfree b",
-        "nth 0 0;import 1 1;export 0;free 0;",
+        "(DatabaseLabel(0), Database(Nth(0)));import (DatabaseLabel(1), 1);export DatabaseLabel(0);\
+            Memory(Free(ChunkLabel(0)));",
     ),
     // no lines, and lines that are passed over
     ("", ""),
     ("\n", ""),
     ("\n \t\n\t#\n#x\n  # \"\n#\"a\"b", ""),
     // a carriage return in front of a line feed is dropped, one of them, and no other
-    ("free a\r\nsize a\r\n", "free 0;size 0;"),
-    ("\r\nfree a\r\n", "free 0;"),
+    (
+        "free a\r\nsize a\r\n",
+        "Memory(Free(ChunkLabel(0)));Memory(Size(ChunkLabel(0)));",
+    ),
+    ("\r\nfree a\r\n", "Memory(Free(ChunkLabel(0)));"),
     ("free a\r\r\n", "line 1 BadWord 2"),
     ("free a\r", "line 1 BadWord 2"),
     ("\r", "line 1 UnknownCommand"),
@@ -509,15 +577,21 @@ static SCRIPTS: [(&str, &str); 45] = [
     ("frob\n\"", "line 1 UnknownCommand"),
     ("free a\n\n\n\n\n\n\n\n\nread a 0 x", "line 10 BadWord 4"),
     // blanks in front, between and behind
-    (" \tfree\t \ta \t", "free 0;"),
-    ("free a\n", "free 0;"),
-    ("free a\n\n", "free 0;"),
+    (" \tfree\t \ta \t", "Memory(Free(ChunkLabel(0)));"),
+    ("free a\n", "Memory(Free(ChunkLabel(0)));"),
+    ("free a\n\n", "Memory(Free(ChunkLabel(0)));"),
     // a vertical tab or a zero byte is no blank
     ("free\x0ba", "line 1 UnknownCommand"),
     ("free a\x00", "line 1 BadWord 2"),
     // quoted words: with blanks, closed, not closed, followed
-    ("strcopy a 0 \"a\"\t", "strcopy 0 0 /61;"),
-    ("strcopy a 0 \"a\"\r\n", "strcopy 0 0 /61;"),
+    (
+        "strcopy a 0 \"a\"\t",
+        "Memory(StrCopy { name: ChunkLabel(0), at: 0, text: Bytes { bytes: [97] } });",
+    ),
+    (
+        "strcopy a 0 \"a\"\r\n",
+        "Memory(StrCopy { name: ChunkLabel(0), at: 0, text: Bytes { bytes: [97] } });",
+    ),
     ("strcopy a 0 \"a\"\r", "line 1 BadWord 4"),
     ("strcopy a 0 \"a\nb\"", "line 1 BadWord 4"),
 ];
@@ -619,8 +693,8 @@ fn labels_and_exports_are_counted(rt: HostRuntime) -> Result<(), Fail> {
 
 /// A script that takes each kind of memory, with how many growths: 6 lines, 3 labels, 14 values, and
 /// bytes or text 4 times. A type takes none.
-const EACH_GROWTH: &[u8] =
-    b"new a 8 1\nwrite a 0 4142\nstrcopy a 0 \"x\"\nstrcopy b 0 x:79\nfreebytes\n\
+const EACH_GROWTH: &str =
+    "new a 8 1\nwrite a 0 4142\nstrcopy a 0 \"x\"\nstrcopy b 0 x:79\nfreebytes\n\
     create a \"N\" \"DATA\" x:54657374 0 0";
 
 const GROWTHS: u32 = 27;
@@ -632,7 +706,7 @@ const REFUSED: LineFault = LineFault {
 
 /// How many lines that script has, or its fault, where a growth behind so many is refused.
 fn check_without(alloc: Global, before: u32, wanted: Result<usize, LineFault>) -> Result<(), Fail> {
-    let lines = match parse_from(&RefusesOne::behind(alloc, before), EACH_GROWTH) {
+    let lines = match parse_from(&RefusesOne::behind(alloc, before), EACH_GROWTH.as_bytes()) {
         Ok(script) => Ok(script.lines().len()),
         Err(fault) => Err(fault),
     };

@@ -37,6 +37,4 @@ mod resources;
 #[cfg(test)]
 mod runs;
 #[cfg(test)]
-mod shown;
-#[cfg(test)]
 mod words;

@@ -330,8 +330,10 @@ const CALLS: [Call; 12] = [
 #[test]
 fn calls_on_resources_are_answered(rt: HostRuntime) -> Result<(), Fail> {
     let mut store = listed_store(rt.alloc(), WIDE)?;
-    let first = [creation(b"Prog", true)];
-    let said = "database 16; made 0, name 24; made 1, name 28; 2; 1; 1; done; 1, 9, name 24; done; \
-        name 24; 1; done; refused 14; ";
+    let first = [creation("Prog", true)];
+    let said =
+        "Database(Db(16)); Made { index: 0, name: Name(24) }; Made { index: 1, name: Name(28) }; Number(2); \
+        Number(1); Number(1); Done; Resource(ResourceInfo { kind: 1, id: 9, data: Name(24) }); Done; \
+        Named(Name(24)); Number(1); Done; Refused(IndexOutOfRange); ";
     check_calls(rt.alloc(), &mut store, &[&first, &CALLS], said)
 }

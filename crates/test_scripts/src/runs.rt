@@ -334,7 +334,7 @@ fn lines_end_by_two_characters_too(rt: HostRuntime) -> Result<(), Fail> {
 /// A script, and what it prints on a blank image.
 const SCRIPT: &str = "new a 10 1\nlock a\nwrite a 9 41\nwrite a 9 4142\nread a 0 10\n";
 
-const REPLIES: &[u8] = b"ok\nok 1\nok\nrefused 9 OutOfBounds\nok 00000000000000000041\n";
+const REPLIES: &str = "ok\nok 1\nok\nrefused 9 OutOfBounds\nok 00000000000000000041\n";
 
 /// Whether a run ended with a write fault behind this text and so many bytes of the image, and wrote
 /// nothing behind that.
@@ -365,7 +365,8 @@ fn check_stop(
 
 fn check_replies_cut(alloc: Global, way: WhenFull) -> Result<(), Fail> {
     for room in 0..REPLIES.len() {
-        check_stop(alloc, SCRIPT, (1000, room), way, (0, &REPLIES[..room]))?;
+        let replies = &REPLIES.as_bytes()[..room];
+        check_stop(alloc, SCRIPT, (1000, room), way, (0, replies))?;
     }
     Ok(())
 }
@@ -376,21 +377,20 @@ fn nothing_follows_a_reply_that_is_not_taken(rt: HostRuntime) -> Result<(), Fail
     check_replies_cut(rt.alloc(), WhenFull::Fails(ErrorKind::Interrupted))
 }
 
-/// Scripts, the room of the outputs for the image and for the text, and what of both is taken.
-static CUTS: [(&str, (usize, usize), (usize, &[u8])); 5] = [
-    (SCRIPT, (0, 1000), (0, REPLIES)),
-    (SCRIPT, (1, 1000), (1, REPLIES)),
-    (SCRIPT, (127, 1000), (127, REPLIES)),
-    ("", (0, 0), (0, b"")),
-    ("frob", (1000, 0), (0, b"")),
-];
-
 #[test]
 fn an_output_that_takes_0_bytes_is_a_write_fault(rt: HostRuntime) -> Result<(), Fail> {
-    for (script, room, wanted) in &CUTS {
-        check_stop(rt.alloc(), script, *room, WhenFull::TakesNothing, *wanted)?;
+    let (alloc, way) = (rt.alloc(), WhenFull::TakesNothing);
+    for room in &[0, 1, 127] {
+        check_stop(
+            alloc,
+            SCRIPT,
+            (*room, 1000),
+            way,
+            (*room, REPLIES.as_bytes()),
+        )?;
     }
-    Ok(())
+    check_stop(alloc, "", (0, 0), way, (0, &[]))?;
+    check_stop(alloc, "frob", (1000, 0), way, (0, &[]))
 }
 
 /// Nothing follows replies that go through a buffer to a writer with room for so many bytes.
@@ -401,7 +401,7 @@ fn check_behind_buffer(alloc: Global, capacity: usize, room: usize) -> Result<()
     let ran = run_to(alloc, &image, SCRIPT, &[], Vec::new(alloc), out);
     let is_fault = ran.status == Status::WriteFault && ran.image.is_empty();
     let (narrow, _) = ran.out.into_parts();
-    let is_cut = narrow.is_cut_at(room) && REPLIES.starts_with(&narrow.taken);
+    let is_cut = narrow.is_cut_at(room) && REPLIES.as_bytes().starts_with(&narrow.taken);
     holds(format_args!("{capacity} {room}"), is_fault && is_cut)
 }
 
@@ -438,5 +438,8 @@ fn an_image_that_is_not_flushed_is_a_fault(rt: HostRuntime) -> Result<(), Fail> 
     let image_out = Unflushed(Vec::new(alloc));
     let ran = run_to(alloc, &image, SCRIPT, &[], image_out, Vec::new(alloc));
     let is_fault = ran.status == Status::WriteFault && ran.image.0.len() == 128;
-    holds("the script", is_fault && ran.out.as_slice() == REPLIES)
+    holds(
+        "the script",
+        is_fault && ran.out.as_slice() == REPLIES.as_bytes(),
+    )
 }

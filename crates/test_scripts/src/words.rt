@@ -32,20 +32,8 @@ fn shown(alloc: Global, request: &Request) -> Result<String, AllocError> {
             script,
             out,
             files,
-        } => {
-            let line = format!(in alloc; "run {image} {script} {out}")?;
-            with_files(line, files)
-        }
+        } => format!(in alloc; "run {image} {script} {out} {files:?}\n"),
     }
-}
-
-/// A line with the files behind it.
-fn with_files(mut line: String, files: &[&str]) -> Result<String, AllocError> {
-    for file in files {
-        write!(line, " {file}")?;
-    }
-    line.push_str("\n")?;
-    Ok(line)
 }
 
 /// Words, and how what comes of them begins, and what stands in it: commands, words that are refused,
@@ -60,12 +48,12 @@ static CASES: [(&str, &str, &str); 22] = [
     ("palmheap check a.img", "check a.img\n", ""),
     (
         "palmheap run a.img calls.txt b.img",
-        "run a.img calls.txt b.img\n",
+        "run a.img calls.txt b.img []\n",
         "",
     ),
     (
         "palmheap run a.img calls.txt b.img memo.pdb tool.prc memo.pdb",
-        "run a.img calls.txt b.img memo.pdb tool.prc memo.pdb\n",
+        "run a.img calls.txt b.img [\"memo.pdb\", \"tool.prc\", \"memo.pdb\"]\n",
         "",
     ),
     (
