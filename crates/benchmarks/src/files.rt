@@ -42,8 +42,8 @@ pub(crate) const LEAST: Work<'static> = Work {
 #[inline(never)]
 pub(crate) fn run(rt: &(impl CpuClock + Print + AllocGlobal), work: Work<'_>) -> Result<()> {
     let mut sums = Sums::new();
-    for (import_name, export_name, shape) in SHAPES {
-        time_shape(rt, work, (import_name, export_name), shape, &mut sums)?;
+    for (import_name, export_name, shape) in &SHAPES {
+        time_shape(rt, work, (import_name, export_name), *shape, &mut sums)?;
     }
     sums.print(rt)?;
     Ok(())
@@ -73,11 +73,23 @@ fn time_rounds(
 ) -> Result<()> {
     let file = file_of(rt.alloc(), shape, work)?;
     for _ in 0..work.rounds {
-        let mut store = blank_store(rt.alloc(), work)?;
-        let db = time_import(rt, &mut store, &file, imports)?;
-        let out = time_export(rt, &store, db, exports)?;
-        sum_up(sums, store, &out);
+        time_round(rt, work, &file, (&mut *imports, &mut *exports), sums)?;
     }
+    Ok(())
+}
+
+/// Imports a file into a new store, and exports the database again.
+fn time_round(
+    rt: &(impl CpuClock + AllocGlobal),
+    work: Work<'_>,
+    file: &[u8],
+    (imports, exports): (&mut Times, &mut Times),
+    sums: &mut Sums,
+) -> Result<()> {
+    let mut store = blank_store(rt.alloc(), work)?;
+    let db = time_import(rt, &mut store, file, imports)?;
+    let out = time_export(rt, &store, db, exports)?;
+    sum_up(sums, store, &out);
     Ok(())
 }
 

@@ -46,7 +46,7 @@ enum Benchmark {
 }
 
 /// The benchmarks by their names, each with what the words behind it say, and with its least work.
-const BENCHMARKS: [(&str, Benchmark, &[Field], Work<'static>); 5] = [
+static BENCHMARKS: [(&str, Benchmark, &[Field], Work<'static>); 5] = [
     ("check", Benchmark::Check, &check::FIELDS, check::LEAST),
     ("stores", Benchmark::Stores, &stores::FIELDS, stores::LEAST),
     ("memory", Benchmark::Memory, &memory::FIELDS, memory::LEAST),
@@ -61,15 +61,23 @@ const BENCHMARKS: [(&str, Benchmark, &[Field], Work<'static>); 5] = [
 
 fn main(rt: HostRuntime) -> Result<ExitCode> {
     let words = env::args(&rt)?.skip(1).collect::<Vec<_>>(rt.alloc())?;
+    run_words(&rt, &words)
+}
+
+/// Runs what the words behind the program's name ask for.
+fn run_words(
+    rt: &(impl Clock + CpuClock + Files + Print + Eprint + AllocGlobal),
+    words: &[String],
+) -> Result<ExitCode> {
     if words.is_empty() {
-        run_each(&rt)?;
+        run_each(rt)?;
         return Ok(ExitCode::SUCCESS);
     }
-    let Some((benchmark, work)) = named(&words) else {
+    let Some((benchmark, work)) = named(words) else {
         eprintln!(rt; "{USAGE}")?;
         return Ok(ExitCode::from(2));
     };
-    benchmark.run(&rt, work)?;
+    benchmark.run(rt, work)?;
     Ok(ExitCode::SUCCESS)
 }
 

@@ -14,7 +14,7 @@ mod load;
 mod numbers;
 mod walks;
 
-use crate::timing::{Sums, Times};
+use crate::timing::{Sum, Sums, Times};
 use crate::work::{Field, NONE, Work};
 use anyhow::Result;
 use chunk_format::blank;
@@ -45,7 +45,7 @@ const MOST_MOVED: u16 = 2000;
 const MOST_BYTES: u16 = 64;
 
 /// The calls whose time doesn't depend on the heap, by what is printed of them.
-const CALLS: [(&str, Call); 6] = [
+static CALLS: [(&str, Call); 6] = [
     ("lock_and_unlock", Call::LockAndUnlock),
     ("size", Call::Size),
     ("owner", Call::Owner),
@@ -55,7 +55,7 @@ const CALLS: [(&str, Call); 6] = [
 ];
 
 /// The calls that walk through all chunks or move them, by what is printed of them.
-const WALKS: [(&str, Walk); 5] = [
+static WALKS: [(&str, Walk); 5] = [
     ("largest_stretch", Walk::LargestStretch),
     ("compact", Walk::Compact),
     ("handle_new_by_packing", Walk::HandleNew),
@@ -64,7 +64,7 @@ const WALKS: [(&str, Walk); 5] = [
 ];
 
 /// The orders for which lists help least, by what is printed of them.
-const ORDERS: [(&str, Walk); 3] = [
+static ORDERS: [(&str, Walk); 3] = [
     ("handle_new_far_in_a_list", Walk::FarInAList),
     ("resize_in_turn", Walk::ResizeInTurn),
     ("handle_new_over_freed", Walk::OverManyFreed),
@@ -80,10 +80,8 @@ const ANYWHERE: (&str, &str) = ("free_anywhere", "handle_new_anywhere");
 pub(crate) fn run(rt: &(impl CpuClock + Print + AllocGlobal), work: Work<'_>) -> Result<()> {
     let mut sums = Sums::new();
     time_load(rt, work, &mut sums)?;
-    let full = full(rt.alloc(), blank_heap(rt.alloc(), work)?, work)?;
-    time_walks(rt, work, full, &WALKS, &mut sums)?;
-    let one_class = one_class(rt.alloc(), blank_heap(rt.alloc(), work)?, work.slots)?;
-    time_walks(rt, work, one_class, &ORDERS, &mut sums)?;
+    time_full(rt, work, &mut sums)?;
+    time_one_class(rt, work, &mut sums)?;
     sums.print(rt)?;
     Ok(())
 }
@@ -109,25 +107,54 @@ fn time_kinds(
     fill(rt, load, work)?;
     move_chunks(rt, load, work, AT_THE_END, moved(work))?;
     move_chunks(rt, load, work, ANYWHERE, work.slots)?;
+    time_calls(rt, load, work)
+}
+
+/// Times the calls whose time doesn't depend on the heap.
+fn time_calls(
+    rt: &(impl CpuClock + Print + AllocGlobal),
+    load: &mut Load,
+    work: Work<'_>,
+) -> io::Result<()> {
     load.shuffle(work.slots);
     load.find_wide()?;
-    for (name, call) in CALLS {
-        load.prepare(call);
-        repeat(rt, load, work, name, call)?;
+    for (name, call) in &CALLS {
+        load.prepare(*call);
+        repeat(rt, load, work, name, *call)?;
     }
     Ok(())
+}
+
+/// Times the calls that walk through all chunks or move them.
+fn time_full(
+    rt: &(impl CpuClock + Print + AllocGlobal),
+    work: Work<'_>,
+    sums: &mut Sums,
+) -> Result<()> {
+    let full = full(rt.alloc(), blank_heap(rt.alloc(), work)?, work)?;
+    time_walks(rt, work, &full, &WALKS, sums)
+}
+
+/// Times the orders for which lists help least.
+fn time_one_class(
+    rt: &(impl CpuClock + Print + AllocGlobal),
+    work: Work<'_>,
+    sums: &mut Sums,
+) -> Result<()> {
+    let one_class = one_class(rt.alloc(), blank_heap(rt.alloc(), work)?, work.slots)?;
+    time_walks(rt, work, &one_class, &ORDERS, sums)
 }
 
 /// Times calls on copies of a heap.
 fn time_walks(
     rt: &(impl CpuClock + Print + AllocGlobal),
     work: Work<'_>,
-    original: Original,
+    original: &Original,
     walks: &[(&str, Walk)],
     sums: &mut Sums,
 ) -> Result<()> {
     for (name, walk) in walks {
-        walk_through(rt, work, &original, name, *walk, sums)?;
+        walk_through(rt, work, original, name, *walk, sums)?;
     }
     Ok(())
 }
@@ -237,26 +264,37 @@ fn walk_through(
 ) -> Result<()> {
     let mut times = Times::new(rt.alloc());
     for _ in 0..work.rounds {
-        let heap = original.copy(rt.alloc())?;
-        time_walk(rt, original, walk, heap, sums, &mut times)?;
+        walk_copy(rt, original, walk, sums, &mut times)?;
     }
     times.print(rt, work, name, original.calls(walk))?;
     Ok(())
 }
 
-/// Adds how long calls of one kind take on a heap. The sums get what they leave.
+/// Does calls of one kind on a copy of a heap. The sums get what they leave.
+fn walk_copy(
+    rt: &(impl CpuClock + AllocGlobal),
+    original: &Original,
+    walk: Walk,
+    sums: &mut Sums,
+    times: &mut Times,
+) -> Result<()> {
+    let mut heap = original.copy(rt.alloc())?;
+    original.prepare(&mut heap, walk);
+    let replies = time_walk(rt, original, walk, &mut heap, times)?;
+    sums.add(replies, heap.into_region().as_slice());
+    Ok(())
+}
+
+/// Adds how long calls of one kind take on a heap, and answers the sum of their replies.
 fn time_walk(
     rt: &impl CpuClock,
     original: &Original,
     walk: Walk,
-    mut heap: Heap,
-    sums: &mut Sums,
+    heap: &mut Heap,
     times: &mut Times,
-) -> io::Result<()> {
-    original.prepare(&mut heap, walk);
+) -> io::Result<Sum> {
     let start = rt.thread_cpu_time()?;
-    let replies = original.walk(&mut heap, walk);
+    let replies = original.walk(heap, walk);
     times.add_since(rt, start)?;
-    sums.add(replies, heap.into_region().as_slice());
-    Ok(())
+    Ok(replies)
 }

@@ -44,7 +44,7 @@ pub(crate) const LEAST: Work<'static> = Work {
 };
 
 /// The kinds of call, by what is printed of them.
-const CALLS: [(&str, Call); 17] = [
+static CALLS: [(&str, Call); 17] = [
     ("new_record_filling", Call::Fill),
     ("new_resource_filling", Call::FillResources),
     ("new_record_at_the_end", Call::NewAtTheEnd),
@@ -77,12 +77,22 @@ const CREATOR: u32 = 0x5465_7374;
 #[inline(never)]
 pub(crate) fn run(rt: &(impl CpuClock + Print + AllocGlobal), work: Work<'_>) -> Result<()> {
     let mut load = blank_load(rt.alloc(), work)?;
-    for (name, call) in CALLS {
-        time_calls(rt, &mut load, work, name, call)?;
-    }
+    time_each(rt, &mut load, work)?;
     let mut sums = Sums::new();
     load.add_to(&mut sums);
     sums.print(rt)?;
+    Ok(())
+}
+
+/// Times each kind of call.
+fn time_each(
+    rt: &(impl CpuClock + Print + AllocGlobal),
+    load: &mut Load,
+    work: Work<'_>,
+) -> io::Result<()> {
+    for (name, call) in &CALLS {
+        time_calls(rt, load, work, name, *call)?;
+    }
     Ok(())
 }
 

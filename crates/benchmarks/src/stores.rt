@@ -93,9 +93,18 @@ fn time_turn(
     store: &mut Times,
 ) -> io::Result<()> {
     time_heap_check(rt, region, heap)?;
+    time_store_check(rt, region, store)
+}
+
+/// Adds how long a check of a store takes, whose answer is thrown away.
+fn time_store_check(
+    rt: &(impl Clock + AllocGlobal),
+    region: &Region,
+    times: &mut Times,
+) -> io::Result<()> {
     let start = Instant::now(rt)?;
     let _ = check_store(rt.alloc(), region);
-    store.add(start.elapsed(rt)?)?;
+    times.add(start.elapsed(rt)?)?;
     Ok(())
 }
 

@@ -8,11 +8,13 @@ mod memos;
 
 use anyhow::{Result, bail};
 use chunk_format::blank;
-use heap_model::Reply;
+use heap_model::{Db, Reply};
 use memos::{Memo, write_memo};
 use palm_store::Store;
 use pdb_files::{exported, import};
 use record_db::new_record;
+use std::alloc::Global;
+use std::io;
 
 /// A PDB file with one memo, `Buy milk`, of category 1: a header of 78 bytes, an entry of 8 bytes, two zeros, and
 /// the text.
@@ -28,19 +30,33 @@ const END: u32 = 0xFFFF;
 
 fn main(rt: HostRuntime) -> Result<()> {
     let alloc = rt.alloc();
-    let mut store = match Store::check(alloc, blank(alloc, 4096, 64)?) {
-        Ok(store) => store,
-        Err(error) => bail!("{}", error.fault),
-    };
+    let mut store = blank_store(alloc)?;
     let db = import(alloc, &mut store, FILE)?;
-    let (index, name) = new_record(&mut store, db, END, TEXT.len() as u32 + 1)?;
-    for reply in &write_memo(alloc, &mut store, Memo { db, index, name }, TEXT)? {
+    print_replies(&rt, &add_memo(alloc, &mut store, db)?)?;
+    let file = exported(&alloc, &store, db)?;
+    println!(rt; "a file of {} bytes", file.as_slice().len())?;
+    Ok(())
+}
+
+fn blank_store(alloc: Global) -> Result<Store> {
+    match Store::check(alloc, blank(alloc, 4096, 64)?) {
+        Ok(store) => Ok(store),
+        Err(error) => bail!("{}", error.fault),
+    }
+}
+
+/// Adds a memo, and answers the reply to each call that writes its text.
+fn add_memo(alloc: Global, store: &mut Store, db: Db) -> Result<Vec<Reply>> {
+    let (index, name) = new_record(store, db, END, TEXT.len() as u32 + 1)?;
+    Ok(write_memo(alloc, store, Memo { db, index, name }, TEXT)?)
+}
+
+fn print_replies(rt: &impl Print, replies: &[Reply]) -> io::Result<()> {
+    for reply in replies {
         match reply {
             Reply::Refused(refusal) => println!(rt; "refused: {refusal}")?,
             _ => println!(rt; "ok")?,
         }
     }
-    let file = exported(&alloc, &store, db)?;
-    println!(rt; "a file of {} bytes", file.as_slice().len())?;
     Ok(())
 }

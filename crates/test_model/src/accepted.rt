@@ -1,6 +1,6 @@
 //! Which heaps are accepted with their databases, and the databases that these have (docs/FORMAT.md).
 
-use crate::database::{DELETED, Database};
+use crate::database::{DELETED, Database, Record};
 use crate::image::{Image, u32_at};
 use heap_model::{Db, Name};
 use std::alloc::{AllocError, Global};
@@ -39,30 +39,42 @@ impl From<AllocError> for Unaccepted {
 /// them.
 pub(crate) fn databases_of(alloc: Global, image: &Image) -> Result<Vec<Database>, Unaccepted> {
     let headers = headers_of(alloc, image)?;
-    let mut databases: Vec<Database> = Vec::new(alloc);
+    let mut databases = Vec::new(alloc);
     for header in &headers {
-        let database = database_of(alloc, image, *header, &databases)?;
-        databases.push(database).map_err(AllocError::from)?;
+        add_database(alloc, image, *header, &mut databases)?;
     }
-    let named = names_in(alloc, &databases)?;
-    check_named(image, &named)?;
-    check_chunks(image, &headers, &named)?;
+    check_owned(alloc, image, &headers, &databases)?;
     Ok(databases)
 }
 
-/// The database of a header, behind others, none of which has its name.
-fn database_of(
+/// Adds the database of a header to others, none of which has its name.
+fn add_database(
     alloc: Global,
     image: &Image,
     header: Name,
-    others: &[Database],
-) -> Result<Database, Unaccepted> {
+    databases: &mut Vec<Database>,
+) -> Result<(), Unaccepted> {
     let Some(body) = image.managers_body(header) else {
         return Err(Unaccepted::Directory);
     };
     let database = Database::decode(alloc, Db(header.0), body)?;
-    check_database(alloc, &database, others)?;
-    Ok(database)
+    check_database(alloc, &database, databases)?;
+    match databases.push(database) {
+        Ok(()) => Ok(()),
+        Err(_) => Err(Unaccepted::Memory),
+    }
+}
+
+/// Whether databases and chunks of databases fit together, and the manager's chunks are those of databases.
+fn check_owned(
+    alloc: Global,
+    image: &Image,
+    headers: &[Name],
+    databases: &[Database],
+) -> Result<(), Unaccepted> {
+    let named = names_in(alloc, databases)?;
+    check_named(image, &named)?;
+    check_chunks(image, headers, &named)
 }
 
 /// Whether the entries of a database are right, and no other one has its name.
@@ -96,29 +108,46 @@ fn headers_of(alloc: Global, image: &Image) -> Result<Vec<Name>, Unaccepted> {
         if header == directory || headers.contains(&header) {
             return Err(Unaccepted::Directory);
         }
-        headers.push(header).map_err(AllocError::from)?;
+        if headers.push(header).is_err() {
+            return Err(Unaccepted::Memory);
+        }
     }
     Ok(headers)
 }
 
 /// Whether each record has data, if it isn't deleted, and an ID that no other one has.
 fn check_entries(alloc: Global, database: &Database) -> Result<(), Unaccepted> {
-    let mut ids = Vec::new(alloc);
     for record in &database.records {
         if record.data.is_none() && record.attributes & DELETED == 0 {
             return Err(Unaccepted::Record(database.db));
         }
-        ids.push(record.id).map_err(AllocError::from)?;
+    }
+    if has_twins(&ids_of(alloc, &database.records)?) {
+        return Err(Unaccepted::Id(database.db));
+    }
+    Ok(())
+}
+
+/// The IDs of records, in order.
+fn ids_of(alloc: Global, records: &[Record]) -> Result<Vec<u32>, AllocError> {
+    let mut ids = Vec::new(alloc);
+    for record in records {
+        ids.push(record.id)?;
     }
     ids.sort()?;
+    Ok(ids)
+}
+
+/// Whether IDs that are in order have 0 among them, or one of them twice.
+fn has_twins(ids: &[u32]) -> bool {
     let mut last = 0;
-    for id in &ids {
+    for id in ids {
         if *id == last {
-            return Err(Unaccepted::Id(database.db));
+            return true;
         }
         last = *id;
     }
-    Ok(())
+    false
 }
 
 /// The names of all chunks of databases but their headers.

@@ -2,7 +2,7 @@
 
 use crate::database::{DELETED, Database, Record};
 use crate::heap::PlainHeap;
-use crate::memory_calls::{no_memory, number};
+use crate::memory_calls::number;
 use crate::record_calls::DIRTY;
 use heap_model::{Name, Refusal, Reply};
 use std::alloc::{AllocError, Global};
@@ -74,7 +74,9 @@ impl Database {
         if category > LAST {
             return Err(Refusal::InvalidCategory);
         }
-        let names = data_of(alloc, &self.records, category).map_err(no_memory)?;
+        let Ok(names) = data_of(alloc, &self.records, category) else {
+            return Err(Refusal::OutOfMemory);
+        };
         heap.free_all(&names)?;
         for record in &mut self.records {
             if is_of(record, category) {

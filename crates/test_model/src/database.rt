@@ -107,7 +107,14 @@ impl Database {
         self.records.len().saturating_add(self.resources.len())
     }
 
-    /// Adds the names of all its chunks but its header: of its info blocks, and of the data of its entries.
+    /// The names of all its chunks but its header: of its info blocks, and of the data of its entries.
+    pub(crate) fn names(&self, alloc: Global) -> Result<Vec<Name>, AllocError> {
+        let mut names = Vec::new(alloc);
+        self.put_names(&mut names)?;
+        Ok(names)
+    }
+
+    /// Adds these names to others.
     pub(crate) fn put_names(&self, names: &mut Vec<Name>) -> Result<(), AllocError> {
         put_name(names, self.app_info)?;
         put_name(names, self.sort_info)?;

@@ -4,8 +4,8 @@
 use crate::accepted::MOST_DATABASES;
 use crate::database::{Database, Header, OF_RESOURCES, is_name};
 use crate::image::Image;
-use crate::memory_calls::{no_memory, number};
-use crate::parts::{Part, can_run_out};
+use crate::memory_calls::number;
+use crate::parts::{Part, check_parts, lacks_room};
 use crate::store::{PlainStore, numbered};
 use heap_model::{DatabaseCall, Db, DbInfo, DbName, Name, Refusal, Reply};
 use std::alloc::{AllocError, Global};
@@ -27,26 +27,36 @@ impl PlainStore {
                 resources,
                 date,
             } => {
-                let mut database = Database::new(
-                    alloc, name, *kind, *creator, *resources, *date,
-                ).map_err(no_memory)?;
-                database.db = self.number_for(alloc, &database, &[], before, reply)?;
-                self.add(database)
+                let made = Database::new(alloc, name, *kind, *creator, *resources, *date);
+                self.create(alloc, made, before, reply)
             }
             DatabaseCall::Delete(db) => self.delete(alloc, *db),
             DatabaseCall::Find(name) => self.find(name.as_slice()),
             DatabaseCall::Nth(index) => self.nth(*index),
             DatabaseCall::Count => Ok(number(self.databases.len())),
-            DatabaseCall::Info(db) => Ok(Reply::Info(self.database(*db)?.info())),
+            DatabaseCall::Info(db) => self.info(*db),
             DatabaseCall::SetInfo(db, info) => self.set_info(alloc, *db, info),
-            DatabaseCall::SetInfoBlock { db, which, name } => {
-                numbered(&mut self.databases, *db)?.set_block(&mut self.heap, *which, *name)
-            }
+            DatabaseCall::SetInfoBlock { db, which, name } => self.set_block(*db, *which, *name),
             DatabaseCall::TakeInfoBlock { db, which, owner } => {
-                numbered(&mut self.databases, *db)?.take_block(&mut self.heap, *which, *owner)
+                self.take_block(*db, *which, *owner)
             }
-            DatabaseCall::InfoBlock(db, which) => self.database(*db)?.ask_block(*which),
+            DatabaseCall::InfoBlock(db, which) => self.ask_block(*db, *which),
         }
+    }
+
+    /// A database that was made comes behind the others, unless there was no memory for it.
+    fn create(
+        &mut self,
+        alloc: Global,
+        made: Result<Database, AllocError>,
+        before: &Image,
+        reply: &Reply,
+    ) -> Result<Reply, Refusal> {
+        let Ok(mut database) = made else {
+            return Err(Refusal::OutOfMemory);
+        };
+        database.db = self.number_for(alloc, &database, &[], before, reply)?;
+        self.add(database)
     }
 
     /// The number of a database that is made, which is that of a free slot. There may be no room for its chunks,
@@ -63,20 +73,11 @@ impl PlainStore {
         if self.databases.len() >= MOST_DATABASES {
             return Err(Refusal::TooManyEntries);
         }
-        let Some(first) = before.first_free_slot() else {
-            return Err(Refusal::NotEnoughSpace);
-        };
-        match reply {
-            Reply::Refused(Refusal::NotEnoughSpace) => {
-                match may_lack_room(alloc, database.header_length(), blocks, before) {
-                    Ok(true) => Err(Refusal::NotEnoughSpace),
-                    Ok(false) => Ok(Db(first.0)),
-                    Err(_) => Err(Refusal::OutOfMemory),
-                }
-            }
-            Reply::Database(db) if before.is_free_slot(Name(db.0)) => Ok(*db),
-            _ => Ok(Db(first.0)),
+        let db = number_in(before, reply)?;
+        if lacks_room(reply) {
+            check_room(alloc, database.header_length(), blocks, before)?;
         }
+        Ok(db)
     }
 
     /// Adds a database behind the others.
@@ -90,8 +91,9 @@ impl PlainStore {
 
     /// A database goes, with all the chunks that it names. None of them may be locked.
     fn delete(&mut self, alloc: Global, db: Db) -> Result<Reply, Refusal> {
-        let mut named = Vec::new(alloc);
-        self.database(db)?.put_names(&mut named).map_err(no_memory)?;
+        let Ok(named) = self.database(db)?.names(alloc) else {
+            return Err(Refusal::OutOfMemory);
+        };
         self.heap.free_all(&named)?;
         self.databases.retain(|database| database.db != db);
         Ok(Reply::Done)
@@ -102,6 +104,10 @@ impl PlainStore {
             Some(db) => Ok(Reply::Database(db)),
             None => Err(Refusal::NoSuchDatabase),
         }
+    }
+
+    fn info(&self, db: Db) -> Result<Reply, Refusal> {
+        Ok(Reply::Info(self.database(db)?.info()))
     }
 
     fn nth(&self, index: u32) -> Result<Reply, Refusal> {
@@ -117,8 +123,10 @@ impl PlainStore {
         self.database(db)?;
         let name = info.name.as_slice();
         self.check_name(name, db)?;
-        let name = Vec::from_slice(alloc, name).map_err(no_memory)?;
         let header = &mut numbered(&mut self.databases, db)?.header;
+        let Ok(name) = Vec::from_slice(alloc, name) else {
+            return Err(Refusal::OutOfMemory);
+        };
         let kept = header.attributes & OF_RESOURCES;
         header.name = name;
         header.attributes = info.attributes & !OF_RESOURCES | kept;
@@ -204,27 +212,54 @@ impl Database {
     }
 }
 
-/// Whether a new database may find no slot or no room: for its header of so many bytes, for its blocks, and for the
-/// directory, which is made with one slot or takes one more.
-fn may_lack_room(
+/// The number of a new database: that of a reply, if that is of a free slot, or else of the first that is.
+fn number_in(before: &Image, reply: &Reply) -> Result<Db, Refusal> {
+    let Some(first) = before.first_free_slot() else {
+        return Err(Refusal::NotEnoughSpace);
+    };
+    match reply {
+        Reply::Database(db) if before.is_free_slot(Name(db.0)) => Ok(*db),
+        _ => Ok(Db(first.0)),
+    }
+}
+
+/// Refuses a new database that may find no slot or no room.
+fn check_room(
     alloc: Global,
     header: usize,
     blocks: &[&[u8]],
     before: &Image,
-) -> Result<bool, AllocError> {
+) -> Result<(), Refusal> {
+    let Ok(parts) = parts_of(alloc, header, blocks, before) else {
+        return Err(Refusal::OutOfMemory);
+    };
+    // the directory takes a slot where it is made, and none where it grows
+    let slots = match before.directory() {
+        None => parts.len(),
+        Some(_) => parts.len().saturating_sub(1),
+    };
+    if before.free_slots() < slots {
+        return Err(Refusal::NotEnoughSpace);
+    }
+    check_parts(alloc, before, &parts)
+}
+
+/// What a new database takes: its header of so many bytes, its blocks, and the directory, which is made with one
+/// slot or takes one more.
+fn parts_of(
+    alloc: Global,
+    header: usize,
+    blocks: &[&[u8]],
+    before: &Image,
+) -> Result<Vec<Part>, AllocError> {
     let mut parts = Vec::new(alloc);
     parts.push(Part::making(header))?;
     for block in blocks {
         parts.push(Part::making(block.len()))?;
     }
-    let slots = parts.len();
-    let (more, listing) = match before.directory() {
-        None => (1, Part::making(4)),
-        Some(directory) => (0, Part::growth(before, directory, 4)),
-    };
-    parts.push(listing)?;
-    if before.free_slots() < slots.saturating_add(more) {
-        return Ok(true);
-    }
-    can_run_out(alloc, before, &parts)
+    parts.push(match before.directory() {
+        None => Part::making(4),
+        Some(directory) => Part::growth(before, directory, 4),
+    })?;
+    Ok(parts)
 }

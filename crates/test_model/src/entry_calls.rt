@@ -5,7 +5,7 @@ use crate::database::Database;
 use crate::heap::PlainHeap;
 use crate::image::Image;
 use crate::memory_calls::DATA_OWNER;
-use crate::parts::{Part, can_run_out};
+use crate::parts::{Part, check_parts, lacks_room};
 use heap_model::{Name, Refusal, Reply};
 use std::alloc::Global;
 
@@ -50,7 +50,9 @@ impl Database {
             Part::making(size as usize),
             Part::growth(before, Name(self.db.0), entry),
         ];
-        check_room(alloc, before, &parts, reply)?;
+        if lacks_room(reply) {
+            check_parts(alloc, before, &parts)?;
+        }
         match reply {
             Reply::Made { name, .. } if before.is_free_slot(*name) => Ok(*name),
             _ => Ok(first),
@@ -70,8 +72,13 @@ impl Database {
     ) -> Result<(), Refusal> {
         heap.check_given(name)?;
         self.check_count()?;
-        let parts = [Part::growth(before, Name(self.db.0), entry)];
-        check_room(alloc, before, &parts, reply)?;
+        if lacks_room(reply) {
+            check_parts(
+                alloc,
+                before,
+                &[Part::growth(before, Name(self.db.0), entry)],
+            )?;
+        }
         heap.give(name, DATA_OWNER)
     }
 
@@ -89,16 +96,4 @@ impl Database {
     pub(crate) fn count_change(&mut self) {
         self.header.modification_number = self.header.modification_number.wrapping_add(1);
     }
-}
-
-/// Refuses parts that may run out of room, where the reply says that they did.
-fn check_room(alloc: Global, before: &Image, parts: &[Part], reply: &Reply) -> Result<(), Refusal> {
-    let lacks_room = matches!(reply, Reply::Refused(Refusal::NotEnoughSpace));
-    let Ok(may_lack_room) = can_run_out(alloc, before, parts) else {
-        return Err(Refusal::OutOfMemory);
-    };
-    if lacks_room && may_lack_room {
-        return Err(Refusal::NotEnoughSpace);
-    }
-    Ok(())
 }

@@ -8,8 +8,7 @@ use crate::database::{
     length_of,
 };
 use crate::image::{u32_at, up_to_zero};
-use crate::memory_calls::no_memory;
-use crate::record_calls::{BUSY, next_id};
+use crate::record_calls::{BUSY, fresh_id, has_id};
 use heap_model::{Db, FileFault, Name, Refusal, Which};
 use std::alloc::{AllocError, Global};
 use std::slice::Iter;
@@ -26,14 +25,22 @@ pub(crate) fn database_in(alloc: Global, file: &[u8]) -> Result<Database, Refusa
     if name.is_empty() {
         return Err(Refusal::BadFile(FileFault::EmptyName));
     }
-    let name = Vec::from_slice(alloc, name).map_err(no_memory)?;
-    let database = Database::of(alloc, Db(0), name, file).map_err(no_memory)?;
+    let Ok(database) = database_of(alloc, name, file) else {
+        return Err(Refusal::OutOfMemory);
+    };
     let area = Area {
         from: length_of(file),
         to: file.len(),
     };
-    area.check(&database).map_err(Refusal::BadFile)?;
-    Ok(database)
+    match area.check(&database) {
+        Ok(()) => Ok(database),
+        Err(fault) => Err(Refusal::BadFile(fault)),
+    }
+}
+
+/// The database of a name, of which all else is spelled by a file.
+fn database_of(alloc: Global, name: &[u8], file: &[u8]) -> Result<Database, AllocError> {
+    Database::of(alloc, Db(0), Vec::from_slice(alloc, name)?, file)
 }
 
 /// Where blocks may begin: from the end of the entries up to the end of the file.
@@ -121,17 +128,6 @@ fn next_start(starts: &[Name], start: Name, length: usize) -> usize {
     next
 }
 
-/// The first ID behind another that isn't taken.
-fn free_id(taken: &[u32], behind: u32) -> u32 {
-    let mut id = next_id(behind);
-    for _ in taken {
-        if taken.contains(&id) {
-            id = next_id(id);
-        }
-    }
-    id
-}
-
 /// One of some names for another, where there is one; 0 behind the last.
 fn replaced(name: Option<Name>, names: &mut Iter<Name>) -> Option<Name> {
     match name {
@@ -164,31 +160,40 @@ impl Database {
 
     /// No record is in use, and each has an ID of its own: the first that has one keeps it, and the others get those
     /// behind the seed, which has the last of these then.
-    pub(crate) fn settle(&mut self, alloc: Global) -> Result<(), AllocError> {
-        let mut taken = Vec::new(alloc);
-        for record in &mut self.records {
-            record.attributes &= !BUSY;
-            if taken.contains(&record.id) {
-                record.id = 0;
-            } else {
-                taken.push(record.id)?;
-            }
+    pub(crate) fn settle(&mut self) {
+        for index in 0..self.records.len() {
+            self.clean(index);
         }
-        let mut last = self.header.seed & GREATEST_ID;
-        for record in &mut self.records {
-            if record.id == 0 {
-                last = free_id(&taken, last);
-                taken.push(last)?;
-                record.id = last;
-            }
+        for index in 0..self.records.len() {
+            self.give_id(index);
         }
-        self.header.seed = self.header.seed & !GREATEST_ID | last;
-        Ok(())
     }
 
-    /// Where the blocks of its file begin: behind the header, the entries and two zeros.
-    pub(crate) fn blocks_start(&self) -> usize {
-        self.header_length().saturating_add(2)
+    /// The record of an index isn't in use, and has no ID if one in front of it has the same.
+    fn clean(&mut self, index: usize) {
+        if index >= self.records.len() {
+            return;
+        }
+        let (front, rest) = self.records.split_at_mut(index);
+        if let Some(record) = rest.first_mut() {
+            record.attributes &= !BUSY;
+            if has_id(front, record.id) {
+                record.id = 0;
+            }
+        }
+    }
+
+    /// The record of an index gets a fresh ID if it has none.
+    fn give_id(&mut self, index: usize) {
+        let seed = self.header.seed;
+        let id = match self.records.get(index) {
+            Some(record) if record.id == 0 => fresh_id(&self.records, seed & GREATEST_ID),
+            _ => return,
+        };
+        if let Some(record) = self.records.get_mut(index) {
+            record.id = id;
+        }
+        self.header.seed = seed & !GREATEST_ID | id;
     }
 
     /// What its header takes with the entries.
@@ -196,34 +201,31 @@ impl Database {
         HEADER_LENGTH.saturating_add(entries_length(self.header.attributes, self.entry_count()))
     }
 
-    /// The header and the entries of its file, whose blocks begin at these offsets, and the two zeros.
-    pub(crate) fn to_front(&self, alloc: Global, starts: &[Name]) -> Result<Vec<u8>, AllocError> {
+    /// What stands in front of the blocks of its file: the header, the entries and two zeros.
+    pub(crate) fn front_length(&self) -> usize {
+        self.header_length().saturating_add(2)
+    }
+
+    /// Writes the header and the entries of its file, whose blocks begin at these offsets.
+    pub(crate) fn put_front(&self, file: &mut [u8], starts: &[Name]) {
         let mut starts = starts.iter();
         let app_info = word(replaced(self.app_info, &mut starts));
         let sort_info = word(replaced(self.sort_info, &mut starts));
-        let mut file = self.header.to_bytes(alloc, app_info, sort_info)?;
+        self.header.put(file, app_info, sort_info);
         let count = u16::try_from(self.entry_count()).unwrap_or(u16::MAX);
-        file.extend_from_slice(&count.to_be_bytes())?;
-        put_records(&mut file, &self.records, &mut starts)?;
-        put_resources(&mut file, &self.resources, &mut starts)?;
-        file.extend_from_slice(&[0, 0])?;
-        Ok(file)
+        put_at(file, 76, &count.to_be_bytes());
+        put_records(file, &self.records, &mut starts);
+        put_resources(file, &self.resources, &mut starts);
     }
 }
 
 impl Header {
-    /// The bytes of a header in front of the number of entries.
-    fn to_bytes(
-        &self,
-        alloc: Global,
-        app_info: u32,
-        sort_info: u32,
-    ) -> Result<Vec<u8>, AllocError> {
-        let mut file = Vec::from_slice(alloc, &self.name)?;
-        file.resize(32, 0)?;
-        file.extend_from_slice(&self.attributes.to_be_bytes())?;
-        file.extend_from_slice(&self.version.to_be_bytes())?;
+    /// Writes a header in front of the number of entries.
+    fn put(&self, file: &mut [u8], app_info: u32, sort_info: u32) {
+        put_at(file, 0, &self.name);
+        let mut at = 32usize;
         for word in [
+            u32::from(self.attributes) << 16 | u32::from(self.version),
             self.creation_date,
             self.modification_date,
             self.backup_date,
@@ -235,38 +237,45 @@ impl Header {
             self.seed,
             0,
         ] {
-            file.extend_from_slice(&word.to_be_bytes())?;
+            put_at(file, at, &word.to_be_bytes());
+            at = at.saturating_add(4);
         }
-        Ok(file)
     }
 }
 
-/// Adds the entries of records, none of which is in use. Their data begins at these offsets.
-fn put_records(
-    file: &mut Vec<u8>,
-    records: &[Record],
-    starts: &mut Iter<Name>,
-) -> Result<(), AllocError> {
+/// Writes the entries of records, none of which is in use. Their data begins at these offsets.
+fn put_records(file: &mut [u8], records: &[Record], starts: &mut Iter<Name>) {
+    let mut at = HEADER_LENGTH;
     for record in records {
         let start = word(replaced(record.data, starts));
         let attributes = u32::from(record.attributes & !BUSY);
-        file.extend_from_slice(&start.to_be_bytes())?;
-        file.extend_from_slice(&(attributes << 24 | record.id).to_be_bytes())?;
+        put_at(file, at, &start.to_be_bytes());
+        put_at(
+            file,
+            at.saturating_add(4),
+            &(attributes << 24 | record.id).to_be_bytes(),
+        );
+        at = at.saturating_add(8);
     }
-    Ok(())
 }
 
-/// Adds the entries of resources, whose data begins at these offsets.
-fn put_resources(
-    file: &mut Vec<u8>,
-    resources: &[Resource],
-    starts: &mut Iter<Name>,
-) -> Result<(), AllocError> {
+/// Writes the entries of resources, whose data begins at these offsets.
+fn put_resources(file: &mut [u8], resources: &[Resource], starts: &mut Iter<Name>) {
+    let mut at = HEADER_LENGTH;
     for resource in resources {
         let start = word(replaced(Some(resource.data), starts));
-        file.extend_from_slice(&resource.kind.to_be_bytes())?;
-        file.extend_from_slice(&resource.id.to_be_bytes())?;
-        file.extend_from_slice(&start.to_be_bytes())?;
+        put_at(file, at, &resource.kind.to_be_bytes());
+        put_at(file, at.saturating_add(4), &resource.id.to_be_bytes());
+        put_at(file, at.saturating_add(6), &start.to_be_bytes());
+        at = at.saturating_add(10);
     }
-    Ok(())
+}
+
+/// Writes bytes from an offset on, as far as there is room for them.
+fn put_at(file: &mut [u8], at: usize, bytes: &[u8]) {
+    for (index, byte) in bytes.iter().enumerate() {
+        if let Some(place) = file.get_mut(at.saturating_add(index)) {
+            *place = *byte;
+        }
+    }
 }

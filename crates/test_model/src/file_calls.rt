@@ -5,7 +5,7 @@ use crate::database::Database;
 use crate::file::{blocks_in, database_in};
 use crate::heap::Chunk;
 use crate::image::Image;
-use crate::memory_calls::{DATA_OWNER, no_memory};
+use crate::memory_calls::DATA_OWNER;
 use crate::store::PlainStore;
 use heap_model::{Bytes, Db, FileCall, Name, Refusal, Reply};
 use std::alloc::{AllocError, Global};
@@ -36,45 +36,90 @@ impl PlainStore {
         reply: &Reply,
     ) -> Result<Reply, Refusal> {
         let mut database = database_in(alloc, file)?;
-        let blocks = blocks_of(alloc, &database, file).map_err(no_memory)?;
-        database.db = self.number_for(alloc, &database, &blocks, before, reply)?;
-        let names = names_given(alloc, database.db, before, after).map_err(no_memory)?;
-        self.add_data(alloc, &names, &blocks)?;
-        database.settle(alloc).map_err(no_memory)?;
-        database.rename(&names);
+        self.take_blocks(alloc, &mut database, file, before, after, reply)?;
         self.add(database)
     }
 
-    /// Blocks of a database's data become chunks without a lock, each under a name.
-    fn add_data(&mut self, alloc: Global, names: &[Name], blocks: &[&[u8]]) -> Result<(), Refusal> {
+    /// The database of a file gets its number, and its blocks become chunks.
+    fn take_blocks(
+        &mut self,
+        alloc: Global,
+        database: &mut Database,
+        file: &[u8],
+        before: &Image,
+        after: &Image,
+        reply: &Reply,
+    ) -> Result<(), Refusal> {
+        let Ok(blocks) = blocks_of(alloc, database, file) else {
+            return Err(Refusal::OutOfMemory);
+        };
+        database.db = self.number_for(alloc, database, &blocks, before, reply)?;
+        self.name_blocks(alloc, database, &blocks, before, after)
+    }
+
+    /// The blocks of a database become chunks, which it names then.
+    fn name_blocks(
+        &mut self,
+        alloc: Global,
+        database: &mut Database,
+        blocks: &[&[u8]],
+        before: &Image,
+        after: &Image,
+    ) -> Result<(), Refusal> {
+        let Ok(names) = names_given(alloc, database.db, before, after) else {
+            return Err(Refusal::OutOfMemory);
+        };
+        database.settle();
+        database.rename(&names);
         for (name, block) in names.iter().zip(blocks) {
-            let chunk = Chunk {
-                lock: 0,
-                owner: DATA_OWNER,
-                bytes: Vec::from_slice(alloc, block).map_err(no_memory)?,
-            };
-            self.heap.add(*name, chunk)?;
+            self.add_block(alloc, *name, block)?;
         }
         Ok(())
     }
 
-    /// The file of a database.
+    /// A block becomes a chunk of a database's, without a lock.
+    fn add_block(&mut self, alloc: Global, name: Name, block: &[u8]) -> Result<(), Refusal> {
+        let Ok(bytes) = Vec::from_slice(alloc, block) else {
+            return Err(Refusal::OutOfMemory);
+        };
+        let chunk = Chunk {
+            lock: 0,
+            owner: DATA_OWNER,
+            bytes,
+        };
+        self.heap.add(name, chunk)
+    }
+
+    /// The file of a database: its blocks, and then its front, which says where they begin.
     fn export(&self, alloc: Global, db: Db) -> Result<Reply, Refusal> {
         let database = self.database(db)?;
-        let mut names = Vec::new(alloc);
-        database.put_names(&mut names).map_err(no_memory)?;
-        let mut starts = Vec::new(alloc);
-        let mut blocks = Vec::new(alloc);
-        for name in &names {
-            let start = database.blocks_start().saturating_add(blocks.len());
-            let start = Name(u32::try_from(start).unwrap_or(u32::MAX));
-            starts.push(start).map_err(no_memory)?;
-            let chunk = self.heap.chunk(*name)?;
-            blocks.extend_from_slice(&chunk.bytes).map_err(no_memory)?;
-        }
-        let mut file = database.to_front(alloc, &starts).map_err(no_memory)?;
-        file.extend_from_slice(&blocks).map_err(no_memory)?;
+        let Ok(names) = database.names(alloc) else {
+            return Err(Refusal::OutOfMemory);
+        };
+        let Ok(mut file) = vec![in alloc; 0; database.front_length()] else {
+            return Err(Refusal::OutOfMemory);
+        };
+        let starts = self.put_blocks(alloc, &names, &mut file)?;
+        database.put_front(&mut file, &starts);
         Ok(Reply::Data(Bytes::of(file)))
+    }
+
+    /// Adds the bytes of chunks to a file, and answers where they begin.
+    fn put_blocks(
+        &self,
+        alloc: Global,
+        names: &[Name],
+        file: &mut Vec<u8>,
+    ) -> Result<Vec<Name>, Refusal> {
+        let mut starts = Vec::new(alloc);
+        for name in names {
+            let chunk = self.heap.chunk(*name)?;
+            let start = Name(u32::try_from(file.len()).unwrap_or(u32::MAX));
+            if starts.push(start).is_err() || file.extend_from_slice(&chunk.bytes).is_err() {
+                return Err(Refusal::OutOfMemory);
+            }
+        }
+        Ok(starts)
     }
 }
 
@@ -84,8 +129,7 @@ fn blocks_of<'a>(
     database: &Database,
     file: &'a [u8],
 ) -> Result<Vec<&'a [u8]>, AllocError> {
-    let mut starts = Vec::new(alloc);
-    database.put_names(&mut starts)?;
+    let starts = database.names(alloc)?;
     blocks_in(alloc, file, &starts)
 }
 
@@ -96,12 +140,16 @@ fn names_given(
     before: &Image,
     after: &Image,
 ) -> Result<Vec<Name>, AllocError> {
-    let mut names = Vec::new(alloc);
-    if let Some(live) = after.live(Name(db.0))
-        && let Ok(database) = Database::decode(alloc, db, live.bytes)
-    {
-        database.put_names(&mut names)?;
-    }
+    let mut names = match database_after(alloc, db, after) {
+        Some(database) => database.names(alloc)?,
+        None => Vec::new(alloc),
+    };
     names.retain(|name| before.is_free_slot(*name));
     Ok(names)
+}
+
+/// The database of a number that an image spells.
+fn database_after(alloc: Global, db: Db, after: &Image) -> Option<Database> {
+    let live = after.live(Name(db.0))?;
+    Database::decode(alloc, db, live.bytes).ok()
 }

@@ -6,7 +6,8 @@ use crate::heap::PlainHeap;
 use crate::image::{FIXED, Image};
 use crate::memory_calls::{DATA_OWNER, check_owner};
 use crate::record_calls::DIRTY;
-use heap_model::{Name, Refusal, Reply, Which};
+use crate::store::{PlainStore, numbered};
+use heap_model::{Db, Name, Refusal, Reply, Which};
 use std::alloc::Global;
 
 impl Database {
@@ -45,48 +46,6 @@ impl Database {
         Ok(Reply::Named(old))
     }
 
-    /// A chunk becomes an info block that a database doesn't have.
-    pub(crate) fn set_block(
-        &mut self,
-        heap: &mut PlainHeap,
-        which: Which,
-        name: Name,
-    ) -> Result<Reply, Refusal> {
-        self.check_writable()?;
-        if self.block(which).is_some() {
-            return Err(Refusal::AlreadyExists);
-        }
-        heap.check_given(name)?;
-        heap.give(name, DATA_OWNER)?;
-        self.put_block(which, Some(name));
-        Ok(Reply::Done)
-    }
-
-    /// An info block goes to a caller, and the database has it no longer.
-    pub(crate) fn take_block(
-        &mut self,
-        heap: &mut PlainHeap,
-        which: Which,
-        owner: u8,
-    ) -> Result<Reply, Refusal> {
-        self.check_writable()?;
-        let Some(name) = self.block(which) else {
-            return Err(Refusal::NoInfoBlock);
-        };
-        check_owner(owner)?;
-        heap.give(name, owner)?;
-        self.put_block(which, None);
-        Ok(Reply::Named(name))
-    }
-
-    /// The name of an info block.
-    pub(crate) fn ask_block(&self, which: Which) -> Result<Reply, Refusal> {
-        match self.block(which) {
-            Some(name) => Ok(Reply::Named(name)),
-            None => Err(Refusal::NoInfoBlock),
-        }
-    }
-
     fn block(&self, which: Which) -> Option<Name> {
         match which {
             Which::App => self.app_info,
@@ -100,6 +59,42 @@ impl Database {
             Which::Sort => self.sort_info = name,
         }
         self.count_change();
+    }
+}
+
+impl PlainStore {
+    /// A chunk becomes an info block that a database doesn't have.
+    pub(crate) fn set_block(&mut self, db: Db, which: Which, name: Name) -> Result<Reply, Refusal> {
+        let database = numbered(&mut self.databases, db)?;
+        database.check_writable()?;
+        if database.block(which).is_some() {
+            return Err(Refusal::AlreadyExists);
+        }
+        self.heap.check_given(name)?;
+        self.heap.give(name, DATA_OWNER)?;
+        database.put_block(which, Some(name));
+        Ok(Reply::Done)
+    }
+
+    /// An info block goes to a caller, and the database has it no longer.
+    pub(crate) fn take_block(&mut self, db: Db, which: Which, owner: u8) -> Result<Reply, Refusal> {
+        let database = numbered(&mut self.databases, db)?;
+        database.check_writable()?;
+        let Some(name) = database.block(which) else {
+            return Err(Refusal::NoInfoBlock);
+        };
+        check_owner(owner)?;
+        self.heap.give(name, owner)?;
+        database.put_block(which, None);
+        Ok(Reply::Named(name))
+    }
+
+    /// The name of an info block.
+    pub(crate) fn ask_block(&self, db: Db, which: Which) -> Result<Reply, Refusal> {
+        match self.database(db)?.block(which) {
+            Some(name) => Ok(Reply::Named(name)),
+            None => Err(Refusal::NoInfoBlock),
+        }
     }
 }
 

@@ -380,7 +380,9 @@ fn pieces_of<'a>(alloc: Global, bytes: &'a [u8], area: u32) -> Result<Vec<Piece<
         let Some(piece) = piece_at(bytes, at) else {
             return Err(Unreadable::Chunk(at));
         };
-        pieces.push(piece).map_err(AllocError::from)?;
+        if pieces.push(piece).is_err() {
+            return Err(Unreadable::Memory);
+        }
         at = at.saturating_add(piece.size);
     }
     Ok(pieces)

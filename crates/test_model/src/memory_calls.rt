@@ -75,7 +75,8 @@ impl PlainHeap {
             Reply::Named(name) if before.is_free_slot(*name) => *name,
             _ => first,
         };
-        self.make(alloc, name, 0, size, owner)
+        self.make(alloc, name, 0, size, owner)?;
+        Ok(Reply::Named(name))
     }
 
     /// A fixed chunk of zeros, whose name is where it was made.
@@ -93,7 +94,8 @@ impl PlainHeap {
             Reply::Named(name) if !self.chunks.contains_key(&name.0) => *name,
             _ => Name(0),
         };
-        self.make(alloc, name, FIXED, size, owner)
+        self.make(alloc, name, FIXED, size, owner)?;
+        Ok(Reply::Named(name))
     }
 
     /// A chunk of zeros.
@@ -104,15 +106,17 @@ impl PlainHeap {
         lock: u8,
         size: u32,
         owner: u8,
-    ) -> Result<Reply, Refusal> {
-        let bytes = vec![in alloc; 0; size as usize].map_err(no_memory)?;
+    ) -> Result<(), Refusal> {
+        let Ok(bytes) = vec![in alloc; 0; size as usize] else {
+            return Err(Refusal::OutOfMemory);
+        };
         self.add(name, Chunk { lock, owner, bytes })
     }
 
     /// A chunk comes under a name.
-    pub(crate) fn add(&mut self, name: Name, chunk: Chunk) -> Result<Reply, Refusal> {
+    pub(crate) fn add(&mut self, name: Name, chunk: Chunk) -> Result<(), Refusal> {
         match self.chunks.insert(name.0, chunk) {
-            Ok(_) => Ok(Reply::Named(name)),
+            Ok(_) => Ok(()),
             Err(_) => Err(Refusal::OutOfMemory),
         }
     }
@@ -301,8 +305,4 @@ pub(crate) fn need(size: u32) -> u64 {
 
 pub(crate) fn number(count: usize) -> Reply {
     Reply::Number(u32::try_from(count).unwrap_or(u32::MAX))
-}
-
-pub(crate) fn no_memory<E: Drop>(_: E) -> Refusal {
-    Refusal::OutOfMemory
 }

@@ -2,7 +2,7 @@
 
 use crate::image::Image;
 use crate::memory_calls::need;
-use heap_model::Name;
+use heap_model::{Name, Refusal, Reply};
 use std::alloc::{AllocError, Global};
 
 /// A part: so many bytes that it takes, headers included, and the stretch where a chunk that grows leaves
@@ -36,13 +36,23 @@ impl Part {
     }
 }
 
+/// Whether a reply says that there was no room.
+pub(crate) fn lacks_room(reply: &Reply) -> bool {
+    matches!(reply, Reply::Refused(Refusal::NotEnoughSpace))
+}
+
+/// Refuses parts that may run out of room.
+pub(crate) fn check_parts(alloc: Global, image: &Image, parts: &[Part]) -> Result<(), Refusal> {
+    match can_run_out(alloc, image, parts) {
+        Ok(false) => Ok(()),
+        Ok(true) => Err(Refusal::NotEnoughSpace),
+        Err(_) => Err(Refusal::OutOfMemory),
+    }
+}
+
 /// Whether some choice of stretches for the parts, one after the other, leaves a part for which no stretch
 /// has room.
-pub(crate) fn can_run_out(
-    alloc: Global,
-    image: &Image,
-    parts: &[Part],
-) -> Result<bool, AllocError> {
+fn can_run_out(alloc: Global, image: &Image, parts: &[Part]) -> Result<bool, AllocError> {
     if needed(parts) > u64::from(image.free_bytes()) {
         return Ok(true);
     }

@@ -76,9 +76,9 @@ impl Database {
             RecordCall::Remove(_, index) => self.remove_record(heap, *index),
             RecordCall::Move { from, to, .. } => self.move_record(*from, *to),
             RecordCall::Get(_, index) => self.get_record(*index),
-            RecordCall::Query(_, index) => Ok(Reply::Named(self.kept_data(*index)?)),
+            RecordCall::Query(_, index) => self.query_record(*index),
             RecordCall::Release { index, dirty, .. } => self.release_record(*index, *dirty),
-            RecordCall::Info(_, index) => Ok(info_of(self.record(*index)?)),
+            RecordCall::Info(_, index) => self.record_info(*index),
             RecordCall::Resize { index, size, .. } => {
                 self.resize_record(heap, *index, *size, before)
             }
@@ -283,6 +283,19 @@ impl Database {
         Ok(Reply::Done)
     }
 
+    fn query_record(&self, index: u32) -> Result<Reply, Refusal> {
+        Ok(Reply::Named(self.kept_data(index)?))
+    }
+
+    fn record_info(&self, index: u32) -> Result<Reply, Refusal> {
+        let record = self.record(index)?;
+        Ok(Reply::Record(RecordInfo {
+            attributes: record.attributes,
+            id: record.id,
+            data: record.data,
+        }))
+    }
+
     /// The record of an index.
     fn record(&self, index: u32) -> Result<Record, Refusal> {
         match self.records.get(index as usize) {
@@ -315,7 +328,7 @@ impl Database {
 }
 
 /// The first ID behind a seed that no record has; 1 follows on the greatest.
-fn fresh_id(records: &[Record], seed: u32) -> u32 {
+pub(crate) fn fresh_id(records: &[Record], seed: u32) -> u32 {
     let mut id = seed;
     for _ in 0..=records.len() {
         id = next_id(id);
@@ -327,7 +340,7 @@ fn fresh_id(records: &[Record], seed: u32) -> u32 {
 }
 
 /// Whether a record has an ID.
-fn has_id(records: &[Record], id: u32) -> bool {
+pub(crate) fn has_id(records: &[Record], id: u32) -> bool {
     for record in records {
         if record.id == id {
             return true;
@@ -337,14 +350,6 @@ fn has_id(records: &[Record], id: u32) -> bool {
 }
 
 /// The ID behind another; 1 follows on the greatest.
-pub(crate) fn next_id(id: u32) -> u32 {
+fn next_id(id: u32) -> u32 {
     if id < GREATEST_ID { id + 1 } else { 1 }
-}
-
-fn info_of(record: Record) -> Reply {
-    Reply::Record(RecordInfo {
-        attributes: record.attributes,
-        id: record.id,
-        data: record.data,
-    })
 }

@@ -53,26 +53,17 @@ impl Database {
     ) -> Result<Reply, Refusal> {
         match call {
             ResourceCall::New { kind, id, size, .. } => {
-                self.check_writable()?;
-                let name = self.name_for_data(alloc, RESOURCE_LENGTH, *size, before, reply)?;
-                heap.make(alloc, name, 0, *size, DATA_OWNER)?;
-                let index = self.list_resource(*kind, *id, name)?;
-                Ok(Reply::Made { index, name })
+                self.new_resource(alloc, heap, (*kind, *id), *size, before, reply)
             }
             ResourceCall::Attach { kind, id, name, .. } => {
-                self.check_writable()?;
-                self.take_in(alloc, heap, RESOURCE_LENGTH, *name, before, reply)?;
-                Ok(Reply::Number(self.list_resource(*kind, *id, *name)?))
+                self.attach_resource(alloc, heap, (*kind, *id), *name, before, reply)
             }
             ResourceCall::Detach { index, owner, .. } => self.detach_resource(heap, *index, *owner),
             ResourceCall::Remove(_, index) => self.remove_resource(heap, *index),
             ResourceCall::Resize { index, size, .. } => {
-                let name = self.written_resource(*index)?.data;
-                heap.set_length(name, *size, before)?;
-                self.count_change();
-                Ok(Reply::Done)
+                self.resize_resource(heap, *index, *size, before)
             }
-            ResourceCall::Info(_, index) => Ok(info_of(self.resource(*index)?)),
+            ResourceCall::Info(_, index) => self.resource_info(*index),
             ResourceCall::SetInfo {
                 index,
                 kind,
@@ -85,8 +76,40 @@ impl Database {
         }
     }
 
+    /// A resource of a type and an ID, whose data is zeros.
+    fn new_resource(
+        &mut self,
+        alloc: Global,
+        heap: &mut PlainHeap,
+        key: (u32, u16),
+        size: u32,
+        before: &Image,
+        reply: &Reply,
+    ) -> Result<Reply, Refusal> {
+        self.check_writable()?;
+        let name = self.name_for_data(alloc, RESOURCE_LENGTH, size, before, reply)?;
+        heap.make(alloc, name, 0, size, DATA_OWNER)?;
+        let index = self.list_resource(key, name)?;
+        Ok(Reply::Made { index, name })
+    }
+
+    /// A chunk becomes the data of a new resource.
+    fn attach_resource(
+        &mut self,
+        alloc: Global,
+        heap: &mut PlainHeap,
+        key: (u32, u16),
+        name: Name,
+        before: &Image,
+        reply: &Reply,
+    ) -> Result<Reply, Refusal> {
+        self.check_writable()?;
+        self.take_in(alloc, heap, RESOURCE_LENGTH, name, before, reply)?;
+        Ok(Reply::Number(self.list_resource(key, name)?))
+    }
+
     /// A resource with this data comes behind all others, at the index that is answered.
-    fn list_resource(&mut self, kind: u32, id: u16, data: Name) -> Result<u32, Refusal> {
+    fn list_resource(&mut self, (kind, id): (u32, u16), data: Name) -> Result<u32, Refusal> {
         let index = u32::try_from(self.resources.len()).unwrap_or(u32::MAX);
         self.count_change();
         match self.resources.push(Resource { kind, id, data }) {
@@ -114,6 +137,20 @@ impl Database {
         let name = self.written_resource(index)?.data;
         heap.free_all(&[name])?;
         self.drop_entry(index);
+        Ok(Reply::Done)
+    }
+
+    /// Its data has another length.
+    fn resize_resource(
+        &mut self,
+        heap: &mut PlainHeap,
+        index: u32,
+        size: u32,
+        before: &Image,
+    ) -> Result<Reply, Refusal> {
+        let data = self.written_resource(index)?.data;
+        heap.set_length(data, size, before)?;
+        self.count_change();
         Ok(Reply::Done)
     }
 
@@ -154,6 +191,15 @@ impl Database {
         Err(Refusal::ResourceNotFound)
     }
 
+    fn resource_info(&self, index: u32) -> Result<Reply, Refusal> {
+        let resource = self.resource(index)?;
+        Ok(Reply::Resource(ResourceInfo {
+            kind: resource.kind,
+            id: resource.id,
+            data: resource.data,
+        }))
+    }
+
     /// The resource of an index.
     fn resource(&self, index: u32) -> Result<Resource, Refusal> {
         match self.resources.get(index as usize) {
@@ -167,12 +213,4 @@ impl Database {
         self.check_writable()?;
         self.resource(index)
     }
-}
-
-fn info_of(resource: Resource) -> Reply {
-    Reply::Resource(ResourceInfo {
-        kind: resource.kind,
-        id: resource.id,
-        data: resource.data,
-    })
 }

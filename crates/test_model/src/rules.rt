@@ -31,7 +31,7 @@ pub fn broken_rule(
     before: &Image,
     after: &Image,
 ) -> Option<Rule> {
-    if before.bytes.len() != after.bytes.len() || before.bytes.get(..16) != after.bytes.get(..16) {
+    if !has_same_frame(before, after) || before.directory() != after.directory() {
         return Some(Rule::Frame);
     }
     if matches!(call, MemoryCall::Compact) && !after.is_packed() {
@@ -51,13 +51,16 @@ pub fn broken_store_rule(
     if let Call::Memory(call) = call {
         return broken_rule(call, reply, before, after);
     }
-    let has_directed = before.directory().is_none() && is_created(call, reply);
-    let is_kept = before.bytes.get(..12) == after.bytes.get(..12)
-        && (before.directory() == after.directory() || has_directed);
-    if before.bytes.len() != after.bytes.len() || !is_kept {
+    let may_direct = before.directory().is_none() && is_created(call, reply);
+    if !has_same_frame(before, after) || !may_direct && before.directory() != after.directory() {
         return Some(Rule::Frame);
     }
     broken_in_area(asks_in_store(call), Moves::Anything, reply, before, after)
+}
+
+/// Whether two images have the same length, and the same bytes in front of the directory word.
+fn has_same_frame(before: &Image, after: &Image) -> bool {
+    before.bytes.len() == after.bytes.len() && before.bytes.get(..12) == after.bytes.get(..12)
 }
 
 /// Whether a call has made a database.

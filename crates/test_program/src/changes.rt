@@ -5,7 +5,7 @@ use rand::RngExt;
 use rand_pcg::Pcg32;
 use std::alloc::Global;
 use std::test::Fail;
-use test_model::Image;
+use test_model::{Image, Piece};
 
 /// Where things stand in an image.
 #[derive(Drop)]
@@ -21,23 +21,27 @@ pub(crate) struct Parts {
 
 impl Parts {
     pub(crate) fn of(alloc: Global, bytes: &[u8]) -> Result<Parts, Fail> {
-        let image = Image::decode(alloc, bytes)?;
-        let (mut places, mut lists) = (Vec::new(alloc), Vec::new(alloc));
-        for piece in &image.pieces {
-            let place = piece.place.0 as usize;
-            places.push(place)?;
-            if let Some(live) = piece.live
-                && live.owner == 0
-            {
-                lists.push((place, live.bytes.len()))?;
-            }
+        let mut parts = Parts {
+            slots: slots_of(alloc, bytes)?,
+            places: Vec::new(alloc),
+            lists: Vec::new(alloc),
+        };
+        for piece in &Image::decode(alloc, bytes)?.pieces {
+            parts.add(piece)?;
         }
-        let slots = slots_of(alloc, bytes)?;
-        Ok(Parts {
-            slots,
-            places,
-            lists,
-        })
+        Ok(parts)
+    }
+
+    /// Adds a chunk.
+    fn add(&mut self, piece: &Piece) -> Result<(), Fail> {
+        let place = piece.place.0 as usize;
+        self.places.push(place)?;
+        if let Some(live) = piece.live
+            && live.owner == 0
+        {
+            self.lists.push((place, live.bytes.len()))?;
+        }
+        Ok(())
     }
 }
 

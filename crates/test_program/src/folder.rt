@@ -75,11 +75,16 @@ fn show_file<R: Files + Print + AllocGlobal>(rt: &R, name: &str) -> Result<(), F
     }
     let bytes = fs::read(rt, name)?;
     if !is_as_it_was(rt, name, bytes.as_slice())? {
-        println!(rt; "{name}, {} bytes:", bytes.len())?;
-        show_rows(rt, bytes.as_slice())?;
+        show_bytes(rt, name, bytes.as_slice())?;
         fs::remove_file(rt, name)?;
     }
     Ok(())
+}
+
+/// Shows what a file holds.
+fn show_bytes<R: Print + AllocGlobal>(rt: &R, name: &str, bytes: &[u8]) -> Result<(), Fail> {
+    println!(rt; "{name}, {} bytes:", bytes.len())?;
+    show_rows(rt, bytes)
 }
 
 /// Whether `fill` writes a file of this name with these bytes.

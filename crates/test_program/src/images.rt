@@ -5,7 +5,7 @@ use crate::changes::{Parts, change, drawn};
 use rand_pcg::Pcg32;
 use std::alloc::Global;
 use std::test::Fail;
-use test_beside::{Beside, MIXED, Verdict, agreed_verdict, blank_image, image_of, store_of};
+use test_beside::{Beside, MIXED, Verdict, agreed_verdict, blank_image, store_of};
 use test_images::{DATABASE, TWO_DATABASES, bytes_of};
 
 /// How many images come of each store by changes.
@@ -30,14 +30,8 @@ fn any_store(alloc: Global, seed: u64) -> Result<Vec<u8>, Fail> {
 fn drawn_store(alloc: Global, seed: u64) -> Result<Vec<u8>, Fail> {
     let mut random = Pcg32::new(seed, 3);
     let image = blank_image(alloc, 1024, 20)?;
-    let mut store = store_of(alloc, &image)?;
-    let mut beside = Beside::new(alloc, image)?;
-    for number in 0..DRAWN_CALLS {
-        let call = beside.any_call(&mut random, alloc)?;
-        let spot = format!(in alloc; "call {number} for store {seed}")?;
-        beside.call_on(alloc, &mut store, spot.as_str(), &call)?;
-    }
-    image_of(alloc, &store)
+    let spot = format!(in alloc; "calls for store {seed}")?;
+    do_calls(alloc, &mut random, image, DRAWN_CALLS, spot.as_str())
 }
 
 /// An image with one to three changes.
@@ -49,15 +43,23 @@ fn changed(random: &mut Pcg32, image: &Vec<u8>, parts: &Parts) -> Result<Vec<u8>
     Ok(bytes)
 }
 
-/// Does calls on an accepted image, on the store and on the plain model beside it.
-fn do_calls(alloc: Global, random: &mut Pcg32, image: Vec<u8>, spot: &str) -> Result<(), Fail> {
+/// Does so many calls on an accepted image, on the store and on the plain model beside it, and answers the image that
+/// they leave.
+fn do_calls(
+    alloc: Global,
+    random: &mut Pcg32,
+    image: Vec<u8>,
+    calls: u32,
+    spot: &str,
+) -> Result<Vec<u8>, Fail> {
     let mut store = store_of(alloc, &image)?;
     let mut beside = Beside::new(alloc, image)?;
-    for _ in 0..CALLS {
+    for _ in 0..calls {
         let call = beside.any_call(random, alloc)?;
         beside.call_on(alloc, &mut store, spot, &call)?;
     }
-    beside.check_meant(alloc, store.into_region().as_slice())
+    beside.check_meant(alloc, store.into_region().as_slice())?;
+    Ok(beside.image)
 }
 
 /// How many images were no heap, no store, and accepted.
@@ -85,22 +87,22 @@ fn check_store(alloc: Global, seed: u64, verdicts: &mut Verdicts) -> Result<(), 
     for number in 0..IMAGES {
         let mut random = Pcg32::new(seed, number);
         let bytes = changed(&mut random, &image, &parts)?;
-        let spot = format!(in alloc; "image {number} of store {seed}")?;
-        verdicts.add(check_image(alloc, &mut random, bytes, spot.as_str())?);
+        verdicts.add(check_image(alloc, &mut random, bytes, (number, seed))?);
     }
     Ok(())
 }
 
-/// Checks an image, and answers what it is.
+/// Checks an image of a number that comes of a store, and answers what it is.
 fn check_image(
     alloc: Global,
     random: &mut Pcg32,
     bytes: Vec<u8>,
-    spot: &str,
+    (number, seed): (u64, u64),
 ) -> Result<Verdict, Fail> {
-    let verdict = agreed_verdict(alloc, spot, &bytes)?;
+    let spot = format!(in alloc; "image {number} of store {seed}")?;
+    let verdict = agreed_verdict(alloc, spot.as_str(), &bytes)?;
     if verdict == Verdict::Accepted {
-        do_calls(alloc, random, bytes, spot)?;
+        do_calls(alloc, random, bytes, CALLS, spot.as_str())?;
     }
     Ok(verdict)
 }

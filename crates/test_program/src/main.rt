@@ -23,6 +23,7 @@ mod runs;
 use images::check_stores;
 use runs::show_runs;
 use std::env;
+use std::rt::{Env, Files};
 use std::test::Fail;
 
 /// How many stores there are where no word says so.
@@ -30,12 +31,20 @@ const STORES: u64 = 40;
 
 fn main(rt: HostRuntime) -> Result<(), Fail> {
     let words = env::args(&rt)?.skip(1).collect::<Vec<_>>(rt.alloc())?;
-    match words.as_slice() {
+    show(&rt, &words)
+}
+
+/// Shows what the words behind the program's name ask for.
+fn show<R: Files + Env + Print + AllocGlobal + Clone + Drop>(
+    rt: &R,
+    words: &[String],
+) -> Result<(), Fail> {
+    match words {
         [] => {
-            show_runs(&rt)?;
-            show_verdicts(&rt, STORES)
+            show_runs(rt)?;
+            show_verdicts(rt, STORES)
         }
-        [stores] => show_verdicts(&rt, stores.parse()?),
+        [stores] => show_verdicts(rt, stores.parse()?),
         _ => Err(Fail::new("usage: test_program [STORES]")),
     }
 }

@@ -28,17 +28,30 @@ fn show<R: Files + Print + AllocGlobal + Clone + Drop>(
 ) -> Result<(), Fail> {
     fill(rt)?;
     println!(rt; "$ palmheap {line}")?;
+    show_answer(rt, line, output)?;
+    show_changes(rt)?;
+    println!(rt; "")?;
+    Ok(())
+}
+
+/// Does a run, and shows what it prints, its status and its standard error.
+fn show_answer<R: Files + Print + AllocGlobal>(
+    rt: &R,
+    line: &str,
+    output: Output,
+) -> Result<(), Fail> {
     let (printed, complained) = (Kept::new(rt.alloc()), Kept::new(rt.alloc()));
     let status = run_recorded(rt, line, output, &printed, &complained)?;
     rt.write_all(printed.into_bytes().as_slice())?;
     println!(rt; "status {}", status.code())?;
-    let complained = complained.into_bytes();
+    show_complaint(rt, complained.into_bytes().as_slice())
+}
+
+fn show_complaint<R: Print>(rt: &R, complained: &[u8]) -> Result<(), Fail> {
     if !complained.is_empty() {
         println!(rt; "standard error:")?;
-        rt.write_all(complained.as_slice())?;
+        rt.write_all(complained)?;
     }
-    show_changes(rt)?;
-    println!(rt; "")?;
     Ok(())
 }
 

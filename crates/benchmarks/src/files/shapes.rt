@@ -15,7 +15,7 @@ pub(crate) enum Shape {
 }
 
 /// The shapes, by what is printed of the import and the export of such a file.
-pub(crate) const SHAPES: [(&str, &str, Shape); 3] = [
+pub(crate) static SHAPES: [(&str, &str, Shape); 3] = [
     ("import", "export", Shape::Rising),
     ("import_equal_ids", "export_equal_ids", Shape::EqualIds),
     ("import_one_start", "export_one_start", Shape::OneStart),

@@ -59,16 +59,28 @@ impl Store {
     pub(crate) fn image(self, alloc: Global) -> Result<Region, AllocError> {
         let slots = self.data_chunks().wrapping_add(self.first_data());
         let mut chunks = Chunks::new(alloc, slots);
+        self.add_lists(alloc, &mut chunks)?;
+        self.add_data(alloc, &mut chunks)?;
+        chunks.into_region(alloc, self.size)
+    }
+
+    /// Adds the directory and the headers.
+    fn add_lists(self, alloc: Global, chunks: &mut Chunks) -> Result<(), AllocError> {
         chunks.add(MANAGERS_OWNER, &self.directory(alloc)?)?;
         for database in 0..self.databases {
             chunks.add(MANAGERS_OWNER, &self.database(alloc, database)?)?;
         }
+        Ok(())
+    }
+
+    /// Adds the chunks for data.
+    fn add_data(self, alloc: Global, chunks: &mut Chunks) -> Result<(), AllocError> {
         let room = self.size.saturating_sub(chunks.end()) / self.data_chunks().max(1) / 8 * 8;
         let body = vec![in alloc; 0u8; (room as usize).saturating_sub(CHUNK_HEADER)]?;
         for _ in 0..self.data_chunks() {
             chunks.add(DATA_OWNER, &body)?;
         }
-        chunks.into_region(alloc, self.size)
+        Ok(())
     }
 
     /// How many chunks for data there are.
