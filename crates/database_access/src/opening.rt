@@ -121,7 +121,7 @@ pub fn count_entries(store: &Store, db: Db, kind: EntryKind, access: Access) -> 
     ensures refused { IfErr result
         (FirstBrings (opening_checks store.now.bytes db kind access [])) }
 {
-    Ok(open_database(store, db, kind, access)?.entry_count())
+    Ok(open_entries(store, db, kind, access)?.entry_count)
 }
 
 /// An entry, and the chunk of its database.

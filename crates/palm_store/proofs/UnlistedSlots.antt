@@ -95,9 +95,6 @@ directory_slid old mid directory at stop h some is inside stop_is p =
           ∙ ap (λ (k : ℕ). length (overwritten (bytes_under old directory) at (slice_range (bytes_under old directory) (at + 4) k))) stop_is ∙ length-slid (bytes_under old directory) at 4 inside;
     }
 
-pub slid_movable : (image : List ℕ) (name long : ℕ) → Slid image name long → IsMovable image name
-slid_movable image name long s = (let loose = s.loose in record { live = s.live; is_held = s.there; movable = λ e. omega arith })
-
 -- how long the directory is
 pub directory_long : (image body : List ℕ) (name : ℕ) → name ≡ directory_of image → body ≡ bytes_under image name → length body ≡ length (directory_bytes image)
 unfolding directory_bytes

@@ -1,2 +1,2 @@
--- Where the chunk of a database stands, for the crates of records and of resources.
+-- Where the chunk of a database stands, for the crates above.
 pub use Rattle.mem_manager.specs.Lookup.{StandsAs}

@@ -1,6 +1,6 @@
 //! Scripts by their text: the spellings of each kind at their limits, each command's line, line and
-//! word numbers, and the order of faults; and memory that is refused. The expected values are those of
-//! the format's own words.
+//! word numbers, and the order of faults; and memory that is refused. What a line reads as is its `Debug`
+//! text, in which a call has the names and the order of its fields.
 
 use script_lines::{Line, LineFault, Script, ScriptFault, parse, parse_from};
 use std::alloc::{AllocError, Global};

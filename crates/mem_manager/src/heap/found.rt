@@ -1,5 +1,6 @@
 //! Calls for the store above on a movable chunk that it has found. Where the chunk stands is looked up once, and handed
-//! to each call: that is of use until the chunk moves, is freed, or gets another length, owner or lock.
+//! to each call beside its name, by which contracts speak: that is of use until the chunk moves, is freed, or gets
+//! another length, owner or lock.
 
 ghost use Rattle.std.specs.Prelude.{◌≡◌, ◌≢◌, ◌≤◌, ◌<◌, ◌+◌, length, slice_range, IfErr, OnOk, OnErr};
 ghost use Rattle.heap_model.specs.Heap.{directory_of};

@@ -7,7 +7,7 @@ ghost use Rattle.heap_model.specs.Meaning.{LiveChunk};
 ghost use Rattle.heap_model.specs.Reading.{held};
 ghost use Rattle.heap_model.specs.Store.{bytes_under, owner_under};
 ghost use Rattle.heap_check.specs.Summary.{Summarizes};
-ghost use Rattle.heap_place.specs.Found.{IsOne};
+ghost use Rattle.heap_place.specs.Found.{IsFound, IsOne};
 ghost use Rattle.mem_manager.specs.Lookup.{IsMovable, StandsAs};
 
 use crate::heap::Heap;
@@ -50,6 +50,7 @@ impl Heap {
     /// the heap is.
     #[inline(always)]
     pub fn sys_chunk(&self, name: Name) -> Option<Found>
+        ensures is { IfSome result (IsFound self.now.bytes name.0) }
         ensures owner { IfSome result (λ found. found.owner ≡ owner_under self.now.bytes name.0) }
         ensures lock { IfSome result (λ found.
             (live : LiveChunk) → held self.now.bytes name.0 ≡ Some live → found.lock ≡ live.lock) }

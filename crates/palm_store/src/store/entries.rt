@@ -44,8 +44,8 @@ impl Store {
         Ok(DatabaseView::of(header))
     }
 
-    /// The chunk of the database of a number, as it stands, for the calls below: that is of use until a call makes,
-    /// frees or resizes a chunk, and behind those that promise that it stands.
+    /// The chunk of the database of a number, as it stands, for the calls below. It is of use until a call changes the
+    /// store, and behind those changes that promise that it stands (`stands`).
     ///
     /// Refused: `NoSuchDatabase`.
     #[inline(always)]

@@ -9,7 +9,7 @@ use Rattle.heap_model.specs.Refusals.{FirstBrings}
 use Rattle.heap_model.specs.declared.refusal.Refusal.{Refusal}
 use Rattle.heap_model.specs.Store.{bytes_under}
 use Rattle.palm_store.proofs.ListedSlots.{the_directory, directory_loose}
-use Rattle.palm_store.proofs.UnlistedSlots.{never_refused, shrinks, unlisted, directory_slid, slid_movable, directory_long}
+use Rattle.palm_store.proofs.UnlistedSlots.{never_refused, shrinks, unlisted, directory_slid, directory_long}
 use Rattle.palm_store.proofs.databases.deleting.unlist.Goals as goal
 
 pub sys_find-chunk-requires : goal.sys_find-chunk-requires
