@@ -27,8 +27,7 @@ use Rattle.laws_store.proofs.NewDatabases.{managers_loose}
 use Rattle.laws_store.proofs.Owners.{directory_owner}
 use Rattle.laws_store.proofs.ChangeSteps.{drop_steps}
 use Rattle.palm_store.specs.Databases.{HasNumber, IsListedAt}
-use Rattle.mem_manager.specs.Lookup.{IsMovable}
-use Rattle.palm_store.proofs.Numbers.{stands, has_number_is, in_store, length-listed, number_slot, number_movable, no_directory}
+use Rattle.palm_store.proofs.Numbers.{stands, has_number_is, in_store, length-listed, number_slot, no_directory}
 use Rattle.palm_store.specs.Databases.{named_under}
 use Rattle.palm_store.specs.Directory.{Unlists}
 use Rattle.palm_store.proofs.Maps.{kept, is_gone, owned}

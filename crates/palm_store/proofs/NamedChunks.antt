@@ -28,7 +28,7 @@ use Rattle.laws_store.proofs.Numbered.{number_some}
 use Rattle.laws_store.proofs.Shapes.{offset_below, spelled_shape}
 use Rattle.mem_manager.specs.Lookup.{IsMovable}
 use Rattle.palm_store.specs.Databases.{HasNumber}
-use Rattle.palm_store.proofs.Numbers.{stands, listed_at, number_slot, number_movable}
+use Rattle.palm_store.proofs.Numbers.{stands, listed_at, number_slot}
 use Rattle.palm_store.specs.Databases.{named_under}
 use Rattle.palm_store.proofs.DataChunks.{for_data, data_movable}
 use Rattle.palm_store.proofs.Deletion.{named_most}

@@ -12,7 +12,6 @@ use Rattle.heap_model.specs.Store.{bytes_under, directory_bytes}
 use Rattle.heap_model.specs.Refusals.{FirstBrings}
 use Rattle.heap_model.specs.MemorySteps.{growth_checks}
 use Rattle.heap_model.specs.declared.refusal.Refusal.{Refusal}
-use Rattle.mem_manager.specs.Lookup.{IsMovable}
 use Rattle.laws_store.proofs.NewDatabases.{managers_loose}
 use Rattle.laws_store.proofs.DroppedDatabases.{closed_up}
 use Rattle.palm_store.specs.Directory.{Unlists}

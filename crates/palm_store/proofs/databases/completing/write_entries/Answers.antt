@@ -4,9 +4,8 @@ use Rattle.std.proofs.lemmas.List.{get_or-map, length-map}
 use Rattle.heap_model.specs.declared.names.Name.{Name}
 use Rattle.db_format.specs.EitherEntry.{entry_of}
 use Rattle.laws_store.proofs.CallSteps.{kept_then}
-use Rattle.database_edits.proofs.Chunks.{is_movable}
 use Rattle.palm_store.specs.WholeDatabases.{numbers_in}
-use Rattle.palm_store.proofs.WholeBytes.{body_now, writes_none, entry_at, writes_inside, writes_more, writes_all, writes_fits}
+use Rattle.palm_store.proofs.WholeBytes.{writes_none, entry_at, writes_inside, writes_more, writes_all, writes_fits}
 use Rattle.palm_store.proofs.databases.completing.write_entries.Goals as goal
 
 pub loop-index-init : goal.loop-index-init

@@ -11,7 +11,6 @@ use Rattle.laws_store.proofs.CallSteps.{refused}
 use Rattle.palm_store.proofs.BlockCalls.{known_number}
 use Rattle.palm_store.proofs.MemoryCalls.{viewed, ask_viewed}
 use Rattle.palm_store.proofs.Creation.{not_taken}
-use Rattle.palm_store.proofs.Numbers.{number_movable}
 use Rattle.palm_store.proofs.HeaderInfos.{with_info, set_spelled, set_step}
 use Rattle.palm_store.proofs.KnownIds.{nothing_known}
 use Rattle.palm_store.proofs.store.Store.set_database_info.Goals as goal
