@@ -30,7 +30,7 @@ impl Heap {
         self.space.movable(name)
     }
 
-    /// Its bytes, as they lie in the image.
+    /// The bytes of a movable chunk that was found, as they lie in the image.
     #[inline(always)]
     pub fn sys_body_found(&self, name: Name, found: Found) -> &[u8]
         requires { StandsAs self.now.bytes name.0 found }
@@ -39,7 +39,7 @@ impl Heap {
         self.body_of(found)
     }
 
-    /// Writes bytes over its own, from `at` within it on.
+    /// Writes bytes over those of a movable chunk that was found, from `at` within it on.
     #[inline(always)]
     pub fn sys_write(&mut self, name: Name, found: Found, at: u32, bytes: &[u8])
         requires stands { StandsAs self.old.bytes name.0 found }
@@ -53,8 +53,8 @@ impl Heap {
         self.space.write(found, at, bytes);
     }
 
-    /// Of `count` of its bytes, from `at` within it on, changes each that stands behind `skip` others, or `step`
-    /// further, or as often that much.
+    /// Of `count` bytes of a movable chunk that was found, from `at` within it on, changes each that stands behind `skip`
+    /// others, or `step` further, or as often that much.
     #[inline(always)]
     pub fn sys_change_every<C: ByteChange>(
         &mut self,
@@ -80,7 +80,8 @@ impl Heap {
             .change_every(found, at, count, skip, step, change);
     }
 
-    /// Copies `count` of its bytes from `from` within it to `to` within it; the ranges may overlap.
+    /// Copies `count` bytes of a movable chunk that was found from `from` within it to `to` within it; the ranges may
+    /// overlap.
     #[inline(always)]
     pub fn sys_slide(&mut self, name: Name, found: Found, from: u32, to: u32, count: u32)
         requires stands { StandsAs self.old.bytes name.0 found }
@@ -95,8 +96,8 @@ impl Heap {
         self.space.slide_within(found, from, to, count);
     }
 
-    /// Gives it `size` bytes: its first ones, or all of them and zeros behind. What moves is as with `resize`; where
-    /// it stands then has to be found anew.
+    /// Gives a movable chunk that was found, the directory too, `size` bytes: its first ones, or all of them and zeros
+    /// behind. What moves is as with `resize`; where it stands then has to be found anew.
     ///
     /// Refused: `ChunkLocked`, where it is locked and would have to move; `NotEnoughSpace`, where it is not
     /// locked and no stretch has the room. Then nothing has changed.
@@ -116,7 +117,7 @@ impl Heap {
         resize_found(&mut self.space, found, size)
     }
 
-    /// Frees it; the directory is never freed.
+    /// Frees a movable chunk that was found, any but the directory.
     #[inline(always)]
     pub fn sys_free(&mut self, name: Name, found: Found)
         requires stands { StandsAs self.old.bytes name.0 found }
