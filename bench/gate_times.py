@@ -1,5 +1,5 @@
 #!/usr/bin/env python3
-"""Where the processor time of the gate goes: runs `rt ci`, and prints a table by crate.
+"""Where the processor time of the gate goes: runs `rt ci --anew`, which proves all from nothing, and prints a table by crate.
 
 Every half second it reads how much processor time each check or build under `rt ci` has used. A check
 works on a crate as it is, with its tests, or with one of its must-fail edits; the crate's name and which
@@ -85,7 +85,7 @@ def main():
     spent = {}
     begun = time.monotonic()
     with open(sys.argv[1] if len(sys.argv) > 1 else os.devnull, "w") as log:
-        gate = subprocess.Popen(["rt", "ci"], cwd=ROOT, stdout=log, stderr=subprocess.STDOUT)
+        gate = subprocess.Popen(["rt", "ci", "--anew"], cwd=ROOT, stdout=log, stderr=subprocess.STDOUT)
         watch(gate, spent)
     used = resource.getrusage(resource.RUSAGE_CHILDREN)
     print_table(spent)
