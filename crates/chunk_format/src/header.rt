@@ -250,7 +250,7 @@ fn live_header(at: u32, length: u32, second: u32) -> Header
 
 /// What the header of a live chunk says but its slot: the length of its body in bytes, its lock field, 15 where it
 /// is fixed, and its owner.
-#[derive(Clone, Copy, Debug, PartialEq, Eq)]
+#[derive(Clone, Copy)]
 pub struct LiveFields {
     pub length: u32,
     pub lock: u8,

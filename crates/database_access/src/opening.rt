@@ -14,14 +14,14 @@ use heap_model::{Db, Entry, Refusal};
 use palm_store::{Found, Store};
 
 /// The entries that a call is on.
-#[derive(Clone, Copy, Debug, PartialEq, Eq)]
+#[derive(Clone, Copy)]
 pub enum EntryKind {
     Records,
     Resources,
 }
 
 /// How a call uses a database. One that is read-only may not be written.
-#[derive(Clone, Copy, Debug, PartialEq, Eq)]
+#[derive(Clone, Copy)]
 pub enum Access {
     Read,
     Write,

@@ -36,44 +36,50 @@ spelled_is d = refl
 read_is : (d : Database ℕ) (body : List ℕ) (from : ℕ) (x : Entry ℕ) → IsSpelled d body → from < length d.entries → x ≡ entry_in body from → x ≡ get_or d.entries from (a_record 0 0 0)
 read_is d body from x s inside is = is ∙ ap (λ (xs : List ℕ). entry_in xs from) s.bytes_are ∙ entry_read d from (a_record 0 0 0) s.fits inside
 
-back : (d : Database ℕ) (body : List ℕ) (from to : ℕ) (x : Entry ℕ) (resources : Bool) → IsSpelled d body → from + 1 < to → to ≤ length d.entries → x ≡ entry_in body from → resources ≡ has_resources d.header.attributes
-    → overwritten (overwritten body (entry_offset resources from) (slice_range body (entry_offset resources (from + 1)) (entry_offset resources to))) (entry_offset resources (to - 1)) (entry_bytes x) ≡ spelled (with_entries d (moved d.entries from to))
+-- where the database's entries are cut in pieces
+back_cut : (d : Database ℕ) (body : List ℕ) (from to : ℕ) (x : Entry ℕ) (resources : Bool) (before past behind : List (Entry ℕ)) → IsSpelled d body → from + 1 < to → to ≤ length d.entries → resources ≡ has_resources d.header.attributes
+    → d.entries ≡ before ++ x ∷ (past ++ behind) → from ≡ length before → to ≡ length before + 1 + length past → overwritten (overwritten body (entry_offset resources from) (slice_range body (entry_offset resources (from + 1)) (entry_offset resources to))) (entry_offset resources (to - 1)) (entry_bytes x) ≡ spelled (with_entries d (moved d.entries from to))
+back_cut d body from to x resources before past behind s less inside kind pieces at end =
+    let header : List ℕ = header_bytes d in
+    let some : 0 < length past = omega (arith, at, end, less) in
+    let order : moved d.entries from to ≡ before ++ (past ++ x ∷ behind) = ap (λ (es : List (Entry ℕ)). moved es from to) pieces ∙ moved_back before x past behind from to at (omega (arith, at, end)) some in
+    let fits : All (EntryFits resources) (before ++ x ∷ (past ++ behind)) = subst (λ (es : List (Entry ℕ)). All (EntryFits resources) es) pieces (subst (λ (r : Bool). All (EntryFits r) d.entries) (sym kind) s.fits.entries) in
+    let whole : body ≡ header ++ bytes_of (before ++ x ∷ (past ++ behind)) = s.bytes_are ∙ spelled_is d ∙ ap (λ (es : List (Entry ℕ)). header ++ bytes_of es) pieces in
+    let last : to - 1 ≡ length before + length past = omega (arith, end) in
+    back_same resources x body (header ++ bytes_of (before ++ x ∷ (past ++ behind))) from (length before) to (length before + 1 + length past) (to - 1) (length before + length past) whole at end last
+    ∙ crossed_back resources header before past behind x (length-header_bytes d s.fits.name) fits
+    ∙ ap (λ (es : List (Entry ℕ)). header ++ bytes_of es) (sym order)
+    ∙ sym (spelled_with d (moved d.entries from to) (length-moved d.entries from to (omega arith) inside)) where
+      back_same : (resources : Bool) (x : Entry ℕ) (old new : List ℕ) (a b c d e f : ℕ) → old ≡ new → a ≡ b → c ≡ d → e ≡ f
+          → overwritten (overwritten old (entry_offset resources a) (slice_range old (entry_offset resources (a + 1)) (entry_offset resources c))) (entry_offset resources e) (entry_bytes x)
+          ≡ overwritten (overwritten new (entry_offset resources b) (slice_range new (entry_offset resources (b + 1)) (entry_offset resources d))) (entry_offset resources f) (entry_bytes x)
+      back_same resources x old new a b c d e f is from_is to_is last_is = cc
+
+back : (d : Database ℕ) (body : List ℕ) (from to : ℕ) (x : Entry ℕ) (resources : Bool) → IsSpelled d body → from + 1 < to → to ≤ length d.entries → x ≡ entry_in body from → resources ≡ has_resources d.header.attributes → overwritten (overwritten body (entry_offset resources from) (slice_range body (entry_offset resources (from + 1)) (entry_offset resources to))) (entry_offset resources (to - 1)) (entry_bytes x) ≡ spelled (with_entries d (moved d.entries from to))
 back d body from to x resources s less inside is kind =
     let p = cut_back d.entries x (a_record 0 0 0) from to (read_is d body from x s (omega arith) is) (omega arith) inside in
-    let at = p.at in
-    let end = p.end in
-    let header : List ℕ = header_bytes d in
-    let some : 0 < length p.past = omega (arith, at, end, less) in
-    let order : moved d.entries from to ≡ p.front ++ (p.past ++ x ∷ p.back) = ap (λ (es : List (Entry ℕ)). moved es from to) p.pieces ∙ moved_back p.front x p.past p.back from to at (omega (arith, at, end)) some in
-    let fits : All (EntryFits resources) (p.front ++ x ∷ (p.past ++ p.back)) = subst (λ (es : List (Entry ℕ)). All (EntryFits resources) es) p.pieces (subst (λ (r : Bool). All (EntryFits r) d.entries) (sym kind) s.fits.entries) in
-    let whole : body ≡ header ++ bytes_of (p.front ++ x ∷ (p.past ++ p.back)) = s.bytes_are ∙ spelled_is d ∙ ap (λ (es : List (Entry ℕ)). header ++ bytes_of es) p.pieces in
-    let last : to - 1 ≡ length p.front + length p.past = omega (arith, end) in
-    ap (λ (k : ℕ). overwritten (overwritten body (entry_offset resources from) (slice_range body (entry_offset resources (from + 1)) (entry_offset resources to))) (entry_offset resources k) (entry_bytes x)) last
-    ∙ ap (λ (k : ℕ). overwritten (overwritten body (entry_offset resources from) (slice_range body (entry_offset resources (from + 1)) (entry_offset resources k))) (entry_offset resources (length p.front + length p.past)) (entry_bytes x)) end
-    ∙ ap (λ (k : ℕ). overwritten (overwritten body (entry_offset resources k) (slice_range body (entry_offset resources (k + 1)) (entry_offset resources (length p.front + 1 + length p.past)))) (entry_offset resources (length p.front + length p.past)) (entry_bytes x)) at
-    ∙ ap
-    (λ (xs : List ℕ). overwritten (overwritten xs (entry_offset resources (length p.front)) (slice_range xs (entry_offset resources (length p.front + 1)) (entry_offset resources (length p.front + 1 + length p.past)))) (entry_offset resources (length p.front + length p.past)) (entry_bytes x))
-    whole
-    ∙ crossed_back resources header p.front p.past p.back x (length-header_bytes d s.fits.name) fits
-    ∙ ap (λ (es : List (Entry ℕ)). header ++ bytes_of es) (sym order)
-    ∙ sym (spelled_with d (moved d.entries from to) (length-moved d.entries from to (omega arith) inside))
+    back_cut d body from to x resources p.front p.past p.back s less inside kind p.pieces p.at p.end
 
-front : (d : Database ℕ) (body : List ℕ) (from to : ℕ) (x : Entry ℕ) (resources : Bool) → IsSpelled d body → to < from → from < length d.entries → x ≡ entry_in body from → resources ≡ has_resources d.header.attributes
-    → overwritten (overwritten body (entry_offset resources (to + 1)) (slice_range body (entry_offset resources to) (entry_offset resources from))) (entry_offset resources to) (entry_bytes x) ≡ spelled (with_entries d (moved d.entries from to))
+front_cut : (d : Database ℕ) (body : List ℕ) (from to : ℕ) (x : Entry ℕ) (resources : Bool) (before past behind : List (Entry ℕ)) → IsSpelled d body → to < from → from < length d.entries → resources ≡ has_resources d.header.attributes
+    → d.entries ≡ before ++ (past ++ x ∷ behind) → to ≡ length before → from ≡ length before + length past → overwritten (overwritten body (entry_offset resources (to + 1)) (slice_range body (entry_offset resources to) (entry_offset resources from))) (entry_offset resources to) (entry_bytes x) ≡ spelled (with_entries d (moved d.entries from to))
+front_cut d body from to x resources before past behind s less inside kind pieces at end =
+    let header : List ℕ = header_bytes d in
+    let order : moved d.entries from to ≡ before ++ x ∷ (past ++ behind) = ap (λ (es : List (Entry ℕ)). moved es from to) pieces ∙ moved_front before x past behind from to at (omega (arith, at, end)) in
+    let fits : All (EntryFits resources) (before ++ (past ++ x ∷ behind)) = subst (λ (es : List (Entry ℕ)). All (EntryFits resources) es) pieces (subst (λ (r : Bool). All (EntryFits r) d.entries) (sym kind) s.fits.entries) in
+    let whole : body ≡ header ++ bytes_of (before ++ (past ++ x ∷ behind)) = s.bytes_are ∙ spelled_is d ∙ ap (λ (es : List (Entry ℕ)). header ++ bytes_of es) pieces in
+    front_same resources x body (header ++ bytes_of (before ++ (past ++ x ∷ behind))) from (length before + length past) to (length before) whole end at
+    ∙ crossed_front resources header before past behind x (length-header_bytes d s.fits.name) fits
+    ∙ ap (λ (es : List (Entry ℕ)). header ++ bytes_of es) (sym order)
+    ∙ sym (spelled_with d (moved d.entries from to) (length-moved d.entries from to inside (omega arith))) where
+      front_same : (resources : Bool) (x : Entry ℕ) (old new : List ℕ) (a b c d : ℕ) → old ≡ new → a ≡ b → c ≡ d
+          → overwritten (overwritten old (entry_offset resources (c + 1)) (slice_range old (entry_offset resources c) (entry_offset resources a))) (entry_offset resources c) (entry_bytes x)
+          ≡ overwritten (overwritten new (entry_offset resources (d + 1)) (slice_range new (entry_offset resources d) (entry_offset resources b))) (entry_offset resources d) (entry_bytes x)
+      front_same resources x old new a b c d is from_is to_is = cc
+
+front : (d : Database ℕ) (body : List ℕ) (from to : ℕ) (x : Entry ℕ) (resources : Bool) → IsSpelled d body → to < from → from < length d.entries → x ≡ entry_in body from → resources ≡ has_resources d.header.attributes → overwritten (overwritten body (entry_offset resources (to + 1)) (slice_range body (entry_offset resources to) (entry_offset resources from))) (entry_offset resources to) (entry_bytes x) ≡ spelled (with_entries d (moved d.entries from to))
 front d body from to x resources s less inside is kind =
     let p = cut_front d.entries x (a_record 0 0 0) from to (read_is d body from x s inside is) (omega arith) inside in
-    let at = p.at in
-    let end = p.end in
-    let header : List ℕ = header_bytes d in
-    let order : moved d.entries from to ≡ p.front ++ x ∷ (p.past ++ p.back) = ap (λ (es : List (Entry ℕ)). moved es from to) p.pieces ∙ moved_front p.front x p.past p.back from to at (omega (arith, at, end)) in
-    let fits : All (EntryFits resources) (p.front ++ (p.past ++ x ∷ p.back)) = subst (λ (es : List (Entry ℕ)). All (EntryFits resources) es) p.pieces (subst (λ (r : Bool). All (EntryFits r) d.entries) (sym kind) s.fits.entries) in
-    let whole : body ≡ header ++ bytes_of (p.front ++ (p.past ++ x ∷ p.back)) = s.bytes_are ∙ spelled_is d ∙ ap (λ (es : List (Entry ℕ)). header ++ bytes_of es) p.pieces in
-    ap (λ (k : ℕ). overwritten (overwritten body (entry_offset resources (to + 1)) (slice_range body (entry_offset resources to) (entry_offset resources k))) (entry_offset resources to) (entry_bytes x)) end
-    ∙ ap (λ (k : ℕ). overwritten (overwritten body (entry_offset resources (k + 1)) (slice_range body (entry_offset resources k) (entry_offset resources (length p.front + length p.past)))) (entry_offset resources k) (entry_bytes x)) at
-    ∙ ap (λ (xs : List ℕ). overwritten (overwritten xs (entry_offset resources (length p.front + 1)) (slice_range xs (entry_offset resources (length p.front)) (entry_offset resources (length p.front + length p.past)))) (entry_offset resources (length p.front)) (entry_bytes x)) whole
-    ∙ crossed_front resources header p.front p.past p.back x (length-header_bytes d s.fits.name) fits
-    ∙ ap (λ (es : List (Entry ℕ)). header ++ bytes_of es) (sym order)
-    ∙ sym (spelled_with d (moved d.entries from to) (length-moved d.entries from to inside (omega arith)))
+    front_cut d body from to x resources p.front p.past p.back s less inside kind p.pieces p.at p.end
 
 -- ---- the chunk afterwards
 

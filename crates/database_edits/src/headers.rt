@@ -20,7 +20,7 @@ use heap_model::{Db, Name, Which};
 use mem_manager::{Found, Heap};
 
 /// What edits need of the header of a database.
-#[derive(Clone, Copy, PartialEq, Eq, Debug)]
+#[derive(Clone, Copy)]
 pub(crate) struct Heading {
     /// Whether the entries are resources, and else records.
     pub resources: bool,

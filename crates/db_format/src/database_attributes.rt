@@ -8,7 +8,7 @@ use bitflags::{Flag, Flags, bitflag_items};
 
 /// The attributes of a database (Palm OS File Format Specification, "PDB Format"). They are a set by the
 /// methods of `bitflags::Flags`, and bits that have no name here are kept.
-#[derive(Clone, Copy, PartialEq, Eq, Debug)]
+#[derive(Clone, Copy)]
 pub struct DbAttrs(pub u16);
 
 bitflag_items! {

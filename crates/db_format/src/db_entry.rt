@@ -12,7 +12,7 @@ use crate::entries::{RecordEntry, ResourceEntry};
 use crate::entry_bytes::EntryBytes;
 
 /// The entry of a record or of a resource. A database has one kind of them alone.
-#[derive(Clone, Copy, PartialEq, Eq, Debug)]
+#[derive(Clone, Copy)]
 pub enum DbEntry {
     Record(RecordEntry),
     Resource(ResourceEntry),

@@ -7,7 +7,7 @@ use crate::fields::RESOURCE_SIZE;
 use std::marker::Model;
 
 /// The bytes of an entry, of a record's or of a resource's. Contracts see them as a list.
-#[derive(Drop, Debug)]
+#[derive(Drop)]
 pub struct EntryBytes {
     bytes: [u8; 10],
     size: usize,

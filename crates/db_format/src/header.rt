@@ -16,7 +16,7 @@ use heap_model::{DbInfo, DbName};
 
 /// The header of a database (Palm OS File Format Specification, "PDB Format"), with slots where a file
 /// has offsets. Where a file's list of entries could go on it has zeros, which are no field here.
-#[derive(Clone, Copy, PartialEq, Eq, Debug)]
+#[derive(Clone, Copy)]
 pub struct DbHeader {
     pub name: NameField,
     pub attributes: u16,

@@ -10,7 +10,7 @@ use std::marker::Model;
 
 /// The name of a database in its field of 32 bytes, zeros behind it. Contracts see the name alone: 1 to
 /// 31 bytes, none of them zero.
-#[derive(Clone, Copy, PartialEq, Eq, Debug)]
+#[derive(Clone, Copy)]
 pub struct NameField {
     bytes: [u8; 32],
 }

@@ -238,7 +238,9 @@ unfolding overwritten
 padded count bytes =
     let many = length-take count bytes in
     let left : count - (0 + length (take count bytes)) ≡ count - length bytes = omega arith in
-    ap (λ (xs : List ℕ). take count bytes ++ xs) (drop-replicate (0 + length (take count bytes)) count 0 ∙ ap (λ (n : ℕ). replicate n 0) left)
+    ap (λ (xs : List ℕ). take count bytes ++ xs) (rest (0 + length (take count bytes)) (count - length bytes) left) where
+      rest : (k n : ℕ) → count - k ≡ n → drop k (replicate {A = ℕ} count 0) ≡ replicate n 0
+      rest k n e = drop-replicate k count 0 ∙ ap (λ (m : ℕ). replicate m 0) e
 
 -- what is found under a name twice is the same
 same_found : (old new : List ℕ) (found : Found) → HeapAccepted old → HeapAccepted new → held new found.name.0 ≡ held old found.name.0 → (f : IsOne old found) (g : IsOne new found) → g.live ≡ f.live

@@ -140,30 +140,24 @@ seen_stay image at name count start here size header h u s f e stay low =
 
 -- ---- the stretch is found
 
-found_back : (image : List ℕ) (at here : ℕ) (v : Chunk) (rest : List Chunk) → SpelledAll image at rest here → Spelled image at v → at < here → (back : List Chunk) × (rest ≡ v ∷ back)
-found_back image at here v [] s p low = absurd (omega (arith, s, low))
-found_back image at here v (d ∷ rest) s p low = (rest, ap (λ (x : Chunk). x ∷ rest) (Spelled-unique image at d v s.0 p))
+found_back : (image : List ℕ) (at here : ℕ) (v : Chunk) (run front rest : List Chunk) → run ≡ front ++ rest → SpelledAll image at rest here → Spelled image at v → at < here → (back : List Chunk) × (run ≡ front ++ v ∷ back)
+found_back image at here v run front [] e s p low = absurd (omega (arith, s, low))
+found_back image at here v run front (d ∷ rest) e s p low = (rest, e ∙ ap (λ (x : Chunk). front ++ x ∷ rest) (Spelled-unique image at d v s.0 p))
 
-around : (image : List ℕ) (at name count start here : ℕ) (after : List Chunk) → HeapAccepted image → IsUnlocked image at name count → (s : SeenUpTo image at start here) → at < here → chunks_of image ≡ (s.closed ++ s.run) ++ after → BeginsStaying after → IsAmongAt image at name count (record { start = start; end = here })
-around image at name count start here after h u s low chunks begins =
-    let v : Chunk = movable u.bytes 0 u.owner name in
-    let t = unlocked_there image at name count h u in
-    let parts = SpelledAll-split image (area_start image) s.closed s.run here s.spelled in
+-- the run has the chunk, with some in front of it and some behind it
+among : (image : List ℕ) (at name count start here : ℕ) (front back after : List Chunk) → (u : IsUnlocked image at name count) → (s : SeenUpTo image at start here) → SpelledAll image (area_start image + total s.closed) front at → SpelledAll image (area_start image + total s.closed) s.run here
+    → s.run ≡ front ++ movable u.bytes 0 u.owner name ∷ back → chunks_of image ≡ (s.closed ++ s.run) ++ after → BeginsStaying after → IsAmongAt image at name count (record { start = start; end = here })
+among image at name count start here front back after u s spelled whole run_is chunks begins =
     let from = s.from in
-    let low_start = s.low in
-    let front = SpelledAll-rest image (area_start image) s.closed u.before (area_start image + total s.closed) at parts.0 t.0 (omega (arith, from, low_start)) in
-    let rest = SpelledAll-rest image (area_start image + total s.closed) front.0 s.run at here front.2 parts.1 (omega (arith, low)) in
-    let back = found_back image at here v rest.0 rest.2 t.1 low in
-    let run_is : s.run ≡ front.0 ++ v ∷ back.0 = rest.1 ∙ ap (λ (cs : List Chunk). front.0 ++ cs) back.1 in
-    let there = SpelledAll-end image (area_start image + total s.closed) front.0 at front.2 in
-    let ends = SpelledAll-end image (area_start image + total s.closed) s.run here parts.1 in
+    let there = SpelledAll-end image (area_start image + total s.closed) front at spelled in
+    let ends = SpelledAll-end image (area_start image + total s.closed) s.run here whole in
     let size = ap total run_is in
     record {
       before = s.closed;
-      front = front.0;
+      front = front;
       bytes = u.bytes;
       owner = u.owner;
-      back = back.0;
+      back = back;
       after = after;
       is = record {
         whole = record { chunks = chunks ∙ append_assoc s.closed s.run after ∙ ap (λ (cs : List Chunk). s.closed ++ (cs ++ after)) run_is; none_stays = subst NoneStays run_is s.none_stays; in_front = s.ends; behind = begins };
@@ -173,6 +167,17 @@ around image at name count start here after h u s low chunks begins =
       there = there;
       many = u.many;
     }
+
+around : (image : List ℕ) (at name count start here : ℕ) (after : List Chunk) → HeapAccepted image → IsUnlocked image at name count → (s : SeenUpTo image at start here) → at < here → chunks_of image ≡ (s.closed ++ s.run) ++ after → BeginsStaying after → IsAmongAt image at name count (record { start = start; end = here })
+around image at name count start here after h u s low chunks begins =
+    let t = unlocked_there image at name count h u in
+    let parts = SpelledAll-split image (area_start image) s.closed s.run here s.spelled in
+    let from = s.from in
+    let low_start = s.low in
+    let front = SpelledAll-rest image (area_start image) s.closed u.before (area_start image + total s.closed) at parts.0 t.0 (omega (arith, from, low_start)) in
+    let rest = SpelledAll-rest image (area_start image + total s.closed) front.0 s.run at here front.2 parts.1 (omega (arith, low)) in
+    let back = found_back image at here (movable u.bytes 0 u.owner name) s.run front.0 rest.0 rest.1 rest.2 t.1 low in
+    among image at name count start here front.0 back.0 after u s front.2 parts.1 back.1 chunks begins
 
 pub begins_there : (image : List ℕ) (here : ℕ) (c : Chunk) (after : List Chunk) → SpelledAll image here after (length image) → Spelled image here c → IsTrue (stays c) → BeginsStaying after
 begins_there image here c [] s p stay = tt

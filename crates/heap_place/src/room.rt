@@ -13,7 +13,7 @@ use raw_region::Region;
 
 /// Where a run of neighbouring free chunks begins, as an offset from the image's start, and how many
 /// bytes its first chunks take.
-#[derive(Clone, Copy, Debug, PartialEq, Eq)]
+#[derive(Clone, Copy)]
 pub struct Room {
     pub at: u32,
     pub size: u32,

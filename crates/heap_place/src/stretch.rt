@@ -14,7 +14,7 @@ use chunk_format::{HEADER_SIZE, Header, area_start};
 use raw_region::Region;
 
 /// Where a stretch begins and ends, in bytes from the image's start.
-#[derive(Clone, Copy, Debug, PartialEq, Eq)]
+#[derive(Clone, Copy)]
 pub struct Stretch {
     pub start: u32,
     pub end: u32,

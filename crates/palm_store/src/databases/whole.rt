@@ -13,7 +13,7 @@ use db_format::{
 use heap_model::{DbInfo, Name};
 
 /// What a caller says of an entry of a new database, with the size of its data.
-#[derive(Clone, Copy, Debug, PartialEq, Eq)]
+#[derive(Clone, Copy)]
 pub enum WholeEntry {
     /// The unique ID is 1 to 0xFFFFFF. A record without data is a deleted one.
     Record {
@@ -30,7 +30,7 @@ pub enum WholeEntry {
 }
 
 /// How many bytes the info blocks of a new database have, of those that are to be there.
-#[derive(Clone, Copy, Debug, PartialEq, Eq)]
+#[derive(Clone, Copy)]
 pub struct BlockSizes {
     pub app_info: Option<u32>,
     pub sort_info: Option<u32>,

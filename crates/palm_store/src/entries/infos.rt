@@ -5,7 +5,7 @@ use heap_model::Entry;
 use mem_manager::Found;
 
 /// What is found at an index of a database.
-#[derive(Clone, Copy, Debug, PartialEq, Eq)]
+#[derive(Clone, Copy)]
 pub struct FoundEntry {
     /// The chunk of the database.
     pub chunk: Found,
@@ -16,7 +16,7 @@ pub struct FoundEntry {
 }
 
 /// What an entry says but for its data.
-#[derive(Clone, Copy, Debug, PartialEq, Eq)]
+#[derive(Clone, Copy)]
 pub enum EntryInfo {
     /// The unique ID is 1 to 0xFFFFFF.
     Record { attributes: u8, id: u32 },
@@ -25,7 +25,7 @@ pub enum EntryInfo {
 }
 
 /// What a caller says of a new entry. A record gets its ID from the seed of the database.
-#[derive(Clone, Copy, Debug, PartialEq, Eq)]
+#[derive(Clone, Copy)]
 pub enum NewEntry {
     Record { attributes: u8 },
     /// The type is its four bytes as a number.

@@ -1,4 +1,4 @@
-use Rattle.std.proofs.Common.{◌+◌, get_or, set, subst, ap, sym, arith, ℕ, List}
+use Rattle.std.proofs.Common.{◌+◌, set, subst, sym, arith, ℕ}
 use Rattle.raw_region.proofs.ChangeLaws.{IsOnWay, way_begins, way_goes_on, way_ends}
 use Rattle.raw_region.proofs.words.change_all.Goals as goal
 

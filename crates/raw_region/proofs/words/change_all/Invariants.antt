@@ -1,6 +1,5 @@
 -- What the bytes become once those from here on are changed too is what all of them are to become.
-use Rattle.std.proofs.Common.{◌≡◌, ◌-◌, ◌++◌, length, take, drop, ℕ}
-use Rattle.raw_region.specs.ByteChanges.{changed_every}
+use Rattle.std.proofs.Common.{◌-◌, length}
 use Rattle.raw_region.proofs.ChangeLaws.{IsOnWay}
 use Rattle.raw_region.proofs.words.change_all.Given as goal
 
