@@ -1,6 +1,6 @@
 //! Files of databases that were made by calls, byte for byte.
 
-use crate::stores::blank_store;
+use crate::files::stores::blank_store;
 use heap_model::{Db, DbName, Name, Refusal, Which};
 use palm_store::Store;
 use palm_text::Counted;

@@ -1,6 +1,6 @@
 //! Databases that are read from files, entry by entry and byte by byte.
 
-use crate::stores::blank_store;
+use crate::files::stores::blank_store;
 use heap_model::{Db, DbInfo, DbName, FileFault, Name, RecordInfo, Refusal, ResourceInfo, Which};
 use palm_store::Store;
 use pdb_files::import;
