@@ -37,7 +37,7 @@
 //! | `Resizings`, `Relocation` | a chunk that takes another length, in its place or elsewhere: what its name stands for then |
 //! | `Openness` | what contracts over layouts leave open, by bodies that split and join otherwise |
 //!
-//! `test_heap_format` tries the definitions on images.
+//! `test_formats` tries the definitions on images.
 #![tactic(auto)]
 
 mod laws;

@@ -1,0 +1,4 @@
+use Rattle.test_formats.proofs.heap.heaps.CheckedSpace.make.Goals as goal
+
+pub invariant_of-self : goal.invariant_of-self
+invariant_of-self c = (c.claim.ensures.made c.in_ok-room.ensures.room).frame.accepted

@@ -1,0 +1,5 @@
+pub mod HeapImages
+pub mod Moves
+pub mod Stretches
+pub mod StoreImages
+pub mod Files

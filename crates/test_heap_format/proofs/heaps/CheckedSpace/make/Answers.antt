@@ -1,4 +1,0 @@
-use Rattle.test_heap_format.proofs.heaps.CheckedSpace.make.Goals as goal
-
-pub invariant_of-self : goal.invariant_of-self
-invariant_of-self c = (c.claim.ensures.made c.in_ok-room.ensures.room).frame.accepted

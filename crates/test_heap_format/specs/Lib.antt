@@ -1,3 +1,0 @@
-pub mod Images
-pub mod Moves
-pub mod Stretches

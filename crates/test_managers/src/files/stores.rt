@@ -1,0 +1,11 @@
+//! Stores that tests start from.
+
+use palm_store::Store;
+use std::alloc::Global;
+use std::test::Fail;
+use test_beside::{blank_image, store_of};
+
+/// An empty store of this size and with so many slots.
+pub(crate) fn blank_store(alloc: Global, size: u32, slots: u16) -> Result<Store, Fail> {
+    store_of(alloc, &blank_image(alloc, size, slots)?)
+}
