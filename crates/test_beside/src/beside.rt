@@ -10,8 +10,8 @@ use raw_region::Region;
 use std::alloc::Global;
 use std::test::Fail;
 use test_calls::{database_call, file_call, memory_call, record_call, resource_call};
-use test_fakes::equal;
 use test_model::{Difference, Image, PlainStore, broken_store_rule};
+use test_support::equal;
 
 /// An image, and beside it the store that it means.
 #[derive(Drop)]
