@@ -7,7 +7,7 @@ use rand_pcg::Pcg32;
 use raw_region::Region;
 use std::alloc::Global;
 use std::test::*;
-use test_calls::memory_call;
+use test_beside::memory_call;
 use test_model::Image;
 use test_support::{changed_words, image};
 
