@@ -1,5 +1,6 @@
 //! A call on a store, and the same on the plain model beside it.
 
+use crate::draw::{database_call, file_call, memory_call, record_call, resource_call};
 use heap_model::{Call, Reply};
 use palm_script::do_call;
 use palm_store::Store;
@@ -9,9 +10,8 @@ use rand_pcg::Pcg32;
 use raw_region::Region;
 use std::alloc::Global;
 use std::test::Fail;
-use test_calls::{database_call, file_call, memory_call, record_call, resource_call};
-use test_fakes::equal;
 use test_model::{Difference, Image, PlainStore, broken_store_rule};
+use test_support::equal;
 
 /// An image, and beside it the store that it means.
 #[derive(Drop)]

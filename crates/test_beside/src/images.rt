@@ -3,7 +3,7 @@
 use crate::beside::bytes_of;
 use std::alloc::Global;
 use std::test::Fail;
-use test_images::changed_words;
+use test_support::changed_words;
 
 /// 1,024 bytes with 17 slots and three databases, as another writer could leave them: slots and chunks
 /// in other orders, free neighbours that aren't joined, slack that isn't zero, locked data.

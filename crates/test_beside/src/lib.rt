@@ -5,6 +5,7 @@
 //! | module | does |
 //! |---|---|
 //! | `beside` | a call on both, and what must hold of it |
+//! | `draw` | calls of every kind, drawn from what is there |
 //! | `counts` | how often each call was accepted, and refused for which reason |
 //! | `outcomes` | what lists of calls must have met |
 //! | `images` | images that lists start from |
@@ -13,12 +14,14 @@
 
 mod beside;
 mod counts;
+mod draw;
 mod images;
 mod outcomes;
 mod verdicts;
 
 pub use beside::{Beside, bytes_of, image_of, store_of};
 pub use counts::{Counts, Outcome};
+pub use draw::memory_call;
 pub use images::{MIXED, blank_image};
 pub use outcomes::OUTCOMES;
 pub use palm_script::do_call;

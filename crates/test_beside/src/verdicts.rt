@@ -5,8 +5,8 @@ use raw_region::Region;
 use std::alloc::Global;
 use std::fmt::Display;
 use std::test::Fail;
-use test_fakes::equal;
 use test_model::{Image, PlainStore, Unaccepted, Unreadable};
+use test_support::equal;
 
 /// What is said of bytes.
 #[derive(Clone, Copy, Debug, PartialEq, Eq)]

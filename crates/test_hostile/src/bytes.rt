@@ -7,8 +7,7 @@ use palm_text::Counted;
 use std::alloc::Global;
 use std::test::*;
 use test_beside::{Verdict, agreed_verdict, image_of, store_of};
-use test_fakes::equal;
-use test_images::{DATABASE, bytes_of};
+use test_support::{DATABASE, bytes_of, equal};
 
 /// Calls on chunks, databases, records and resources, each with its reply on the image as it is. They ask of the
 /// database, its records and their data, change them and delete it, and then make another, of

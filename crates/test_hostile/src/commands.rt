@@ -10,8 +10,7 @@ use palmheap_commands::{cmd_check_from, cmd_new_from, cmd_run_from};
 use program_io::{Status, say_bad, say_line_fault};
 use std::alloc::Global;
 use std::test::*;
-use test_fakes::{RefusesOne, holds};
-use test_images::{BLANK, DATABASE, bytes_of};
+use test_support::{BLANK, DATABASE, RefusesOne, bytes_of, holds};
 
 /// What takes memory and prints.
 enum Trial {

@@ -7,8 +7,8 @@ use rand_pcg::Pcg32;
 use std::alloc::{AllocError, Global};
 use std::test::*;
 use test_beside::{Beside, Counts, image_of, store_of};
-use test_fakes::equal;
 use test_model::Image;
+use test_support::equal;
 
 /// The list so far. Its calls were done one by one on a store beside the plain model, since what can be named depends
 /// on the calls before.

@@ -6,8 +6,7 @@ use heap_model::{Bytes, Call, FileCall, FileFault, Refusal, Reply};
 use std::alloc::Global;
 use std::test::*;
 use test_beside::{Beside, blank_image, store_of};
-use test_fakes::equal;
-use test_images::{ORDER_FILE, TINY_FILE, bytes_of};
+use test_support::{ORDER_FILE, TINY_FILE, bytes_of, equal};
 
 /// Reads a file into a store of 1,024 bytes without databases, and answers the reply, which must be the plain model's.
 fn read(alloc: Global, spot: &str, file: Vec<u8>) -> Result<Reply, Fail> {

@@ -3,7 +3,7 @@
 use palm_script::{ScriptFault, parse};
 use std::alloc::Global;
 use std::test::*;
-use test_fakes::holds;
+use test_support::holds;
 
 /// Lines of many commands, with labels, numbers in both spellings, words and texts.
 const SCRIPT: &str = "create d \"Notes\" \"DATA\" \"Test\" 0 5\nrecnew d 0 4 r\nrecrelease d 0 0\n\

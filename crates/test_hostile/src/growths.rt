@@ -18,9 +18,9 @@ use script_lines::parse_from;
 use std::alloc::Global;
 use std::test::*;
 use test_beside::{image_of, store_of};
-use test_fakes::{RefusesOne, holds};
-use test_images::{
-    BLANK, DATABASE, EMPTY_FILE, ONE_CHUNK, ORDER_FILE, TINY_FILE, TWO_DATABASES, WIDE, bytes_of,
+use test_support::{
+    BLANK, DATABASE, EMPTY_FILE, ONE_CHUNK, ORDER_FILE, RefusesOne, TINY_FILE, TWO_DATABASES, WIDE,
+    bytes_of, holds,
 };
 
 /// Lines on the image with one chunk.

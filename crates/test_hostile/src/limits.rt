@@ -9,8 +9,7 @@ use program_io::{INPUT_LIMIT, Status};
 use std::alloc::{AllocError, Global};
 use std::test::*;
 use test_beside::{blank_image, store_of};
-use test_fakes::{equal, holds};
-use test_images::changed_words;
+use test_support::{changed_words, equal, holds};
 
 /// The most bytes of an image.
 const MOST: u32 = 16_777_208;

@@ -5,8 +5,7 @@ use rand_pcg::Pcg32;
 use std::alloc::Global;
 use std::test::*;
 use test_beside::{Counts, MIXED, OUTCOMES, blank_image};
-use test_fakes::equal;
-use test_images::{DATABASE, TWO_DATABASES, bytes_of};
+use test_support::{DATABASE, TWO_DATABASES, bytes_of, equal};
 
 /// Draws the list that a seed gives, in parts of so many calls. Behind each part the whole list so far is run.
 fn check_list(

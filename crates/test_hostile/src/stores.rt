@@ -9,7 +9,7 @@ use std::alloc::Global;
 use std::io::Write;
 use std::test::*;
 use test_beside::{image_of, store_of};
-use test_images::{EMPTY_FILE, ORDER_FILE, TINY_FILE, WIDE, bytes_of};
+use test_support::{EMPTY_FILE, ORDER_FILE, TINY_FILE, WIDE, bytes_of};
 
 /// Lines on the blank image.
 pub(crate) const WRITTEN: &str = "new a 10 1\nlock a\nwrite a 9 41\nwrite a 9 4142\nread a 0 10\n\

@@ -15,10 +15,9 @@ use std::alloc::Global;
 use std::io::ErrorKind;
 use std::test::*;
 use test_beside::image_of;
-use test_fakes::{Narrow, WhenFull, holds};
-use test_images::{
-    BLANK, DATABASE, EMPTY_FILE, EMPTY_WRITTEN, ONE_CHUNK, ORDER_FILE, ORDER_WRITTEN, TINY_FILE,
-    WIDE, bytes_of,
+use test_support::{
+    BLANK, DATABASE, EMPTY_FILE, EMPTY_WRITTEN, Narrow, ONE_CHUNK, ORDER_FILE, ORDER_WRITTEN,
+    TINY_FILE, WIDE, WhenFull, bytes_of, holds,
 };
 
 /// How a writer takes bytes, and what it does when it has no room left.

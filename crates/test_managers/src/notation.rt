@@ -5,7 +5,7 @@ use heap_model::{Bytes, MemoryCall, Name, Place, Reply};
 use std::alloc::{AllocError, Global};
 use std::fmt::Display;
 use std::test::Fail;
-use test_fakes::equal;
+use test_support::equal;
 
 /// The two sides of a line: a call, and the reply that it must have.
 pub(crate) fn sides_of(line: &str) -> Result<(&str, &str), Fail> {

@@ -6,7 +6,7 @@ use rand_pcg::Pcg32;
 use std::alloc::Global;
 use std::test::Fail;
 use test_beside::{Beside, MIXED, Verdict, agreed_verdict, blank_image, store_of};
-use test_images::{DATABASE, TWO_DATABASES, bytes_of};
+use test_support::{DATABASE, TWO_DATABASES, bytes_of};
 
 /// How many images come of each store by changes.
 const IMAGES: u64 = 250;

@@ -3,7 +3,7 @@
 use Content::{Listing, Text};
 use std::alloc::Global;
 use std::test::Fail;
-use test_images::{BLANK, DATABASE, ORDER_FILE, TINY_FILE, image};
+use test_support::{BLANK, DATABASE, ORDER_FILE, TINY_FILE, image};
 
 /// What a file holds.
 pub(crate) enum Content {

@@ -5,8 +5,7 @@ use heap_model::{Call, DatabaseCall, MemoryCall, Name, Place, Reply};
 use palm_script::{NotRun, check_and_run, run_calls, run_calls_from};
 use std::alloc::Global;
 use std::test::Fail;
-use test_fakes::{RefusesOne, equal};
-use test_images::{BLANK, image};
+use test_support::{BLANK, RefusesOne, equal, image};
 
 /// The name of the first chunk that is made.
 const CHUNK: Name = Name(16);

@@ -9,8 +9,7 @@ use palm_text::Counted;
 use std::alloc::{AllocError, Global};
 use std::io::Write;
 use std::test::Fail;
-use test_fakes::{RefusesOne, equal};
-use test_images::{BLANK, image};
+use test_support::{BLANK, RefusesOne, equal, image};
 
 /// The store of a listed image.
 pub(crate) fn listed_store(alloc: Global, listing: &str) -> Result<Store, Fail> {

@@ -3,7 +3,7 @@
 
 use crate::runs::check_runs;
 use std::test::Fail;
-use test_images::WIDE;
+use test_support::WIDE;
 
 #[test]
 fn lines_print_their_replies(rt: HostRuntime) -> Result<(), Fail> {

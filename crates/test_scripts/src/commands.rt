@@ -7,8 +7,9 @@ use program_io::Status;
 use std::alloc::Global;
 use std::io::{ErrorKind, Write};
 use std::test::Fail;
-use test_fakes::{Narrow, Unflushed, WhenFull, equal, holds};
-use test_images::{BLANK, DATABASE, ONE_CHUNK, bytes_of, image};
+use test_support::{
+    BLANK, DATABASE, Narrow, ONE_CHUNK, Unflushed, WhenFull, bytes_of, equal, holds, image,
+};
 
 /// What a command answered, and what its writers hold.
 #[derive(Drop)]

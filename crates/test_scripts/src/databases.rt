@@ -8,8 +8,7 @@ use heap_model::{Call, DatabaseCall, Db, DbName};
 use program_io::Status;
 use std::alloc::{AllocError, Global};
 use std::test::Fail;
-use test_fakes::{equal, holds};
-use test_images::{BLANK, DATABASE, TWO_DATABASES, WIDE, bytes_of};
+use test_support::{BLANK, DATABASE, TWO_DATABASES, WIDE, bytes_of, equal, holds};
 
 /// Free chunks of 88 and 16 bytes, and between them one that is locked.
 const TWO_ROOMS: &str = "50484931 00000090 0004 0000 00000000 00000080 00*12 80000058 00*84 \

@@ -8,7 +8,7 @@ use std::os::unix::fs::symlink;
 use std::rt::Files;
 use std::test::Fail;
 use std::{fs, io};
-use test_fakes::{equal, holds};
+use test_support::{equal, holds};
 
 /// A path for a file of this test run.
 fn path_of(rt: &HostRuntime, name: &str) -> Result<String, Fail> {

@@ -6,9 +6,8 @@ use heap_model::{Bytes, Call, FileCall, Reply};
 use palm_script::do_call;
 use std::alloc::Global;
 use std::test::Fail;
-use test_fakes::equal;
-use test_images::{
-    BLANK, EMPTY_FILE, EMPTY_WRITTEN, ORDER_FILE, ORDER_WRITTEN, TINY_FILE, WIDE, bytes_of,
+use test_support::{
+    BLANK, EMPTY_FILE, EMPTY_WRITTEN, ORDER_FILE, ORDER_WRITTEN, TINY_FILE, WIDE, bytes_of, equal,
 };
 
 /// A file of records with the greatest and the least ID, whose seed is just below the greatest.

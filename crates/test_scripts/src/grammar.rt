@@ -6,7 +6,7 @@ use script_lines::{Line, LineFault, Script, ScriptFault, parse, parse_from};
 use std::alloc::{AllocError, Global};
 use std::fmt::Debug;
 use std::test::*;
-use test_fakes::{RefusesOne, equal};
+use test_support::{RefusesOne, equal};
 
 fn put<T: Debug>(text: &mut String, word: &str, line: &T) -> Result<(), AllocError> {
     write!(text, "{word}{line:?};")

@@ -9,7 +9,7 @@ use palmheap_commands::cmd_new;
 use program_io::{INPUT_LIMIT, Status};
 use std::alloc::{AllocError, Global};
 use std::test::Fail;
-use test_fakes::{equal, holds};
+use test_support::{equal, holds};
 
 /// So many lines of 4,096 bytes that are passed over.
 fn passed_over(alloc: Global, count: usize) -> Result<String, AllocError> {

@@ -2,7 +2,7 @@
 
 use crate::runs::check_runs;
 use std::test::Fail;
-use test_images::{THREE_CHUNKS, TWO_CHUNKS};
+use test_support::{THREE_CHUNKS, TWO_CHUNKS};
 
 #[test]
 fn lines_print_their_replies(rt: HostRuntime) -> Result<(), Fail> {

@@ -4,7 +4,7 @@ use palm_text::{Counted, Piece, put_pieces};
 use std::alloc::Global;
 use std::io::ErrorKind;
 use std::test::Fail;
-use test_fakes::{Narrow, WhenFull, holds};
+use test_support::{Narrow, WhenFull, holds};
 
 /// 33 bytes, which is a turn of hex and one byte more.
 const BYTES: [u8; 33] = [

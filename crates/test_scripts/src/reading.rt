@@ -4,7 +4,7 @@ use program_io::{INPUT_LIMIT, InputFault, read_input, read_input_from};
 use std::alloc::Global;
 use std::io::ErrorKind;
 use std::test::Fail;
-use test_fakes::{RefusesOne, Source, equal};
+use test_support::{RefusesOne, Source, equal};
 
 /// What came of reading, apart from the system's reason.
 #[derive(Clone, Copy, Debug, PartialEq, Eq)]

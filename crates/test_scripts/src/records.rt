@@ -8,7 +8,7 @@ use palm_store::Store;
 use program_io::Status;
 use std::alloc::{AllocError, Global};
 use std::test::Fail;
-use test_images::{DATABASE, WIDE, bytes_of};
+use test_support::{DATABASE, WIDE, bytes_of};
 
 /// A blank image of 168 bytes with 8 slots.
 pub(crate) const NARROW: &str = "50484931 000000A8 0008 0000 00000000 00*32 80000078 00*116";

@@ -7,7 +7,7 @@ use std::fmt::Display;
 use std::io;
 use std::io::ErrorKind;
 use std::test::Fail;
-use test_fakes::equal;
+use test_support::equal;
 
 /// Standard error, as a text.
 struct ErrorText {

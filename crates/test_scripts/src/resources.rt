@@ -5,7 +5,7 @@ use crate::records::NARROW;
 use crate::runs::check_runs;
 use heap_model::{Call, Db, Name, ResourceCall};
 use std::test::Fail;
-use test_images::WIDE;
+use test_support::WIDE;
 
 #[test]
 fn lines_print_their_replies(rt: HostRuntime) -> Result<(), Fail> {

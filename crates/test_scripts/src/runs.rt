@@ -8,8 +8,7 @@ use std::alloc::{AllocError, Global};
 use std::io::{BufWriter, ErrorKind, Write};
 use std::str;
 use std::test::Fail;
-use test_fakes::{Narrow, Unflushed, WhenFull, equal, holds};
-use test_images::{BLANK, ONE_CHUNK, WIDE, bytes_of};
+use test_support::{BLANK, Narrow, ONE_CHUNK, Unflushed, WIDE, WhenFull, bytes_of, equal, holds};
 
 /// A blank image of 128 bytes with one slot.
 const ONE_SLOT: &str = "50484931 00000080 0001 0000 00000000 00*8 80000068 00*100";

@@ -3,7 +3,7 @@
 use command_line::{Request, parse};
 use std::alloc::{AllocError, Global};
 use std::test::Fail;
-use test_fakes::holds;
+use test_support::holds;
 
 /// The words of a command line that has no spaces in a word.
 fn words_of(alloc: Global, line: &str) -> Result<Vec<String>, AllocError> {

@@ -6,8 +6,7 @@ use heap_check::{HeapFault, Summary, check_heap};
 use raw_region::Region;
 use std::alloc::{AllocError, Global};
 use std::test::*;
-use test_fakes::equal;
-use test_images::{BLANK, DATABASE, ONE_CHUNK, bytes_of, image};
+use test_support::{BLANK, DATABASE, ONE_CHUNK, bytes_of, equal, image};
 
 /// What the checker finds in a region has this text.
 fn check_found(alloc: Global, spot: &str, region: &Region, text: &str) -> Result<(), Fail> {

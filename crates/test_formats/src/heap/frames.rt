@@ -9,8 +9,7 @@ use chunk_format::{
 use raw_region::Region;
 use std::alloc::Global;
 use std::test::*;
-use test_fakes::{RefusesOne, equal};
-use test_images::{BLANK, bytes_of};
+use test_support::{BLANK, RefusesOne, bytes_of, equal};
 
 /// 16 bytes of which only the slot count isn't zero.
 pub(crate) fn frame_of(alloc: Global, slots: u16) -> Result<Region, Fail>

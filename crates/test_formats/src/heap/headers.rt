@@ -8,7 +8,7 @@ use heap_model::Place;
 use raw_region::Region;
 use std::alloc::{AllocError, Global};
 use std::test::*;
-use test_fakes::equal;
+use test_support::equal;
 
 /// The length of a body, and the size of its chunk.
 const SIZES: [(u32, Option<u32>); 8] = [

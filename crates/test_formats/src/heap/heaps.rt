@@ -11,7 +11,7 @@ use raw_region::Region;
 use std::alloc::Global;
 use std::marker::Model;
 use std::test::Fail;
-use test_images::changed_words;
+use test_support::changed_words;
 
 /// A blank image of 128 bytes with 4 slots in which words are changed.
 pub(crate) fn image(alloc: Global, words: &[(usize, u32)]) -> Result<Region, Fail> {

@@ -5,7 +5,7 @@ use crate::heap::steps::{Stage, Step, Told, Words, left_by};
 use heap_model::{Name, Place};
 use heap_place::{Found, Space};
 use std::test::*;
-use test_fakes::equal;
+use test_support::equal;
 
 /// A free chunk whose first word has other bits, and whose second word has some.
 const ONE_FREE: Words = &[(32, 0xFF00_0060), (36, 0x1234_5678)];

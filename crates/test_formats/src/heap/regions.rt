@@ -2,7 +2,7 @@
 
 use raw_region::Region;
 use std::test::*;
-use test_fakes::equal;
+use test_support::equal;
 
 #[test]
 fn copies_its_bytes(rt: HostRuntime) -> Result<(), Fail> {

@@ -5,8 +5,7 @@ use heap_model::Name;
 use raw_region::Region;
 use std::alloc::Global;
 use std::test::*;
-use test_fakes::equal;
-use test_images::image;
+use test_support::{equal, image};
 
 /// How a chunk gets another length.
 #[derive(Clone, Copy)]

@@ -11,7 +11,7 @@ use master_table::{
 use raw_region::Region;
 use std::alloc::Global;
 use std::test::*;
-use test_fakes::equal;
+use test_support::equal;
 
 /// A region of 32 bytes with four slots, which hold these words.
 fn table(alloc: Global, words: [u32; 4]) -> Result<Region, Fail>

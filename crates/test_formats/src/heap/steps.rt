@@ -4,7 +4,7 @@ use crate::heap::heaps::{CheckedSpace, heap, image};
 use heap_model::Name;
 use std::alloc::Global;
 use std::test::*;
-use test_fakes::equal;
+use test_support::equal;
 
 /// A call. Names stand as their numbers.
 #[derive(Clone, Copy)]

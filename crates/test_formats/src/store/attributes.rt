@@ -3,7 +3,7 @@
 use bitflags::Flags;
 use db_format::RecordAttrs;
 use std::test::*;
-use test_fakes::equal;
+use test_support::equal;
 
 /// Attributes by all of their bits.
 fn of_bits(bits: u8) -> RecordAttrs {

@@ -3,8 +3,7 @@
 use pdb_format::{Block, check_file, find_blocks};
 use std::alloc::Global;
 use std::test::*;
-use test_fakes::equal;
-use test_images::{ORDER_FILE, TINY_FILE, bytes_of};
+use test_support::{ORDER_FILE, TINY_FILE, bytes_of, equal};
 
 /// A file of two records with both info blocks, which stand against their order, and none of which is empty.
 const BACKWARD: &str = "4261636b 00*28 \

@@ -4,8 +4,7 @@ use crate::store::found::text_of;
 use std::alloc::Global;
 use std::test::*;
 use store_check::check_store;
-use test_fakes::equal;
-use test_images::{DATABASE, image};
+use test_support::{DATABASE, equal, image};
 
 fn check_case(alloc: Global, listing: &str, changes: &str, text: &str) -> Result<(), Fail> {
     let region = image(alloc, listing, changes)?;

@@ -4,8 +4,7 @@ use heap_model::{FileFault, Which};
 use pdb_format::check_file;
 use std::alloc::Global;
 use std::test::*;
-use test_fakes::equal;
-use test_images::{EMPTY_FILE, ORDER_FILE, TINY_FILE, bytes_of};
+use test_support::{EMPTY_FILE, ORDER_FILE, TINY_FILE, bytes_of, equal};
 
 /// A listing, where bytes stand in its file instead, and what is wrong with it then.
 type Changed = (&'static str, usize, &'static [u8], Result<(), FileFault>);

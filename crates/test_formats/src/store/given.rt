@@ -5,7 +5,7 @@ use file_ids::{GivenIds, give_ids, give_ids_from};
 use pdb_format::check_file;
 use std::alloc::{AllocError, Global};
 use std::test::*;
-use test_fakes::{RefusesOne, equal};
+use test_support::{RefusesOne, equal};
 
 /// The attribute of a record that is deleted, above its ID. Such a record needs no data.
 const DELETED: u32 = 0x8000_0000;

@@ -6,8 +6,7 @@ use db_format::{
     has_resources, is_name, is_whole, name_in,
 };
 use std::test::*;
-use test_fakes::equal;
-use test_images::bytes_of;
+use test_support::{bytes_of, equal};
 
 /// A file of records without their data: each number of the header is another one.
 const RECORDS: &str = "4f7264657273 00*26 \

@@ -4,7 +4,7 @@ use db_format::{entry_count, has_name, has_resources, is_whole};
 use fresh_ids::{FreeIds, NO_IDS, free_ids};
 use std::alloc::{AllocError, Global};
 use std::test::*;
-use test_fakes::equal;
+use test_support::equal;
 
 /// The header of a database with this field of a seed, and so many entries.
 pub(crate) fn header_of(attributes: u8, seed: u32, count: u16) -> [u8; 78] {

@@ -5,7 +5,7 @@ use raw_region::Region;
 use std::alloc::Global;
 use std::test::*;
 use store_check::check_store;
-use test_fakes::equal;
+use test_support::equal;
 
 /// Writes a word, if it lies in the region.
 fn put(region: &mut Region, at: u32, word: u32) -> Result<(), Fail> {

@@ -5,8 +5,7 @@ use raw_region::Region;
 use std::alloc::{AllocError, Global};
 use std::test::*;
 use store_check::check_store_from;
-use test_fakes::{RefusesOne, equal};
-use test_images::{DATABASE, image};
+use test_support::{DATABASE, RefusesOne, equal, image};
 
 /// How many growths are granted, changes of the image, and what is found: marks for slots come first,
 /// and then a set of IDs.

@@ -5,7 +5,7 @@ use std::alloc::Global;
 use std::fmt::Display;
 use std::test::*;
 use store_check::StoreFault;
-use test_fakes::equal;
+use test_support::equal;
 
 static OF_HEAPS: [(HeapFault, &str); 11] = [
     (HeapFault::TooShort, "TooShort"),

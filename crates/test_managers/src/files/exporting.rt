@@ -10,8 +10,7 @@ use resource_db::new_resource;
 use std::alloc::Global;
 use std::io::ErrorKind;
 use std::test::*;
-use test_fakes::{Narrow, RefusesOne, WhenFull, equal};
-use test_images::bytes_of;
+use test_support::{Narrow, RefusesOne, WhenFull, bytes_of, equal};
 
 /// The file of `make_records`. Its blocks stand at 0x70, 0x73, 0x75 and 0x7a.
 const RECORDS: &str = "4e6f746573 00*27 \

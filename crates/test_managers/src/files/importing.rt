@@ -8,8 +8,7 @@ use record_db::{new_record, num_records, record_info};
 use resource_db::{find_resource, find_type, num_resources, remove_resource, resource_info};
 use std::alloc::Global;
 use std::test::*;
-use test_fakes::equal;
-use test_images::{EMPTY_FILE, ORDER_FILE, TINY_FILE, bytes_of};
+use test_support::{EMPTY_FILE, ORDER_FILE, TINY_FILE, bytes_of, equal};
 
 /// A file of two records, whose seed is the last but one.
 const IDS: &str = "496473 00*29 0000 0000 00*24 44415441 54657374 07fffffe 00000000 0002 \

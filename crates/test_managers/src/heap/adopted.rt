@@ -5,8 +5,8 @@ use mem_manager::Heap;
 use raw_region::Region;
 use std::alloc::Global;
 use std::test::*;
-use test_images::{BLANK, Finding, bytes_of, check_flipped};
 use test_model::{Image, Unreadable};
+use test_support::{BLANK, Finding, bytes_of, check_flipped};
 
 /// Whether the plain model reads an image.
 fn is_read(alloc: Global, image: &[u8]) -> Result<bool, Fail> {

@@ -7,8 +7,8 @@ use mem_manager::Heap;
 use raw_region::Region;
 use std::alloc::Global;
 use std::test::*;
-use test_fakes::equal;
 use test_model::{Image, PlainHeap, broken_rule};
+use test_support::equal;
 
 /// A heap, and beside it all chunks that it holds, and whether the lists of its free chunks are built.
 #[derive(Drop)]

@@ -5,7 +5,7 @@ use crate::heap::beside::Beside;
 use crate::notation::{check_reply, memory_call_of, sides_of};
 use std::alloc::Global;
 use std::test::*;
-use test_images::image;
+use test_support::image;
 
 /// What an example is about, the listing of the image that it starts from, and its lines.
 pub(crate) type Example = (&'static str, &'static str, &'static str);

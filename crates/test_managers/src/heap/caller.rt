@@ -7,8 +7,7 @@ use crate::heap::beside::adopt;
 use heap_model::{Name, Refusal};
 use mem_manager::Heap;
 use std::test::*;
-use test_fakes::equal;
-use test_images::{BLANK, image};
+use test_support::{BLANK, equal, image};
 
 /// Makes a movable chunk of owner 1 with a text of up to 31 bytes and a zero byte in it, and answers its
 /// name. The heap stays accepted, whatever is refused.

@@ -6,8 +6,7 @@ use crate::heap::images::EIGHT_SLOTS;
 use heap_model::{MemoryCall, Name, Reply};
 use std::alloc::Global;
 use std::test::*;
-use test_fakes::equal;
-use test_images::changed_words;
+use test_support::{changed_words, equal};
 
 /// A heap of so many bytes and slots with one free chunk.
 pub(crate) fn blank(alloc: Global, size: u32, slots: u16) -> Result<Beside, Fail> {

@@ -3,7 +3,7 @@
 use crate::heap::by_hand::{Example, check_all};
 use crate::heap::images::{FIVE, ONE_SLOT};
 use std::test::*;
-use test_images::BLANK;
+use test_support::BLANK;
 
 const MADE_AND_FREED: &str = "handle_new 10 1 = named 16
     free_bytes = 72

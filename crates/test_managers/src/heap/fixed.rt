@@ -3,7 +3,7 @@
 use crate::heap::by_hand::{Example, check_all};
 use crate::heap::images::{FIVE, SPACIOUS};
 use std::test::*;
-use test_images::BLANK;
+use test_support::BLANK;
 
 /// The names are 512 bytes apart, so that each takes the other's place among those that are remembered.
 const TURNS: &str = "ptr_new 8 1 = named 40

@@ -11,7 +11,7 @@ use mem_manager::Heap;
 use raw_region::Region;
 use std::alloc::Global;
 use std::test::*;
-use test_images::changed_words;
+use test_support::changed_words;
 
 /// Does the call of a line on a heap, with no model beside it.
 fn check_line(alloc: Global, heap: &mut Heap, line: &str) -> Result<(), Fail> {

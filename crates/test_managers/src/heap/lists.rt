@@ -7,9 +7,9 @@ use rand_pcg::Pcg32;
 use raw_region::Region;
 use std::alloc::Global;
 use std::test::*;
-use test_calls::memory_call;
-use test_images::{changed_words, image};
+use test_beside::memory_call;
 use test_model::Image;
+use test_support::{changed_words, image};
 
 /// The next call of a list, drawn from what the image has.
 fn next_call(alloc: Global, beside: &Beside, random: &mut Pcg32) -> Result<MemoryCall, Fail> {

@@ -6,8 +6,7 @@ use crate::heap::images::{FIVE, OVERLAPPING};
 use crate::heap::linked::word_at;
 use std::alloc::Global;
 use std::test::*;
-use test_fakes::equal;
-use test_images::{THREE_CHUNKS, image};
+use test_support::{THREE_CHUNKS, equal, image};
 
 const ROOM_LEFT: &str = "free 16 = done
     free 24 = done

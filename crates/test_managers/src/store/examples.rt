@@ -4,7 +4,7 @@ use crate::store::steps::{Example, Step, check_all};
 use heap_model::Name;
 use std::test::*;
 use test_beside::MIXED;
-use test_images::TWO_DATABASES;
+use test_support::TWO_DATABASES;
 
 /// The first database is deleted once one of its info blocks isn't locked, and the other once an info block and
 /// the data of two records aren't.

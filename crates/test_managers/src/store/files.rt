@@ -3,7 +3,7 @@
 use crate::store::steps::{Example, Step, check_all};
 use heap_model::Db;
 use std::test::*;
-use test_images::{BLANK, EMPTY_FILE, EMPTY_WRITTEN, ORDER_FILE, ORDER_WRITTEN, TINY_FILE, WIDE};
+use test_support::{BLANK, EMPTY_FILE, EMPTY_WRITTEN, ORDER_FILE, ORDER_WRITTEN, TINY_FILE, WIDE};
 
 /// A file of two records without a byte, whose seed is the last ID but one, and one of which has the last ID.
 const IDS: &str = "496473 00*29 0000 0000 00*24 44415441 54657374 07fffffe 00000000 0002 \

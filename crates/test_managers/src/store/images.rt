@@ -5,7 +5,7 @@ use palm_store::Store;
 use std::alloc::Global;
 use std::test::*;
 use test_beside::{blank_image, store_of};
-use test_images::bytes_of as listed;
+use test_support::bytes_of as listed;
 
 /// A database with the number 20 and 65,532 resources of the type `code`, whose IDs are their indexes and whose
 /// data has no byte. One slot is left, and 32 bytes are free.

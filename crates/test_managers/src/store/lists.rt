@@ -4,8 +4,7 @@ use rand_pcg::Pcg32;
 use std::alloc::Global;
 use std::test::*;
 use test_beside::{Beside, Counts, MIXED, OUTCOMES, blank_image, store_of};
-use test_fakes::equal;
-use test_images::{DATABASE, TWO_DATABASES, bytes_of as listed};
+use test_support::{DATABASE, TWO_DATABASES, bytes_of as listed, equal};
 
 /// Does a list of calls that a seed gives, each on the image that the one before left, and counts what
 /// they answer. Each image must be taken as a store; a call is done on that one, if `anew`, and else on one

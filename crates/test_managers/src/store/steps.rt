@@ -10,8 +10,7 @@ use palm_store::Store;
 use std::alloc::Global;
 use std::test::Fail;
 use test_beside::{Beside, store_of};
-use test_fakes::equal;
-use test_images::bytes_of as listed;
+use test_support::{bytes_of as listed, equal};
 
 pub(crate) enum Step {
     /// A line with a call and its reply.

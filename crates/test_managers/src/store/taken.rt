@@ -3,7 +3,7 @@
 use std::alloc::Global;
 use std::test::*;
 use test_beside::{MIXED, Verdict, agreed_verdict, bytes_of, store_of};
-use test_images::{Finding, bytes_of as listed, check_flipped};
+use test_support::{Finding, bytes_of as listed, check_flipped};
 
 /// An image is taken exactly where the plain model takes it, and handed back as it was.
 #[derive(Clone, Copy)]

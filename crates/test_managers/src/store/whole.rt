@@ -9,7 +9,7 @@ use palm_store::{BlockSizes, Store, WholeEntry};
 use std::alloc::Global;
 use std::test::*;
 use test_beside::{blank_image, store_of};
-use test_fakes::{equal, holds};
+use test_support::{equal, holds};
 
 /// What the header of a database of two entries says.
 fn info_of_two(name: &[u8], attributes: u16) -> DbInfo

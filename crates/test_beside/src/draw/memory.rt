@@ -1,6 +1,6 @@
 //! Calls of the memory manager.
 
-use crate::draws::{any_byte, any_word, below, below_u8};
+use crate::draw::numbers::{any_byte, any_word, below, below_u8};
 use heap_model::{Bytes, MemoryCall, Name, Place};
 use rand::seq::IndexedRandom;
 use rand_pcg::Pcg32;

@@ -1,7 +1,7 @@
 //! Calls on files, and the bytes of files for them.
 
-use crate::database::{any_db, any_db_name};
-use crate::draws::{any_byte, any_flag, any_word, below, below_u16};
+use crate::draw::database::{any_db, any_db_name};
+use crate::draw::numbers::{any_byte, any_flag, any_word, below, below_u16};
 use heap_model::{Bytes, FileCall};
 use rand::RngExt;
 use rand::seq::IndexedRandom;
@@ -16,7 +16,7 @@ const IDS: [u32; 7] = [0, 1, 2, 3, 4, 0xFF_FFFE, 0xFF_FFFF];
 const SEEDS: [u32; 6] = [0, 1, 0x0700_0002, 0xFF_FFFD, 0xABFF_FFFE, 0xFFFF_FFFF];
 
 /// A call that imports a file, most often one without fault, or exports a database.
-pub fn file_call(
+pub(crate) fn file_call(
     random: &mut Pcg32,
     alloc: Global,
     image: &Image,

@@ -1,13 +1,8 @@
-//! Heap images and files of databases for tests: listings in hex, small blank images in which words are
-//! changed, and images that have one bit other.
+//! Heap images and files of databases: listings in hex, and small blank images in which words are changed.
 //!
-//! One of the listings is the worked image of docs/FORMAT.md. Nothing but tests uses this crate.
-#![tactic(auto)]
-
-mod flipped;
+//! One of the listings is the worked image of docs/FORMAT.md.
 
 use chunk_format::blank;
-pub use flipped::{Finding, check_flipped};
 use raw_region::Region;
 use std::alloc::Global;
 use std::test::Fail;

@@ -1,8 +1,8 @@
 //! Calls on records.
 
-use crate::database::any_db;
-use crate::draws::{any_byte, any_flag, any_word, below, below_u8};
-use crate::memory::{any_name, any_owner, any_size};
+use crate::draw::database::any_db;
+use crate::draw::memory::{any_name, any_owner, any_size};
+use crate::draw::numbers::{any_byte, any_flag, any_word, below, below_u8};
 use heap_model::{Db, RecordCall};
 use rand::seq::IndexedRandom;
 use rand_pcg::Pcg32;
@@ -68,7 +68,7 @@ fn any_attributes(random: &mut Pcg32) -> u8 {
 }
 
 /// A call on records.
-pub fn record_call(random: &mut Pcg32, image: &Image, databases: &[Database]) -> RecordCall {
+pub(crate) fn record_call(random: &mut Pcg32, image: &Image, databases: &[Database]) -> RecordCall {
     let db = any_db(random, image, databases);
     let count = entries_of(databases, db);
     let index = any_index(random, count);

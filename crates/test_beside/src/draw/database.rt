@@ -1,7 +1,7 @@
 //! Calls on databases.
 
-use crate::draws::{any_flag, any_word, below, below_u16};
-use crate::memory::{any_name, any_owner};
+use crate::draw::memory::{any_name, any_owner};
+use crate::draw::numbers::{any_flag, any_word, below, below_u16};
 use heap_model::{DatabaseCall, Db, DbInfo, DbName, Which};
 use rand::seq::IndexedRandom;
 use rand_pcg::Pcg32;
@@ -79,7 +79,11 @@ fn block_call(random: &mut Pcg32, image: &Image, db: Db) -> DatabaseCall {
 }
 
 /// A call on databases, seldom one that deletes one.
-pub fn database_call(random: &mut Pcg32, image: &Image, databases: &[Database]) -> DatabaseCall {
+pub(crate) fn database_call(
+    random: &mut Pcg32,
+    image: &Image,
+    databases: &[Database],
+) -> DatabaseCall {
     match below(random, 32) {
         0..=6 => DatabaseCall::Create {
             name: any_db_name(random),

@@ -1,10 +1,4 @@
-//! Readers and writers that fail, and memory that is refused; and what a test says where a value isn't the one
-//! that is wanted.
-//!
-//! Nothing but tests uses this crate.
-#![tactic(auto)]
-
-mod wanted;
+//! Readers and writers that fail, and memory that is refused.
 
 ghost use Rattle.std.specs.Prelude.{⊤};
 
@@ -13,7 +7,6 @@ use std::alloc::{AllocError, Global};
 use std::cell::Cell;
 use std::io;
 use std::io::{ErrorKind, Read, Write};
-pub use wanted::{equal, holds};
 
 /// A reader of `left` bytes, of which a read gives at most `step`. The read number `fails_at`
 /// fails, and says so by `kind`.

@@ -1,8 +1,8 @@
 //! Images that have one bit other.
 
+use crate::wanted::holds;
 use std::alloc::Global;
 use std::test::Fail;
-use test_fakes::holds;
 
 /// What a test finds out about an image.
 pub trait Finding {

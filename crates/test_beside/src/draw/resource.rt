@@ -1,9 +1,9 @@
 //! Calls on resources.
 
-use crate::database::any_db;
-use crate::draws::{below, below_u16};
-use crate::memory::{any_name, any_owner, any_size};
-use crate::record::{any_index, entries_of};
+use crate::draw::database::any_db;
+use crate::draw::memory::{any_name, any_owner, any_size};
+use crate::draw::numbers::{below, below_u16};
+use crate::draw::record::{any_index, entries_of};
 use heap_model::{Db, ResourceCall};
 use rand::seq::IndexedRandom;
 use rand_pcg::Pcg32;
@@ -61,7 +61,11 @@ fn any_nth(random: &mut Pcg32) -> u32 {
 }
 
 /// A call on resources.
-pub fn resource_call(random: &mut Pcg32, image: &Image, databases: &[Database]) -> ResourceCall {
+pub(crate) fn resource_call(
+    random: &mut Pcg32,
+    image: &Image,
+    databases: &[Database],
+) -> ResourceCall {
     let db = any_resource_db(random, image, databases);
     let index = any_index(random, entries_of(databases, db));
     let (kind, id) = any_kind_and_id(random, resources_of(databases, db));
