@@ -82,13 +82,21 @@ fn a_file_is_replaced_as_a_whole(rt: HostRuntime) -> Result<(), Fail> {
 /// What was there before a file was closed, and why a text wasn't taken, if it wasn't.
 type BrokenOff = (Option<(bool, bool)>, Option<io::ErrorKind>);
 
+/// Of which kind an error is, if there is one.
+fn kind_of(error: Option<io::Error>) -> Option<io::ErrorKind> {
+    match error {
+        Some(error) => Some(error.kind()),
+        None => None,
+    }
+}
+
 /// Writes a text and doesn't flush.
 fn break_off<R: Files + AllocGlobal>(rt: &R, path: &str) -> Result<BrokenOff, AllocError> {
     let mut file = OutputFile::new(rt, path)?;
     let written = file.write_all(b"new");
     let meanwhile = found(rt, path);
     file.close();
-    Ok((meanwhile, written.err().map(|error| error.kind())))
+    Ok((meanwhile, kind_of(written.err())))
 }
 
 fn check_broken_off<R: Files + AllocGlobal>(
@@ -186,17 +194,11 @@ fn what_is_no_file_is_not_replaced(rt: HostRuntime) -> Result<(), Fail> {
     check_refused(&rt, folder.as_str(), io::ErrorKind::IsADirectory)
 }
 
-/// What a text comes to on a file.
-fn said<W: Write>(file: W) -> (Status, W) {
-    let mut file = Counted::new(file);
-    let status = say(b"new", Status::Done, &mut file);
-    (status, file.into_inner())
-}
-
-/// The same, and the reason.
+/// What a text comes to on a file, and the reason.
 fn say_to<R: Files + AllocGlobal>(file: OutputFile<R>) -> (Status, Option<io::Error>) {
-    let (status, noted) = said(Noted::new(file));
-    let (file, reason) = noted.into_parts();
+    let mut file = Counted::new(Noted::new(file));
+    let status = say(b"new", Status::Done, &mut file);
+    let (file, reason) = file.into_inner().into_parts();
     file.close();
     (status, reason)
 }
@@ -207,9 +209,8 @@ fn check_over_folder<R: Files + AllocGlobal>(rt: &R, path: &str) -> Result<(), F
     let made = fs::create_dir(rt, path);
     let (status, reason) = say_to(file);
     made?;
-    let kind = reason.map(|error| error.kind());
     let wanted = (Status::WriteFault, Some(io::ErrorKind::IsADirectory));
-    equal("the folder", (status, kind), wanted)
+    equal("the folder", (status, kind_of(reason)), wanted)
 }
 
 /// It leaves the folder and nothing beside it.
@@ -225,19 +226,15 @@ fn a_rename_that_fails_is_a_write_fault(rt: HostRuntime) -> Result<(), Fail> {
     check_folder(&rt, path.as_str())
 }
 
-/// Writes a text and flushes, which puts a file in its place.
-fn put_in_place<W: Write>(file: &mut W) -> io::Result<()> {
-    file.write_all(b"new")?;
-    file.flush()
-}
-
-/// How many bytes a file takes behind that, and what is there then; and it is flushed again.
+/// Writes a text and flushes, which puts a file in its place: how many bytes it takes behind that, and what is
+/// there then; and it is flushed again.
 fn write_behind<R: Files + AllocGlobal>(
     rt: &R,
     path: &str,
     file: &mut OutputFile<R>,
 ) -> io::Result<(usize, Option<(bool, bool)>)> {
-    put_in_place(file)?;
+    file.write_all(b"new")?;
+    file.flush()?;
     let behind = file.write(b"more")?;
     let there = found(rt, path);
     file.flush()?;

@@ -49,10 +49,15 @@ fn check_case(alloc: Global, script: &[u8], wanted: &str) -> Result<(), Fail> {
     equal(format_args!("{script:?}"), said.as_str(), wanted)
 }
 
+/// The line in a row, and what stands behind the mark: nothing where there is none.
+pub(crate) fn halves<'a>(row: &'a str, mark: &str) -> (&'a str, &'a str) {
+    row.trim().split_once(mark).unwrap_or((row, ""))
+}
+
 /// Each line of a text reads as what stands behind it.
 fn check_lines(alloc: Global, text: &str) -> Result<(), Fail> {
     for row in text.lines() {
-        let (line, wanted) = row.trim().split_once(" => ").ok_or("no reading")?;
+        let (line, wanted) = halves(row, " => ");
         check_case(alloc, line.as_bytes(), wanted)?;
     }
     Ok(())
@@ -60,18 +65,19 @@ fn check_lines(alloc: Global, text: &str) -> Result<(), Fail> {
 
 #[test]
 fn lines_are_read(rt: HostRuntime) -> Result<(), Fail> {
-    for text in &LINES {
-        check_lines(rt.alloc(), text)?;
+    check_lines(rt.alloc(), LINES)
+}
+
+fn check_scripts(alloc: Global, cases: &[(&str, &str)]) -> Result<(), Fail> {
+    for (script, wanted) in cases {
+        check_case(alloc, script.as_bytes(), wanted)?;
     }
     Ok(())
 }
 
 #[test]
 fn scripts_are_read(rt: HostRuntime) -> Result<(), Fail> {
-    for (script, wanted) in &SCRIPTS {
-        check_case(rt.alloc(), script.as_bytes(), wanted)?;
-    }
-    Ok(())
+    check_scripts(rt.alloc(), &SCRIPTS)
 }
 
 #[test]
@@ -82,10 +88,9 @@ fn scripts_that_are_no_text_are_read(rt: HostRuntime) -> Result<(), Fail> {
     Ok(())
 }
 
-/// Lines, and behind ` => ` what each reads as, as a script of its own.
-static LINES: [&str; 35] = [
-    // commands
-    "bind a 16 => (ChunkLabel(0), 16);
+/// Lines, and behind ` => ` what each reads as, as a script of its own. A line without that reads as nothing.
+const LINES: &str = "# commands
+    bind a 16 => (ChunkLabel(0), 16);
     new a 8 1 => (ChunkLabel(0), Memory(HandleNew { size: 8, owner: 1 }));
     ptrnew a 8 1 => (ChunkLabel(0), Memory(PtrNew { size: 8, owner: 1 }));
     free a => Memory(Free(ChunkLabel(0)));
@@ -103,18 +108,18 @@ static LINES: [&str; 35] = [
     freeowner 3 => Memory(FreeByOwner(3));
     freebytes => Memory(FreeBytes);
     largest => Memory(LargestStretch);
-    compact => silent Memory(Compact);",
-    // no commands: others of the managers, other cases, parts, quoted words
-    "recover 40 => line 1 UnknownCommand
+    compact => silent Memory(Compact);
+    # no commands: others of the managers, other cases, parts, quoted words
+    recover 40 => line 1 UnknownCommand
     New a 8 1 => line 1 UnknownCommand
     ne a 8 1 => line 1 UnknownCommand
     newa 8 1 => line 1 UnknownCommand
     \"new\" a 8 1 => line 1 UnknownCommand
     \"\" => line 1 UnknownCommand
     frob \"a\" => line 1 UnknownCommand
-    \"#\" => line 1 UnknownCommand",
-    // numbers
-    "freeowner 0 => Memory(FreeByOwner(0));
+    \"#\" => line 1 UnknownCommand
+    # numbers
+    freeowner 0 => Memory(FreeByOwner(0));
     freeowner 255 => Memory(FreeByOwner(255));
     freeowner 256 => line 1 BadWord 2
     freeowner 0xff => Memory(FreeByOwner(255));
@@ -145,9 +150,9 @@ static LINES: [&str; 35] = [
     bind a 0000000001 => (ChunkLabel(0), 1);
     bind a 00000000001 => line 1 BadWord 3
     bind a 0xfFfFfFfF => (ChunkLabel(0), 4294967295);
-    read a 0 0x1G => line 1 BadWord 4",
-    // labels
-    "free Z => Memory(Free(ChunkLabel(0)));
+    read a 0 0x1G => line 1 BadWord 4
+    # labels
+    free Z => Memory(Free(ChunkLabel(0)));
     free z_9A => Memory(Free(ChunkLabel(0)));
     free a_1 => Memory(Free(ChunkLabel(0)));
     free abcdefghijabcdefghijabcdefghijk => Memory(Free(ChunkLabel(0)));
@@ -160,9 +165,9 @@ static LINES: [&str; 35] = [
     free ` => line 1 BadWord 2
     free { => line 1 BadWord 2
     free \"a\" => line 1 BadWord 2
-    free new => Memory(Free(ChunkLabel(0)));",
-    // bytes, and texts
-    "write a 0 - => Memory(Write { name: ChunkLabel(0), at: 0, bytes: Bytes { bytes: [] } });
+    free new => Memory(Free(ChunkLabel(0)));
+    # bytes, and texts
+    write a 0 - => Memory(Write { name: ChunkLabel(0), at: 0, bytes: Bytes { bytes: [] } });
     write a 0 00fFa9 => Memory(Write { name: ChunkLabel(0), at: 0, bytes: Bytes { bytes: [0, 255, 169] } });
     write a 0 4 => line 1 BadWord 4
     write a 0 414 => line 1 BadWord 4
@@ -185,9 +190,9 @@ static LINES: [&str; 35] = [
     strcopy a 0 x => line 1 BadWord 4
     strcopy a 0 - => line 1 BadWord 4
     strcopy a 0 7e => line 1 BadWord 4
-    strcopy a 0 a\"b\" => line 1 BadWord 4",
-    // records
-    "recnew d 1 2 h => (ChunkLabel(0), Record(New { db: DatabaseLabel(0), at: 1, size: 2 }));
+    strcopy a 0 a\"b\" => line 1 BadWord 4
+    # records
+    recnew d 1 2 h => (ChunkLabel(0), Record(New { db: DatabaseLabel(0), at: 1, size: 2 }));
     recdelete d 4294967295 => Record(Delete(DatabaseLabel(0), 4294967295));
     recarchive d 0 => Record(Archive(DatabaseLabel(0), 0));
     recremove d 0xff => Record(Remove(DatabaseLabel(0), 255));
@@ -198,9 +203,9 @@ static LINES: [&str; 35] = [
     recrelease d 3 1 => Record(Release { db: DatabaseLabel(0), index: 3, dirty: true });
     recinfo d 3 => Record(Info(DatabaseLabel(0), 3));
     recresize d 1 2 => Record(Resize { db: DatabaseLabel(0), index: 1, size: 2 });
-    reccount d => Record(Count(DatabaseLabel(0)));",
-    // too few words, and too many
-    "recnew d 1 2 => line 1 WrongCount
+    reccount d => Record(Count(DatabaseLabel(0)));
+    # too few words, and too many
+    recnew d 1 2 => line 1 WrongCount
     recnew d 1 2 h 0 => line 1 WrongCount
     recdelete d => line 1 WrongCount
     recarchive d 0 0 => line 1 WrongCount
@@ -211,9 +216,9 @@ static LINES: [&str; 35] = [
     recrelease d 0 => line 1 WrongCount
     recinfo d 0 h => line 1 WrongCount
     recresize d 0 => line 1 WrongCount
-    reccount => line 1 WrongCount",
-    // words that aren't of their kinds
-    "recnew 0 1 2 h => line 1 BadWord 2
+    reccount => line 1 WrongCount
+    # words that aren't of their kinds
+    recnew 0 1 2 h => line 1 BadWord 2
     recnew d -1 2 h => line 1 BadWord 3
     recnew d 1 4294967296 h => line 1 BadWord 4
     recnew d 1 2 3 => line 1 BadWord 5
@@ -223,9 +228,9 @@ static LINES: [&str; 35] = [
     recrelease d 0 2 => line 1 BadWord 4
     recresize d \"0\" 0 => line 1 BadWord 3
     reccount 1d => line 1 BadWord 2
-    recfree d 0 => line 1 UnknownCommand",
-    // categories
-    "recdetach d 1 2 h => (ChunkLabel(0), Record(Detach { db: DatabaseLabel(0), index: 1, owner: 2 }));
+    recfree d 0 => line 1 UnknownCommand
+    # categories
+    recdetach d 1 2 h => (ChunkLabel(0), Record(Detach { db: DatabaseLabel(0), index: 1, owner: 2 }));
     recset d 1 0xF3 4294967295 => Record(SetInfo { db: DatabaseLabel(0), index: 1, attributes: 243, id: 4294967295 });
     recfind d 9 => Record(FindById(DatabaseLabel(0), 9));
     catcount d 255 => Record(CountInCategory(DatabaseLabel(0), 255));
@@ -233,9 +238,9 @@ static LINES: [&str; 35] = [
     catpos d 4 16 => Record(PositionInCategory { db: DatabaseLabel(0), index: 4, category: 16 });
     catmove d 5 3 0 => Record(MoveCategory { db: DatabaseLabel(0), to: 5, from: 3, dirty: false });
     catmove d 5 3 1 => Record(MoveCategory { db: DatabaseLabel(0), to: 5, from: 3, dirty: true });
-    catdelete d 0x0f => Record(DeleteCategory(DatabaseLabel(0), 15));",
-    // too few words, and too many
-    "recdetach d 1 2 => line 1 WrongCount
+    catdelete d 0x0f => Record(DeleteCategory(DatabaseLabel(0), 15));
+    # too few words, and too many
+    recdetach d 1 2 => line 1 WrongCount
     recdetach d 1 2 h 0 => line 1 WrongCount
     recset d 1 2 => line 1 WrongCount
     recset d 1 2 3 4 => line 1 WrongCount
@@ -244,9 +249,9 @@ static LINES: [&str; 35] = [
     catnext d 0 => line 1 WrongCount
     catpos d 0 1 2 => line 1 WrongCount
     catmove d 5 3 => line 1 WrongCount
-    catdelete d 5 3 => line 1 WrongCount",
-    // words that aren't of their kinds
-    "recdetach 0 1 2 h => line 1 BadWord 2
+    catdelete d 5 3 => line 1 WrongCount
+    # words that aren't of their kinds
+    recdetach 0 1 2 h => line 1 BadWord 2
     recdetach d h 2 h => line 1 BadWord 3
     recdetach d 1 256 h => line 1 BadWord 4
     recdetach d 1 2 3 => line 1 BadWord 5
@@ -263,9 +268,9 @@ static LINES: [&str; 35] = [
     catmove d 5 3 2 => line 1 BadWord 5
     catdelete 5 d => line 1 BadWord 2
     catdelete d - => line 1 BadWord 3
-    catset d 0 0 => line 1 UnknownCommand",
-    // resources
-    "resnew d \"code\" 65535 4294967295 h => (ChunkLabel(0), Resource(New { db: DatabaseLabel(0), kind: 1668244581, \
+    catset d 0 0 => line 1 UnknownCommand
+    # resources
+    resnew d \"code\" 65535 4294967295 h => (ChunkLabel(0), Resource(New { db: DatabaseLabel(0), kind: 1668244581, \
         id: 65535, size: 4294967295 }));
     resattach d x:00fF1022 0xffff h => Resource(Attach { db: DatabaseLabel(0), kind: 16715810, id: 65535, \
         name: ChunkLabel(0) });
@@ -276,9 +281,9 @@ static LINES: [&str; 35] = [
     resset d 1 \"a ~b\" 0 => Resource(SetInfo { db: DatabaseLabel(0), index: 1, kind: 1629519458, id: 0 });
     resfind d \"code\" 2 => Resource(Find { db: DatabaseLabel(0), kind: 1668244581, id: 2 });
     restype d \"code\" 4294967295 => Resource(FindType { db: DatabaseLabel(0), kind: 1668244581, nth: 4294967295 });
-    rescount d => Resource(Count(DatabaseLabel(0)));",
-    // too few words, and too many
-    "resnew d \"code\" 0 1 => line 1 WrongCount
+    rescount d => Resource(Count(DatabaseLabel(0)));
+    # too few words, and too many
+    resnew d \"code\" 0 1 => line 1 WrongCount
     resnew d \"code\" 0 1 h i => line 1 WrongCount
     resattach d \"code\" 0 => line 1 WrongCount
     resattach d \"code\" 0 h i => line 1 WrongCount
@@ -297,9 +302,9 @@ static LINES: [&str; 35] = [
     restype d \"code\" => line 1 WrongCount
     restype d \"code\" 0 0 => line 1 WrongCount
     rescount => line 1 WrongCount
-    rescount d d => line 1 WrongCount",
-    // words that aren't of their kinds
-    "resnew 0 \"code\" 0 1 h => line 1 BadWord 2
+    rescount d d => line 1 WrongCount
+    # words that aren't of their kinds
+    resnew 0 \"code\" 0 1 h => line 1 BadWord 2
     resnew d code 0 1 h => line 1 BadWord 3
     resnew d \"cod\" 0 1 h => line 1 BadWord 3
     resnew d \"code\" 65536 1 h => line 1 BadWord 4
@@ -319,9 +324,9 @@ static LINES: [&str; 35] = [
     resset d 0 \"code\" 65536 => line 1 BadWord 5
     resfind d 0 \"code\" => line 1 BadWord 3
     restype d \"code\" x => line 1 BadWord 4
-    resmove d 0 1 => line 1 UnknownCommand",
-    // chunks that are given
-    "recattach d 4294967295 h => Record(Attach { db: DatabaseLabel(0), at: 4294967295, name: ChunkLabel(0) });
+    resmove d 0 1 => line 1 UnknownCommand
+    # chunks that are given
+    recattach d 4294967295 h => Record(Attach { db: DatabaseLabel(0), at: 4294967295, name: ChunkLabel(0) });
     recreplace d 1 h 14 o => (ChunkLabel(1), Record(AttachReplacing { db: DatabaseLabel(0), index: 1, \
         name: ChunkLabel(0), owner: 14 }));
     recreplace d 1 h 0 h => (ChunkLabel(0), Record(AttachReplacing { db: DatabaseLabel(0), index: 1, \
@@ -331,9 +336,9 @@ static LINES: [&str; 35] = [
     infotake d app 255 h => (ChunkLabel(0), Database(TakeInfoBlock { db: DatabaseLabel(0), which: App, owner: 255 }));
     infotake d sort 1 h => (ChunkLabel(0), Database(TakeInfoBlock { db: DatabaseLabel(0), which: Sort, owner: 1 }));
     info d app h => (ChunkLabel(0), Database(InfoBlock(DatabaseLabel(0), App)));
-    info d sort h => (ChunkLabel(0), Database(InfoBlock(DatabaseLabel(0), Sort)));",
-    // too few words, and too many
-    "recattach d 0 => line 1 WrongCount
+    info d sort h => (ChunkLabel(0), Database(InfoBlock(DatabaseLabel(0), Sort)));
+    # too few words, and too many
+    recattach d 0 => line 1 WrongCount
     recattach d 0 h o => line 1 WrongCount
     recreplace d 0 h 1 => line 1 WrongCount
     recreplace d 0 h 1 o o => line 1 WrongCount
@@ -342,9 +347,9 @@ static LINES: [&str; 35] = [
     infotake d app 1 => line 1 WrongCount
     infotake d app 1 h h => line 1 WrongCount
     info d app => line 1 WrongCount
-    info d app h h => line 1 WrongCount",
-    // words that aren't of their kinds
-    "recattach d h 0 => line 1 BadWord 3
+    info d app h h => line 1 WrongCount
+    # words that aren't of their kinds
+    recattach d h 0 => line 1 BadWord 3
     recattach d 0 1 => line 1 BadWord 4
     recreplace 0 0 h 1 o => line 1 BadWord 2
     recreplace d 0 1 h o => line 1 BadWord 4
@@ -361,18 +366,18 @@ static LINES: [&str; 35] = [
     infotake d sort x h => line 1 BadWord 4
     info d h app => line 1 BadWord 3
     info d app 0 => line 1 BadWord 4
-    infofree d app => line 1 UnknownCommand",
-    // databases
-    "create d \"No\" \"DATA\" \"Test\" 0 7 => (DatabaseLabel(0), Database(Create { name: DbName { bytes: [78, 111, \
+    infofree d app => line 1 UnknownCommand
+    # databases
+    create d \"No\" \"DATA\" \"Test\" 0 7 => (DatabaseLabel(0), Database(Create { name: DbName { bytes: [78, 111, \
         0, 0, 0, 0, 0, 0, 0, 0, 0, 0, 0, 0, 0, 0, 0, 0, 0, 0, 0, 0, 0, 0, 0, 0, 0, 0, 0, 0, 0, 0], length: 2 }, \
         kind: 1145132097, creator: 1415934836, resources: false, date: 7 }));
     create d x: x:00fF1022 \"a ~b\" 1 0xffffffff => (DatabaseLabel(0), Database(Create { name: DbName { bytes: [0, \
         0, 0, 0, 0, 0, 0, 0, 0, 0, 0, 0, 0, 0, 0, 0, 0, 0, 0, 0, 0, 0, 0, 0, 0, 0, 0, 0, 0, 0, 0, 0], length: 0 }, \
         kind: 16715810, creator: 1629519458, resources: true, date: 4294967295 }));
     find d \"Order\" => (DatabaseLabel(0), Database(Find(DbName { bytes: [79, 114, 100, 101, 114, 0, 0, 0, 0, 0, 0, \
-        0, 0, 0, 0, 0, 0, 0, 0, 0, 0, 0, 0, 0, 0, 0, 0, 0, 0, 0, 0, 0], length: 5 })));",
-    // of a name the first 32 bytes are kept, one more than a name may have
-    "find d \"abcdefghijabcdefghijabcdefghijabcdefghij\" => (DatabaseLabel(0), Database(Find(DbName { bytes: [97, \
+        0, 0, 0, 0, 0, 0, 0, 0, 0, 0, 0, 0, 0, 0, 0, 0, 0, 0, 0, 0, 0], length: 5 })));
+    # of a name the first 32 bytes are kept, one more than a name may have
+    find d \"abcdefghijabcdefghijabcdefghijabcdefghij\" => (DatabaseLabel(0), Database(Find(DbName { bytes: [97, \
         98, 99, 100, 101, 102, 103, 104, 105, 106, 97, 98, 99, 100, 101, 102, 103, 104, 105, 106, 97, 98, 99, 100, \
         101, 102, 103, 104, 105, 106, 97, 98], length: 32 })));
     nth d 4294967295 => (DatabaseLabel(0), Database(Nth(4294967295)));
@@ -382,14 +387,14 @@ static LINES: [&str; 35] = [
     dbset d \"N\" 0xFFFF 65535 1 2 3 \"DATA\" x:54657374 => Database(SetInfo(DatabaseLabel(0), DbInfo { \
         name: DbName { bytes: [78, 0, 0, 0, 0, 0, 0, 0, 0, 0, 0, 0, 0, 0, 0, 0, 0, 0, 0, 0, 0, 0, 0, 0, 0, 0, 0, 0, \
         0, 0, 0, 0], length: 1 }, attributes: 65535, version: 65535, creation_date: 1, modification_date: 2, \
-        backup_date: 3, modification_number: 0, kind: 1145132097, creator: 1415934836, seed: 0, entry_count: 0 }));",
-    // texts
-    "create d \"No => line 1 BadWord 3
+        backup_date: 3, modification_number: 0, kind: 1145132097, creator: 1415934836, seed: 0, entry_count: 0 }));
+    # texts
+    create d \"No => line 1 BadWord 3
     create d \"No\"x \"DATA\" \"Test\" 0 0 => line 1 BadWord 3
     create d No \"DATA\" \"Test\" 0 0 => line 1 BadWord 3
-    find d - => line 1 BadWord 3",
-    // types and creators have four bytes
-    "create d \"N\" \"DAT\" \"Test\" 0 0 => line 1 BadWord 4
+    find d - => line 1 BadWord 3
+    # types and creators have four bytes
+    create d \"N\" \"DAT\" \"Test\" 0 0 => line 1 BadWord 4
     create d \"N\" \"DATAS\" \"Test\" 0 0 => line 1 BadWord 4
     create d \"N\" \"\" \"Test\" 0 0 => line 1 BadWord 4
     create d \"N\" x:444154 \"Test\" 0 0 => line 1 BadWord 4
@@ -398,34 +403,34 @@ static LINES: [&str; 35] = [
     create d \"N\" x:4441544142 \"Test\" 0 0 => line 1 BadWord 4
     create d \"N\" DATA \"Test\" 0 0 => line 1 BadWord 4
     create d \"N\" 44415441 \"Test\" 0 0 => line 1 BadWord 4
-    create d \"N\" \"DATA\" x: 0 0 => line 1 BadWord 5",
-    // flags
-    "create d \"N\" \"DATA\" \"Test\" 2 0 => line 1 BadWord 6
+    create d \"N\" \"DATA\" x: 0 0 => line 1 BadWord 5
+    # flags
+    create d \"N\" \"DATA\" \"Test\" 2 0 => line 1 BadWord 6
     create d \"N\" \"DATA\" \"Test\" 01 0 => line 1 BadWord 6
     create d \"N\" \"DATA\" \"Test\" 0x1 0 => line 1 BadWord 6
-    create d \"N\" \"DATA\" \"Test\" \"1\" 0 => line 1 BadWord 6",
-    // numbers below 2^16
-    "dbset d \"N\" 65536 0 0 0 0 \"DATA\" \"Test\" => line 1 BadWord 4
+    create d \"N\" \"DATA\" \"Test\" \"1\" 0 => line 1 BadWord 6
+    # numbers below 2^16
+    dbset d \"N\" 65536 0 0 0 0 \"DATA\" \"Test\" => line 1 BadWord 4
     dbset d \"N\" 0 0x10000 0 0 0 \"DATA\" \"Test\" => line 1 BadWord 5
     dbset d \"N\" 0 0 0 0 4294967296 \"DATA\" \"Test\" => line 1 BadWord 8
-    dbset d \"N\" 0 0 0 0 0 \"DATA\" \"Tes\" => line 1 BadWord 10",
-    // labels
-    "nth 1 0 => line 1 BadWord 2
-    dbinfo \"d\" => line 1 BadWord 2",
-    // counts, and commands of other cases
-    "dbinfo => line 1 WrongCount
+    dbset d \"N\" 0 0 0 0 0 \"DATA\" \"Tes\" => line 1 BadWord 10
+    # labels
+    nth 1 0 => line 1 BadWord 2
+    dbinfo \"d\" => line 1 BadWord 2
+    # counts, and commands of other cases
+    dbinfo => line 1 WrongCount
     dbcount d => line 1 WrongCount
     nth d => line 1 WrongCount
     find d \"a\" \"b\" => line 1 WrongCount
     create d \"N\" \"DAT\" \"Test\" 0 => line 1 WrongCount
-    dbDelete d => line 1 UnknownCommand",
-    // files
-    "import d 1 => import (DatabaseLabel(0), 1);
+    dbDelete d => line 1 UnknownCommand
+    # files
+    import d 1 => import (DatabaseLabel(0), 1);
     import d 0 => import (DatabaseLabel(0), 0);
     import d 0xFFFFFFFF => import (DatabaseLabel(0), 4294967295);
-    export d => export DatabaseLabel(0);",
-    // too few words, and too many; words that aren't of their kinds, and commands of other cases
-    "import d => line 1 WrongCount
+    export d => export DatabaseLabel(0);
+    # too few words, and too many; words that aren't of their kinds, and commands of other cases
+    import d => line 1 WrongCount
     import d 1 2 => line 1 WrongCount
     export => line 1 WrongCount
     export d 1 => line 1 WrongCount
@@ -437,48 +442,62 @@ static LINES: [&str; 35] = [
     export 1 => line 1 BadWord 2
     export \"d => line 1 BadWord 2
     Import d 1 => line 1 UnknownCommand
-    exports d => line 1 UnknownCommand",
-    // a `#` behind the first word is a word
-    "free a # => line 1 WrongCount
-    free # => line 1 BadWord 2",
-    // quoted words: with blanks, closed, not closed, followed
-    "strcopy a 0 \"a b\" => Memory(StrCopy { name: ChunkLabel(0), at: 0, text: Bytes { bytes: [97, 32, 98] } });
+    exports d => line 1 UnknownCommand
+    # a `#` behind the first word is a word
+    free a # => line 1 WrongCount
+    free # => line 1 BadWord 2
+    # quoted words: with blanks, closed, not closed, followed
+    strcopy a 0 \"a b\" => Memory(StrCopy { name: ChunkLabel(0), at: 0, text: Bytes { bytes: [97, 32, 98] } });
     strcopy a 0 \"a => line 1 BadWord 4
     strcopy a 0 \" => line 1 BadWord 4
     strcopy a 0 \"a\"b => line 1 BadWord 4
-    strcopy a 0 \"a\"\"b\" => line 1 BadWord 4",
-    // a quote inside a word is a character like others
-    "strcopy a 0 a\"b c\" => line 1 WrongCount
+    strcopy a 0 \"a\"\"b\" => line 1 BadWord 4
+    # a quote inside a word is a character like others
+    strcopy a 0 a\"b c\" => line 1 WrongCount
     strcopy a 0 a\"b\"c => line 1 BadWord 4
-    free\" a => line 1 UnknownCommand",
-    // one fault each
-    "frob => line 1 UnknownCommand
+    free\" a => line 1 UnknownCommand
+    # one fault each
+    frob => line 1 UnknownCommand
     new a 8 => line 1 WrongCount
-    read a 0 x => line 1 BadWord 4",
-    // a broken word comes before all else, wherever it stands
-    "\"frob => line 1 BadWord 1
+    read a 0 x => line 1 BadWord 4
+    # a broken word comes before all else, wherever it stands
+    \"frob => line 1 BadWord 1
     \"frob\"x a => line 1 BadWord 1
     \"# => line 1 BadWord 1
     frob \" => line 1 BadWord 2
     frob \"a => line 1 BadWord 2
     free a b c \"d => line 1 BadWord 5
-    free 1 \"d\"e \"f => line 1 BadWord 3",
-    // then a word that is no command
-    "frob 1 2 3 => line 1 UnknownCommand",
-    // then the count
-    "free => line 1 WrongCount
+    free 1 \"d\"e \"f => line 1 BadWord 3
+    # then a word that is no command
+    frob 1 2 3 => line 1 UnknownCommand
+    # then the count
+    free => line 1 WrongCount
     free 1 2 => line 1 WrongCount
     freebytes 1 => line 1 WrongCount
-    new 1 x => line 1 WrongCount",
-    // then the first word that isn't of its kind
-    "new 1 x 256 => line 1 BadWord 2
+    new 1 x => line 1 WrongCount
+    # then the first word that isn't of its kind
+    new 1 x 256 => line 1 BadWord 2
     new a x 256 => line 1 BadWord 3
     new a 1 256 => line 1 BadWord 4
-    new a 8 256 => line 1 BadWord 4",
-];
+    new a 8 256 => line 1 BadWord 4
+    # texts have characters that can be printed
+    strcopy a 0 \"a b\t\" => line 1 BadWord 4
+    strcopy a 0 \"\x1f\" => line 1 BadWord 4
+    strcopy a 0 \"\x7f\" => line 1 BadWord 4
+    create d \"N\" \"DAT\x7f\" \"Test\" 0 0 => line 1 BadWord 4
+    # a carriage return that no line feed follows is no blank
+    free a\r => line 1 BadWord 2
+    freebytes\r => line 1 UnknownCommand
+    \"a\"\r => line 1 BadWord 1
+    fr\ree a => line 1 UnknownCommand
+    strcopy a 0 \"a\"\r => line 1 BadWord 4
+    # a vertical tab or a zero byte is no blank; a tab is one
+    free\x0ba => line 1 UnknownCommand
+    free a\x00 => line 1 BadWord 2
+    strcopy a 0 \"a\"\t => Memory(StrCopy { name: ChunkLabel(0), at: 0, text: Bytes { bytes: [97] } });";
 
 /// Scripts of several lines or none, or with blanks and other characters at their ends, and what they read as.
-static SCRIPTS: [(&str, &str); 45] = [
+static SCRIPTS: [(&str, &str); 33] = [
     // labels are numbered in the order in which they first appear, each case apart
     (
         "free b\nfree a\nfree b\nfree B\nfree a",
@@ -498,10 +517,6 @@ static SCRIPTS: [(&str, &str); 45] = [
         "freebytes\nfreeowner 1\nfree x",
         "Memory(FreeBytes);Memory(FreeByOwner(1));Memory(Free(ChunkLabel(0)));",
     ),
-    // texts have characters that can be printed
-    ("strcopy a 0 \"a b\t\"", "line 1 BadWord 4"),
-    ("strcopy a 0 \"\x1f\"", "line 1 BadWord 4"),
-    ("strcopy a 0 \"\x7f\"", "line 1 BadWord 4"),
     // the two tables of labels are apart
     (
         "new h 0 1\nrecget d 0 r\nrecquery e 0 d\nsize r\nreccount e",
@@ -531,11 +546,6 @@ static SCRIPTS: [(&str, &str); 45] = [
             (ChunkLabel(2), Record(AttachReplacing { db: DatabaseLabel(1), index: 0, name: ChunkLabel(0), \
             owner: 1 }));Memory(Size(ChunkLabel(1)));Memory(Size(ChunkLabel(2)));",
     ),
-    // types and creators have four bytes
-    (
-        "create d \"N\" \"DAT\x7f\" \"Test\" 0 0",
-        "line 1 BadWord 4",
-    ),
     // labels of chunks and of databases are apart
     (
         "free a\nnth d 0\nnth a 1\nfree d\nnth d 2\nfree a",
@@ -559,17 +569,13 @@ static SCRIPTS: [(&str, &str); 45] = [
     ),
     ("\r\nfree a\r\n", "Memory(Free(ChunkLabel(0)));"),
     ("free a\r\r\n", "line 1 BadWord 2"),
-    ("free a\r", "line 1 BadWord 2"),
     ("\r", "line 1 UnknownCommand"),
-    ("freebytes\r", "line 1 UnknownCommand"),
     ("free a\nfree a \r", "line 2 WrongCount"),
     ("\r\r\n", "line 1 UnknownCommand"),
     ("#\r", ""),
     (" \r\n#\r\n", ""),
     (" \r", "line 1 UnknownCommand"),
     ("freebytes\n\r", "line 2 UnknownCommand"),
-    ("\"a\"\r", "line 1 BadWord 1"),
-    ("fr\ree a", "line 1 UnknownCommand"),
     // lines are counted over all of them
     ("# x\n\nfrob", "line 3 UnknownCommand"),
     ("\n# x\r\n\nfrob\nnew", "line 4 UnknownCommand"),
@@ -580,19 +586,11 @@ static SCRIPTS: [(&str, &str); 45] = [
     (" \tfree\t \ta \t", "Memory(Free(ChunkLabel(0)));"),
     ("free a\n", "Memory(Free(ChunkLabel(0)));"),
     ("free a\n\n", "Memory(Free(ChunkLabel(0)));"),
-    // a vertical tab or a zero byte is no blank
-    ("free\x0ba", "line 1 UnknownCommand"),
-    ("free a\x00", "line 1 BadWord 2"),
     // quoted words: with blanks, closed, not closed, followed
-    (
-        "strcopy a 0 \"a\"\t",
-        "Memory(StrCopy { name: ChunkLabel(0), at: 0, text: Bytes { bytes: [97] } });",
-    ),
     (
         "strcopy a 0 \"a\"\r\n",
         "Memory(StrCopy { name: ChunkLabel(0), at: 0, text: Bytes { bytes: [97] } });",
     ),
-    ("strcopy a 0 \"a\"\r", "line 1 BadWord 4"),
     ("strcopy a 0 \"a\nb\"", "line 1 BadWord 4"),
 ];
 

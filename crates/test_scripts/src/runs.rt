@@ -1,5 +1,6 @@
 //! Scripts that are run on images: what they print, and what they leave.
 
+use crate::grammar::halves;
 use heap_model::Bytes;
 use palm_text::Counted;
 use palmheap_commands::cmd_run;
@@ -79,12 +80,17 @@ pub(crate) fn check_told(
     equal(spot, (status, str::from_utf8(out)?), wanted)
 }
 
-/// Adds the lines of a text in which each line has a reply, with ` = ` between, to a script and to what it prints.
+/// Adds a line and its reply, with ` = ` between, to a script and to what it prints.
+fn put_row(script: &mut String, said: &mut String, row: &str) -> Result<(), AllocError> {
+    let (line, reply) = halves(row, " = ");
+    writeln!(script, "{line}")?;
+    writeln!(said, "{reply}")
+}
+
+/// Adds the lines of a text in which each has its reply.
 fn part(script: &mut String, said: &mut String, text: &str) -> Result<(), AllocError> {
     for row in text.lines() {
-        let (line, reply) = row.trim().split_once(" = ").unwrap_or((row, ""));
-        writeln!(script, "{line}")?;
-        writeln!(said, "{reply}")?;
+        put_row(script, said, row)?;
     }
     Ok(())
 }
