@@ -28,12 +28,12 @@ use Rattle.heap_model.specs.declared.refusal.Refusal.TheVariants.{BadFile, TooMa
 
 -- a call on files, of which databases are given by their numbers
 abbrev pub FileCall : Type 0
-FileCall = given.FileCall Db
+FileCall = given.FileCall Db (List ℕ)
 
--- the same call, its database given another way
-abbrev pub file_call : {One Other : Type 0} → (One → Other) → given.FileCall One → given.FileCall Other
-file_call number (Import file) = Import file
-file_call number (Export db) = Export (number db)
+-- the same call, its database and its bytes given another way
+abbrev pub file_call : {One Other Given Meant : Type 0} → (One → Other) → (Given → Meant) → given.FileCall One Given → given.FileCall Other Meant
+file_call number bytes (Import file) = Import (bytes file)
+file_call number bytes (Export db) = Export (number db)
 
 -- ---- room for a database that is made whole
 

@@ -24,29 +24,29 @@ use Rattle.heap_model.specs.declared.refusal.Refusal.TheVariants.{InvalidHandle,
 
 -- a call of the memory manager, of which chunks are given by their names
 abbrev pub MemoryCall : Type 0
-MemoryCall = given.MemoryCall Name
+MemoryCall = given.MemoryCall Name (List ℕ)
 
--- the same call, its chunk given another way
-abbrev pub memory_call : {One Other : Type 0} → (One → Other) → given.MemoryCall One → given.MemoryCall Other
-memory_call chunk (HandleNew size owner) = HandleNew size owner
-memory_call chunk (PtrNew size owner) = PtrNew size owner
-memory_call chunk (Free name) = Free (chunk name)
-memory_call chunk (Lock name) = Lock (chunk name)
-memory_call chunk (Unlock name) = Unlock (chunk name)
-memory_call chunk (Size name) = Size (chunk name)
-memory_call chunk (Owner name) = Owner (chunk name)
-memory_call chunk (Locks name) = Locks (chunk name)
-memory_call chunk (Read name at count) = Read (chunk name) at count
-memory_call chunk (Write name at bytes) = Write (chunk name) at bytes
-memory_call chunk (Set name at count byte) = Set (chunk name) at count byte
-memory_call chunk (StrCopy name at text) = StrCopy (chunk name) at text
-memory_call chunk (Resize name size) = Resize (chunk name) size
-memory_call chunk (SetOwner name owner) = SetOwner (chunk name) owner
-memory_call chunk (Recover place) = Recover place
-memory_call chunk (FreeByOwner owner) = FreeByOwner owner
-memory_call chunk FreeBytes = FreeBytes
-memory_call chunk LargestStretch = LargestStretch
-memory_call chunk Compact = Compact
+-- the same call, its chunk and its bytes given another way
+abbrev pub memory_call : {One Other Given Meant : Type 0} → (One → Other) → (Given → Meant) → given.MemoryCall One Given → given.MemoryCall Other Meant
+memory_call chunk bytes (HandleNew size owner) = HandleNew size owner
+memory_call chunk bytes (PtrNew size owner) = PtrNew size owner
+memory_call chunk bytes (Free name) = Free (chunk name)
+memory_call chunk bytes (Lock name) = Lock (chunk name)
+memory_call chunk bytes (Unlock name) = Unlock (chunk name)
+memory_call chunk bytes (Size name) = Size (chunk name)
+memory_call chunk bytes (Owner name) = Owner (chunk name)
+memory_call chunk bytes (Locks name) = Locks (chunk name)
+memory_call chunk bytes (Read name at count) = Read (chunk name) at count
+memory_call chunk bytes (Write name at given) = Write (chunk name) at (bytes given)
+memory_call chunk bytes (Set name at count byte) = Set (chunk name) at count byte
+memory_call chunk bytes (StrCopy name at text) = StrCopy (chunk name) at (bytes text)
+memory_call chunk bytes (Resize name size) = Resize (chunk name) size
+memory_call chunk bytes (SetOwner name owner) = SetOwner (chunk name) owner
+memory_call chunk bytes (Recover place) = Recover place
+memory_call chunk bytes (FreeByOwner owner) = FreeByOwner owner
+memory_call chunk bytes FreeBytes = FreeBytes
+memory_call chunk bytes LargestStretch = LargestStretch
+memory_call chunk bytes Compact = Compact
 
 -- ---- words of the rows
 

@@ -1,6 +1,6 @@
 -- What each call on a store refuses, answers and does: the rows of the managers' calls together, those of
 -- the memory manager as calls on a store, and the step that a call makes.
-use Rattle.std.specs.Prelude.{◌≡◌, ◌⊎◌, if◌then◌else◌, Bool, true, false, length}
+use Rattle.std.specs.Prelude.{◌≡◌, ◌⊎◌, if◌then◌else◌, Bool, true, false, length, ℕ, List}
 use Rattle.std.specs.Bool.{OnTrue}
 use Rattle.heap_model.specs.Memory.{Memory}
 use Rattle.heap_model.specs.Slots.{slots_total}
@@ -30,15 +30,15 @@ use Rattle.heap_model.specs.declared.call.Reply.TheVariants as replies
 
 -- a call of any manager, by names and numbers
 abbrev pub Call : Type 0
-Call = given.Call Name Db
+Call = given.Call Name Db (List ℕ)
 
--- the same call, its chunk and its database given another way
-abbrev pub call_by : {One Other ThisOne ThisOther : Type 0} → (One → Other) → (ThisOne → ThisOther) → given.Call One ThisOne → given.Call Other ThisOther
-call_by chunk number (calls.Memory call) = calls.Memory (memory.memory_call chunk call)
-call_by chunk number (calls.Database call) = calls.Database (database_call chunk number call)
-call_by chunk number (calls.Record call) = calls.Record (record_call chunk number call)
-call_by chunk number (calls.Resource call) = calls.Resource (resource_call chunk number call)
-call_by chunk number (calls.File call) = calls.File (file_call number call)
+-- the same call, its chunk, its database and its bytes given another way
+abbrev pub call_by : {One Other ThisOne ThisOther Given Meant : Type 0} → (One → Other) → (ThisOne → ThisOther) → (Given → Meant) → given.Call One ThisOne Given → given.Call Other ThisOther Meant
+call_by chunk number bytes (calls.Memory call) = calls.Memory (memory.memory_call chunk bytes call)
+call_by chunk number bytes (calls.Database call) = calls.Database (database_call chunk number call)
+call_by chunk number bytes (calls.Record call) = calls.Record (record_call chunk number call)
+call_by chunk number bytes (calls.Resource call) = calls.Resource (resource_call chunk number call)
+call_by chunk number bytes (calls.File call) = calls.File (file_call number bytes call)
 
 -- ---- the rows
 

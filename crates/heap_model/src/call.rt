@@ -7,9 +7,10 @@ use crate::names::{Db, Name, Place, Which};
 use crate::refusal::Refusal;
 
 /// A call of the memory manager (Palm OS Programmer's API Reference, "Memory Manager"), by how it gives
-/// its chunk: by the name, where nothing else is said. Sizes and offsets within a chunk count bytes.
+/// its chunk and its bytes: by the name, and as bytes of its own, where nothing else is said. Sizes and
+/// offsets within a chunk count bytes.
 #[derive(Drop, Debug, PartialEq, Eq)]
-pub enum MemoryCall<C = Name> {
+pub enum MemoryCall<C = Name, B = Bytes> {
     HandleNew {
         size: u32,
         owner: u8,
@@ -32,7 +33,7 @@ pub enum MemoryCall<C = Name> {
     Write {
         name: C,
         at: u32,
-        bytes: Bytes,
+        bytes: B,
     },
     Set {
         name: C,
@@ -43,7 +44,7 @@ pub enum MemoryCall<C = Name> {
     StrCopy {
         name: C,
         at: u32,
-        text: Bytes,
+        text: B,
     },
     Resize {
         name: C,
@@ -235,23 +236,24 @@ pub enum ResourceCall<C = Name, D = Db> {
     Count(D),
 }
 
-/// A call on files of databases, PDB and PRC (Palm OS File Format Specification), by how it gives its database.
+/// A call on files of databases, PDB and PRC (Palm OS File Format Specification), by how it gives its database
+/// and its bytes.
 #[derive(Drop, Debug, PartialEq, Eq)]
-pub enum FileCall<D = Db> {
+pub enum FileCall<D = Db, B = Bytes> {
     /// The database of a file, of which these are the bytes, comes behind the others.
-    Import(Bytes),
+    Import(B),
     /// Answers the bytes of the file of a database.
     Export(D),
 }
 
-/// A call of any manager.
+/// A call of any manager, by how it gives its chunk, its database and its bytes.
 #[derive(Drop, Debug, PartialEq, Eq)]
-pub enum Call<C = Name, D = Db> {
-    Memory(MemoryCall<C>),
+pub enum Call<C = Name, D = Db, B = Bytes> {
+    Memory(MemoryCall<C, B>),
     Database(DatabaseCall<C, D>),
     Record(RecordCall<C, D>),
     Resource(ResourceCall<C, D>),
-    File(FileCall<D>),
+    File(FileCall<D, B>),
 }
 
 /// What a call answers: a refusal, or a value of its own.

@@ -22,7 +22,7 @@ use Rattle.palm_script.specs.declared.calls.Outcome.{Outcome}
 use Rattle.palm_script.specs.declared.calls.Outcome.TheVariants.{Replied, Reads}
 use Rattle.palm_script.specs.Lines.{Answers, OnWant, may_want_memory}
 
-memory_call-same : (call : MemoryCall) → memory_call (λ name. name) call ≡ call
+memory_call-same : (call : MemoryCall) → memory_call (λ name. name) (λ bytes. bytes) call ≡ call
 memory_call-same FreeBytes = refl
 memory_call-same call = refl
 
@@ -38,12 +38,12 @@ resource_call-same : (call : ResourceCall) → resource_call (λ name. name) (λ
 resource_call-same (resources.Count db) = refl
 resource_call-same call = refl
 
-file_call-same : (call : FileCall) → file_call (λ db. db) call ≡ call
+file_call-same : (call : FileCall) → file_call (λ db. db) (λ bytes. bytes) call ≡ call
 file_call-same (files.Export db) = refl
 file_call-same (files.Import file) = refl
 
 -- they are the same calls
-pub same_call : (call : Call) → call_by (λ name. name) (λ db. db) call ≡ call
+pub same_call : (call : Call) → call_by (λ name. name) (λ db. db) (λ bytes. bytes) call ≡ call
 same_call (Memory call) = ap Memory (memory_call-same call)
 same_call (Database call) = ap Database (database_call-same call)
 same_call (Record call) = ap Record (record_call-same call)

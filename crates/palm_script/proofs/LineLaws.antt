@@ -10,7 +10,7 @@ use Rattle.palm_text.specs.Counted.{Writing, Writes}
 use Rattle.heap_model.specs.declared.call.Reply.{Reply}
 use Rattle.heap_model.specs.declared.call.Reply.TheVariants.{Data}
 use Rattle.palm_text.specs.declared.output.WriteFault.{WriteFault}
-use Rattle.script_lines.specs.Labels.{is_export}
+use Rattle.script_lines.specs.LineCounts.{is_export}
 use Rattle.script_lines.specs.declared.line.Line.{Line}
 use Rattle.script_lines.specs.declared.line.Line.TheVariants.{Export}
 use Rattle.palm_script.specs.Lines.{Bindings, BreaksOff, BreaksOffShort, DoesLine, LineStep, Lines, RunsThrough, RunsThroughShort, bound_after, exported, reply_line, unbound}

@@ -72,7 +72,7 @@ tables names databases = record { chunks = table no_name names; databases = tabl
 
 -- a call over labels, by what they stand for
 abbrev pub call_among : Bindings → LineCall → Call
-call_among bound call = call_by (λ label. bound.chunks label.0) (λ label. bound.databases label.0) call
+call_among bound call = call_by (λ label. bound.chunks label.0) (λ label. bound.databases label.0) (λ bytes. bytes) call
 
 -- the input file of a number, counted from 1; a number that names none stands for a file of no bytes
 abbrev pub input_of : List (List ℕ) → ℕ → List ℕ

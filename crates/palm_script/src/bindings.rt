@@ -1,12 +1,12 @@
-//! What the labels of a script stand for.
+//! What the labels of a script and the bytes that its text lends stand for.
 
-ghost use Rattle.std.specs.Prelude.{◌≡◌, ◌≤◌, ◌<◌, List, length};
-ghost use Rattle.script_lines.specs.Labels.{chunk_label_end, database_label_end};
+ghost use Rattle.std.specs.Prelude.{◌≡◌, ◌≤◌, ◌<◌, ℕ, List, length};
+ghost use Rattle.script_lines.specs.LineCounts.{chunk_label_end, database_label_end};
 ghost use Rattle.palm_script.specs.Lines.{bind, bound_after, no_database, no_name, table, tables};
 ghost use Rattle.palm_script.specs.Lines as answers;
 
-use heap_model::{Db, Name, Reply};
-use script_lines::{ChunkLabel, DatabaseLabel, Line};
+use heap_model::{Bytes, Db, Name, Reply};
+use script_lines::{ChunkLabel, DatabaseLabel, LentBytes, Line};
 
 /// What a call is given for a chunk or a database: that itself, or a label that stands for it.
 pub(crate) trait Given<Named>: Copy {
@@ -57,9 +57,42 @@ impl Given<Db> for DatabaseLabel {
     }
 }
 
+/// What a call is given for bytes: those themselves, or what the text of a script lends, which is decoded first.
+pub(crate) trait GivenBytes {
+    ghost spelled: { Self → List ℕ };
+
+    /// How many bytes the buffer has to have.
+    ghost room: { Self → ℕ };
+
+    /// The bytes, decoded into a buffer where they have to be.
+    fn decoded<'a>(&'a self, buffer: &'a mut [u8]) -> &'a [u8]
+        requires { room self.now ≤ length buffer.old }
+        ensures { result.now ≡ spelled self.now };
+}
+
+impl GivenBytes for Bytes {
+    ghost spelled = { λ bytes. bytes };
+
+    ghost room = { λ _. 0 };
+
+    fn decoded<'a>(&'a self, _buffer: &'a mut [u8]) -> &'a [u8] {
+        self.as_slice()
+    }
+}
+
+impl<'t> GivenBytes for LentBytes<'t> {
+    ghost spelled = { λ bytes. bytes };
+
+    ghost room = { length };
+
+    fn decoded<'a>(&'a self, buffer: &'a mut [u8]) -> &'a [u8] {
+        self.decoded(buffer)
+    }
+}
+
 /// Binds what a line binds that was answered so: an answer that names nothing of the kind, as a refusal, binds
 /// nothing.
-pub(crate) fn bind_line(names: &mut [Name], databases: &mut [Db], line: &Line, reply: &Reply)
+pub(crate) fn bind_line(names: &mut [Name], databases: &mut [Db], line: &Line<'_>, reply: &Reply)
     requires chunks { chunk_label_end line.now ≤ length names.old }
     requires databases { database_label_end line.now ≤ length databases.old }
     ensures { tables names.new databases.new

@@ -1,6 +1,6 @@
 //! One call of any manager.
 
-ghost use Rattle.std.specs.Prelude.{◌≡◌, ◌≢◌};
+ghost use Rattle.std.specs.Prelude.{◌≡◌, ◌≢◌, ◌≤◌, length};
 ghost use Rattle.heap_model.specs.MemorySteps.{memory_call};
 ghost use Rattle.heap_model.specs.DatabaseSteps.{database_call};
 ghost use Rattle.heap_model.specs.StoreSteps.{DoesInStore, call_by};
@@ -8,9 +8,10 @@ ghost use Rattle.heap_model.specs.declared.call.Call as calls;
 ghost use Rattle.heap_model.specs.declared.call.MemoryCall.{MemoryCall};
 ghost use Rattle.heap_model.specs.declared.call.Reply.{Reply};
 ghost use Rattle.heap_model.specs.declared.refusal.Refusal.{Refusal};
+ghost use Rattle.script_lines.specs.LineCounts.{bytes_given, bytes_written};
 ghost use Rattle.palm_script.specs.Lines.{Answers, OnWant};
 
-use crate::bindings::Given;
+use crate::bindings::{Given, GivenBytes};
 use crate::calls::Outcome::{Reads, Replied};
 use crate::files::do_file_call;
 use crate::records::do_record_call;
@@ -34,7 +35,7 @@ pub fn do_call_from<A: Allowance>(memory: &A, store: &mut Store, call: &Call) ->
     ensures does { DoesInStore store.old call.now result store.new }
     ensures no_memory { result ≡ Reply.Refused Refusal.OutOfMemory → A.is_short memory.now }
 {
-    match do_given(memory, store, &[], &[], call) {
+    match do_given(memory, store, &[], &[], &mut [], call) {
         Replied(reply) => reply,
         Reads(name, at, count) => read(memory, store, name, at, count),
     }
@@ -65,24 +66,26 @@ pub(crate) enum Outcome {
 }
 
 /// Does a call, if it isn't a `read`. What it gives as chunks and databases is looked up in these
-/// tables. Only a refused growth is answered by `OutOfMemory`.
-pub(crate) fn do_given<A: Allowance, C: Given<Name>, D: Given<Db>>(
+/// tables, and its bytes are decoded into a buffer. Only a refused growth is answered by `OutOfMemory`.
+pub(crate) fn do_given<A: Allowance, C: Given<Name>, D: Given<Db>, B: GivenBytes>(
     memory: &A,
     store: &mut Store,
     names: &[Name],
     databases: &[Db],
-    call: &Call<C, D>,
+    buffer: &mut [u8],
+    call: &Call<C, D, B>,
 ) -> Outcome
+    requires room { bytes_given B.room call.now ≤ length buffer.old }
     ensures answers { Answers store.old (call_by (λ chunk. C.meant chunk names.now)
-        (λ db. D.meant db databases.now) call.now) result store.new }
+        (λ db. D.meant db databases.now) B.spelled call.now) result store.new }
     ensures no_memory { OnWant result (A.is_short memory.now) }
 {
     match call {
-        Call::Memory(call) => do_memory_call(store, names, call),
+        Call::Memory(call) => do_memory_call(store, names, buffer, call),
         Call::Database(call) => Replied(do_database_call(store, names, databases, call)),
         Call::Record(call) => Replied(do_record_call(store, names, databases, call)),
         Call::Resource(call) => Replied(do_resource_call(store, names, databases, call)),
-        Call::File(call) => Replied(do_file_call(memory, store, databases, call)),
+        Call::File(call) => Replied(do_file_call(memory, store, databases, buffer, call)),
     }
 }
 
@@ -125,13 +128,15 @@ fn do_database_call<C: Given<Name>, D: Given<Db>>(
     }
 }
 
-fn do_memory_call<C: Given<Name>>(
+fn do_memory_call<C: Given<Name>, B: GivenBytes>(
     store: &mut Store,
     names: &[Name],
-    call: &MemoryCall<C>,
+    buffer: &mut [u8],
+    call: &MemoryCall<C, B>,
 ) -> Outcome
+    requires { bytes_written B.room call.now ≤ length buffer.old }
     ensures { Answers store.old (calls.Call.Memory
-        (memory_call (λ chunk. C.meant chunk names.now) call.now)) result store.new }
+        (memory_call (λ chunk. C.meant chunk names.now) B.spelled call.now)) result store.new }
 {
     match call {
         MemoryCall::Read { name, at, count } => Reads(name.among(names), *at, *count),
@@ -144,7 +149,7 @@ fn do_memory_call<C: Given<Name>>(
         MemoryCall::Owner(name) => Replied(small_number(store.owner(name.among(names)))),
         MemoryCall::Locks(name) => Replied(small_number(store.locks(name.among(names)))),
         MemoryCall::Write { name, at, bytes } => {
-            Replied(done(store.write(name.among(names), *at, bytes.as_slice())))
+            Replied(done(store.write(name.among(names), *at, bytes.decoded(buffer))))
         }
         MemoryCall::Set {
             name,
@@ -153,7 +158,7 @@ fn do_memory_call<C: Given<Name>>(
             byte,
         } => Replied(done(store.set(name.among(names), *at, *count, *byte))),
         MemoryCall::StrCopy { name, at, text } => {
-            Replied(done(store.str_copy(name.among(names), *at, text.as_slice())))
+            Replied(done(store.str_copy(name.among(names), *at, text.decoded(buffer))))
         }
         MemoryCall::Resize { name, size } => Replied(done(store.resize(name.among(names), *size))),
         MemoryCall::SetOwner { name, owner } => Replied(done(store.set_owner(

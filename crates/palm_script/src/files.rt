@@ -1,14 +1,15 @@
 //! One call on files.
 
-ghost use Rattle.std.specs.Prelude.{◌≡◌};
+ghost use Rattle.std.specs.Prelude.{◌≡◌, ◌≤◌, length};
 ghost use Rattle.heap_model.specs.FileSteps.{file_call};
 ghost use Rattle.heap_model.specs.StoreSteps.{DoesInStore};
 ghost use Rattle.heap_model.specs.declared.call.Call as calls;
 ghost use Rattle.heap_model.specs.declared.call.FileCall.{FileCall};
 ghost use Rattle.heap_model.specs.declared.call.Reply.{Reply};
 ghost use Rattle.heap_model.specs.declared.refusal.Refusal.{Refusal};
+ghost use Rattle.script_lines.specs.LineCounts.{bytes_read};
 
-use crate::bindings::Given;
+use crate::bindings::{Given, GivenBytes};
 use crate::replies::{data, database};
 use allowance::Allowance;
 use heap_model::{Db, FileCall, Reply};
@@ -17,18 +18,20 @@ use pdb_files::{exported, import_from};
 
 /// Does a call on files, which may want memory; where it is refused, so is the call. Only a refused growth is
 /// answered by `OutOfMemory`.
-pub(crate) fn do_file_call<A: Allowance, D: Given<Db>>(
+pub(crate) fn do_file_call<A: Allowance, D: Given<Db>, B: GivenBytes>(
     memory: &A,
     store: &mut Store,
     databases: &[Db],
-    call: &FileCall<D>,
+    buffer: &mut [u8],
+    call: &FileCall<D, B>,
 ) -> Reply
+    requires { bytes_read B.room call.now ≤ length buffer.old }
     ensures does { DoesInStore store.old (calls.Call.File
-        (file_call (λ db. D.meant db databases.now) call.now)) result store.new }
+        (file_call (λ db. D.meant db databases.now) B.spelled call.now)) result store.new }
     ensures no_memory { result ≡ Reply.Refused Refusal.OutOfMemory → A.is_short memory.now }
 {
     match call {
-        FileCall::Import(file) => import(memory, store, file.as_slice()),
+        FileCall::Import(file) => import(memory, store, file.decoded(buffer)),
         FileCall::Export(db) => export(memory, store, db.among(databases)),
     }
 }

@@ -12,7 +12,7 @@
 //! | `resources` | one call on resources |
 //! | `files` | one call on files |
 //! | `lists` | the calls of a list |
-//! | `bindings` | what labels stand for, and how a call finds that |
+//! | `bindings` | what labels and lent bytes stand for, and how a call finds that |
 //! | `lines` | one line: its call, what it binds, its reply line |
 //! | `replies` | what a manager answers, as a reply; and reply lines |
 //! | `runs` | the lines of a script |
@@ -35,5 +35,5 @@ pub use lists::{
 pub use palm_store::{WriteFault, put_all};
 pub use runs::{RunFault, run, run_from};
 pub use script_lines::{
-    ChunkLabel, DatabaseLabel, Line, LineCall, LineFault, Script, ScriptFault, parse,
+    ChunkLabel, DatabaseLabel, LentBytes, Line, LineCall, LineFault, Script, ScriptFault, parse,
 };

@@ -2,7 +2,7 @@
 
 ghost use Rattle.std.specs.Prelude.{◌≡◌, ◌≤◌, length};
 ghost use Rattle.std.specs.Option.{option_to_list};
-ghost use Rattle.script_lines.specs.Labels.{chunk_label_end, database_label_end};
+ghost use Rattle.script_lines.specs.LineCounts.{byte_count, chunk_label_end, database_label_end};
 ghost use Rattle.heap_model.specs.declared.call.Call.TheVariants as calls;
 ghost use Rattle.heap_model.specs.declared.call.MemoryCall.{MemoryCall};
 ghost use Rattle.palm_script.specs.Lines.{Answers, DoesLine, OnWant, call_of, tables};
@@ -26,17 +26,19 @@ pub(crate) fn do_line<A: Allowance, W: Write>(
     store: &mut Store,
     names: &mut [Name],
     databases: &mut [Db],
+    buffer: &mut [u8],
     inputs: &[Bytes],
-    line: &Line,
+    line: &Line<'_>,
     out: &mut Counted<W>,
 ) -> Result<Option<Bytes>, WriteFault>
     requires chunks { chunk_label_end line.now ≤ length names.old }
     requires databases { database_label_end line.now ≤ length databases.old }
+    requires bytes { byte_count line.now ≤ length buffer.old }
     ensures { DoesLine (A.is_short memory.now) W.contents inputs.now line.now
         store.old (tables names.old databases.old) out.old
         store.new (tables names.new databases.new) out.new result }
 {
-    match outcome_of(memory, store, names, databases, inputs, line) {
+    match outcome_of(memory, store, names, databases, buffer, inputs, line) {
         Outcome::Replied(reply) => {
             bind_line(names, databases, line, &reply);
             match put_reply(out, line, &reply) {
@@ -58,7 +60,7 @@ pub(crate) fn do_line<A: Allowance, W: Write>(
 }
 
 /// The file that a line exports that was answered so, if it exports one.
-fn exported_file(line: &Line, reply: Reply) -> Option<Bytes>
+fn exported_file(line: &Line<'_>, reply: Reply) -> Option<Bytes>
     ensures { words.exported line.now reply ≡ option_to_list result }
 {
     match (line, reply) {
@@ -73,9 +75,11 @@ fn outcome_of<A: Allowance>(
     store: &mut Store,
     names: &[Name],
     databases: &[Db],
+    buffer: &mut [u8],
     inputs: &[Bytes],
-    line: &Line,
+    line: &Line<'_>,
 ) -> Outcome
+    requires { byte_count line.now ≤ length buffer.old }
     ensures answers { Answers store.old (call_of inputs.now (tables names.now databases.now) line.now)
         result store.new }
     ensures no_memory { OnWant result (A.is_short memory.now) }
@@ -85,7 +89,7 @@ fn outcome_of<A: Allowance>(
         Line::Print(call)
         | Line::Silent(call)
         | Line::BindChunk(_, call)
-        | Line::BindDatabase(_, call) => do_given(memory, store, names, databases, call),
+        | Line::BindDatabase(_, call) => do_given(memory, store, names, databases, buffer, call),
         Line::Import { file, .. } => Outcome::Replied(import(
             memory,
             store,

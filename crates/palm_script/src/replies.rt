@@ -133,7 +133,7 @@ pub(crate) enum Told {
     Length,
 }
 
-fn told_of(line: &Line) -> Told
+fn told_of(line: &Line<'_>) -> Told
     ensures { result ≡ words.told_of line.now }
 {
     match line {
@@ -146,7 +146,7 @@ fn told_of(line: &Line) -> Told
 /// Prints the reply line of a line.
 pub(crate) fn put_reply<W: Write>(
     out: &mut Counted<W>,
-    line: &Line,
+    line: &Line<'_>,
     reply: &Reply,
 ) -> Result<(), WriteFault>
     ensures { Writes W.contents out.old out.new (reply_line line.now reply.now) (is_ok result) }
@@ -164,7 +164,7 @@ pub(crate) fn put_reply<W: Write>(
 /// Prints the reply line of a line whose call answers these bytes, without a copy of them.
 pub(crate) fn put_data<W: Write>(
     out: &mut Counted<W>,
-    line: &Line,
+    line: &Line<'_>,
     bytes: &[u8],
 ) -> Result<(), WriteFault>
     ensures { Writes W.contents out.old out.new (reply_line line.now (Reply.Data bytes.now))

@@ -7,7 +7,7 @@ ghost use Rattle.palm_script.specs.Lines.{BreaksOff, BreaksOffShort, RunsThrough
 ghost use Rattle.palm_script.specs.Lines.{no_database, no_name};
 
 use crate::lines::do_line;
-use allowance::{Allowance, room_for};
+use allowance::{Allowance, room_for, zeros};
 use heap_model::{Bytes, Db, Name};
 use palm_store::Store;
 use palm_text::Counted;
@@ -35,7 +35,7 @@ pub enum RunFault {
 pub fn run<W: Write>(
     alloc: Global,
     store: &mut Store,
-    script: &Script,
+    script: &Script<'_>,
     inputs: &[Bytes],
     out: &mut Counted<W>,
 ) -> Result<Vec<Bytes>, RunFault>
@@ -54,7 +54,7 @@ pub fn run<W: Write>(
 pub fn run_from<A: Allowance, W: Write>(
     memory: &A,
     store: &mut Store,
-    script: &Script,
+    script: &Script<'_>,
     inputs: &[Bytes],
     out: &mut Counted<W>,
 ) -> Result<Vec<Bytes>, RunFault>
@@ -76,13 +76,17 @@ pub fn run_from<A: Allowance, W: Write>(
     let Ok(mut databases) = unbound_databases(memory, script.database_label_count()) else {
         return Err(RunFault::OutOfMemory);
     };
+    let Ok(mut buffer) = zeros(memory, script.most_bytes()) else {
+        return Err(RunFault::OutOfMemory);
+    };
     let Ok(mut files) = room_for(memory, script.export_count()) else {
         return Err(RunFault::OutOfMemory);
     };
     let names = names.as_mut_slice();
     let databases = databases.as_mut_slice();
+    let buffer = buffer.as_mut_slice();
     for line in script.lines() {
-        match do_line(memory, store, names, databases, inputs, line, out) {
+        match do_line(memory, store, names, databases, buffer, inputs, line, out) {
             Ok(file) => add_file(&mut files, file),
             Err(_) => return Err(RunFault::Write),
         }

@@ -95,12 +95,12 @@ pub fn run_region_from<A: Allowance, W: Write, V: Write>(
 
 /// The store of an image, and the script of a text. What is refused is said, the image before the
 /// script.
-fn read<A: Allowance, V: Write>(
+fn read<'a, A: Allowance, V: Write>(
     memory: &A,
     region: Region,
-    script: &[u8],
+    script: &'a [u8],
     out: &mut Counted<V>,
-) -> Result<(Store, Script), Status>
+) -> Result<(Store, Script<'a>), Status>
     ensures store { IfOk result (λ read. read.0 ≡ region) }
     ensures accepted { OnOk result (Accepted region.bytes) }
     ensures script { IfOk result (λ read. read_script script.now ≡ Ok read.1) }
@@ -135,7 +135,7 @@ fn read<A: Allowance, V: Write>(
 fn run_script<A: Allowance, W: Write, V: Write>(
     memory: &A,
     mut store: Store,
-    script: &Script,
+    script: &Script<'_>,
     inputs: &[Bytes],
     image_out: &mut Counted<W>,
     files: &mut Vec<Bytes>,
@@ -175,7 +175,7 @@ fn run_script<A: Allowance, W: Write, V: Write>(
 fn print_replies<A: Allowance, V: Write>(
     memory: &A,
     store: &mut Store,
-    script: &Script,
+    script: &Script<'_>,
     inputs: &[Bytes],
     out: &mut Counted<V>,
 ) -> Result<Vec<Bytes>, Status>

@@ -1,2 +1,3 @@
-pub mod LabelLaws
+pub mod HexLaws
+pub mod CountLaws
 mod TableLaws

@@ -77,9 +77,9 @@ row word of make = record { word = word; of = of; make = make; line = line_by of
 
 -- the calls of the managers, as lines have them
 abbrev pub LineCall : Type 0
-LineCall = Call ChunkLabel DatabaseLabel
+LineCall = Call ChunkLabel DatabaseLabel (List ℕ)
 
-abbrev pub in_memory : MemoryCall ChunkLabel → LineCall
+abbrev pub in_memory : MemoryCall ChunkLabel (List ℕ) → LineCall
 in_memory call = calls.Memory call
 
 abbrev pub on_databases : DatabaseCall ChunkLabel DatabaseLabel → LineCall

@@ -1,3 +1,4 @@
-pub mod Labels
+pub mod LentBytes
+pub mod LineCounts
 pub mod Commands
 pub mod ValueKinds

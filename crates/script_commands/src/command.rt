@@ -11,6 +11,7 @@ ghost use Rattle.script_commands.specs.ValueKinds.{AreOfKinds};
 use crate::database_command::{
     DATABASE_COMMANDS, DatabaseCommand, database_row, make_database_line,
 };
+use crate::lent_bytes::LentBytes;
 use crate::line::Line;
 use crate::memory_command::{MEMORY_COMMANDS, MemoryCommand, make_memory_line, memory_row};
 use crate::record_command::{RECORD_COMMANDS, RecordCommand, make_record_line, record_row};
@@ -18,7 +19,6 @@ use crate::resource_command::{
     RESOURCE_COMMANDS, ResourceCommand, make_resource_line, resource_row,
 };
 use crate::value::{Kind, Value};
-use heap_model::Bytes;
 
 /// A command, of the memory manager, of databases, of records or of resources.
 #[derive(Clone, Copy)]
@@ -87,13 +87,13 @@ pub fn find_command(word: &[u8]) -> Option<Command>
 }
 
 /// The line of a command and what its words stand for, which are of the command's kinds.
-pub fn make_line(command: Command, values: &[Value], bytes: Bytes) -> Line
+pub fn make_line<'a>(command: Command, values: &[Value], bytes: LentBytes<'a>) -> Line<'a>
     requires { AreOfKinds (tables.kinds_of command) values.now }
-    ensures { line_of command values.now bytes ≡ Some result }
+    ensures { line_of command values.now bytes.entry ≡ Some result }
 {
     match command {
         Command::Memory(command) => make_memory_line(command, values, bytes),
-        Command::Database(command) => make_database_line(command, values, bytes.as_slice()),
+        Command::Database(command) => make_database_line(command, values, &bytes),
         Command::Record(command) => make_record_line(command, values),
         Command::Resource(command) => make_resource_line(command, values),
     }

@@ -10,10 +10,11 @@ ghost use Rattle.script_commands.specs.declared.command.Command.TheVariants.{Dat
 ghost use Rattle.script_commands.specs.declared.database_command.DatabaseCommand.TheVariants.{Create, SetInfo};
 
 use crate::command::{Command, CommandRow, row};
+use crate::lent_bytes::LentBytes;
 use crate::line::{ChunkLabel, DatabaseLabel, Line};
 use crate::value::{Kind, Value};
 use crate::words::{FourBytes, cut, four, one, three, two};
-use heap_model::{Call, DatabaseCall, DbInfo, DbName};
+use heap_model::{Call, DatabaseCall, DbInfo};
 
 /// A command of databases or of their files.
 #[derive(Clone, Copy)]
@@ -104,35 +105,38 @@ pub(crate) fn database_row(command: DatabaseCommand) -> CommandRow
 }
 
 /// The line of a call on databases whose answer is printed.
-fn print(call: DatabaseCall<ChunkLabel, DatabaseLabel>) -> Line
+fn print<'a>(call: DatabaseCall<ChunkLabel, DatabaseLabel>) -> Line<'a>
     ensures { result ≡ Print (on_databases call) }
 {
     Line::Print(Call::Database(call))
 }
 
 /// The line of a call on databases that answers a chunk.
-fn bind_chunk(label: ChunkLabel, call: DatabaseCall<ChunkLabel, DatabaseLabel>) -> Line
+fn bind_chunk<'a>(label: ChunkLabel, call: DatabaseCall<ChunkLabel, DatabaseLabel>) -> Line<'a>
     ensures { result ≡ BindChunk label (on_databases call) }
 {
     Line::BindChunk(label, Call::Database(call))
 }
 
 /// The line of a call on databases that answers a database.
-fn bind_database(label: DatabaseLabel, call: DatabaseCall<ChunkLabel, DatabaseLabel>) -> Line
+fn bind_database<'a>(
+    label: DatabaseLabel,
+    call: DatabaseCall<ChunkLabel, DatabaseLabel>,
+) -> Line<'a>
     ensures { result ≡ BindDatabase label (on_databases call) }
 {
     Line::BindDatabase(label, Call::Database(call))
 }
 
 /// The line of `create`.
-fn creation(values: &[Value], text: &[u8]) -> Line
+fn creation<'a>(values: &[Value], text: &LentBytes<'a>) -> Line<'a>
     requires { AreOfKinds creation_kinds values.now }
     ensures { line_of (OfDatabases Create) values.now text.now ≡ Some result }
 {
     let (label, rest) = cut(values);
     let (FourBytes(kind), FourBytes(creator), resources, date) = four(rest);
     let call = DatabaseCall::Create {
-        name: DbName::of(text),
+        name: text.name(),
         kind,
         creator,
         resources,
@@ -142,7 +146,7 @@ fn creation(values: &[Value], text: &[u8]) -> Line
 }
 
 /// The line of `dbset`.
-fn info_line(values: &[Value], text: &[u8]) -> Line
+fn info_line<'a>(values: &[Value], text: &LentBytes<'a>) -> Line<'a>
     requires { AreOfKinds info_kinds values.now }
     ensures { line_of (OfDatabases SetInfo) values.now text.now ≡ Some result }
 {
@@ -152,7 +156,7 @@ fn info_line(values: &[Value], text: &[u8]) -> Line
     let (creation_date, rest) = cut(rest);
     let (modification_date, backup_date, FourBytes(kind), FourBytes(creator)) = four(rest);
     let info = DbInfo {
-        name: DbName::of(text),
+        name: text.name(),
         attributes,
         version,
         creation_date,
@@ -168,15 +172,17 @@ fn info_line(values: &[Value], text: &[u8]) -> Line
 }
 
 /// The line of a command and what its words stand for.
-pub(crate) fn make_database_line(command: DatabaseCommand, values: &[Value], text: &[u8]) -> Line
+pub(crate) fn make_database_line<'a>(
+    command: DatabaseCommand,
+    values: &[Value],
+    text: &LentBytes<'a>,
+) -> Line<'a>
     requires { AreOfKinds (tables.kinds_of (OfDatabases command)) values.now }
     ensures { line_of (OfDatabases command) values.now text.now ≡ Some result }
 {
     match command {
         DatabaseCommand::Create => creation(values, text),
-        DatabaseCommand::Find => {
-            bind_database(one(values), DatabaseCall::Find(DbName::of(text)))
-        }
+        DatabaseCommand::Find => { bind_database(one(values), DatabaseCall::Find(text.name())) }
         DatabaseCommand::Nth => {
             let (label, index) = two(values);
             bind_database(label, DatabaseCall::Nth(index))

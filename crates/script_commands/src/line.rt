@@ -1,11 +1,12 @@
 //! A line of a script, and scripts as lists of lines.
 
-ghost use Rattle.std.specs.Prelude.{◌≡◌, ◌≤◌, ◌++◌, ◌∷◌, ◌^◌, [], IfOk, IfSome, OnErr, OnOk, count_by};
-ghost use Rattle.script_commands.specs.Labels.{HasLabelsBelow, label_count};
-ghost use Rattle.script_commands.specs.Labels as labels;
+ghost use Rattle.std.specs.Prelude.{◌≡◌, ◌≤◌, ◌++◌, ◌∷◌, ◌^◌, [], IfOk, IfSome, OnErr, OnOk, count_by, length};
+ghost use Rattle.script_commands.specs.LineCounts.{EachAtMost, bytes_given, greatest};
+ghost use Rattle.script_commands.specs.LineCounts as counts;
 
+use crate::lent_bytes::LentBytes;
 use allowance::Allowance;
-use heap_model::Call;
+use heap_model::{Call, FileCall, MemoryCall};
 use std::alloc::{AllocError, Global};
 use std::marker::Model;
 
@@ -18,32 +19,32 @@ pub struct ChunkLabel(pub usize);
 #[derive(Clone, Copy, Debug, PartialEq, Eq)]
 pub struct DatabaseLabel(pub usize);
 
-/// A call over labels.
-pub type LineCall = Call<ChunkLabel, DatabaseLabel>;
+/// A call over labels, and bytes that the script's text lends.
+pub type LineCall<'a> = Call<ChunkLabel, DatabaseLabel, LentBytes<'a>>;
 
 /// A line of a script: one call, and what becomes of its answer.
 #[derive(Drop)]
-pub enum Line {
+pub enum Line<'a> {
     /// Has the label stand for a name. The call asks for the size of its chunk, which isn't printed.
     Bind { label: ChunkLabel, name: u32 },
     /// The answer is printed.
-    Print(LineCall),
+    Print(LineCall<'a>),
     /// The answer isn't printed.
-    Silent(LineCall),
+    Silent(LineCall<'a>),
     /// The call answers a chunk, and the label then stands for it.
-    BindChunk(ChunkLabel, LineCall),
+    BindChunk(ChunkLabel, LineCall<'a>),
     /// The call answers a database, and the label then stands for it.
-    BindDatabase(DatabaseLabel, LineCall),
+    BindDatabase(DatabaseLabel, LineCall<'a>),
     /// Imports the input file of a number, counted from 1, and the label then stands for its database.
     Import { label: DatabaseLabel, file: u32 },
     /// Exports the file of a database. Its length is printed.
     Export(DatabaseLabel),
 }
 
-impl Line {
+impl<'a> Line<'a> {
     /// One more than the number of the label of a chunk that the line binds, and 0 where it binds none.
     fn chunk_label_end(&self) -> Option<usize>
-        ensures { IfSome result (λ end. end ≡ labels.chunk_label_end self.now) }
+        ensures { IfSome result (λ end. end ≡ counts.chunk_label_end self.now) }
     {
         match self {
             Line::Bind { label, .. } | Line::BindChunk(label, _) => label.0.checked_add(1),
@@ -57,7 +58,7 @@ impl Line {
 
     /// The same of the label of a database that the line binds.
     fn database_label_end(&self) -> Option<usize>
-        ensures { IfSome result (λ end. end ≡ labels.database_label_end self.now) }
+        ensures { IfSome result (λ end. end ≡ counts.database_label_end self.now) }
     {
         match self {
             Line::BindDatabase(label, _) | Line::Import { label, .. } => label.0.checked_add(1),
@@ -69,66 +70,83 @@ impl Line {
         }
     }
 
+    /// How many bytes the line's call gives.
+    fn byte_count(&self) -> usize
+        ensures { result ≡ counts.byte_count self.now }
+    {
+        match self {
+            Line::Print(call)
+            | Line::Silent(call)
+            | Line::BindChunk(_, call)
+            | Line::BindDatabase(_, call) => count_bytes(call),
+            Line::Bind { .. } | Line::Import { .. } | Line::Export(_) => 0,
+        }
+    }
+
     /// Whether the line exports a file, where it is accepted.
     fn is_export(&self) -> bool
-        ensures { result ≡ labels.is_export self.now }
+        ensures { result ≡ counts.is_export self.now }
     {
         matches!(self, Line::Export(_))
     }
 }
 
-/// The lines of a script, in order. Contracts see them as a list.
+/// The lines of a script, in order, with bytes that its text lends. Contracts see them as a list.
 #[derive(Drop)]
-pub struct Script {
-    lines: Vec<Line>,
+pub struct Script<'a> {
+    lines: Vec<Line<'a>>,
     chunk_label_count: usize,
     database_label_count: usize,
+    most_bytes: usize,
 }
 
-impl Model for Script {
+impl<'a> Model for Script<'a> {
     ghost use Rattle.std.specs.Prelude.{◌≡◌, List};
     ghost use Rattle.script_commands.specs.declared.line.Line.{Line};
-    ghost use Rattle.script_commands.specs.Labels.{label_count};
-    ghost use Rattle.script_commands.specs.Labels as labels;
+    ghost use Rattle.script_commands.specs.LineCounts.{greatest};
+    ghost use Rattle.script_commands.specs.LineCounts as counts;
 
     ghost Value = { List Line };
 
     ghost view = { λ script. script.lines.items };
 
     ghost invariant = { λ script.
-        (script.chunk_label_count ≡ label_count labels.chunk_label_end script.lines.items)
-        × (script.database_label_count
-        ≡ label_count labels.database_label_end script.lines.items) };
+        (script.chunk_label_count ≡ greatest counts.chunk_label_end script.lines.items)
+        × (script.database_label_count ≡ greatest counts.database_label_end script.lines.items)
+        × (script.most_bytes ≡ greatest counts.byte_count script.lines.items) };
 }
 
-impl Script {
+impl<'a> Script<'a> {
     /// The script of no lines.
-    pub fn new(alloc: Global) -> Script
+    pub fn new(alloc: Global) -> Script<'a>
         ensures { result ≡ [] }
     {
         Script {
             lines: Vec::new(alloc),
             chunk_label_count: 0,
             database_label_count: 0,
+            most_bytes: 0,
         }
     }
 
     /// Puts a line behind the others. A script with the label `usize::MAX` would need a table of more labels
     /// than memory has bytes: such a line asks for that table, and the growth is refused.
-    pub fn push<A: Allowance>(&mut self, memory: &A, line: Line) -> Result<(), AllocError>
-        ensures ok { OnOk result (self.new ≡ self.old ++ (line ∷ [])) }
+    pub fn push<A: Allowance>(&mut self, memory: &A, line: Line<'a>) -> Result<(), AllocError>
+        ensures ok { OnOk result (self.new ≡ self.old ++ (line.entry ∷ [])) }
         ensures same { OnErr result (self.new ≡ self.old) }
         ensures short { OnErr result (A.is_short memory.now) }
     {
         let (chunk_end, database_end) = label_ends(memory, &line)?;
+        let byte_count = line.byte_count();
         allowance::push(memory, &mut self.lines, line)?;
         self.chunk_label_count = self.chunk_label_count.max(chunk_end);
         self.database_label_count = self.database_label_count.max(database_end);
+        self.most_bytes = self.most_bytes.max(byte_count);
         Ok(())
     }
 
     /// The lines, in order.
-    pub fn lines(&self) -> &[Line]
+    pub fn lines(&self) -> &[Line<'a>]
         ensures { result.now ≡ self.now }
     {
         &self.lines
@@ -136,32 +154,40 @@ impl Script {
 
     /// One more than the greatest label of a chunk that a line binds, and 0 where none binds one.
     pub fn chunk_label_count(&self) -> usize
-        ensures count { result ≡ label_count labels.chunk_label_end self.now }
-        ensures below { HasLabelsBelow labels.chunk_label_end result self.now }
+        ensures count { result ≡ greatest counts.chunk_label_end self.now }
+        ensures below { EachAtMost counts.chunk_label_end result self.now }
     {
         self.chunk_label_count
     }
 
     /// The same of the labels of databases.
     pub fn database_label_count(&self) -> usize
-        ensures count { result ≡ label_count labels.database_label_end self.now }
-        ensures below { HasLabelsBelow labels.database_label_end result self.now }
+        ensures count { result ≡ greatest counts.database_label_end self.now }
+        ensures below { EachAtMost counts.database_label_end result self.now }
     {
         self.database_label_count
     }
 
+    /// The most bytes that a line's call gives, and 0 where none gives any.
+    pub fn most_bytes(&self) -> usize
+        ensures most { result ≡ greatest counts.byte_count self.now }
+        ensures each { EachAtMost counts.byte_count result self.now }
+    {
+        self.most_bytes
+    }
+
     /// How many lines export a file, where they are accepted.
     pub fn export_count(&self) -> usize
-        ensures { result ≡ count_by labels.is_export self.now }
+        ensures { result ≡ count_by counts.is_export self.now }
     {
         count_exports(&self.lines)
     }
 }
 
 /// One more than the number of the label of a chunk that a line binds, and the same of a database.
-fn label_ends<A: Allowance>(memory: &A, line: &Line) -> Result<(usize, usize), AllocError>
-    ensures chunk { IfOk result (λ ends. ends.0 ≡ labels.chunk_label_end line.now) }
-    ensures database { IfOk result (λ ends. ends.1 ≡ labels.database_label_end line.now) }
+fn label_ends<A: Allowance>(memory: &A, line: &Line<'_>) -> Result<(usize, usize), AllocError>
+    ensures chunk { IfOk result (λ ends. ends.0 ≡ counts.chunk_label_end line.now) }
+    ensures database { IfOk result (λ ends. ends.1 ≡ counts.database_label_end line.now) }
     ensures short { OnErr result (A.is_short memory.now) }
 {
     match (line.chunk_label_end(), line.database_label_end()) {
@@ -178,8 +204,8 @@ fn refused_growth<A: Allowance>(memory: &A, size: usize) -> AllocError
     allowance::zeros(memory, size).unwrap_err()
 }
 
-fn count_exports(lines: &[Line]) -> usize
-    ensures { result ≡ count_by labels.is_export lines.now }
+fn count_exports(lines: &[Line<'_>]) -> usize
+    ensures { result ≡ count_by counts.is_export lines.now }
 {
     let mut count = 0;
     for line in lines {
@@ -188,4 +214,27 @@ fn count_exports(lines: &[Line]) -> usize
         }
     }
     count
+}
+
+/// How many bytes a call gives.
+fn count_bytes(call: &LineCall<'_>) -> usize
+    ensures { result ≡ bytes_given length call.now }
+{
+    match call {
+        Call::Memory(call) => count_written(call),
+        Call::File(FileCall::Import(file)) => file.len(),
+        Call::File(FileCall::Export(_)) | Call::Database(_) | Call::Record(_) | Call::Resource(_) =>
+            0,
+    }
+}
+
+/// How many bytes a call of the memory manager gives.
+fn count_written(call: &MemoryCall<ChunkLabel, LentBytes<'_>>) -> usize
+    ensures { result ≡ counts.bytes_written length call.now }
+{
+    match call {
+        MemoryCall::Write { bytes, .. } => bytes.len(),
+        MemoryCall::StrCopy { text, .. } => text.len(),
+        _ => 0,
+    }
 }

@@ -8,10 +8,11 @@ ghost use Rattle.script_commands.specs.declared.line.Line.TheVariants.{Print, Bi
 ghost use Rattle.script_commands.specs.declared.command.Command.TheVariants.{Memory};
 
 use crate::command::{Command, CommandRow, row};
+use crate::lent_bytes::LentBytes;
 use crate::line::{ChunkLabel, Line};
 use crate::value::{Kind, Value};
 use crate::words::{four, one, three, two};
-use heap_model::{Bytes, Call, MemoryCall};
+use heap_model::{Call, MemoryCall};
 
 /// A command of the memory manager.
 #[derive(Clone, Copy)]
@@ -110,23 +111,27 @@ pub(crate) fn memory_row(command: MemoryCommand) -> CommandRow
 }
 
 /// The line of a call of the memory manager whose answer is printed.
-fn print(call: MemoryCall<ChunkLabel>) -> Line
-    ensures { result ≡ Print (in_memory call) }
+fn print<'a>(call: MemoryCall<ChunkLabel, LentBytes<'a>>) -> Line<'a>
+    ensures { result ≡ Print (in_memory call.entry) }
 {
     Line::Print(Call::Memory(call))
 }
 
 /// The line of a call of the memory manager that answers a chunk.
-fn bind(label: ChunkLabel, call: MemoryCall<ChunkLabel>) -> Line
-    ensures { result ≡ BindChunk label (in_memory call) }
+fn bind<'a>(label: ChunkLabel, call: MemoryCall<ChunkLabel, LentBytes<'a>>) -> Line<'a>
+    ensures { result ≡ BindChunk label (in_memory call.entry) }
 {
     Line::BindChunk(label, Call::Memory(call))
 }
 
 /// The line of a command and what its words stand for.
-pub(crate) fn make_memory_line(command: MemoryCommand, values: &[Value], bytes: Bytes) -> Line
+pub(crate) fn make_memory_line<'a>(
+    command: MemoryCommand,
+    values: &[Value],
+    bytes: LentBytes<'a>,
+) -> Line<'a>
     requires { AreOfKinds (tables.kinds_of (Memory command)) values.now }
-    ensures { line_of (Memory command) values.now bytes ≡ Some result }
+    ensures { line_of (Memory command) values.now bytes.entry ≡ Some result }
 {
     match command {
         MemoryCommand::Bind => {

@@ -141,21 +141,21 @@ pub(crate) fn record_row(command: RecordCommand) -> CommandRow
 }
 
 /// The line of a call on records whose answer is printed.
-fn print(call: RecordCall<ChunkLabel, DatabaseLabel>) -> Line
+fn print<'a>(call: RecordCall<ChunkLabel, DatabaseLabel>) -> Line<'a>
     ensures { result ≡ Print (on_records call) }
 {
     Line::Print(Call::Record(call))
 }
 
 /// The line of a call on records that answers a chunk.
-fn bind(label: ChunkLabel, call: RecordCall<ChunkLabel, DatabaseLabel>) -> Line
+fn bind<'a>(label: ChunkLabel, call: RecordCall<ChunkLabel, DatabaseLabel>) -> Line<'a>
     ensures { result ≡ BindChunk label (on_records call) }
 {
     Line::BindChunk(label, Call::Record(call))
 }
 
 /// The line of a command and what its words stand for.
-pub(crate) fn make_record_line(command: RecordCommand, values: &[Value]) -> Line
+pub(crate) fn make_record_line<'a>(command: RecordCommand, values: &[Value]) -> Line<'a>
     requires { AreOfKinds (tables.kinds_of (OfRecords command)) values.now }
     ensures { (bytes : List ℕ) → line_of (OfRecords command) values.now bytes ≡ Some result }
 {

@@ -104,21 +104,21 @@ pub(crate) fn resource_row(command: ResourceCommand) -> CommandRow
 }
 
 /// The line of a call on resources whose answer is printed.
-fn print(call: ResourceCall<ChunkLabel, DatabaseLabel>) -> Line
+fn print<'a>(call: ResourceCall<ChunkLabel, DatabaseLabel>) -> Line<'a>
     ensures { result ≡ Print (on_resources call) }
 {
     Line::Print(Call::Resource(call))
 }
 
 /// The line of a call on resources that answers a chunk.
-fn bind(label: ChunkLabel, call: ResourceCall<ChunkLabel, DatabaseLabel>) -> Line
+fn bind<'a>(label: ChunkLabel, call: ResourceCall<ChunkLabel, DatabaseLabel>) -> Line<'a>
     ensures { result ≡ BindChunk label (on_resources call) }
 {
     Line::BindChunk(label, Call::Resource(call))
 }
 
 /// The line of a command and what its words stand for.
-pub(crate) fn make_resource_line(command: ResourceCommand, values: &[Value]) -> Line
+pub(crate) fn make_resource_line<'a>(command: ResourceCommand, values: &[Value]) -> Line<'a>
     requires { AreOfKinds (tables.kinds_of (OfResources command)) values.now }
     ensures { (bytes : List ℕ) → line_of (OfResources command) values.now bytes ≡ Some result }
 {

@@ -7,5 +7,6 @@ pub mod Views
 pub mod Reading
 pub mod Laws
 pub use Rattle.script_commands.specs.Commands
-pub use Rattle.script_commands.specs.Labels
+pub use Rattle.script_commands.specs.LentBytes
+pub use Rattle.script_commands.specs.LineCounts
 pub use Rattle.script_commands.specs.ValueKinds

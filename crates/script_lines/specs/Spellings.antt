@@ -2,10 +2,9 @@
 use Rattle.std.specs.Prelude.{ℕ, ◌+◌, ◌-◌, ◌*◌, ◌==◌, ◌&&◌, ◌||◌, nat_lt, nat_le, Bool, true, false, if◌then◌else◌, List, [], ◌∷◌, length, take, drop, codes, slice_index, Option, Some, None}
 use Rattle.std.specs.List.{list_all}
 use Rattle.std.specs.Option.{option_and_then}
-use Rattle.std.specs.Result.{result_ok}
 use Rattle.std.specs.Char.{is_ascii_alphabetic, is_ascii_digit}
 use Rattle.std.specs.Str.{bytes_eq}
-use Rattle.hex.specs.Hex.{decode_of}
+use Rattle.script_commands.specs.LentBytes.{hex_bytes}
 use Rattle.heap_model.specs.Bytes.{u32_at}
 use Rattle.heap_model.specs.declared.names.Which.{Which}
 use Rattle.heap_model.specs.declared.names.Which.TheVariants.{App, Sort}
@@ -54,10 +53,6 @@ spelled_number word = if bytes_eq (take 2 word) (codes "0x") then number_in 16 8
 -- a number below a limit
 abbrev pub number_below : ℕ → List ℕ → Option ℕ
 number_below limit word = below limit (spelled_number word)
-
--- the bytes of an even number of hex digits, two for each
-abbrev pub hex_bytes : List ℕ → Option (List ℕ)
-hex_bytes digits = result_ok (decode_of digits)
 
 -- bytes: hex digits, at least two, or `-` for none
 abbrev pub spelled_bytes : List ℕ → Option (List ℕ)

@@ -19,10 +19,10 @@ mod value;
 
 /// The lines, which are those of script_commands.
 pub mod line {
-    pub use script_commands::{ChunkLabel, DatabaseLabel, Line, LineCall, Script};
+    pub use script_commands::{ChunkLabel, DatabaseLabel, LentBytes, Line, LineCall, Script};
 }
 
 pub use fault::{LineFault, ScriptFault};
 pub use laws::{four_bytes_are_read_back, texts_are_read_back};
-pub use line::{ChunkLabel, DatabaseLabel, Line, LineCall, Script};
+pub use line::{ChunkLabel, DatabaseLabel, LentBytes, Line, LineCall, Script};
 pub use reading::{parse, parse_from};

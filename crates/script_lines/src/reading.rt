@@ -22,7 +22,7 @@ fn read_values<'a, A: Allowance>(
     kinds: &[Kind],
     words: &'a [u8],
     labels: &mut LabelTables<'a>,
-) -> Result<Values, ScriptFault>
+) -> Result<Values<'a>, ScriptFault>
     requires few { length kinds.now < 16 }
     requires whole { words_of words.now ≡ Ok (words_in words.now) }
     ensures ok { IfOk result (λ values. read_behind (numberings labels.old) kinds.now words.now
@@ -59,7 +59,7 @@ fn read_command<'a, A: Allowance>(
     words: &'a [u8],
     count: usize,
     labels: &mut LabelTables<'a>,
-) -> Result<Line, ScriptFault>
+) -> Result<Line<'a>, ScriptFault>
     requires whole { words_of words.now ≡ Ok (words_in words.now) }
     requires count { count ≡ length (words_in words.now) }
     ensures ok { IfOk result (λ line. line_behind (numberings labels.old) word.now words.now
@@ -87,7 +87,7 @@ fn read_line<'a, A: Allowance>(
     memory: &A,
     text: &'a [u8],
     labels: &mut LabelTables<'a>,
-) -> Result<Option<Line>, ScriptFault>
+) -> Result<Option<Line<'a>>, ScriptFault>
     ensures ok { IfOk result (λ line. reading.read_line (numberings labels.old) text.now
         ≡ Ok (line_read line (numberings labels.new))) }
     ensures err { IfErr result (λ fault. fault ≢ ScriptFault.OutOfMemory
@@ -117,7 +117,7 @@ const REFUSED: LineFault = LineFault {
 };
 
 /// The script of a text, or its first faulty line.
-pub fn parse(alloc: Global, text: &[u8]) -> Result<Script, LineFault>
+pub fn parse<'a>(alloc: Global, text: &'a [u8]) -> Result<Script<'a>, LineFault>
     ensures ok { IfOk result (λ script. read_script text.now ≡ Ok script) }
     ensures err { IfErr result (λ e. e.fault ≢ ScriptFault.OutOfMemory
         → read_script text.now ≡ Err e) }
@@ -129,7 +129,7 @@ pub fn parse(alloc: Global, text: &[u8]) -> Result<Script, LineFault>
 }
 
 /// `parse`, where each growth asks for a grant. Want of memory is answered only after a refused growth.
-pub fn parse_from<A: Allowance>(memory: &A, text: &[u8]) -> Result<Script, LineFault>
+pub fn parse_from<'a, A: Allowance>(memory: &A, text: &'a [u8]) -> Result<Script<'a>, LineFault>
     ensures ok { IfOk result (λ script. read_script text.now ≡ Ok script) }
     ensures err { IfErr result (λ e. e.fault ≢ ScriptFault.OutOfMemory
         → read_script text.now ≡ Err e) }

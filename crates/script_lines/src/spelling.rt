@@ -1,18 +1,16 @@
 //! How the words of each kind are spelled, and what they stand for.
 
-ghost use Rattle.std.specs.Prelude.{◌≡◌, ◌<◌, ◌≤◌, ◌^◌, IfOk, OnErr, false, true, MatchOption};
-ghost use Rattle.std.specs.Option.{option_and_then};
+ghost use Rattle.std.specs.Prelude.{◌≡◌, ◌<◌, ◌≤◌, ◌^◌, false, true, MatchOption};
 ghost use Rattle.std.specs.List.{list_all};
 ghost use Rattle.script_lines.specs.Spellings as spellings;
-ghost use Rattle.script_lines.specs.Spellings.{below, number_behind, number_below, hex_bytes};
+ghost use Rattle.script_lines.specs.Spellings.{below, number_behind, number_below};
 ghost use Rattle.script_lines.specs.Spellings.{is_quoted, spelled_bytes, spelled_text};
 ghost use Rattle.script_lines.specs.Spellings.{spelled_flag, spelled_four, spelled_which};
 
-use allowance::Allowance;
 use byteorder::{BigEndian, ByteOrder};
-use heap_model::{Bytes, Which};
+use heap_model::Which;
 use palm_text::are_printable;
-use std::alloc::AllocError;
+use script_commands::LentBytes;
 
 /// The longest label.
 const MAX_LABEL: usize = 31;
@@ -132,30 +130,17 @@ pub(crate) fn which_of(word: &[u8]) -> Option<Which>
     }
 }
 
-/// The bytes that hex digits spell, if there is an even number of them.
-fn decode<A: Allowance>(memory: &A, digits: &[u8]) -> Result<Option<Bytes>, AllocError>
-    ensures bytes { IfOk result (λ bytes. bytes ≡ hex_bytes digits.now) }
-    ensures short { OnErr result (A.is_short memory.now) }
-{
-    match hex::decode(memory.grant()?, digits) {
-        Ok(bytes) => Ok(Some(Bytes::of(bytes))),
-        Err(hex::FromHexError::OutOfMemory) => memory.outcome(Err(AllocError)),
-        Err(_) => Ok(None),
-    }
-}
-
 /// The bytes that a word spells.
-pub(crate) fn bytes_of<A: Allowance>(memory: &A, word: &[u8]) -> Result<Option<Bytes>, AllocError>
-    ensures bytes { IfOk result (λ bytes. bytes ≡ spelled_bytes word.now) }
-    ensures short { OnErr result (A.is_short memory.now) }
+pub(crate) fn bytes_of(word: &[u8]) -> Option<LentBytes<'_>>
+    ensures { result ≡ spelled_bytes word.now }
 {
     if word == b"-".as_slice() {
-        return Ok(Some(Bytes::of(Vec::new(memory.allocator()))));
+        return Some(LentBytes::plain(&[]));
     }
     if word.is_empty() {
-        return Ok(None);
+        return None;
     }
-    decode(memory, word)
+    LentBytes::hex(word)
 }
 
 /// The bytes between the quotes of a word.
@@ -170,56 +155,26 @@ fn inside_quotes(word: &[u8]) -> Option<&[u8]>
 }
 
 /// The text that a word spells.
-pub(crate) fn text_of<A: Allowance>(memory: &A, word: &[u8]) -> Result<Option<Bytes>, AllocError>
-    ensures text { IfOk result (λ text. text ≡ spelled_text word.now) }
-    ensures short { OnErr result (A.is_short memory.now) }
+pub(crate) fn text_of(word: &[u8]) -> Option<LentBytes<'_>>
+    ensures { result ≡ spelled_text word.now }
 {
     if let Some(digits) = word.strip_prefix(b"x:") {
-        return decode(memory, digits);
-    }
-    match inside_quotes(word) {
-        Some(inside) => {
-            if !are_printable(inside) {
-                return Ok(None);
-            }
-            Ok(Some(Bytes::of(allowance::copied(memory, inside)?)))
-        }
-        None => Ok(None),
-    }
-}
-
-/// Four bytes as a number, if there are so many.
-fn number_of_four(bytes: &[u8]) -> Option<u32>
-    ensures { result ≡ spellings.number_of_four bytes.now }
-{
-    if bytes.len() == 4 {
-        Some(BigEndian::read_u32(bytes))
-    } else {
-        None
-    }
-}
-
-/// The four bytes that hex digits spell, if they spell so many, as a number.
-fn four_in_hex(digits: &[u8]) -> Option<u32>
-    ensures { result ≡ option_and_then spellings.number_of_four (hex_bytes digits.now) }
-{
-    let mut bytes = [0; 4];
-    match hex::decode_to_slice(digits, &mut bytes) {
-        Ok(()) => Some(BigEndian::read_u32(&bytes)),
-        Err(_) => None,
-    }
-}
-
-/// The four bytes of the text that a word spells, if it has so many, as a number. This takes no memory.
-pub(crate) fn four_bytes_of(word: &[u8]) -> Option<u32>
-    ensures { result ≡ spelled_four word.now }
-{
-    if let Some(digits) = word.strip_prefix(b"x:") {
-        return four_in_hex(digits);
+        return LentBytes::hex(digits);
     }
     let inside = inside_quotes(word)?;
     if !are_printable(inside) {
         return None;
     }
-    number_of_four(inside)
+    Some(LentBytes::plain(inside))
+}
+
+/// The four bytes of the text that a word spells, if it has so many, as a number.
+pub(crate) fn four_bytes_of(word: &[u8]) -> Option<u32>
+    ensures { result ≡ spelled_four word.now }
+{
+    let text = text_of(word)?;
+    if text.len() != 4 {
+        return None;
+    }
+    Some(BigEndian::read_u32(text.decoded(&mut [0; 4])))
 }

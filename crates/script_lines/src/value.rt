@@ -9,27 +9,26 @@ use crate::spelling::{
     byte_of, bytes_of, flag_of, four_bytes_of, number_of, short_of, text_of, which_of,
 };
 use allowance::Allowance;
-use heap_model::Bytes;
-use script_commands::{ChunkLabel, DatabaseLabel, Kind, Value};
+use script_commands::{ChunkLabel, DatabaseLabel, Kind, LentBytes, Value};
 use std::alloc::{AllocError, Global};
 
 /// What the words behind a command stand for: their values in order, but the bytes of a word of
 /// bytes or text stand apart, since no line has two such words.
 #[derive(Drop)]
-pub(crate) struct Values {
+pub(crate) struct Values<'a> {
     pub values: Vec<Value>,
-    pub bytes: Bytes,
+    pub bytes: LentBytes<'a>,
 }
 
-impl Values {
+impl<'a> Values<'a> {
     /// Those of no words.
-    pub fn new(alloc: Global) -> Values
+    pub fn new(alloc: Global) -> Values<'a>
         ensures values { result.values.items ≡ [] }
         ensures bytes { result.bytes ≡ [] }
     {
         Values {
             values: Vec::new(alloc),
-            bytes: Bytes::of(Vec::new(alloc)),
+            bytes: LentBytes::plain(&[]),
         }
     }
 
@@ -65,8 +64,8 @@ impl Values {
     }
 
     /// Takes bytes for those of the line, if there are any, and answers whether there are.
-    fn add_bytes(&mut self, bytes: Option<Bytes>) -> bool
-        ensures bytes { MatchOption bytes (result ≡ false)
+    fn add_bytes(&mut self, bytes: Option<LentBytes<'a>>) -> bool
+        ensures bytes { MatchOption bytes.entry (result ≡ false)
             (λ bytes. (result ≡ true) × (self.new.bytes ≡ bytes)) }
         ensures values { self.new.values ≡ self.old.values }
     {
@@ -80,7 +79,7 @@ impl Values {
     }
 
     /// Adds what a word of a kind stands for, and answers whether it is of that kind.
-    pub fn add<'a, A: Allowance>(
+    pub fn add<A: Allowance>(
         &mut self,
         memory: &A,
         kind: Kind,
@@ -113,8 +112,8 @@ impl Values {
             Kind::Flag => self.add_value(memory, flag_of(word).map(Value::Flag)),
             Kind::Which => self.add_value(memory, which_of(word).map(Value::Which)),
             Kind::FourBytes => self.add_value(memory, four_bytes_of(word).map(Value::FourBytes)),
-            Kind::Bytes => Ok(self.add_bytes(bytes_of(memory, word)?)),
-            Kind::Text => Ok(self.add_bytes(text_of(memory, word)?)),
+            Kind::Bytes => Ok(self.add_bytes(bytes_of(word))),
+            Kind::Text => Ok(self.add_bytes(text_of(word))),
         }
     }
 }

@@ -107,13 +107,13 @@ static CALLS: [(&str, &str); 82] = [
     ("dbdelete x", "ok"),
 ];
 
-/// Calls as a script.
-fn script_of(alloc: Global, calls: &[(&str, &str)]) -> Result<Script, Fail> {
+/// Calls as the text of a script.
+fn text_of(alloc: Global, calls: &[(&str, &str)]) -> Result<String, Fail> {
     let mut text = String::new(alloc);
     for (line, _) in calls {
         writeln!(text, "{line}")?;
     }
-    Ok(parse(alloc, text.as_str().as_bytes())?)
+    Ok(text)
 }
 
 /// The lines of their replies.
@@ -126,14 +126,14 @@ fn replies(alloc: Global, calls: &[(&str, &str)]) -> Result<String, Fail> {
 }
 
 /// Runs calls on a store, and answers what they print. What they leave is a store.
-fn run_on(alloc: Global, mut store: Store, calls: &Script) -> Result<Vec<u8>, Fail> {
+fn run_on(alloc: Global, mut store: Store, calls: &Script<'_>) -> Result<Vec<u8>, Fail> {
     let said = printed(alloc, &mut store, calls)?;
     store_of(alloc, &image_of(alloc, &store)?)?;
     Ok(said)
 }
 
 /// What calls print on a store.
-fn printed(alloc: Global, store: &mut Store, calls: &Script) -> Result<Vec<u8>, Fail> {
+fn printed(alloc: Global, store: &mut Store, calls: &Script<'_>) -> Result<Vec<u8>, Fail> {
     let mut out = Counted::new(Vec::new(alloc));
     run(alloc, store, calls, &[], &mut out)?;
     Ok(out.into_inner())
@@ -146,7 +146,8 @@ pub(crate) fn check_replies(
     calls: &[(&str, &str)],
 ) -> Result<(), Fail> {
     let store = listed_store(alloc, listing)?;
-    let said = run_on(alloc, store, &script_of(alloc, calls)?)?;
+    let text = text_of(alloc, calls)?;
+    let said = run_on(alloc, store, &parse(alloc, text.as_bytes())?)?;
     check_said(alloc, said, calls)
 }
 
@@ -229,7 +230,7 @@ fn takes_value(
     image: &[u8],
     at: usize,
     value: u8,
-    calls: &Script,
+    calls: &Script<'_>,
 ) -> Result<bool, Fail> {
     let changed = with_byte(alloc, image, at, value)?;
     let verdict = agreed_verdict(alloc, format_args!("byte {at}: {value}"), &changed)?;
@@ -245,7 +246,7 @@ fn check_byte(
     alloc: Global,
     image: &[u8],
     at: usize,
-    calls: &Script,
+    calls: &Script<'_>,
     wanted: usize,
 ) -> Result<(), Fail> {
     let mut taken = 0usize;
@@ -265,7 +266,8 @@ pub(crate) fn check_bytes(
     values: &[(usize, usize, usize)],
 ) -> Result<(), Fail> {
     let image = bytes_of(alloc, listing)?;
-    let script = script_of(alloc, calls)?;
+    let text = text_of(alloc, calls)?;
+    let script = parse(alloc, text.as_bytes())?;
     for at in 0..image.len() {
         check_byte(alloc, &image, at, &script, wanted_at(values, at))?;
     }

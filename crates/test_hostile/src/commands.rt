@@ -122,7 +122,7 @@ static TRIALS: [(Trial, u32, Status); 9] = [
     (Trial::New(100), 2, Status::BadWords),
     (Trial::Check(DATABASE), 5, Status::Done),
     (Trial::Check(""), 2, Status::Refused),
-    (Trial::Run(BLANK, WRITTEN), 37, Status::Done),
+    (Trial::Run(BLANK, WRITTEN), 34, Status::Done),
     (
         Trial::Run(BLANK, "bind a 16\nbound a\n"),
         9,

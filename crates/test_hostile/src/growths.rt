@@ -8,8 +8,8 @@ use heap_model::{
     Bytes, Call, DatabaseCall, Db, FileCall, MemoryCall, Name, Place, Refusal, Reply,
 };
 use palm_script::{
-    LineFault, NotRun, OutOfMemory, RunFault, Script, ScriptFault, check_and_run_from,
-    do_call_from, parse, run_calls_from, run_from,
+    LineFault, NotRun, OutOfMemory, RunFault, ScriptFault, check_and_run_from, do_call_from, parse,
+    run_calls_from, run_from,
 };
 use palm_store::{Store, StoreFault};
 use palm_text::Counted;
@@ -131,7 +131,7 @@ fn ran_with(
     store: &mut Store,
     text: &str,
 ) -> Result<(Option<RunFault>, Vec<u8>), Fail> {
-    let script: Script = parse(alloc, text.as_bytes())?;
+    let script = parse(alloc, text.as_bytes())?;
     let inputs = input_files(alloc)?;
     let mut out = Counted::new(Vec::new(alloc));
     let fault = run_from(memory, store, &script, &inputs, &mut out).err();
@@ -261,11 +261,11 @@ static TRIALS: [(Trial, u32); 23] = [
     (Trial::Check(DATABASE, ""), 2),
     (Trial::Check(TWO_DATABASES, ""), 2),
     (Trial::Parse(BOUND), 8),
-    (Trial::Parse(WRITTEN), 31),
+    (Trial::Parse(WRITTEN), 27),
     (Trial::Parse(CARRIED), 12),
-    (Trial::Run(BLANK, ""), 3),
-    (Trial::Run(ONE_CHUNK, BOUND), 3),
-    (Trial::Run(BLANK, WRITTEN), 3),
+    (Trial::Run(BLANK, ""), 4),
+    (Trial::Run(ONE_CHUNK, BOUND), 4),
+    (Trial::Run(BLANK, WRITTEN), 4),
     (Trial::List, 1),
     (Trial::CheckedList, 3),
     (Trial::DoRead, 1),
@@ -306,18 +306,18 @@ fn each_growth_is_refused_in_turn(rt: HostRuntime) -> Result<(), Fail> {
 /// The growths of the run of the lines that import and export a file are refused in turn: behind how many, and
 /// what is printed then. Want of memory in front of the first line is none of these.
 static CARRIED_SAID: [(u32, &str); 6] = [
-    (3, WITHOUT_IMPORT),
     (4, WITHOUT_IMPORT),
     (5, WITHOUT_IMPORT),
     (6, WITHOUT_IMPORT),
+    (7, WITHOUT_IMPORT),
     // the export
     (
-        7,
+        8,
         "ok\nrefused 26 OutOfMemory\nrefused 21 AlreadyExists\nrefused 25 BadFile Truncated\n",
     ),
     // none
     (
-        8,
+        9,
         "ok\nok 80\nrefused 21 AlreadyExists\nrefused 25 BadFile Truncated\n",
     ),
 ];
@@ -358,7 +358,7 @@ fn check_not_begun(alloc: Global, before: u32) -> Result<(), Fail> {
 /// In a run, an import or an export for which memory is refused is refused, and the lines behind it follow.
 #[test]
 fn a_run_goes_on_behind_a_file_that_has_no_memory(rt: HostRuntime) -> Result<(), Fail> {
-    for before in 0..3 {
+    for before in 0..4 {
         check_not_begun(rt.alloc(), before)?;
     }
     for (before, text) in &CARRIED_SAID {

@@ -35,7 +35,7 @@ type Ended = Result<usize, RunFault>;
 fn run_with<W: Write>(
     memory: &RefusesOne,
     store: &mut Store,
-    script: &Script,
+    script: &Script<'_>,
     out: W,
 ) -> (Ended, W) {
     let mut out = Counted::new(out);
@@ -64,13 +64,14 @@ fn check_without(
     )
 }
 
-/// How many growths are granted, and what comes of the script: nothing but the tables of labels and the list of
-/// files grows.
-static RUNS: [(u32, (Ended, u32, &str)); 4] = [
+/// How many growths are granted, and what comes of the script: nothing but the tables of labels, the buffer for
+/// bytes and the list of files grows.
+static RUNS: [(u32, (Ended, u32, &str)); 5] = [
     (0, (Err(RunFault::OutOfMemory), 96, "")),
     (1, (Err(RunFault::OutOfMemory), 96, "")),
     (2, (Err(RunFault::OutOfMemory), 96, "")),
-    (3, (Ok(0), 72, "ok\nok 1\nok 0000\n")),
+    (3, (Err(RunFault::OutOfMemory), 96, "")),
+    (4, (Ok(0), 72, "ok\nok 1\nok 0000\n")),
 ];
 
 #[test]
@@ -285,7 +286,7 @@ fn a_place_has_its_name(rt: HostRuntime) -> Result<(), Fail> {
 fn run_cut(
     alloc: Global,
     store: &mut Store,
-    script: &Script,
+    script: &Script<'_>,
     room: &mut [u8; 4],
 ) -> Option<RunFault> {
     let mut out = Counted::new(room.as_mut_slice());

@@ -2,7 +2,8 @@
 //! word numbers, and the order of faults; and memory that is refused. What a line reads as is its `Debug`
 //! text, in which a call has the names and the order of its fields.
 
-use script_lines::{Line, LineFault, Script, ScriptFault, parse, parse_from};
+use heap_model::{Call, MemoryCall};
+use script_lines::{LentBytes, Line, LineCall, LineFault, Script, ScriptFault, parse, parse_from};
 use std::alloc::{AllocError, Global};
 use std::fmt::Debug;
 use std::test::*;
@@ -12,12 +13,43 @@ fn put<T: Debug>(text: &mut String, word: &str, line: &T) -> Result<(), AllocErr
     write!(text, "{word}{line:?};")
 }
 
+/// A call that gives bytes, behind its command: its chunk, where they go to, and the bytes, 16 at most.
+fn put_given<C: Debug>(
+    text: &mut String,
+    word: &str,
+    name: &C,
+    at: u32,
+    bytes: &LentBytes<'_>,
+) -> Result<(), AllocError> {
+    let mut buffer = [0; 16];
+    if bytes.len() > buffer.len() {
+        return put(text, "long ", bytes);
+    }
+    put(text, word, &(name, at, bytes.decoded(&mut buffer)))
+}
+
+fn put_call(text: &mut String, call: &LineCall<'_>) -> Result<(), AllocError> {
+    match call {
+        Call::Memory(MemoryCall::Write { name, at, bytes }) => {
+            put_given(text, "write ", name, *at, bytes)
+        }
+        Call::Memory(
+            MemoryCall::StrCopy {
+                name,
+                at,
+                text: copied,
+            },
+        ) => { put_given(text, "strcopy ", name, *at, copied) }
+        call => put(text, "", call),
+    }
+}
+
 /// A line as its call, in a pair behind the label that it binds. A call whose answer isn't printed stands
 /// behind `silent`.
-fn put_line(text: &mut String, line: &Line) -> Result<(), AllocError> {
+fn put_line(text: &mut String, line: &Line<'_>) -> Result<(), AllocError> {
     match line {
         Line::Bind { label, name } => put(text, "", &(label, name)),
-        Line::Print(call) => put(text, "", call),
+        Line::Print(call) => put_call(text, call),
         Line::Silent(call) => put(text, "silent ", call),
         Line::BindChunk(label, call) => put(text, "", &(label, call)),
         Line::BindDatabase(label, call) => put(text, "", &(label, call)),
@@ -26,7 +58,7 @@ fn put_line(text: &mut String, line: &Line) -> Result<(), AllocError> {
     }
 }
 
-fn put_lines(text: &mut String, script: &Script) -> Result<(), AllocError> {
+fn put_lines(text: &mut String, script: &Script<'_>) -> Result<(), AllocError> {
     for line in script.lines() {
         put_line(text, line)?;
     }
@@ -102,9 +134,9 @@ const LINES: &str = "# commands
     owner a => Memory(Owner(ChunkLabel(0)));
     locks a => Memory(Locks(ChunkLabel(0)));
     read a 1 2 => Memory(Read { name: ChunkLabel(0), at: 1, count: 2 });
-    write a 9 4142 => Memory(Write { name: ChunkLabel(0), at: 9, bytes: Bytes { bytes: [65, 66] } });
+    write a 9 4142 => write (ChunkLabel(0), 9, [65, 66]);
     set a 1 2 3 => Memory(Set { name: ChunkLabel(0), at: 1, count: 2, byte: 3 });
-    strcopy a 8 \"x\" => Memory(StrCopy { name: ChunkLabel(0), at: 8, text: Bytes { bytes: [120] } });
+    strcopy a 8 \"x\" => strcopy (ChunkLabel(0), 8, [120]);
     freeowner 3 => Memory(FreeByOwner(3));
     freebytes => Memory(FreeBytes);
     largest => Memory(LargestStretch);
@@ -167,8 +199,8 @@ const LINES: &str = "# commands
     free \"a\" => line 1 BadWord 2
     free new => Memory(Free(ChunkLabel(0)));
     # bytes, and texts
-    write a 0 - => Memory(Write { name: ChunkLabel(0), at: 0, bytes: Bytes { bytes: [] } });
-    write a 0 00fFa9 => Memory(Write { name: ChunkLabel(0), at: 0, bytes: Bytes { bytes: [0, 255, 169] } });
+    write a 0 - => write (ChunkLabel(0), 0, []);
+    write a 0 00fFa9 => write (ChunkLabel(0), 0, [0, 255, 169]);
     write a 0 4 => line 1 BadWord 4
     write a 0 414 => line 1 BadWord 4
     write a 0 4g => line 1 BadWord 4
@@ -178,11 +210,11 @@ const LINES: &str = "# commands
     write a 0 0x41 => line 1 BadWord 4
     write a 0 x:41 => line 1 BadWord 4
     write a 0 \"41\" => line 1 BadWord 4
-    strcopy a 0 \"\" => Memory(StrCopy { name: ChunkLabel(0), at: 0, text: Bytes { bytes: [] } });
-    strcopy a 0 \" ~\" => Memory(StrCopy { name: ChunkLabel(0), at: 0, text: Bytes { bytes: [32, 126] } });
-    strcopy a 0 \"#\" => Memory(StrCopy { name: ChunkLabel(0), at: 0, text: Bytes { bytes: [35] } });
-    strcopy a 0 x: => Memory(StrCopy { name: ChunkLabel(0), at: 0, text: Bytes { bytes: [] } });
-    strcopy a 0 x:7E22 => Memory(StrCopy { name: ChunkLabel(0), at: 0, text: Bytes { bytes: [126, 34] } });
+    strcopy a 0 \"\" => strcopy (ChunkLabel(0), 0, []);
+    strcopy a 0 \" ~\" => strcopy (ChunkLabel(0), 0, [32, 126]);
+    strcopy a 0 \"#\" => strcopy (ChunkLabel(0), 0, [35]);
+    strcopy a 0 x: => strcopy (ChunkLabel(0), 0, []);
+    strcopy a 0 x:7E22 => strcopy (ChunkLabel(0), 0, [126, 34]);
     strcopy a 0 x:7 => line 1 BadWord 4
     strcopy a 0 x:7e2 => line 1 BadWord 4
     strcopy a 0 x:7g => line 1 BadWord 4
@@ -447,7 +479,7 @@ const LINES: &str = "# commands
     free a # => line 1 WrongCount
     free # => line 1 BadWord 2
     # quoted words: with blanks, closed, not closed, followed
-    strcopy a 0 \"a b\" => Memory(StrCopy { name: ChunkLabel(0), at: 0, text: Bytes { bytes: [97, 32, 98] } });
+    strcopy a 0 \"a b\" => strcopy (ChunkLabel(0), 0, [97, 32, 98]);
     strcopy a 0 \"a => line 1 BadWord 4
     strcopy a 0 \" => line 1 BadWord 4
     strcopy a 0 \"a\"b => line 1 BadWord 4
@@ -494,7 +526,7 @@ const LINES: &str = "# commands
     # a vertical tab or a zero byte is no blank; a tab is one
     free\x0ba => line 1 UnknownCommand
     free a\x00 => line 1 BadWord 2
-    strcopy a 0 \"a\"\t => Memory(StrCopy { name: ChunkLabel(0), at: 0, text: Bytes { bytes: [97] } });";
+    strcopy a 0 \"a\"\t => strcopy (ChunkLabel(0), 0, [97]);";
 
 /// Scripts of several lines or none, or with blanks and other characters at their ends, and what they read as.
 static SCRIPTS: [(&str, &str); 33] = [
@@ -587,10 +619,7 @@ static SCRIPTS: [(&str, &str); 33] = [
     ("free a\n", "Memory(Free(ChunkLabel(0)));"),
     ("free a\n\n", "Memory(Free(ChunkLabel(0)));"),
     // quoted words: with blanks, closed, not closed, followed
-    (
-        "strcopy a 0 \"a\"\r\n",
-        "Memory(StrCopy { name: ChunkLabel(0), at: 0, text: Bytes { bytes: [97] } });",
-    ),
+    ("strcopy a 0 \"a\"\r\n", "strcopy (ChunkLabel(0), 0, [97]);"),
     ("strcopy a 0 \"a\nb\"", "line 1 BadWord 4"),
 ];
 
@@ -607,14 +636,17 @@ pub(crate) enum What {
     ChunkLabels,
     /// Those of databases, likewise.
     DatabaseLabels,
+    /// The most bytes that a line's call gives.
+    Bytes,
     /// The lines that export a file.
     Exports,
 }
 
-fn count_in(script: &Script, what: What) -> usize {
+fn count_in(script: &Script<'_>, what: What) -> usize {
     match what {
         What::ChunkLabels => script.chunk_label_count(),
         What::DatabaseLabels => script.database_label_count(),
+        What::Bytes => script.most_bytes(),
         What::Exports => script.export_count(),
     }
 }
@@ -636,7 +668,7 @@ fn check_count(alloc: Global, what: What, script: &str, wanted: Option<usize>) -
 }
 
 /// What is counted, scripts, and how many there are.
-static COUNT_CASES: [(What, &str, Option<usize>); 18] = [
+static COUNT_CASES: [(What, &str, Option<usize>); 22] = [
     (What::ChunkLabels, "", Some(0)),
     (What::ChunkLabels, "freebytes", Some(0)),
     (
@@ -671,6 +703,22 @@ static COUNT_CASES: [(What, &str, Option<usize>); 18] = [
     (What::DatabaseLabels, "import a 1\nexport b", Some(1)),
     (What::DatabaseLabels, "export b\nimport a 1", Some(2)),
     (What::DatabaseLabels, "nth a 0\nnth b", None),
+    (What::Bytes, "new a 8 1\nread a 0 8\nset a 0 8 1", Some(0)),
+    (
+        What::Bytes,
+        "create d \"long name\" \"DATA\" \"Test\" 0 0",
+        Some(0),
+    ),
+    (
+        What::Bytes,
+        "write a 0 414243\nwrite a 0 41\nwrite a 0 -",
+        Some(3),
+    ),
+    (
+        What::Bytes,
+        "strcopy a 0 x:4142\nstrcopy a 0 \"abcd\"\nwrite a 0 41",
+        Some(4),
+    ),
     (What::Exports, "", Some(0)),
     (What::Exports, "import d 1\nfreebytes", Some(0)),
     (
@@ -682,20 +730,20 @@ static COUNT_CASES: [(What, &str, Option<usize>); 18] = [
 ];
 
 #[test]
-fn labels_and_exports_are_counted(rt: HostRuntime) -> Result<(), Fail> {
+fn labels_bytes_and_exports_are_counted(rt: HostRuntime) -> Result<(), Fail> {
     for (what, script, wanted) in &COUNT_CASES {
         check_count(rt.alloc(), *what, script, *wanted)?;
     }
     Ok(())
 }
 
-/// A script that takes each kind of memory, with how many growths: 6 lines, 3 labels, 14 values, and
-/// bytes or text 4 times. A type takes none.
+/// A script that takes each kind of memory, with how many growths: 6 lines, 3 labels and 14 values. Bytes, text and
+/// a type take none.
 const EACH_GROWTH: &str =
     "new a 8 1\nwrite a 0 4142\nstrcopy a 0 \"x\"\nstrcopy b 0 x:79\nfreebytes\n\
     create a \"N\" \"DATA\" x:54657374 0 0";
 
-const GROWTHS: u32 = 27;
+const GROWTHS: u32 = 23;
 
 const REFUSED: LineFault = LineFault {
     line: 0,

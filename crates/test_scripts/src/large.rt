@@ -95,18 +95,19 @@ fn a_line_has_as_many_bytes_as_it_likes(rt: HostRuntime) -> Result<(), Fail> {
     holds("the replies", says(&ran, said.as_str()))
 }
 
-/// An image of the greatest size, a script of 8 MB, and a reply line of as many bytes.
+/// An image of the greatest size, a script of 8 MB with one line of nearly all of that, and a reply line of as many
+/// bytes.
 #[test]
 fn a_run_is_as_large_as_it_likes(rt: HostRuntime) -> Result<(), Fail> {
     let alloc = rt.alloc();
     let image = new_image(alloc, 16_777_208)?;
-    let mut script = passed_over(alloc, 2_000)?;
-    script.push_str("new a 4000000 1\nlock a\nread a 0 4000000\n")?;
+    let hex = "4b".repeat(alloc, 4_000_000)?;
+    let script = format!(in alloc; "new a 4000000 1\nlock a\nwrite a 0 {hex}\nread a 0 4000000\n")?;
     let ran = run_on(alloc, &image, script.as_str(), &[]);
     equal(
         "the run",
         (ran.status, ran.image.len(), ran.out.len()),
-        (Status::Done, 16_777_208, 3 + 5 + 3 + 8_000_000 + 1),
+        (Status::Done, 16_777_208, 3 + 5 + 3 + 3 + 8_000_000 + 1),
     )
 }
 

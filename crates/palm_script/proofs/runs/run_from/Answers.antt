@@ -44,4 +44,5 @@ loop-line-preserved g c =
       used = omega (arith, c.add_file.ensures.len, room.0);
       chunk_labels = omega (arith, c.do_line.auto.names, c.loop-line.invariant.chunk_labels);
       database_labels = omega (arith, c.do_line.auto.databases, c.loop-line.invariant.database_labels);
+      bytes = omega (arith, c.do_line.auto.buffer, c.loop-line.invariant.bytes);
     }

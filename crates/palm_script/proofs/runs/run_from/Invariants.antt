@@ -1,7 +1,7 @@
 use Rattle.std.proofs.Common.{◌≡◌, ◌≤◌, ℕ, List, length, take, true}
 use Rattle.std.specs.Prelude.{count_by, vec_capacity, vec_len}
 use Rattle.palm_text.specs.Counted.{Writes}
-use Rattle.script_lines.specs.Labels.{chunk_label_end, database_label_end, is_export, label_count}
+use Rattle.script_lines.specs.LineCounts.{byte_count, chunk_label_end, database_label_end, greatest, is_export}
 use Rattle.palm_script.specs.Lines.{Lines, unbound, tables}
 use Rattle.palm_script.proofs.runs.run_from.Given as goal
 
@@ -12,6 +12,7 @@ invariant-loop-line g l = record {
   written : Writes g.W.Write.contents l.fn.out l.out text true;
   room : vec_capacity l.files ≡ count_by is_export l.script;
   used : vec_len l.files ≤ count_by is_export (take l.line-index l.script);
-  chunk_labels : length l.names ≡ label_count chunk_label_end l.script;
-  database_labels : length l.databases ≡ label_count database_label_end l.script;
+  chunk_labels : length l.names ≡ greatest chunk_label_end l.script;
+  database_labels : length l.databases ≡ greatest database_label_end l.script;
+  bytes : length l.buffer ≡ greatest byte_count l.script;
 }

@@ -1,6 +1,6 @@
 use Rattle.std.proofs.Common.{◌≡◌, take}
 use Rattle.std.specs.Prelude.{count_by}
-use Rattle.script_commands.specs.Labels.{is_export}
+use Rattle.script_commands.specs.LineCounts.{is_export}
 use Rattle.script_commands.proofs.line.count_exports.Given as goal
 
 abbrev pub invariant-loop-line : goal.invariant-loop-line

@@ -1,0 +1,79 @@
+-- What is counted in lines: the labels that they bind, by their numbers, the bytes that their calls give, and the
+-- lines that export.
+use Rattle.std.specs.Prelude.{◌≤◌, ◌+◌, ℕ, Bool, true, false, List, [], ◌∷◌, All, length, max}
+use Rattle.script_commands.specs.declared.line.Line.{Line}
+use Rattle.heap_model.specs.declared.call.Call.{Call}
+use Rattle.heap_model.specs.declared.call.Call.TheVariants.{Memory, Database, Record, Resource, File}
+use Rattle.heap_model.specs.declared.call.MemoryCall.{MemoryCall}
+use Rattle.heap_model.specs.declared.call.MemoryCall.TheVariants.{Write, StrCopy}
+use Rattle.heap_model.specs.declared.call.FileCall.{FileCall}
+use Rattle.heap_model.specs.declared.call.FileCall.TheVariants as files
+use Rattle.script_commands.specs.declared.line.Line.TheVariants.{Bind, Print, Silent, BindChunk, BindDatabase, Import, Export}
+
+-- one more than the number of the label of a chunk that a line binds, and 0 where it binds none
+abbrev pub chunk_label_end : Line → ℕ
+chunk_label_end (Bind label name) = label.0 + 1
+chunk_label_end (Print call) = 0
+chunk_label_end (Silent call) = 0
+chunk_label_end (BindChunk label call) = label.0 + 1
+chunk_label_end (BindDatabase label call) = 0
+chunk_label_end (Import label file) = 0
+chunk_label_end (Export label) = 0
+
+-- the same of the label of a database
+abbrev pub database_label_end : Line → ℕ
+database_label_end (Bind label name) = 0
+database_label_end (Print call) = 0
+database_label_end (Silent call) = 0
+database_label_end (BindChunk label call) = 0
+database_label_end (BindDatabase label call) = label.0 + 1
+database_label_end (Import label file) = label.0 + 1
+database_label_end (Export label) = 0
+
+-- how many bytes a call of the memory manager gives, where `count` says how many its bytes are
+abbrev pub bytes_written : {Chunk Given : Type 0} → (Given → ℕ) → MemoryCall Chunk Given → ℕ
+bytes_written count (Write name at bytes) = count bytes
+bytes_written count (StrCopy name at text) = count text
+bytes_written count call = 0
+
+-- the same of a call on files
+abbrev pub bytes_read : {Database Given : Type 0} → (Given → ℕ) → FileCall Database Given → ℕ
+bytes_read count (files.Import file) = count file
+bytes_read count (files.Export db) = 0
+
+-- the same of a call of any manager
+abbrev pub bytes_given : {Chunk Database Given : Type 0} → (Given → ℕ) → Call Chunk Database Given → ℕ
+bytes_given count (Memory call) = bytes_written count call
+bytes_given count (Database call) = 0
+bytes_given count (Record call) = 0
+bytes_given count (Resource call) = 0
+bytes_given count (File call) = bytes_read count call
+
+-- how many bytes the call of a line gives
+abbrev pub byte_count : Line → ℕ
+byte_count (Bind label name) = 0
+byte_count (Print call) = bytes_given length call
+byte_count (Silent call) = bytes_given length call
+byte_count (BindChunk label call) = bytes_given length call
+byte_count (BindDatabase label call) = bytes_given length call
+byte_count (Import label file) = 0
+byte_count (Export label) = 0
+
+-- each line has at most so much of what is counted, as one of the three above
+abbrev pub EachAtMost : (Line → ℕ) → ℕ → List Line → Type 0
+EachAtMost count most lines = All (λ line. count line ≤ most) lines
+
+-- the most that a line has, and 0 where there is none
+abbrev pub greatest : (Line → ℕ) → List Line → ℕ
+greatest count [] = 0
+greatest count (line ∷ lines) = max (count line) (greatest count lines)
+
+-- the lines that export a file, where they are accepted
+abbrev pub is_export : Line → Bool
+is_export (Bind label name) = false
+is_export (Print call) = false
+is_export (Silent call) = false
+is_export (BindChunk label call) = false
+is_export (BindDatabase label call) = false
+is_export (Import label file) = false
+is_export (Export label) = true
