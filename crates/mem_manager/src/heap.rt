@@ -41,7 +41,7 @@ impl Model for Heap {
 
     ghost view = { λ heap. heap.space };
 
-    ghost invariant = { λ heap. IsManaged heap.space.bytes heap.used heap.known.names };
+    ghost invariant = { λ heap. IsManaged heap.space.bytes heap.used heap.known };
 }
 
 /// Where the body of a chunk is that was locked, and its lock count now.

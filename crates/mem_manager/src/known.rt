@@ -5,21 +5,30 @@ ghost use Rattle.std.specs.Bool.{OnTrue, OnFalse};
 ghost use Rattle.mem_manager.specs.Known.{IsKnown, Remembers, entry_of};
 
 use heap_model::Name;
+use std::marker::Model;
 
 /// How many names are remembered at a time.
 const ENTRIES: usize = 64;
 
 /// Names of fixed chunks, each in the entry that its offset gives, so that a new one takes the place of the
-/// one that was there. An entry without a name is 0.
+/// one that was there. An entry without a name is 0. Contracts see the entries as a list.
 #[derive(Drop)]
 pub(crate) struct KnownNames {
     names: [u32; ENTRIES],
 }
 
+impl Model for KnownNames {
+    ghost use Rattle.std.specs.Prelude.{ℕ, List};
+
+    ghost Value = { List ℕ };
+
+    ghost view = { λ known. known.names };
+}
+
 impl KnownNames {
     /// No name.
     pub(crate) fn none() -> KnownNames
-        ensures { (name : ℕ) → IsKnown result.names name → ⊥ }
+        ensures { (name : ℕ) → IsKnown result name → ⊥ }
     {
         KnownNames {
             names: [0; ENTRIES],
@@ -29,8 +38,8 @@ impl KnownNames {
     /// Whether a name is among them.
     #[inline(always)]
     pub(crate) fn has(&self, name: Name) -> bool
-        ensures known { OnTrue result (IsKnown self.now.names name.0) }
-        ensures unknown { OnFalse result (IsKnown self.now.names name.0 → ⊥) }
+        ensures known { OnTrue result (IsKnown self.now name.0) }
+        ensures unknown { OnFalse result (IsKnown self.now name.0 → ⊥) }
     {
         name.0 != 0 && self.names[entry_of(name)] == name.0
     }
@@ -38,7 +47,7 @@ impl KnownNames {
     /// Remembers a name.
     #[inline]
     pub(crate) fn remember(&mut self, name: Name)
-        ensures { Remembers self.old.names self.new.names name.0 }
+        ensures { Remembers self.old self.new name.0 }
     {
         self.names[entry_of(name)] = name.0;
     }
@@ -46,8 +55,8 @@ impl KnownNames {
     /// Forgets a name.
     #[inline(always)]
     pub(crate) fn forget(&mut self, name: Name)
-        ensures { (other : ℕ) → (IsKnown self.new.names other
-            ↔ (IsKnown self.old.names other × (other ≢ name.0))) }
+        ensures { (other : ℕ) → (IsKnown self.new other
+            ↔ (IsKnown self.old other × (other ≢ name.0))) }
     {
         if self.has(name) {
             self.names[entry_of(name)] = 0;

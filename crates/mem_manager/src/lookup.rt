@@ -21,7 +21,7 @@ use heap_place::{Found, Space};
 #[inline(always)]
 pub(crate) fn named(space: &Space, known: &KnownNames, name: Name) -> Option<Found>
     requires accepted { HeapAccepted space.now.bytes }
-    requires known { KnowsHeld space.now.bytes known.now.names }
+    requires known { KnowsHeld space.now.bytes known.now }
     ensures found { IfSome result (IsFound space.now.bytes name.0) }
     ensures none { IfNone result (held space.now.bytes name.0 ≡ None) }
 {
@@ -39,7 +39,7 @@ pub(crate) fn named(space: &Space, known: &KnownNames, name: Name) -> Option<Fou
 #[inline(never)]
 fn is_fixed(space: &Space, known: &KnownNames, name: Name) -> bool
     requires accepted { HeapAccepted space.now.bytes }
-    requires known { KnowsHeld space.now.bytes known.now.names }
+    requires known { KnowsHeld space.now.bytes known.now }
     ensures there { OnTrue result (IsSome (held space.now.bytes name.0)) }
     ensures none { OnFalse result (held space.now.bytes name.0 ≡ None) }
 {
@@ -56,7 +56,7 @@ fn is_fixed(space: &Space, known: &KnownNames, name: Name) -> bool
 #[inline(always)]
 pub(crate) fn find(space: &Space, known: &KnownNames, name: Name) -> Result<Found, Refusal>
     requires accepted { HeapAccepted space.now.bytes }
-    requires known { KnowsHeld space.now.bytes known.now.names }
+    requires known { KnowsHeld space.now.bytes known.now }
     ensures found { IfOk result (IsFound space.now.bytes name.0) }
     ensures callers { IfOk result (λ found. 1 ≤ found.owner) }
     ensures none { OnErr result (callers_map space.now.bytes name.0 ≡ None) }
@@ -79,12 +79,12 @@ pub(crate) fn find_again(
     name: Name,
 ) -> Result<Found, Refusal>
     requires accepted { HeapAccepted space.now.bytes }
-    requires known { KnowsHeld space.now.bytes known.old.names }
+    requires known { KnowsHeld space.now.bytes known.old }
     ensures found { IfOk result (IsFound space.now.bytes name.0) }
     ensures callers { IfOk result (λ found. 1 ≤ found.owner) }
     ensures none { OnErr result (callers_map space.now.bytes name.0 ≡ None) }
     ensures refusal { IfErr result (λ refusal. refusal ≡ Refusal.InvalidHandle) }
-    ensures remembered { KnowsHeld space.now.bytes known.new.names }
+    ensures remembered { KnowsHeld space.now.bytes known.new }
 {
     if let Some(found) = space.in_slot(name) {
         return callers(found);
@@ -113,7 +113,7 @@ fn callers(found: Found) -> Result<Found, Refusal>
 /// The name of the caller's chunk whose body is at a place.
 pub(crate) fn name_at(space: &Space, known: &KnownNames, place: Place) -> Result<Name, Refusal>
     requires accepted { HeapAccepted space.now.bytes }
-    requires known { KnowsHeld space.now.bytes known.now.names }
+    requires known { KnowsHeld space.now.bytes known.now }
     ensures there { IfOk result (λ name. IsThere space.now.bytes place.0 name.0) }
     ensures none { OnErr result (IsNowhere space.now.bytes (callers_map space.now.bytes) place.0) }
     ensures refusal { IfErr result (λ refusal. refusal ≡ Refusal.InvalidHandle) }
@@ -127,7 +127,7 @@ pub(crate) fn name_at(space: &Space, known: &KnownNames, place: Place) -> Result
 /// The chunk whose body is at a place, whoever owns it. The place of a fixed chunk is its name too.
 fn placed(space: &Space, known: &KnownNames, place: Place) -> Option<Found>
     requires accepted { HeapAccepted space.now.bytes }
-    requires known { KnowsHeld space.now.bytes known.now.names }
+    requires known { KnowsHeld space.now.bytes known.now }
     ensures found { IfSome result (IsOne space.now.bytes) }
     ensures there { IfSome result (λ found. found.place.0 ≡ place.0) }
     ensures none { IfNone result (NothingAt space.now.bytes place.0) }

@@ -38,7 +38,7 @@ give_back-requires-clause-no_directory c = not_the_directory c.self.inside.space
 pub invariant_of-self : goal.invariant_of-self
 invariant_of-self c =
     let f = inside_too c.args.name.0 c.args.found c.self.view_is c.requires.found in
-    used_freed c.self.inside.space.bytes c.give_back.new.self.bytes c.self.inside.used c.used_without-self-inside.result c.args.name.0 c.forget.new.self.names c.self.invariant c.used_without-self-inside.ensures.fewer
+    used_freed c.self.inside.space.bytes c.give_back.new.self.bytes c.self.inside.used c.used_without-self-inside.result c.args.name.0 c.forget.new.self c.self.invariant c.used_without-self-inside.ensures.fewer
     (c.used_without-self-inside.ensures.apart c.self.inside.space.bytes) c.forget.ensures
     (freed_changes c.self.inside.space.bytes c.give_back.new.self.bytes c.args.name.0 (c.args.found.place.0 - 8) f.live f.chunk c.self.invariant.accepted f.finds c.give_back.ensures.gone)
 

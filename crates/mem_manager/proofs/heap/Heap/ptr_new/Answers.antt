@@ -29,7 +29,7 @@ returns-in_err-room-clause-does c =
 
 pub invariant_of-self-2 : goal.invariant_of-self-2
 invariant_of-self-2 c =
-    used_ptr c.self.inside.space.bytes c.room_for.new.space.bytes c.claim_fixed-name.new.self.bytes c.self.inside.used c.in_ok-room.room.at c.in_ok-room.room.size c.args.size c.args.owner c.claim_fixed-name.result.0 c.remember.new.self.names c.self.invariant c.claim_fixed-name.ensures.name c.remember.ensures c.in_ok-check_owner.ensures.ok c.room_for.ensures.slides c.in_ok-room.ensures.room c.in_ok-room.ensures.enough c.claim_fixed-name.ensures.made
+    used_ptr c.self.inside.space.bytes c.room_for.new.space.bytes c.claim_fixed-name.new.self.bytes c.self.inside.used c.in_ok-room.room.at c.in_ok-room.room.size c.args.size c.args.owner c.claim_fixed-name.result.0 c.remember.new.self c.self.invariant c.claim_fixed-name.ensures.name c.remember.ensures c.in_ok-check_owner.ensures.ok c.room_for.ensures.slides c.in_ok-room.ensures.room c.in_ok-room.ensures.enough c.claim_fixed-name.ensures.made
 
 pub returns-clause-does : goal.returns-clause-does
 returns-clause-does c =

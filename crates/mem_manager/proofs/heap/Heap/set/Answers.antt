@@ -16,7 +16,7 @@ returns-in_err-found c =
     (refused c.self.inside.space (Set c.args.name c.args.at c.args.count c.args.byte) Refusal.InvalidHandle c.self.invariant.accepted (inl (c.in_err-found.ensures.none, refl)))
 
 pub invariant_of-self : goal.invariant_of-self
-invariant_of-self c = with_names c.self.inside.space.bytes c.self.inside.used c.find_again.new.known.names c.self.invariant c.find_again.ensures.remembered
+invariant_of-self c = with_names c.self.inside.space.bytes c.self.inside.used c.find_again.new.known c.self.invariant c.find_again.ensures.remembered
 
 pub returns-in_err-check_locked : goal.returns-in_err-check_locked
 returns-in_err-check_locked c =
@@ -37,7 +37,7 @@ fill-requires-clause-within c = let inside = c.in_ok-check_range.ensures.ok in o
 pub invariant_of-self-2 : goal.invariant_of-self-2
 invariant_of-self-2 c =
     let f = c.in_ok-found.ensures.found in
-    used_altered c.self.inside.space.bytes c.fill.new.self.bytes c.self.inside.used c.args.name.0 _ _ (with_names c.self.inside.space.bytes c.self.inside.used c.find_again.new.known.names c.self.invariant c.find_again.ensures.remembered) (write_changes c.self.inside.space.bytes c.fill.new.self.bytes c.args.name.0 c.in_ok-found.found c.args.at (replicate {A = ℕ} c.args.count c.args.byte) c.self.invariant.accepted f (let inside = c.in_ok-check_range.ensures.ok in let many = length-replicate {A = ℕ} c.args.count c.args.byte in omega arith) c.fill.ensures.made)
+    used_altered c.self.inside.space.bytes c.fill.new.self.bytes c.self.inside.used c.args.name.0 _ _ (with_names c.self.inside.space.bytes c.self.inside.used c.find_again.new.known c.self.invariant c.find_again.ensures.remembered) (write_changes c.self.inside.space.bytes c.fill.new.self.bytes c.args.name.0 c.in_ok-found.found c.args.at (replicate {A = ℕ} c.args.count c.args.byte) c.self.invariant.accepted f (let inside = c.in_ok-check_range.ensures.ok in let many = length-replicate {A = ℕ} c.args.count c.args.byte in omega arith) c.fill.ensures.made)
 
 pub returns : goal.returns
 returns c =

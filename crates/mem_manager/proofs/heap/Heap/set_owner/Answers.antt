@@ -15,7 +15,7 @@ returns-in_err-found c =
     (refused c.self.inside.space (SetOwner c.args.name c.args.owner) Refusal.InvalidHandle c.self.invariant.accepted (inl (c.in_err-found.ensures.none, refl)))
 
 pub invariant_of-self : goal.invariant_of-self
-invariant_of-self c = with_names c.self.inside.space.bytes c.self.inside.used c.find_again.new.known.names c.self.invariant c.find_again.ensures.remembered
+invariant_of-self c = with_names c.self.inside.space.bytes c.self.inside.used c.find_again.new.known c.self.invariant c.find_again.ensures.remembered
 
 pub returns-in_err-check_callers : goal.returns-in_err-check_callers
 returns-in_err-check_callers c =
@@ -36,7 +36,7 @@ reown-requires-clause-owner c = can_go_to c.self.inside.space.bytes c.args.name.
 pub invariant_of-self-2 : goal.invariant_of-self-2
 invariant_of-self-2 c =
     let f = c.in_ok-found.ensures.found in
-    used_altered c.self.inside.space.bytes c.reown.new.self.bytes c.self.inside.used c.args.name.0 _ _ (with_names c.self.inside.space.bytes c.self.inside.used c.find_again.new.known.names c.self.invariant c.find_again.ensures.remembered) (reown_changes c.self.inside.space.bytes c.reown.new.self.bytes c.args.name.0 c.in_ok-found.found c.args.owner c.self.invariant.accepted f (can_go_to c.self.inside.space.bytes c.args.name.0 c.in_ok-found.found c.args.owner c.self.invariant.accepted f c.in_ok-found.ensures.callers c.in_ok-check_owner.ensures.ok) c.reown.ensures.made)
+    used_altered c.self.inside.space.bytes c.reown.new.self.bytes c.self.inside.used c.args.name.0 _ _ (with_names c.self.inside.space.bytes c.self.inside.used c.find_again.new.known c.self.invariant c.find_again.ensures.remembered) (reown_changes c.self.inside.space.bytes c.reown.new.self.bytes c.args.name.0 c.in_ok-found.found c.args.owner c.self.invariant.accepted f (can_go_to c.self.inside.space.bytes c.args.name.0 c.in_ok-found.found c.args.owner c.self.invariant.accepted f c.in_ok-found.ensures.callers c.in_ok-check_owner.ensures.ok) c.reown.ensures.made)
 
 pub returns : goal.returns
 returns c =

@@ -15,7 +15,7 @@ returns-in_err-found c =
     (refused c.self.inside.space (StrCopy c.args.name c.args.at c.args.text.now) Refusal.InvalidHandle c.self.invariant.accepted (inl (c.in_err-found.ensures.none, refl)))
 
 pub invariant_of-self : goal.invariant_of-self
-invariant_of-self c = with_names c.self.inside.space.bytes c.self.inside.used c.find_again.new.known.names c.self.invariant c.find_again.ensures.remembered
+invariant_of-self c = with_names c.self.inside.space.bytes c.self.inside.used c.find_again.new.known c.self.invariant c.find_again.ensures.remembered
 
 pub returns-in_err-check_locked : goal.returns-in_err-check_locked
 returns-in_err-check_locked c =
@@ -40,7 +40,7 @@ write_ended-requires-clause-within c = let inside = c.in_ok-check_ended_range.en
 pub invariant_of-self-2 : goal.invariant_of-self-2
 invariant_of-self-2 c =
     let f = c.in_ok-found.ensures.found in
-    used_altered c.self.inside.space.bytes c.write_ended.new.self.bytes c.self.inside.used c.args.name.0 _ _ (with_names c.self.inside.space.bytes c.self.inside.used c.find_again.new.known.names c.self.invariant c.find_again.ensures.remembered) (write_changes c.self.inside.space.bytes c.write_ended.new.self.bytes c.args.name.0 c.in_ok-found.found c.args.at (c.before_zero-part.result.now ++ 0 ∷ []) c.self.invariant.accepted f (let inside = c.in_ok-check_ended_range.ensures.ok in let some = length-append c.before_zero-part.result.now (0 ∷ []) in omega arith) c.write_ended.ensures.made)
+    used_altered c.self.inside.space.bytes c.write_ended.new.self.bytes c.self.inside.used c.args.name.0 _ _ (with_names c.self.inside.space.bytes c.self.inside.used c.find_again.new.known c.self.invariant c.find_again.ensures.remembered) (write_changes c.self.inside.space.bytes c.write_ended.new.self.bytes c.args.name.0 c.in_ok-found.found c.args.at (c.before_zero-part.result.now ++ 0 ∷ []) c.self.invariant.accepted f (let inside = c.in_ok-check_ended_range.ensures.ok in let some = length-append c.before_zero-part.result.now (0 ∷ []) in omega arith) c.write_ended.ensures.made)
 
 pub returns : goal.returns
 returns c =

@@ -15,7 +15,7 @@ returns-in_err-found c =
     (refused c.self.inside.space (Write c.args.name c.args.at c.args.bytes.now) Refusal.InvalidHandle c.self.invariant.accepted (inl (c.in_err-found.ensures.none, refl)))
 
 pub invariant_of-self : goal.invariant_of-self
-invariant_of-self c = with_names c.self.inside.space.bytes c.self.inside.used c.find_again.new.known.names c.self.invariant c.find_again.ensures.remembered
+invariant_of-self c = with_names c.self.inside.space.bytes c.self.inside.used c.find_again.new.known c.self.invariant c.find_again.ensures.remembered
 
 pub returns-in_err-check_locked : goal.returns-in_err-check_locked
 returns-in_err-check_locked c =
@@ -36,7 +36,7 @@ write-requires-clause-within c = let inside = c.in_ok-check_range.ensures.ok in 
 pub invariant_of-self-2 : goal.invariant_of-self-2
 invariant_of-self-2 c =
     let f = c.in_ok-found.ensures.found in
-    used_altered c.self.inside.space.bytes c.write.new.self.bytes c.self.inside.used c.args.name.0 _ _ (with_names c.self.inside.space.bytes c.self.inside.used c.find_again.new.known.names c.self.invariant c.find_again.ensures.remembered) (write_changes c.self.inside.space.bytes c.write.new.self.bytes c.args.name.0 c.in_ok-found.found c.args.at c.args.bytes.now c.self.invariant.accepted f (let inside = c.in_ok-check_range.ensures.ok in omega arith) c.write.ensures.made)
+    used_altered c.self.inside.space.bytes c.write.new.self.bytes c.self.inside.used c.args.name.0 _ _ (with_names c.self.inside.space.bytes c.self.inside.used c.find_again.new.known c.self.invariant c.find_again.ensures.remembered) (write_changes c.self.inside.space.bytes c.write.new.self.bytes c.args.name.0 c.in_ok-found.found c.args.at c.args.bytes.now c.self.invariant.accepted f (let inside = c.in_ok-check_range.ensures.ok in omega arith) c.write.ensures.made)
 
 pub returns : goal.returns
 returns c =
