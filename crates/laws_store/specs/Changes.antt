@@ -9,7 +9,7 @@ use Rattle.heap_model.specs.Reading.{held}
 use Rattle.heap_model.specs.Maps.{updated}
 use Rattle.heap_model.specs.Lists.{same, times, Distinct}
 use Rattle.heap_model.specs.Database.{Database, data_in, spelled}
-use Rattle.heap_model.specs.Store.{StoredDatabase, Store, owner_of, owner_under, directory_bytes, listed, most_databases, names_of, Accepted, store_of}
+use Rattle.heap_model.specs.Store.{StoredDatabase, Store, owner_of, owner_under, directory_bytes, listed, most_databases, names_of, Accepted, store_of, listed_size}
 use Rattle.heap_model.specs.StoreWords.{SameStore, all_gone}
 use Rattle.heap_model.specs.Counts.{IsWhole, IsSound}
 use Rattle.heap_model.specs.Leaving.{Leaves, rewritten, database_here}
@@ -44,7 +44,7 @@ pub record Rewrites (old new : List ℕ) (stored : List StoredDatabase) (index :
 -- manager are the database's number and a new directory, and those new to data are what it names.
 pub record Appends (old new : List ℕ) (stored : List StoredDatabase) (one : StoredDatabase) : Type 0 where
   pub heap : HeapAccepted new
-  pub whole : length (directory_bytes new) % 4 ≡ 0
+  pub whole : length (directory_bytes new) % listed_size ≡ 0
   pub listed_are : listed new ≡ listed old ++ one.db ∷ []
   pub some : 0 < one.db
   pub few : length stored < most_databases
@@ -61,7 +61,7 @@ pub record Appends (old new : List ℕ) (stored : List StoredDatabase) (one : St
 pub record Drops (old new : List ℕ) (stored : List StoredDatabase) (index : ℕ) (one : StoredDatabase) : Type 0 where
   pub heap : HeapAccepted new
   pub directory : directory_of new ≡ directory_of old
-  pub whole : length (directory_bytes new) % 4 ≡ 0
+  pub whole : length (directory_bytes new) % listed_size ≡ 0
   pub listed_are : listed new ≡ remove (listed old) index
   pub inside : index < length stored
   pub is : one ≡ slice_index_or stored index one

@@ -10,7 +10,7 @@ use Rattle.heap_model.specs.Reading.{is_accepted}
 use Rattle.heap_model.specs.DatabaseFields.{name_size}
 use Rattle.heap_model.specs.Database.{DatabaseHeader, Entry, a_record, a_resource, Database, has_resources, is_deleted, spelled}
 use Rattle.heap_model.specs.Lists.{times}
-use Rattle.heap_model.specs.Store.{StoredDatabase, bytes_under, owner_under, directory_bytes, listed, databases, named_by, most_databases, unique_ids, names_of}
+use Rattle.heap_model.specs.Store.{StoredDatabase, bytes_under, owner_under, directory_bytes, listed, databases, named_by, most_databases, unique_ids, names_of, listed_size}
 
 -- nothing in the list is the same as what stands behind it
 abbrev pub are_distinct : {X : Type 0} → (X → X → Bool) → List X → Bool
@@ -68,7 +68,7 @@ is_header_slot image slot = (owner_under image slot == managers_owner) && not (s
 abbrev pub directory_tests : List ℕ → List Bool
 directory_tests image =
     is_accepted image
-    ∷ (length (directory_bytes image) % 4 == 0)
+    ∷ (length (directory_bytes image) % listed_size == 0)
     ∷ nat_le (length (listed image)) most_databases
     ∷ are_distinct ◌==◌ (listed image)
     ∷ list_all (is_header_slot image) (listed image)
