@@ -32,13 +32,10 @@ use Rattle.palm_store.specs.Databases.{named_under}
 use Rattle.palm_store.specs.Directory.{Unlists}
 use Rattle.palm_store.proofs.Maps.{kept, is_gone, owned}
 use Rattle.palm_store.proofs.ListedSlots.{few_bytes, lock_of}
-use Rattle.palm_store.proofs.NamedChunks.{no_chunk, number_unnamed, freed_one, freed_more}
+use Rattle.palm_store.proofs.NamedChunks.{no_chunk, freed_one, freed_more}
 use Rattle.palm_store.proofs.Deletion.{went, directory_kept, index_inside, drops, clears}
 
 -- ---- the header goes too
-
-pub header_stays : (old mid : List ℕ) (db : ℕ) → Accepted old → HasNumber old db → Leaves old mid (all_gone (held old) (named_under old db)) → held mid db ≡ held old db
-header_stays old mid db a has l = kept old mid (named_under old db) db l (number_unnamed old db a has)
 
 pub header_other : (old mid : List ℕ) (db : ℕ) → Accepted old → HasNumber old db → Leaves old mid (all_gone (held old) (named_under old db)) → db ≢ directory_of mid
 header_other old mid db a has l e = let slot = number_slot old db a has in slot.other (e ∙ l.frame.directory)

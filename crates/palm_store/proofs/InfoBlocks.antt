@@ -29,17 +29,9 @@ use Rattle.palm_store.proofs.GivenData.{IsGiven, given_steps, handed_steps}
 
 -- ---- what changes of the database
 
-pub same_entries : (which : Which) (slot : ℕ) (d : Database ℕ) → (with_block which slot d).entries ≡ d.entries
-same_entries App slot d = refl
-same_entries Sort slot d = refl
-
 pub same_name : (which : Which) (slot : ℕ) (d : Database ℕ) → (with_block which slot d).header.name ≡ d.header.name
 same_name App slot d = refl
 same_name Sort slot d = refl
-
-same_attributes : (which : Which) (slot : ℕ) (d : Database ℕ) → (with_block which slot d).header.attributes ≡ d.header.attributes
-same_attributes App slot d = refl
-same_attributes Sort slot d = refl
 
 -- it names the block in place of the one that it had
 pub names_block : (q : ℕ) (which : Which) (slot : ℕ) (d : Database ℕ) → times q (data_in (with_block which slot d)) + same (info_block which d) q ≡ times q (data_in d) + same slot q
