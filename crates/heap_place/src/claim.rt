@@ -19,7 +19,7 @@ use raw_region::Region;
 pub(crate) fn cut(region: &mut Region, room: Room, size: u32)
     requires accepted { HeapAccepted region.old.bytes }
     requires room { IsSpot region.old.bytes room.at room.size }
-    requires least { 8 ≤ size }
+    requires least { need 0 ≤ size }
     requires whole { size % 8 ≡ 0 }
     requires within { size ≤ room.size }
     ensures same { Becomes region.old.bytes region.new.bytes (chunks_of region.old.bytes) }

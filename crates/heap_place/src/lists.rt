@@ -2,6 +2,7 @@
 
 ghost use Rattle.std.specs.Prelude.{◌≡◌, ◌≤◌, ◌<◌, ◌+◌, ◌-◌, ◌%◌, ◌^◌, length, IfSome};
 ghost use Rattle.heap_model.specs.Bytes.{u32_at};
+ghost use Rattle.heap_model.specs.Chunk.{need};
 ghost use Rattle.heap_model.specs.Heap.{HeapAccepted};
 ghost use Rattle.heap_model.specs.Reading.{size_field, chunks_of};
 ghost use Rattle.heap_model.specs.Layout.{Becomes, IsSpot, WritesPlain};
@@ -32,7 +33,7 @@ const ALL: usize = 0x20_0000;
 /// The class of a free chunk of `size` bytes.
 #[inline(always)]
 pub(crate) fn class_of(size: u32) -> usize
-    requires least { 8 ≤ size }
+    requires least { need 0 ≤ size }
     requires small { size < 2 ^ 24 }
     ensures of_class { IsOfClass result size }
     ensures below { result < class_count }
@@ -96,7 +97,7 @@ fn size_at(region: &Region, at: u32) -> u32
 fn unlink(region: &mut Region, heads: &mut [u32; CLASSES], room: Room, probes: usize) -> bool
     requires accepted { HeapAccepted region.old.bytes }
     requires room { IsSpot region.old.bytes room.at room.size }
-    requires some { 8 ≤ room.size }
+    requires some { need 0 ≤ room.size }
     requires lists { HasLists region.old.bytes heads.old }
     ensures same { SameChunks region.old.bytes region.new.bytes }
     ensures lists { AreLists (Outside room.at room.size) region.new.bytes heads.new }
@@ -133,7 +134,7 @@ pub(crate) fn unlink_run(region: &mut Region, heads: &mut [u32; CLASSES], room: 
 pub(crate) fn take(region: &mut Region, heads: &mut [u32; CLASSES], room: Room, size: u32) -> bool
     requires accepted { HeapAccepted region.old.bytes }
     requires room { IsSpot region.old.bytes room.at room.size }
-    requires least { 8 ≤ size }
+    requires least { need 0 ≤ size }
     requires whole { size % 8 ≡ 0 }
     requires within { size ≤ room.size }
     requires lists { HasLists region.old.bytes heads.old }
@@ -155,7 +156,7 @@ pub(crate) fn take(region: &mut Region, heads: &mut [u32; CLASSES], room: Room, 
 pub(crate) fn find_listed(region: &Region, heads: &[u32; CLASSES], size: u32) -> Option<Room>
     requires accepted { HeapAccepted region.now.bytes }
     requires lists { HasLists region.now.bytes heads.now }
-    requires least { 8 ≤ size }
+    requires least { need 0 ≤ size }
     requires small { size < 2 ^ 24 }
     ensures room { IfSome result (λ room. IsSpot region.now.bytes room.at room.size) }
     ensures enough { IfSome result (λ room. size ≤ room.size) }
