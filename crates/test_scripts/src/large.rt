@@ -4,6 +4,9 @@
 use crate::commands::check_image;
 use crate::grammar::{What, count_of};
 use crate::runs::{Ran, run_on};
+use chunk_format::blank;
+use palm_script::{parse, run};
+use palm_store::Store;
 use palm_text::Counted;
 use palmheap_commands::cmd_new;
 use program_io::{INPUT_LIMIT, Status};
@@ -45,13 +48,24 @@ fn a_script_as_long_as_the_limit_is_read(rt: HostRuntime) -> Result<(), Fail> {
     )
 }
 
+/// What `run` prints on a blank image of this size, where it takes memory as it likes.
+fn run_plain(alloc: Global, size: u32, script: &str) -> Result<Vec<u8>, Fail> {
+    let script = parse(alloc, script.as_bytes())?;
+    let mut store = Store::check(alloc, blank(alloc, size, 4)?)?;
+    let mut out = Counted::new(Vec::new(alloc));
+    run(alloc, &mut store, &script, &[], &mut out)?;
+    Ok(out.into_inner())
+}
+
 /// Whether a run got through and printed this.
 fn says(ran: &Ran<Vec<u8>, Vec<u8>>, said: &str) -> bool {
     ran.status == Status::Done && ran.out.as_slice() == said.as_bytes()
 }
 
-/// A run on the blank image of 128 bytes prints this, and leaves the image as it is.
+/// A run on the blank image of 128 bytes prints this, by the command and by `run`, and leaves the image as it is.
 fn check_kept(alloc: Global, script: &str, said: &str) -> Result<(), Fail> {
+    let plain = run_plain(alloc, 128, script)?;
+    holds("what `run` prints", plain.as_slice() == said.as_bytes())?;
     let image = new_image(alloc, 128)?;
     let ran = run_on(alloc, &image, script, &[]);
     holds(
@@ -104,11 +118,14 @@ fn a_run_is_as_large_as_it_likes(rt: HostRuntime) -> Result<(), Fail> {
     let hex = "4b".repeat(alloc, 4_000_000)?;
     let script = format!(in alloc; "new a 4000000 1\nlock a\nwrite a 0 {hex}\nread a 0 4000000\n")?;
     let ran = run_on(alloc, &image, script.as_str(), &[]);
+    let printed = 3 + 5 + 3 + 3 + 8_000_000 + 1;
     equal(
         "the run",
         (ran.status, ran.image.len(), ran.out.len()),
-        (Status::Done, 16_777_208, 3 + 5 + 3 + 3 + 8_000_000 + 1),
-    )
+        (Status::Done, 16_777_208, printed),
+    )?;
+    let plain = run_plain(alloc, 16_777_208, script.as_str())?;
+    equal("what `run` prints", plain.len(), printed)
 }
 
 /// What `new` writes for an image of this size with 4 slots.
