@@ -157,7 +157,7 @@ fn stand_in_at(
     requires lists { HasLists region.old.bytes heads.old }
     ensures lists { HasLists region.new.bytes heads.new }
     ensures made { Claims region.old.bytes region.new.bytes room.at room.size
-        (fixed (replicate count 0) 1) }
+        (fixed (replicate count 0) STAND_IN_OWNER) }
     ensures is { result ≡ stand_in room.at count }
     ensures found { IsOne region.new.bytes result }
     ensures others { KeepsFound region.old.bytes region.new.bytes }

@@ -68,7 +68,7 @@ impl KnownNames {
 #[inline]
 fn entry_of(name: Name) -> usize
     ensures is { result ≡ entry_of name.0 }
-    ensures below { result < 64 }
+    ensures below { result < ENTRIES }
 {
     (name.0 / 8) as usize % ENTRIES
 }

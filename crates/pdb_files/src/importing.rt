@@ -3,14 +3,13 @@
 ghost use Rattle.std.specs.Prelude.{◌≡◌, ◌<◌, ◌+◌, ◌≢◌, length, Err, IfOk, OnOk, IfErr, OnErr};
 ghost use Rattle.heap_model.specs.Store.{Accepted, most_databases, store_of};
 ghost use Rattle.heap_model.specs.Refusals.{FirstBrings};
-ghost use Rattle.heap_model.specs.MemorySteps.{reply_of};
 ghost use Rattle.heap_model.specs.Database as databases;
 ghost use Rattle.heap_model.specs.DatabaseSteps.{IsTaken};
 ghost use Rattle.heap_model.specs.Files.{HasNoFault};
 ghost use Rattle.heap_model.specs.StoreSteps.{DoesInStore};
 ghost use Rattle.heap_model.specs.declared.call.Call as calls;
 ghost use Rattle.heap_model.specs.declared.call.FileCall.{FileCall};
-ghost use Rattle.heap_model.specs.declared.call.Reply.{Reply};
+ghost use Rattle.palm_store.specs.Replies.{database_or_refused};
 ghost use Rattle.pdb_files.specs.Plans.{IsPlan};
 ghost use Rattle.pdb_files.specs.Imports.{checks_in_front};
 
@@ -35,7 +34,7 @@ use std::alloc::{AllocError, Global};
 /// directory, one after the other. Then nothing is left of it.
 pub fn import(alloc: Global, store: &mut Store, file: &[u8]) -> Result<Db, Refusal>
     ensures { DoesInStore store.old (calls.Call.File (FileCall.Import file.now))
-        (reply_of (λ db. Reply.Database db) result) store.new }
+        (database_or_refused result) store.new }
 {
     import_from(&alloc, store, file)
 }
@@ -43,7 +42,7 @@ pub fn import(alloc: Global, store: &mut Store, file: &[u8]) -> Result<Db, Refus
 /// `import`, where each growth asks for a grant. Only a refused growth is answered by `OutOfMemory`.
 pub fn import_from<A: Allowance>(memory: &A, store: &mut Store, file: &[u8]) -> Result<Db, Refusal>
     ensures does { DoesInStore store.old (calls.Call.File (FileCall.Import file.now))
-        (reply_of (λ db. Reply.Database db) result) store.new }
+        (database_or_refused result) store.new }
     ensures no_memory { result ≡ Err Refusal.OutOfMemory → A.is_short memory.now }
 {
     check_import(store, file)?;
@@ -98,7 +97,7 @@ fn make(store: &mut Store, file: &[u8], plan: &Plan, names: &mut [Name]) -> Resu
     requires plan { IsPlan file.now plan.now }
     requires names { length names.old ≡ 2 + length plan.now.entries.items }
     ensures does { DoesInStore store.old (calls.Call.File (FileCall.Import file.now))
-        (reply_of (λ db. Reply.Database db) result) store.new }
+        (database_or_refused result) store.new }
     ensures takes_no_memory { IfErr result (λ refusal. refusal ≢ Refusal.OutOfMemory) }
 {
     let db = store.create_whole(&plan.info, plan.sizes, &plan.entries, names)?;

@@ -1,19 +1,18 @@
 //! Entries that are made.
 
-ghost use Rattle.std.specs.Prelude.{◌≡◌, ◌⊎◌, ℕ, ◌+◌, ◌<◌, ◌≤◌, [], ◌∷◌, length, IfOk, OnOk, OnErr, IfErr};
+ghost use Rattle.std.specs.Prelude.{◌≡◌, ◌⊎◌, ℕ, ◌<◌, ◌≤◌, [], ◌∷◌, length, IfOk, OnOk, OnErr, IfErr};
 ghost use Rattle.heap_model.specs.Reading.{held};
 ghost use Rattle.heap_model.specs.Space.{free_slots, rooms};
-ghost use Rattle.heap_model.specs.Rooms.{making, growth, Stuck};
-ghost use Rattle.heap_model.specs.DatabaseFields.{entry_size};
+ghost use Rattle.heap_model.specs.Rooms.{making, Stuck};
 ghost use Rattle.heap_model.specs.Database.{entry_with, EntryFits};
-ghost use Rattle.heap_model.specs.Store.{Accepted, bytes_under, store_of};
+ghost use Rattle.heap_model.specs.Store.{Accepted, store_of};
 ghost use Rattle.heap_model.specs.Leaving.{Leaves};
-ghost use Rattle.heap_model.specs.EntrySteps.{most_entries, entries_in, resources_under, MakesNone};
+ghost use Rattle.heap_model.specs.EntrySteps.{entry_growth, most_entries, MakesNone};
 ghost use Rattle.db_format.specs.EitherEntry.{entry_of, is_resource, HasFittingId};
 ghost use Rattle.mem_manager.specs.Lookup.{StandsAs};
 ghost use Rattle.palm_store.specs.Databases.{HasNumber};
 ghost use Rattle.palm_store.specs.EntryInfos.{makes_resource, IsMadeOf};
-ghost use Rattle.palm_store.specs.EntryCalls.{MayBeGiven};
+ghost use Rattle.palm_store.specs.EntryCalls.{entries_of_image, resources_of_image, MayBeGiven};
 ghost use Rattle.palm_store.specs.NewEntries.{PutsIn, TakesIn};
 ghost use Rattle.palm_store.specs.KnownIds.{StandFree, StandFreeBeside};
 
@@ -39,18 +38,17 @@ pub(crate) fn put_in(
 ) -> Result<Name, Refusal>
     requires accepted { Accepted heap.old.bytes }
     requires number { HasNumber heap.old.bytes db.0 }
-    requires inside { at ≤ length (entries_in (store_of heap.old.bytes) db) }
-    requires few { length (entries_in (store_of heap.old.bytes) db) < most_entries }
-    requires kind { is_resource entry ≡ resources_under (store_of heap.old.bytes) db }
+    requires inside { at ≤ length (entries_of_image heap.old.bytes db) }
+    requires few { length (entries_of_image heap.old.bytes db) < most_entries }
+    requires kind { is_resource entry ≡ resources_of_image heap.old.bytes db }
     requires id { HasFittingId entry }
     ensures puts { IfOk result (λ name. PutsIn heap.old.bytes heap.new.bytes db.0 at
         (entry_with (λ (none : ℕ). name.0) (entry_of entry)) name.0 size) }
     ensures name_fits { IfOk result (λ name. EntryFits (is_resource entry) (entry_of entry)
         → EntryFits (is_resource entry) (entry_with (λ (none : ℕ). name.0) (entry_of entry))) }
     ensures no_room { OnErr result ((free_slots heap.old.bytes < 1)
-        ⊎ Stuck (rooms heap.old.bytes) (making size ∷ growth heap.old.bytes db.0
-        (length (bytes_under heap.old.bytes db.0)
-        + entry_size (resources_under (store_of heap.old.bytes) db)) ∷ [])) }
+        ⊎ Stuck (rooms heap.old.bytes)
+        (making size ∷ entry_growth heap.old.bytes (store_of heap.old.bytes) db ∷ [])) }
     ensures refusal { IfErr result (λ refusal. refusal ≡ Refusal.NotEnoughSpace) }
     ensures refused { OnErr result (Leaves heap.old.bytes heap.new.bytes (held heap.old.bytes)) }
     ensures rest { heap.new ≡ record heap.old { bytes = heap.new.bytes; slid = heap.new.slid } }
@@ -79,9 +77,9 @@ pub(crate) fn take_in(
     requires accepted { Accepted heap.old.bytes }
     requires number { HasNumber heap.old.bytes db.0 }
     requires chunk { StandsAs heap.old.bytes db.0 chunk }
-    requires inside { at ≤ length (entries_in (store_of heap.old.bytes) db) }
-    requires few { length (entries_in (store_of heap.old.bytes) db) < most_entries }
-    requires kind { is_resource entry ≡ resources_under (store_of heap.old.bytes) db }
+    requires inside { at ≤ length (entries_of_image heap.old.bytes db) }
+    requires few { length (entries_of_image heap.old.bytes db) < most_entries }
+    requires kind { is_resource entry ≡ resources_of_image heap.old.bytes db }
     requires id { HasFittingId entry }
     requires given { MayBeGiven heap.old.bytes name.0 }
     ensures takes { OnOk result (TakesIn heap.old.bytes heap.new.bytes db.0 at
@@ -89,9 +87,8 @@ pub(crate) fn take_in(
     ensures none_made { MakesNone heap.old.bytes heap.new.bytes }
     ensures name_fits { EntryFits (is_resource entry) (entry_of entry)
         → EntryFits (is_resource entry) (entry_with (λ (none : ℕ). name.0) (entry_of entry)) }
-    ensures no_room { OnErr result (Stuck (rooms heap.old.bytes) (growth heap.old.bytes db.0
-        (length (bytes_under heap.old.bytes db.0)
-        + entry_size (resources_under (store_of heap.old.bytes) db)) ∷ [])) }
+    ensures no_room { OnErr result (Stuck (rooms heap.old.bytes)
+        (entry_growth heap.old.bytes (store_of heap.old.bytes) db ∷ [])) }
     ensures refusal { IfErr result (λ refusal. refusal ≡ Refusal.NotEnoughSpace) }
     ensures refused { OnErr result (heap.new ≡ heap.old) }
     ensures rest { heap.new ≡ record heap.old { bytes = heap.new.bytes; slid = heap.new.slid } }
@@ -120,8 +117,8 @@ pub(crate) fn new_entry(
     requires accepted { Accepted heap.now.bytes }
     requires number { HasNumber heap.now.bytes db.0 }
     requires chunk { StandsAs heap.now.bytes db.0 chunk }
-    requires kind { makes_resource entry ≡ resources_under (store_of heap.now.bytes) db }
-    requires few { length (entries_in (store_of heap.now.bytes) db) < most_entries }
+    requires kind { makes_resource entry ≡ resources_of_image heap.now.bytes db }
+    requires few { length (entries_of_image heap.now.bytes db) < most_entries }
     requires known { StandFree (store_of heap.now.bytes) known }
     ensures is { IsMadeOf (store_of heap.now.bytes) db entry 0 (entry_of result.entry) }
     ensures kind { is_resource result.entry ≡ makes_resource entry }

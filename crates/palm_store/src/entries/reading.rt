@@ -2,12 +2,13 @@
 
 ghost use Rattle.std.specs.Prelude.{◌≡◌, ◌<◌, ◌≤◌, Some, length, slice_get, IfSome, IfNone};
 ghost use Rattle.heap_model.specs.Database.{has_resources, EntryFits, HasShape, database_in, entry_count_in};
-ghost use Rattle.heap_model.specs.Store.{Accepted, store_of};
-ghost use Rattle.heap_model.specs.EntrySteps.{entries_in, OfEntry, Tells};
+ghost use Rattle.heap_model.specs.Store.{Accepted};
+ghost use Rattle.heap_model.specs.EntrySteps.{OfEntry, Tells};
 ghost use Rattle.heap_model.specs.Leaving.{database_here};
 ghost use Rattle.db_format.specs.EitherEntry.{entry_of, is_resource, HasFittingId};
 ghost use Rattle.mem_manager.specs.Lookup.{StandsAs};
 ghost use Rattle.palm_store.specs.Databases.{HasNumber};
+ghost use Rattle.palm_store.specs.EntryCalls.{entries_of_image};
 
 use crate::entries::shapes::told;
 use crate::lookup::header_in;
@@ -21,7 +22,7 @@ pub(crate) fn count_entries(heap: &Heap, db: Db, chunk: Found) -> u32
     requires accepted { Accepted heap.now.bytes }
     requires number { HasNumber heap.now.bytes db.0 }
     requires chunk { StandsAs heap.now.bytes db.0 chunk }
-    ensures { result ≡ length (entries_in (store_of heap.now.bytes) db) }
+    ensures { result ≡ length (entries_of_image heap.now.bytes db) }
 {
     entry_count(header_in(heap, db, chunk)) as u32
 }
@@ -32,7 +33,7 @@ pub(crate) fn read_entry(heap: &Heap, db: Db, chunk: Found, index: u32) -> DbEnt
     requires accepted { Accepted heap.now.bytes }
     requires number { HasNumber heap.now.bytes db.0 }
     requires chunk { StandsAs heap.now.bytes db.0 chunk }
-    requires inside { index < length (entries_in (store_of heap.now.bytes) db) }
+    requires inside { index < length (entries_of_image heap.now.bytes db) }
     ensures is { slice_get (database_here heap.now.bytes db.0).entries index
         ≡ Some (entry_of result) }
     ensures kind { is_resource result
