@@ -1,5 +1,5 @@
 pub mod Entries
 pub mod EntriesChanged
-pub mod OpeningChecks
+pub mod AccessChecks
 pub mod TwoChanges
 pub mod SearchLaws

@@ -1,7 +1,7 @@
 pub mod WordLaws
 pub mod LineLaws
-pub mod NumberingLaws
+pub mod LabelLaws
 pub mod NumberLaws
-pub mod ReadingLaws
+pub mod ScriptLaws
 pub mod KindLaws
 pub mod ReadBack

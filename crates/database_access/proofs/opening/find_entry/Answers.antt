@@ -5,7 +5,7 @@ use Rattle.heap_model.specs.EntrySteps.{Tells}
 use Rattle.palm_store.specs.EntryCalls.{entries_of_image, IsHeard}
 use Rattle.database_access.specs.Checks.{are_resources}
 use Rattle.database_access.proofs.Entries.{told_kind}
-use Rattle.database_access.proofs.OpeningChecks.{has_kind, opening_passed, inside}
+use Rattle.database_access.proofs.AccessChecks.{has_kind, opening_passed, inside}
 use Rattle.database_access.proofs.opening.find_entry.Goals as goal
 
 pub returns-clause-of_kind : goal.returns-clause-of_kind

@@ -1,5 +1,5 @@
 use Rattle.std.proofs.Common.{◌+◌, ◌∙◌, refl}
-use Rattle.script_lines.proofs.ReadingLaws.{has_faulty_line}
+use Rattle.script_lines.proofs.ScriptLaws.{has_faulty_line}
 use Rattle.script_lines.proofs.reading.parse_from.Goals as goal
 
 pub returns-in-Err-clause-line : goal.returns-in-Err-clause-line

@@ -1,6 +1,6 @@
 use Rattle.std.proofs.Common.{◌∙◌, sym}
 use Rattle.script_lines.specs.Views.{numberings}
-use Rattle.script_lines.proofs.ReadingLaws.{read_line-words}
+use Rattle.script_lines.proofs.ScriptLaws.{read_line-words}
 use Rattle.script_lines.proofs.reading.read_line.Goals as goal
 
 pub returns-in-Ok-read_command-clause-ok : goal.returns-in-Ok-read_command-clause-ok

@@ -3,7 +3,7 @@ use Rattle.script_commands.specs.declared.value.Kind.TheVariants.{Chunk}
 use Rattle.script_lines.specs.Kinds.{read_words}
 use Rattle.script_lines.specs.Reading.{words_in}
 use Rattle.script_lines.specs.Views.{words_read}
-use Rattle.script_lines.proofs.ReadingLaws.{added, no_word, not_added, read_bad, read_more, read_short, word_step}
+use Rattle.script_lines.proofs.ScriptLaws.{added, no_word, not_added, read_bad, read_more, read_short, word_step}
 use Rattle.script_lines.proofs.reading.read_values.Goals as goal
 
 pub returns-in_default-clause-err : goal.returns-in_default-clause-err

@@ -3,7 +3,7 @@ use Rattle.std.specs.BTreeMap.{btree_map_len}
 use Rattle.std.proofs.lemmas.Map.Text.{btree_map_updates_str}
 use Rattle.script_lines.specs.Numbering.{with_next}
 use Rattle.script_lines.specs.Views.{numbering}
-use Rattle.script_lines.proofs.NumberingLaws.{same_numbering, with_label_absent}
+use Rattle.script_lines.proofs.LabelLaws.{same_numbering, with_label_absent}
 use Rattle.script_lines.proofs.label.Labels.number.Goals as goal
 
 -- the map has the new label's number besides what it had
