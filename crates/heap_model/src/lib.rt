@@ -1,5 +1,5 @@
-//! What a heap image is, and what it means: the definitions that every contract of palmheap cites,
-//! and the types that its layers share.
+//! What a heap image is, and what it means: the definitions that contracts on images and databases cite,
+//! and the types that the layers share.
 //!
 //! The definitions stand in `specs/`, in this order:
 //!

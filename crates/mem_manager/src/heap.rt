@@ -23,7 +23,8 @@ use std::marker::Model;
 use thiserror::Error;
 
 /// A region that is an accepted heap. Contracts see the region's value alone. What a call for callers
-/// can't do it refuses; the calls for the store above ask it of their caller.
+/// can't do it refuses; the calls for the store above refuse want of room, and a locked chunk that would have
+/// to move, and ask all else of their caller.
 #[derive(Drop)]
 pub struct Heap {
     space: Space,

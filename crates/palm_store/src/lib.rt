@@ -1,9 +1,9 @@
 //! The store of a Palm OS device: movable chunks reached through handles, and databases made of them.
 //!
-//! `Store` owns a region that is an accepted image. The contract of each of its methods, but those on
-//! entries and for files, is the step of the abstract store for that call: the reply is right, and what the
-//! image means afterwards is the store after the call. The image is still accepted, and no chunk that is
-//! locked or fixed, and still live, has moved.
+//! `Store` owns a region that is an accepted image. The contract of each method that is a call on chunks or
+//! databases is the step of the abstract store for that call: the reply is right, and what the image means
+//! afterwards is the store after the call. The image is still accepted, and no chunk that is locked or fixed,
+//! and still live, has moved.
 #![tactic(auto)]
 
 mod chunks;
