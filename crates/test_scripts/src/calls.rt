@@ -21,9 +21,9 @@ pub(crate) fn small_store(alloc: Global) -> Result<Store, Fail> {
     listed_store(alloc, BLANK)
 }
 
-/// A store of the most bytes.
-fn largest_store(alloc: Global) -> Result<Store, Fail> {
-    Ok(Store::check(alloc, blank(alloc, 16_777_208, 4)?)?)
+/// A store of so many bytes with 4 slots, and nothing in it.
+pub(crate) fn blank_store(alloc: Global, size: u32) -> Result<Store, Fail> {
+    Ok(Store::check(alloc, blank(alloc, size, 4)?)?)
 }
 
 const SCRIPT: &str = "new a 10 1\nlock a\nread a 0 2\n";
@@ -154,7 +154,7 @@ static COUNTS: [u32; 6] = [0, 1, 4096, 65_536, 100_001, 16_777_168];
 /// Where memory isn't refused, a read of any size from the greatest chunk is answered.
 #[test]
 fn reads_of_every_size_are_answered(rt: HostRuntime) -> Result<(), Fail> {
-    let mut store = largest_store(rt.alloc())?;
+    let mut store = blank_store(rt.alloc(), 16_777_208)?;
     let name = chunk_of(&mut store, 16_777_168)?;
     for count in &COUNTS {
         check_count(rt.alloc(), &mut store, name, *count)?;

@@ -1,12 +1,11 @@
 //! Scripts and images that are large: no want of memory is invented for them, and no limit but those
 //! that are stated.
 
+use crate::calls::blank_store;
 use crate::commands::check_image;
 use crate::grammar::{What, count_of};
 use crate::runs::{Ran, run_on};
-use chunk_format::blank;
 use palm_script::{parse, run};
-use palm_store::Store;
 use palm_text::Counted;
 use palmheap_commands::cmd_new;
 use program_io::{INPUT_LIMIT, Status};
@@ -48,10 +47,10 @@ fn a_script_as_long_as_the_limit_is_read(rt: HostRuntime) -> Result<(), Fail> {
     )
 }
 
-/// What `run` prints on a blank image of this size, where it takes memory as it likes.
+/// What `run` itself prints on a blank image of this size: the commands call the forms with an allowance.
 fn run_plain(alloc: Global, size: u32, script: &str) -> Result<Vec<u8>, Fail> {
     let script = parse(alloc, script.as_bytes())?;
-    let mut store = Store::check(alloc, blank(alloc, size, 4)?)?;
+    let mut store = blank_store(alloc, size)?;
     let mut out = Counted::new(Vec::new(alloc));
     run(alloc, &mut store, &script, &[], &mut out)?;
     Ok(out.into_inner())
