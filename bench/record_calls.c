@@ -1,7 +1,9 @@
 /*
  * Calls on records in plain C, some on resources, and their times: what the Rattle calls are measured beside.
  *
- * usage: record_calls [SIZE SLOTS RECORDS CALLS PASSES ROUNDS]
+ * usage: record_calls [SIZE SLOTS RECORDS [CALLS PASSES ROUNDS]]
+ *
+ * With three words it only makes the records, and prints the sums of their replies and of their image.
  *
  * It does the same calls in the same order as crates/benchmarks/src/records, on databases in images of the same
  * format (docs/FORMAT.md) and by the same algorithm, and prints the same lines. Each call looks first whether
@@ -429,7 +431,7 @@ enum { CALLER = 1, DELETED_CATEGORY = 2 };
 struct work {
     uint32_t size, slots, records, calls, passes;
     size_t rounds;
-    bool prints_times;
+    bool prints_times, makes_records_alone;
 };
 
 /* A heap with a database, and the sum of all replies to the calls so far. */
@@ -775,37 +777,56 @@ static bool read_work(int argc, char **argv, struct work *work)
             .passes = 2,
             .rounds = 2,
         };
-    if (argc == 7)
+    if (argc == 4 || argc == 7)
         *work = (struct work){
             .size = (uint32_t)strtoul(argv[1], NULL, 10),
             .slots = (uint32_t)strtoul(argv[2], NULL, 10),
             .records = (uint32_t)strtoul(argv[3], NULL, 10),
-            .calls = (uint32_t)strtoul(argv[4], NULL, 10),
-            .passes = (uint32_t)strtoul(argv[5], NULL, 10),
-            .rounds = strtoul(argv[6], NULL, 10),
-            .prints_times = true,
+            .makes_records_alone = argc == 4,
         };
-    return argc == 1 || argc == 7;
+    if (argc == 7) {
+        work->calls = (uint32_t)strtoul(argv[4], NULL, 10);
+        work->passes = (uint32_t)strtoul(argv[5], NULL, 10);
+        work->rounds = strtoul(argv[6], NULL, 10);
+        work->prints_times = true;
+    }
+    return argc == 1 || argc == 4 || argc == 7;
 }
 
-/* Makes the heaps of the two loads, and their databases. */
-static bool make_loads(struct loads *loads, const struct work *work)
+/* Makes the heap of the records, and its database. */
+static bool make_records_load(struct load *records, const struct work *work)
 {
-    struct load *records = &loads->records, *resources = &loads->resources;
     return make_blank(&records->heap, work->size, work->slots) &&
-           create(&records->heap, "Records", KIND, CREATOR, 0, &records->db) == DONE &&
-           make_blank(&resources->heap, work->size, work->slots) &&
+           create(&records->heap, "Records", KIND, CREATOR, 0, &records->db) == DONE;
+}
+
+/* Makes the heap of the resources, and its database. */
+static bool make_resources_load(struct load *resources, const struct work *work)
+{
+    return make_blank(&resources->heap, work->size, work->slots) &&
            create(&resources->heap, "Resources", PROGRAM, CREATOR, RESOURCES, &resources->db) == DONE;
+}
+
+static int print_sums(uint32_t replies, uint32_t words)
+{
+    printf("replies %u words %u\n", replies, words);
+    return 0;
 }
 
 int main(int argc, char **argv)
 {
     struct work work;
     struct loads loads = {.records = {.made = 0}, .resources = {.made = 0}};
-    if (!read_work(argc, argv, &work) || !make_loads(&loads, &work)) {
-        fprintf(stderr, "usage: record_calls [SIZE SLOTS RECORDS CALLS PASSES ROUNDS]\n");
+    if (!read_work(argc, argv, &work) || !make_records_load(&loads.records, &work)) {
+        fprintf(stderr, "usage: record_calls [SIZE SLOTS RECORDS [CALLS PASSES ROUNDS]]\n");
         return 2;
     }
+    if (work.makes_records_alone) {
+        make(&loads.records, work.records);
+        return print_sums(loads.records.replies, words_of(&loads.records.heap));
+    }
+    if (!make_resources_load(&loads.resources, &work))
+        return 2;
     uint64_t *times = calloc(work.rounds + 1, sizeof *times);
     if (times == NULL)
         return 2;
@@ -814,6 +835,5 @@ int main(int argc, char **argv)
     time_deletion(&loads.records, &work, times);
     uint32_t replies = sum_with(loads.records.replies, loads.resources.replies);
     uint32_t words = sum_with(words_of(&loads.records.heap), words_of(&loads.resources.heap));
-    printf("replies %u words %u\n", replies, words);
-    return 0;
+    return print_sums(replies, words);
 }

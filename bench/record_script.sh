@@ -50,7 +50,7 @@ lines_of_records >"$work/records.script"
 
 echo "$records records made"
 for turn in $(seq "$turns"); do
-    timed "C, in memory" "$work/c" "$size" "$slots" "$records" 0 0 0
+    timed "C, in memory" "$work/c" "$size" "$slots" "$records"
     words=$(sed -n 's/.* words //p' "$work/said")
     timed "palmheap run" ./palmheap run "$work/empty.image" "$work/records.script" "$work/full.image"
     if [ "$(grep -c '^ok' "$work/said")" -ne $((records + 1)) ]; then

@@ -5,12 +5,16 @@
 #
 #   tests/hostile.sh [PROGRAM [KILLS]]
 #
-# PROGRAM is ../palmheap, if none is given, and KILLS how many runs are killed, 200 if not said. Needs bash, Linux with
+# PROGRAM is the one that ../palmheap builds, if none is given, and KILLS how many runs are killed, 200 if not said. Needs bash, Linux with
 # /dev/full, GNU coreutils (a sleep of parts of a second among them), cmp, and 100 MB in the folder for temporary files. Takes
 # a minute or two. Each case that fails has a line on standard error; the status is 1 then. What it saw is said on
 # standard output. The gate runs none of this.
 top=$(cd -- "$(dirname -- "$0")/.." && pwd)
-program=${1:-$top/palmheap}
+program=${1:-$top/crates/palmheap/out/palmheap}
+if [ $# = 0 ]; then
+    # proves and builds the program if need be
+    "$top/palmheap" --version >/dev/null || exit 125
+fi
 kills=${2:-200}
 case $program in /*) ;; *) program=$PWD/$program ;; esac
 folder=$(mktemp -d) || exit 1

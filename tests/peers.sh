@@ -4,12 +4,16 @@
 #
 #   tests/peers.sh [PROGRAM]
 #
-# PROGRAM is ../palmheap, if none is given. It needs Debian's packages libpalm-perl and libpalm-pdb-perl (the
+# PROGRAM is the one that ../palmheap builds, if none is given. It needs Debian's packages libpalm-perl and libpalm-pdb-perl (the
 # modules Palm::PDB, Palm::Memo and Palm::Address), txt2pdbdoc, and imgvtopgm. For each file it prints how many
 # bytes there were and are, and how many of them differ where both have one. Each case that fails has a line on
 # standard error; the status is 1 then. The gate runs none of this.
 top=$(cd -- "$(dirname -- "$0")/.." && pwd)
-program=${1:-$top/palmheap}
+program=${1:-$top/crates/palmheap/out/palmheap}
+if [ $# = 0 ]; then
+    # proves and builds the program if need be
+    "$top/palmheap" --version >/dev/null || exit 125
+fi
 case $program in /*) ;; *) program=$PWD/$program ;; esac
 for needed in perl txt2pdbdoc pgmtoimgv imgvtopnm; do
     command -v "$needed" >/dev/null || { printf '%s is missing\n' "$needed" >&2; exit 2; }

@@ -4,10 +4,14 @@
 #
 #   tests/program.sh [PROGRAM]
 #
-# PROGRAM is ../palmheap, if none is given. Each case that fails has a line on standard error; the status is
+# PROGRAM is the one that ../palmheap builds, if none is given. Each case that fails has a line on standard error; the status is
 # 1 then. The gate runs none of this; what needs no more than files and a runtime stands in crates/test_program.
 top=$(cd -- "$(dirname -- "$0")/.." && pwd)
-program=${1:-$top/palmheap}
+program=${1:-$top/crates/palmheap/out/palmheap}
+if [ $# = 0 ]; then
+    # proves and builds the program if need be
+    "$top/palmheap" --version >/dev/null || exit 125
+fi
 case $program in /*) ;; *) program=$PWD/$program ;; esac
 folder=$(mktemp -d) || exit 1
 trap 'rm -rf -- "$folder"' EXIT
