@@ -19,9 +19,10 @@ work=$(mktemp -d)
 trap 'rm -rf "$work"' EXIT
 TIMEFORMAT='%R %U %S'
 
-# The lines that make the records, of 0 to 64 bytes, each behind the last: those of bench/record_calls.c.
+# The lines that make the database and the records, of 0 to 64 bytes, each behind the last, as bench/record_calls.c
+# does.
 lines_of_records() {
-    echo 'find records "Records"'
+    echo 'create records "Records" "DATA" "Test" 0 0'
     awk -v records="$records" 'BEGIN {
         for (i = 0; i < records; i++) printf "recnew records 65535 %d data\n", i % 65
     }'
@@ -44,15 +45,13 @@ timed() {
 
 gcc -O2 -o "$work/c" bench/record_calls.c
 ./palmheap new "$size" "$slots" "$work/blank.image" >"$work/said"
-echo 'create records "Records" "DATA" "Test" 0 0' >"$work/create.script"
-./palmheap run "$work/blank.image" "$work/create.script" "$work/empty.image" >"$work/said"
 lines_of_records >"$work/records.script"
 
 echo "$records records made"
 for turn in $(seq "$turns"); do
     timed "C, in memory" "$work/c" "$size" "$slots" "$records"
     words=$(sed -n 's/.* words //p' "$work/said")
-    timed "palmheap run" ./palmheap run "$work/empty.image" "$work/records.script" "$work/full.image"
+    timed "palmheap run" ./palmheap run "$work/blank.image" "$work/records.script" "$work/full.image"
     if [ "$(grep -c '^ok' "$work/said")" -ne $((records + 1)) ]; then
         grep -v '^ok' "$work/said" | head -n 3
         exit 1
