@@ -13,6 +13,7 @@ Progress goes to standard error. The status is 0, or 125 if a crate fails or the
 import contextlib
 import fcntl
 import hashlib
+import math
 import os
 import shutil
 import signal
@@ -28,7 +29,10 @@ PARTS = ("src", "specs", "proofs")
 GB = 1 << 30
 # The most memory that a check takes, and that each further process of a check takes.
 CHECK, JOB = 3 * GB, GB
-MOST_JOBS = 4
+# The most processes of a check that help, for a crate with so many lines of code and for a smaller one.
+LARGE, MOST_JOBS, FEW_JOBS = 300, 4, 2
+# Chains of crates that are this near to the longest share the processors; all other crates give way to them.
+NEAR = 0.95
 # The seconds of a crate that crate_seconds.txt does not list.
 UNLISTED = 60
 FAILED = 125
@@ -57,6 +61,10 @@ class Crate:
     def is_ready(self, proved):
         return all(it in proved for it in self.uses)
 
+    def most_jobs(self):
+        lines = sum(text_of(it).count("\n") for it in files_of(f"{self.folder}/src"))
+        return MOST_JOBS if lines >= LARGE else FEW_JOBS
+
 
 class Lane:
     """A copy of the crates, in which one `rt` is at work, or none."""
@@ -70,7 +78,7 @@ class Lane:
         return f"{self.folder}/crates/{crate.name}/out"
 
     def begin(self, crate, jobs, is_first, lock):
-        """Starts the proof of a crate. The first has the longest chain; all others give way to it."""
+        """Starts the proof of a crate. A first one has the longest chain; all others give way to it."""
         for it in crate.below:
             link_tree(f"{it.folder}/out/rlib", f"{self.out_of(it)}/rlib")
         write(f"{self.folder}/at_work", crate.name)
@@ -88,6 +96,9 @@ class Lane:
                 pass_fds=[lock.fileno()],
             )
         self.crate, self.start = crate, time.monotonic()
+
+    def chain_left(self):
+        return self.crate.chain - (time.monotonic() - self.start)
 
     def end(self):
         """Stops `rt` if it is still at work."""
@@ -111,6 +122,12 @@ def text_of(path):
             return it.read()
     except OSError:
         return ""
+
+
+def files_of(folder):
+    for at, folders, files in os.walk(folder):
+        folders.sort()
+        yield from (f"{at}/{it}" for it in sorted(files))
 
 
 def write(path, text):
@@ -199,11 +216,9 @@ def sum_crates(crates, top, version):
         it = hashlib.sha256(f"{version}\n{crate.line}\n{[use.sum for use in crate.uses]}".encode())
         it.update(text_of(f"{top}/HANDLES").encode())
         for part in PARTS:
-            for at, folders, files in os.walk(f"{top}/crates/{crate.name}/{part}"):
-                folders.sort()
-                for name in sorted(files):
-                    with open(f"{at}/{name}", "rb") as file:
-                        it.update(f"{at[len(top):]}/{name}\n".encode() + file.read())
+            for path in files_of(f"{top}/crates/{crate.name}/{part}"):
+                with open(path, "rb") as file:
+                    it.update(f"{path[len(top):]}\n".encode() + file.read())
         crate.sum = it.hexdigest()
 
 
@@ -248,10 +263,12 @@ class Work:
             if not free or not ready:
                 return
             crate = max(ready, key=lambda it: it.chain)
-            is_first = all(it.crate.chain <= crate.chain for it in self.at_work())
-            jobs = self.most_jobs if is_first else max(1, min(self.most_jobs, len(free) // len(ready)))
+            chains = [*(it.chain for it in ready), *(it.chain_left() for it in self.at_work())]
+            near = sum(it >= NEAR * max(chains) for it in chains)
+            is_first = crate.chain >= NEAR * max(chains)
+            jobs = math.ceil(self.most_jobs / near) if is_first else max(1, len(free) // len(ready))
             self.waiting.remove(crate)
-            free[0].begin(crate, jobs, is_first, lock)
+            free[0].begin(crate, min(jobs, self.most_jobs, crate.most_jobs()), is_first, lock)
 
     def take_ended(self):
         """Takes what the lanes that have ended proved, and returns the crates."""
