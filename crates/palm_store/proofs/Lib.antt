@@ -28,3 +28,8 @@ pub mod BlockCalls
 pub mod KnownIds
 pub mod AttributeChanges
 pub mod FilledData
+pub mod OpenedEntries
+pub mod EntriesChanged
+pub mod AccessChecks
+pub mod TwoChanges
+pub mod SearchLaws

@@ -11,3 +11,5 @@ pub mod KnownIds
 pub mod AttributeChanges
 pub mod Files
 pub mod Found
+pub mod Checks
+pub mod Search

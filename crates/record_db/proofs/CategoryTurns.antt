@@ -19,10 +19,10 @@ use Rattle.heap_model.specs.Categories.{is_of, IsOf, data_of_category, deleted_c
 use Rattle.heap_model.specs.declared.names.Db.{Db}
 use Rattle.laws_heap.proofs.Tests.{cond-true, cond-false}
 use Rattle.palm_store.specs.EntryCalls.{HasLockedData}
-use Rattle.database_access.specs.Search.{IsFirst, NoneBehind}
-use Rattle.database_access.proofs.Entries.{Here}
-use Rattle.database_access.proofs.EntriesChanged.{with_list, changed_alike, changed_behind, changed_nothing, found_changed}
-use Rattle.database_access.proofs.TwoChanges.{left_after, left_as, itself}
+use Rattle.palm_store.specs.Search.{IsFirst, NoneBehind}
+use Rattle.palm_store.proofs.OpenedEntries.{Here}
+use Rattle.palm_store.proofs.EntriesChanged.{with_list, changed_alike, changed_behind, changed_nothing, found_changed}
+use Rattle.palm_store.proofs.TwoChanges.{left_after, left_as, itself}
 use Rattle.record_db.proofs.OneRecord.{listed_if, one_deleted, none_deleted, deleted_one, isnt_of}
 use Rattle.record_db.proofs.Turns.{first_changed, none_changed, all_changed, later_kept, next_changed}
 

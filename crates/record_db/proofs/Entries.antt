@@ -16,10 +16,10 @@ use Rattle.heap_model.specs.declared.entry.RecordInfo.{RecordInfo}
 use Rattle.laws_heap.proofs.Meanings.{held-zero}
 use Rattle.laws_store.proofs.Owners.{owned_some}
 use Rattle.palm_store.specs.Databases.{HasDatabase}
-use Rattle.database_access.specs.Checks.{IsNamed}
-use Rattle.database_access.proofs.Entries.{here, entry_is, of_all}
-use Rattle.database_access.proofs.Entries as entries
-use Rattle.database_access.proofs.SearchLaws.{number_read, entries_read}
+use Rattle.palm_store.specs.Checks.{IsNamed}
+use Rattle.palm_store.proofs.OpenedEntries.{here, entry_is, of_all}
+use Rattle.palm_store.proofs.OpenedEntries as entries
+use Rattle.palm_store.proofs.SearchLaws.{number_read, entries_read}
 
 -- ---- the entry
 

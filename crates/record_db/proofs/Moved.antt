@@ -11,9 +11,9 @@ use Rattle.heap_model.specs.declared.names.Db.{Db}
 use Rattle.laws_heap.proofs.Tests.{cond-false}
 use Rattle.palm_store.specs.AttributeChanges.{MayChange}
 use Rattle.record_db.specs.Categories.{moved_attributes}
-use Rattle.database_access.proofs.Entries.{Here}
-use Rattle.database_access.proofs.EntriesChanged.{with_list, changed_alike}
-use Rattle.database_access.proofs.TwoChanges.{left_as}
+use Rattle.palm_store.proofs.OpenedEntries.{Here}
+use Rattle.palm_store.proofs.EntriesChanged.{with_list, changed_alike}
+use Rattle.palm_store.proofs.TwoChanges.{left_as}
 
 -- ---- the attributes
 

@@ -13,8 +13,8 @@ use Rattle.heap_model.specs.Categories.{is_of, data_of_category, deleted_categor
 use Rattle.heap_model.specs.declared.names.Db.{Db}
 use Rattle.laws_heap.proofs.Tests.{cond-true, cond-false}
 use Rattle.laws_store.proofs.Times.{same-yes, same-no, times-cons}
-use Rattle.database_access.proofs.EntriesChanged.{entry_alike, entry_kept}
-use Rattle.database_access.proofs.TwoChanges.{left_as, itself}
+use Rattle.palm_store.proofs.EntriesChanged.{entry_alike, entry_kept}
+use Rattle.palm_store.proofs.TwoChanges.{left_as, itself}
 
 -- what isn't of a category
 pub isnt_of : (category : ℕ) (entry : Entry ℕ) → (is_of category entry ≡ true → ⊥) → is_of category entry ≡ false

@@ -15,10 +15,10 @@ use Rattle.laws_heap.proofs.Tests.{cond-true, cond-false, same_some, none_some}
 use Rattle.laws_store.proofs.Times.{same-yes, times-cons, all-times, distinct-times}
 use Rattle.palm_store.specs.EntryInfos.{with_info, CanHave}
 use Rattle.palm_store.specs.EntryCalls.{raised_if}
-use Rattle.database_access.specs.Search.{SomeHas}
+use Rattle.palm_store.specs.Search.{SomeHas}
 use Rattle.palm_store.specs.declared.entries.infos.EntryInfo.TheVariants as infos
-use Rattle.database_access.proofs.Entries.{here, entry_is, fits}
-use Rattle.database_access.proofs.EntriesChanged.{entry_alike, set_as}
+use Rattle.palm_store.proofs.OpenedEntries.{here, entry_is, fits}
+use Rattle.palm_store.proofs.EntriesChanged.{entry_alike, set_as}
 use Rattle.record_db.proofs.Entries.{no_data}
 
 -- ---- IDs

@@ -10,9 +10,9 @@ use Rattle.heap_model.specs.declared.names.Db.{Db}
 use Rattle.heap_model.specs.declared.entry.RecordInfo.{RecordInfo}
 use Rattle.heap_model.specs.declared.call.Call.TheVariants as calls
 use Rattle.heap_model.specs.declared.call.Reply.{Reply}
-use Rattle.database_access.specs.Checks.{opening_checks}
-use Rattle.database_access.specs.declared.opening.Access.{Access}
-use Rattle.database_access.specs.declared.opening.EntryKind.TheVariants.{Records}
+use Rattle.palm_store.specs.Checks.{opening_checks}
+use Rattle.palm_store.specs.declared.opening.Access.{Access}
+use Rattle.palm_store.specs.declared.opening.EntryKind.TheVariants.{Records}
 
 -- those of a record that is not to be deleted
 abbrev pub living_checks : List ℕ → Db → ℕ → Access → List Check

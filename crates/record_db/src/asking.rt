@@ -8,9 +8,8 @@ ghost use Rattle.record_db.specs.Checks.{DoesRecord};
 
 use crate::records::{find_live, find_record};
 use crate::search::find_id;
-use database_access::{Access, EntryKind, count_entries, open_database};
 use heap_model::{Db, Name, RecordInfo, Refusal};
-use palm_store::Store;
+use palm_store::{Access, EntryKind, Store, count_entries, open_database};
 
 /// How many records a database has, deleted ones among them.
 ///

@@ -11,16 +11,15 @@ ghost use Rattle.palm_store.specs.Found.{StandsAs};
 ghost use Rattle.palm_store.specs.Databases.{HasNumber};
 ghost use Rattle.palm_store.specs.EntryCalls.{entries_of_image, resources_of_image, LeavesChanged};
 ghost use Rattle.palm_store.specs.Replies.{done_or_refused, number_or_refused};
-ghost use Rattle.database_access.specs.Search.{IsFirst, NoneBehind};
+ghost use Rattle.palm_store.specs.Search.{IsFirst, NoneBehind};
 ghost use Rattle.record_db.specs.Checks.{DoesRecord};
 
 use crate::attributes::{ALL_CATEGORIES, Moving, has_category};
 use crate::records::has_locked_of;
 use crate::search::{count_of, first_of};
-use database_access::{Access, EntryKind, open_database, open_entries};
 use db_format::CATEGORIES;
 use heap_model::{Db, Refusal};
-use palm_store::{Found, Store};
+use palm_store::{Access, EntryKind, Found, Store, open_database, open_entries};
 
 /// How many records are of a category, 0 to 15, or of any, for 0xFF. Deleted ones are passed over.
 ///

@@ -14,10 +14,9 @@ ghost use Rattle.record_db.specs.Checks.{DoesRecord};
 
 use crate::attributes::{is_busy, marked, released, with_given};
 use crate::records::{LiveRecord, find_live, find_record, has_id, has_locked};
-use database_access::{Access, EntryKind, is_locked, open_entries};
 use db_format::{GREATEST_ID, RecordAttrs};
 use heap_model::{Db, Name, Refusal};
-use palm_store::{EntryInfo, Store, check_owner};
+use palm_store::{Access, EntryInfo, EntryKind, Store, check_owner, is_locked, open_entries};
 
 /// Frees the data of a record. Its entry stays as that of a deleted one, with its ID.
 ///

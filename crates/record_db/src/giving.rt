@@ -7,10 +7,9 @@ ghost use Rattle.record_db.specs.Checks.{DoesRecord};
 
 use crate::attributes::{marked, of_attached_record};
 use crate::records::find_live;
-use database_access::{Access, EntryKind, open_entries};
 use db_format::RecordAttrs;
 use heap_model::{Db, Name, Refusal};
-use palm_store::{EntryInfo, NewEntry, Store, check_owner};
+use palm_store::{Access, EntryInfo, EntryKind, NewEntry, Store, check_owner, open_entries};
 
 /// Makes a caller's chunk the data of a new record at an index, or behind the last record where there are not
 /// so many. The chunk keeps its lock. The record is dirty, of category 0, and gets a fresh ID. Its index is

@@ -11,9 +11,8 @@ ghost use Rattle.record_db.specs.Checks.{DoesRecord};
 
 use crate::attributes::of_new_record;
 use crate::records::find_live;
-use database_access::{Access, EntryKind, open_entries};
 use heap_model::{Db, Name, Refusal};
-use palm_store::{NewEntry, Store};
+use palm_store::{Access, EntryKind, NewEntry, Store, open_entries};
 
 /// Makes a record of so many bytes of zeros at an index, or behind the last record where there are not so
 /// many. It is dirty and busy, of category 0, and gets a fresh ID. Its index and its name are answered.

@@ -9,15 +9,14 @@ ghost use Rattle.heap_model.specs.RecordSteps.{HasLockedOf};
 ghost use Rattle.palm_store.specs.Found.{StandsAs};
 ghost use Rattle.palm_store.specs.Databases.{HasNumber};
 ghost use Rattle.palm_store.specs.EntryCalls.{entries_of_image, resources_of_image};
-ghost use Rattle.database_access.specs.Search.{SomeHas};
-ghost use Rattle.database_access.specs.Checks.{IsNamed, IsLockedChunk, finding_checks};
+ghost use Rattle.palm_store.specs.Search.{SomeHas};
+ghost use Rattle.palm_store.specs.Checks.{IsNamed, IsLockedChunk, finding_checks};
 ghost use Rattle.record_db.specs.Checks.{IsRecordTold, living_checks};
 
 use crate::attributes::{has_category, is_deleted};
 use crate::search::find_id;
-use database_access::{Access, EntryKind, find_entry, is_locked};
 use heap_model::{Db, Name, RecordInfo, Refusal};
-use palm_store::{Found, Store};
+use palm_store::{Access, EntryKind, Found, Store, find_entry, is_locked};
 
 /// A record, deleted or not.
 #[derive(Clone, Copy)]

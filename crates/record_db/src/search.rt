@@ -4,7 +4,7 @@ ghost use Rattle.std.specs.Prelude.{◌≡◌, ◌≤◌, false, length, slice_g
 ghost use Rattle.heap_model.specs.Database.{has_resources};
 ghost use Rattle.heap_model.specs.EntrySteps.{OfEntry, HasId};
 ghost use Rattle.heap_model.specs.Categories.{is_of, IsOf};
-ghost use Rattle.database_access.specs.Search.{IsFirst, NoneBehind};
+ghost use Rattle.palm_store.specs.Search.{IsFirst, NoneBehind};
 
 use crate::attributes::has_category;
 use db_format::DatabaseView;

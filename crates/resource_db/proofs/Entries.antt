@@ -8,7 +8,7 @@ use Rattle.heap_model.specs.EntrySteps.{entry_under, OfEntry, IsResourceInfoOf}
 use Rattle.heap_model.specs.declared.names.Db.{Db}
 use Rattle.heap_model.specs.declared.entry.ResourceInfo.{ResourceInfo}
 use Rattle.laws_store.proofs.Owners.{owned_some}
-use Rattle.database_access.proofs.Entries.{here, entry_is, of_all}
+use Rattle.palm_store.proofs.OpenedEntries.{here, entry_is, of_all}
 
 -- what is told of a resource says what its entry is
 pub info_is : (x : Option (Entry ℕ)) (info : ResourceInfo) → OfEntry x (IsResourceInfoOf info) → x ≡ Some (a_resource info.kind info.id info.«data».0)

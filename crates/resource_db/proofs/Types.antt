@@ -18,10 +18,10 @@ use Rattle.heap_model.specs.declared.refusal.Refusal.TheVariants.{ResourceNotFou
 use Rattle.laws_store.proofs.CallSteps.{same_store, asks, refused}
 use Rattle.palm_store.specs.Databases.{HasDatabase}
 use Rattle.palm_store.specs.Replies.{number_or_refused}
-use Rattle.database_access.specs.Checks.{opening_checks}
-use Rattle.database_access.specs.declared.opening.Access.TheVariants.{Read}
-use Rattle.database_access.specs.declared.opening.EntryKind.TheVariants.{Resources}
-use Rattle.database_access.proofs.SearchLaws.{entries_read, counted_more}
+use Rattle.palm_store.specs.Checks.{opening_checks}
+use Rattle.palm_store.specs.declared.opening.Access.TheVariants.{Read}
+use Rattle.palm_store.specs.declared.opening.EntryKind.TheVariants.{Resources}
+use Rattle.palm_store.proofs.SearchLaws.{entries_read, counted_more}
 use Rattle.resource_db.specs.Resources.{IsNth}
 
 -- those in front are not more than all

@@ -8,9 +8,8 @@ ghost use Rattle.resource_db.specs.Resources.{DoesResource};
 
 use crate::resources::resource_at;
 use crate::search::{first_with, nth_of_type};
-use database_access::{Access, EntryKind, count_entries, open_database};
 use heap_model::{Db, Refusal, ResourceInfo};
-use palm_store::Store;
+use palm_store::{Access, EntryKind, Store, count_entries, open_database};
 
 /// How many resources a database has.
 ///

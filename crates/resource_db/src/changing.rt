@@ -6,9 +6,8 @@ ghost use Rattle.palm_store.specs.Replies.{done_or_refused, name_or_refused};
 ghost use Rattle.resource_db.specs.Resources.{DoesResource};
 
 use crate::resources::resource_at;
-use database_access::{Access, is_locked};
 use heap_model::{Db, Name, Refusal};
-use palm_store::{EntryInfo, Store, check_owner};
+use palm_store::{Access, EntryInfo, Store, check_owner, is_locked};
 
 /// Takes a resource out, and hands its data over to an owner, 1 to 14. The data keeps its lock; its name is
 /// answered.

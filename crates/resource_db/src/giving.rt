@@ -5,9 +5,8 @@ ghost use Rattle.heap_model.specs.declared.call.ResourceCall.{ResourceCall};
 ghost use Rattle.palm_store.specs.Replies.{number_or_refused};
 ghost use Rattle.resource_db.specs.Resources.{DoesResource};
 
-use database_access::{Access, EntryKind, open_entries};
 use heap_model::{Db, Name, Refusal};
-use palm_store::{NewEntry, Store};
+use palm_store::{Access, EntryKind, NewEntry, Store, open_entries};
 
 /// Makes a caller's chunk the data of a new resource behind all others. The chunk keeps its lock. The index of the
 /// resource is answered.

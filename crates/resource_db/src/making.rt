@@ -10,9 +10,8 @@ ghost use Rattle.palm_store.specs.Replies.{made_reply, done_or_refused};
 ghost use Rattle.resource_db.specs.Resources.{DoesResource};
 
 use crate::resources::resource_at;
-use database_access::{Access, EntryKind, open_entries};
 use heap_model::{Db, Name, Refusal};
-use palm_store::{NewEntry, Store};
+use palm_store::{Access, EntryKind, NewEntry, Store, open_entries};
 
 /// Makes a resource of so many bytes of zeros behind all others. Its index and the name of its data are answered.
 ///

@@ -8,11 +8,10 @@ ghost use Rattle.heap_model.specs.EntrySteps.{entry_under};
 ghost use Rattle.palm_store.specs.Found.{StandsAs};
 ghost use Rattle.palm_store.specs.Databases.{HasNumber};
 ghost use Rattle.palm_store.specs.EntryCalls.{entries_of_image, resources_of_image};
-ghost use Rattle.database_access.specs.Checks.{finding_checks};
+ghost use Rattle.palm_store.specs.Checks.{finding_checks};
 
-use database_access::{Access, EntryKind, find_entry};
 use heap_model::{Db, Refusal, ResourceInfo};
-use palm_store::{Found, Store};
+use palm_store::{Access, EntryKind, Found, Store, find_entry};
 
 /// A resource.
 #[derive(Clone, Copy)]

@@ -3,7 +3,7 @@
 ghost use Rattle.std.specs.Prelude.{◌≡◌, ◌≤◌, true, count_by, IfSome, IfNone};
 ghost use Rattle.heap_model.specs.Database.{has_resources};
 ghost use Rattle.heap_model.specs.ResourceSteps.{has_type, HasTypeAndId};
-ghost use Rattle.database_access.specs.Search.{IsFirst, NoneBehind};
+ghost use Rattle.palm_store.specs.Search.{IsFirst, NoneBehind};
 ghost use Rattle.resource_db.specs.Resources.{IsNth};
 
 use db_format::DatabaseView;
@@ -24,7 +24,7 @@ pub(crate) fn first_with(resources: &DatabaseView, kind: u32, id: u16) -> Option
 }
 
 /// The resource of a type in front of which so many others of the type stand.
-#[tactic(auto, using(database_access::proofs::SearchLaws::counted_all))]
+#[tactic(auto, using(palm_store::proofs::SearchLaws::counted_all))]
 pub(crate) fn nth_of_type(resources: &DatabaseView, kind: u32, nth: u32) -> Option<u32>
     requires { has_resources resources.now.header.attributes ≡ true }
     ensures is { IfSome result (IsNth resources.now.entries kind nth) }

@@ -3,7 +3,7 @@ use Rattle.heap_model.specs.Store.{StoredDatabase, store_of}
 use Rattle.heap_model.specs.EntrySteps.{entries_of, entries_in}
 use Rattle.laws_store.proofs.CallSteps.{kept_then}
 use Rattle.palm_store.proofs.EntriesHere.{count_fits}
-use Rattle.database_access.proofs.Entries.{here}
+use Rattle.palm_store.proofs.OpenedEntries.{here}
 use Rattle.record_db.proofs.CategoryTurns.{deleted_none, deleted_next, deleted_all, first_inside, kind_there, number_there, passed_to, passed_all, next_unlocked, within_some}
 use Rattle.record_db.proofs.categories.delete_all_of.Goals as goal
 

@@ -7,10 +7,10 @@ use Rattle.heap_model.specs.declared.call.RecordCall.TheVariants.{DeleteCategory
 use Rattle.heap_model.specs.declared.call.Reply.TheVariants.{Done}
 use Rattle.heap_model.specs.declared.refusal.Refusal.TheVariants.{ChunkLocked}
 use Rattle.laws_store.proofs.CallSteps.{refused, changes, kept_then}
-use Rattle.database_access.proofs.TwoChanges.{raised_after}
-use Rattle.database_access.proofs.SearchLaws.{number_read}
+use Rattle.palm_store.proofs.TwoChanges.{raised_after}
+use Rattle.palm_store.proofs.SearchLaws.{number_read}
 use Rattle.record_db.proofs.CategoryTurns.{number_mid}
-use Rattle.database_access.proofs.Entries.{here}
+use Rattle.palm_store.proofs.OpenedEntries.{here}
 use Rattle.record_db.proofs.categories.delete_category.Goals as goal
 
 pub returns-then-has_locked_of-clause-does : goal.returns-then-has_locked_of-clause-does

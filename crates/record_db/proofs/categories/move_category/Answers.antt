@@ -8,10 +8,10 @@ use Rattle.heap_model.specs.declared.call.Reply.TheVariants.{Done}
 use Rattle.laws_store.proofs.CallSteps.{changes, kept_then}
 use Rattle.record_db.specs.Categories.{moved_attributes}
 use Rattle.record_db.proofs.CategoryTurns.{number_mid}
-use Rattle.database_access.proofs.Entries.{here}
+use Rattle.palm_store.proofs.OpenedEntries.{here}
 use Rattle.record_db.proofs.Moved.{below_categories, may_move, category_moved}
-use Rattle.database_access.proofs.TwoChanges.{raised_after}
-use Rattle.database_access.proofs.SearchLaws.{number_read}
+use Rattle.palm_store.proofs.TwoChanges.{raised_after}
+use Rattle.palm_store.proofs.SearchLaws.{number_read}
 use Rattle.record_db.proofs.categories.move_category.Goals as goal
 
 pub change_attributes-requires-clause-change : goal.change_attributes-requires-clause-change

@@ -2,8 +2,8 @@ use Rattle.std.proofs.Common.{ℕ, List, ◌∙◌, sym, subst}
 use Rattle.std.specs.Prelude.{IfSome, IfNone}
 use Rattle.heap_model.specs.Database.{Entry}
 use Rattle.heap_model.specs.Categories.{IsOf}
-use Rattle.database_access.specs.Search.{IsFirst, NoneBehind}
-use Rattle.database_access.proofs.SearchLaws.{entries_read, kind_read}
+use Rattle.palm_store.specs.Search.{IsFirst, NoneBehind}
+use Rattle.palm_store.proofs.SearchLaws.{entries_read, kind_read}
 use Rattle.record_db.proofs.categories.next_of.Goals as goal
 
 pub first_of-requires : goal.first_of-requires

@@ -1,5 +1,5 @@
 use Rattle.heap_model.specs.Database.{a_record}
-use Rattle.database_access.proofs.Entries.{data_named}
+use Rattle.palm_store.proofs.OpenedEntries.{data_named}
 use Rattle.record_db.proofs.changing.delete.Goals as goal
 
 pub is_locked-requires : goal.is_locked-requires

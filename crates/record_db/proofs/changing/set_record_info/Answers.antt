@@ -10,10 +10,10 @@ use Rattle.heap_model.specs.declared.call.Reply.TheVariants.{Done}
 use Rattle.laws_store.proofs.CallSteps.{changes}
 use Rattle.palm_store.specs.EntryInfos.{with_info, CanHave}
 use Rattle.palm_store.specs.declared.entries.infos.EntryInfo.TheVariants as infos
-use Rattle.database_access.specs.Search.{SomeHas}
+use Rattle.palm_store.specs.Search.{SomeHas}
 use Rattle.record_db.proofs.Bits.{set_deleted}
 use Rattle.record_db.proofs.Entries.{info_is, no_data}
-use Rattle.database_access.proofs.EntriesChanged.{set_as}
+use Rattle.palm_store.proofs.EntriesChanged.{set_as}
 use Rattle.record_db.proofs.SetAttributes.{may_have_id, no_other}
 use Rattle.record_db.proofs.changing.set_record_info.Goals as goal
 use Rattle.record_db.proofs.changing.set_record_info.Goals.{else-id-found-via-then-id-found+else-has_id, else-id-found-via-else-id-found}

@@ -1,7 +1,7 @@
 use Rattle.std.proofs.Common.{sym, ap, subst, ◌∙◌}
 use Rattle.std.specs.Prelude.{is_some}
-use Rattle.database_access.specs.Checks.{IsTold}
-use Rattle.database_access.proofs.Entries.{records_told, as_record_told}
+use Rattle.palm_store.specs.Checks.{IsTold}
+use Rattle.palm_store.proofs.OpenedEntries.{records_told, as_record_told}
 use Rattle.record_db.proofs.records.find_record.Goals as goal
 
 pub unwrap-requires : goal.unwrap-requires

@@ -2,8 +2,8 @@ use Rattle.std.proofs.Common.{ℕ, List, sym, subst}
 use Rattle.std.specs.Prelude.{◌↔◌, IsTrue}
 use Rattle.heap_model.specs.Database.{Entry}
 use Rattle.heap_model.specs.EntrySteps.{HasId}
-use Rattle.database_access.specs.Search.{SomeHas}
-use Rattle.database_access.proofs.SearchLaws.{entries_read, found_or_none}
+use Rattle.palm_store.specs.Search.{SomeHas}
+use Rattle.palm_store.proofs.SearchLaws.{entries_read, found_or_none}
 use Rattle.record_db.proofs.records.has_id.Goals as goal
 
 pub returns : goal.returns

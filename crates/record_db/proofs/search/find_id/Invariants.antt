@@ -1,6 +1,6 @@
 -- None of the records that were passed has the ID.
 use Rattle.heap_model.specs.EntrySteps.{HasId}
-use Rattle.database_access.proofs.SearchLaws.{NoneUntil}
+use Rattle.palm_store.proofs.SearchLaws.{NoneUntil}
 use Rattle.record_db.proofs.search.find_id.Given as goal
 
 abbrev pub invariant-loop-index : goal.invariant-loop-index

@@ -6,9 +6,9 @@ use Rattle.heap_model.specs.declared.call.ResourceCall.TheVariants.{Remove}
 use Rattle.heap_model.specs.declared.call.Reply.TheVariants.{Done}
 use Rattle.heap_model.specs.declared.refusal.Refusal.TheVariants.{ChunkLocked}
 use Rattle.laws_store.proofs.CallSteps.{refused, changes}
-use Rattle.database_access.specs.Checks.{IsLockedChunk}
+use Rattle.palm_store.specs.Checks.{IsLockedChunk}
 use Rattle.palm_store.specs.EntryCalls.{HasLockedData}
-use Rattle.database_access.proofs.Entries.{data_named}
+use Rattle.palm_store.proofs.OpenedEntries.{data_named}
 use Rattle.resource_db.proofs.changing.remove_resource.Goals as goal
 
 pub is_locked-requires : goal.is_locked-requires

@@ -7,7 +7,7 @@ use Rattle.heap_model.specs.declared.call.Reply.TheVariants.{Done}
 use Rattle.laws_store.proofs.CallSteps.{changes}
 use Rattle.palm_store.specs.EntryInfos.{with_info}
 use Rattle.palm_store.specs.declared.entries.infos.EntryInfo.TheVariants as infos
-use Rattle.database_access.proofs.EntriesChanged.{set_as}
+use Rattle.palm_store.proofs.EntriesChanged.{set_as}
 use Rattle.resource_db.proofs.changing.set_resource_info.Goals as goal
 
 pub returns-clause-does : goal.returns-clause-does

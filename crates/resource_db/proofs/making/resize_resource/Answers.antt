@@ -13,7 +13,7 @@ use Rattle.heap_model.specs.declared.call.ResourceCall.TheVariants.{Resize}
 use Rattle.heap_model.specs.declared.call.Reply.TheVariants.{Done, Refused}
 use Rattle.laws_heap.proofs.Unmoved.{itself_alone}
 use Rattle.palm_store.specs.EntryCalls.{checks_of_growth, data_sized}
-use Rattle.database_access.proofs.TwoChanges.{raised_after, nothing_moved, one_stretch_moved}
+use Rattle.palm_store.proofs.TwoChanges.{raised_after, nothing_moved, one_stretch_moved}
 use Rattle.resource_db.proofs.making.resize_resource.Goals as goal
 
 pub returns-in_err-resource-clause-one_stretch : goal.returns-in_err-resource-clause-one_stretch

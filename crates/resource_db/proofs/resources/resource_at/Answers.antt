@@ -2,8 +2,8 @@ use Rattle.std.proofs.Common.{sym, ap, subst, ◌∙◌}
 use Rattle.std.specs.Prelude.{is_some}
 use Rattle.heap_model.specs.Store.{store_of}
 use Rattle.heap_model.specs.EntrySteps.{entry_under}
-use Rattle.database_access.specs.Checks.{IsTold}
-use Rattle.database_access.proofs.Entries.{resources_told, as_resource_told}
+use Rattle.palm_store.specs.Checks.{IsTold}
+use Rattle.palm_store.proofs.OpenedEntries.{resources_told, as_resource_told}
 use Rattle.resource_db.proofs.Entries.{info_is, has_data}
 use Rattle.resource_db.proofs.resources.resource_at.Goals as goal
 

@@ -2,7 +2,7 @@ use Rattle.std.proofs.Common.{ℕ, ◌+◌, sym, ap, ◌∙◌, arith}
 use Rattle.std.proofs.lemmas.Bool.{eq-eqb, ne_eqb}
 use Rattle.heap_model.specs.ResourceSteps.{has_type}
 use Rattle.db_format.specs.Entries.{resource_of}
-use Rattle.database_access.proofs.SearchLaws.{counted_more, counted_same}
+use Rattle.palm_store.proofs.SearchLaws.{counted_more, counted_same}
 use Rattle.resource_db.proofs.search.nth_of_type.Goals as goal
 use Rattle.resource_db.proofs.search.nth_of_type.Goals.{then-resource-kind+else-passed-nth, else-resource-kind}
 

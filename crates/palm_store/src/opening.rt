@@ -7,11 +7,12 @@ ghost use Rattle.heap_model.specs.Refusals.{NoneHolds, FirstBrings};
 ghost use Rattle.palm_store.specs.Found.{StandsAs};
 ghost use Rattle.palm_store.specs.Databases.{HasNumber, HasDatabase};
 ghost use Rattle.palm_store.specs.EntryCalls.{entries_of_image, resources_of_image, HasCount};
-ghost use Rattle.database_access.specs.Checks.{are_resources, wrong_kind, attribute_checks, opening_checks, finding_checks, IsTold, IsOfKind};
+ghost use Rattle.palm_store.specs.Checks.{are_resources, wrong_kind, attribute_checks, opening_checks, finding_checks, IsTold, IsOfKind};
 
+use crate::store::Store;
 use db_format::{DatabaseView, DbAttrs};
 use heap_model::{Db, Entry, Refusal};
-use palm_store::{Found, Store};
+use mem_manager::Found;
 
 /// The entries that a call is on.
 #[derive(Clone, Copy)]

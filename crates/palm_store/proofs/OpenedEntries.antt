@@ -15,10 +15,10 @@ use Rattle.laws_heap.proofs.Tests.{same_some, none_some}
 use Rattle.laws_store.proofs.Found.{found_stands}
 use Rattle.laws_store.proofs.Numbered.{entry_here as entry_read, entry_owner}
 use Rattle.palm_store.proofs.DataChunks.{for_data, data_callers}
-use Rattle.database_access.specs.Checks.{are_resources, IsTold, IsOfKind, IsNamed}
-use Rattle.database_access.specs.declared.opening.EntryKind.{EntryKind}
-use Rattle.database_access.specs.declared.opening.EntryKind.TheVariants.{Records, Resources}
-use Rattle.database_access.proofs.TwoChanges.{is_there}
+use Rattle.palm_store.specs.Checks.{are_resources, IsTold, IsOfKind, IsNamed}
+use Rattle.palm_store.specs.declared.opening.EntryKind.{EntryKind}
+use Rattle.palm_store.specs.declared.opening.EntryKind.TheVariants.{Records, Resources}
+use Rattle.palm_store.proofs.TwoChanges.{is_there}
 
 -- ---- the database
 

@@ -10,7 +10,7 @@ use Rattle.heap_model.specs.Store.{StoredDatabase, store_of}
 use Rattle.heap_model.specs.EntrySteps.{entries_of, entries_in, OfEntry, kind_of, resources_under}
 use Rattle.heap_model.specs.declared.names.Db.{Db}
 use Rattle.palm_store.specs.Databases.{HasNumber, HasDatabase}
-use Rattle.database_access.specs.Search.{NoneBehind, SomeHas}
+use Rattle.palm_store.specs.Search.{NoneBehind, SomeHas}
 
 -- ---- none that was passed is such
 

@@ -11,10 +11,10 @@ use Rattle.heap_model.specs.declared.entry.Entry as heard
 use Rattle.heap_model.specs.declared.entry.Entry.TheVariants as entries
 use Rattle.heap_model.specs.declared.refusal.Refusal.{Refusal}
 use Rattle.heap_model.specs.declared.refusal.Refusal.TheVariants.{NotRecordDatabase, NotResourceDatabase, ReadOnly}
-use Rattle.database_access.specs.declared.opening.Access.{Access}
-use Rattle.database_access.specs.declared.opening.Access.TheVariants.{Read, Write}
-use Rattle.database_access.specs.declared.opening.EntryKind.{EntryKind}
-use Rattle.database_access.specs.declared.opening.EntryKind.TheVariants.{Records, Resources}
+use Rattle.palm_store.specs.declared.opening.Access.{Access}
+use Rattle.palm_store.specs.declared.opening.Access.TheVariants.{Read, Write}
+use Rattle.palm_store.specs.declared.opening.EntryKind.{EntryKind}
+use Rattle.palm_store.specs.declared.opening.EntryKind.TheVariants.{Records, Resources}
 
 -- ---- kinds of entries
 

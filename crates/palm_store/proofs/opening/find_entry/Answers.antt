@@ -3,10 +3,10 @@ use Rattle.heap_model.specs.Store.{store_of}
 use Rattle.heap_model.specs.StoreWords.{with_number}
 use Rattle.heap_model.specs.EntrySteps.{Tells}
 use Rattle.palm_store.specs.EntryCalls.{entries_of_image, IsHeard}
-use Rattle.database_access.specs.Checks.{are_resources}
-use Rattle.database_access.proofs.Entries.{told_kind}
-use Rattle.database_access.proofs.AccessChecks.{has_kind, opening_passed, inside}
-use Rattle.database_access.proofs.opening.find_entry.Goals as goal
+use Rattle.palm_store.specs.Checks.{are_resources}
+use Rattle.palm_store.proofs.OpenedEntries.{told_kind}
+use Rattle.palm_store.proofs.AccessChecks.{has_kind, opening_passed, inside}
+use Rattle.palm_store.proofs.opening.find_entry.Goals as goal
 
 pub returns-clause-of_kind : goal.returns-clause-of_kind
 returns-clause-of_kind c =

@@ -9,10 +9,10 @@ use Rattle.heap_model.specs.Refusals.{Check, NoneHolds}
 use Rattle.heap_model.specs.EntrySteps.{OfEntry, kind_of}
 use Rattle.heap_model.specs.declared.names.Db.{Db}
 use Rattle.palm_store.specs.EntryCalls.{HasDbAttributes}
-use Rattle.database_access.specs.Checks.{attribute_checks, opening_checks}
-use Rattle.database_access.specs.declared.opening.Access.{Access}
-use Rattle.database_access.specs.declared.opening.Access.TheVariants.{Read, Write}
-use Rattle.database_access.specs.declared.opening.EntryKind.{EntryKind}
+use Rattle.palm_store.specs.Checks.{attribute_checks, opening_checks}
+use Rattle.palm_store.specs.declared.opening.Access.{Access}
+use Rattle.palm_store.specs.declared.opening.Access.TheVariants.{Read, Write}
+use Rattle.palm_store.specs.declared.opening.EntryKind.{EntryKind}
 
 -- ---- the database
 

@@ -1,10 +1,11 @@
 //! Whether the data of an entry is locked.
 
 ghost use Rattle.std.specs.Prelude.{◌↔◌, IsTrue};
-ghost use Rattle.database_access.specs.Checks.{IsNamed, IsLockedChunk};
+ghost use Rattle.palm_store.specs.Checks.{IsNamed, IsLockedChunk};
 
+use crate::store::Store;
 use heap_model::Name;
-use palm_store::{FIXED_LOCK, Store};
+use mem_manager::FIXED_LOCK;
 
 /// Whether a chunk is locked: a fixed one is not.
 #[inline(always)]

@@ -14,7 +14,7 @@ use Rattle.laws_heap.proofs.Tests.{cond-true, cond-false, same_some, none_some}
 use Rattle.laws_store.proofs.Found.{changed_by_number, changed_twice}
 use Rattle.laws_store.proofs.ChangeSteps.{number_once}
 use Rattle.palm_store.specs.EntryCalls.{raised_if}
-use Rattle.database_access.proofs.Entries.{Here, here, entry_is}
+use Rattle.palm_store.proofs.OpenedEntries.{Here, here, entry_is}
 
 -- a database with other entries
 abbrev pub with_list : (List (Entry ℕ) → List (Entry ℕ)) → Database ℕ → Database ℕ
