@@ -33,8 +33,10 @@ use std::alloc::{AllocError, Global};
 /// its blocks and entries; `NotEnoughSpace`, where slots or room can run out for its header, its blocks and the
 /// directory, one after the other. Then nothing is left of it.
 pub fn import(alloc: Global, store: &mut Store, file: &[u8]) -> Result<Db, Refusal>
-    ensures { DoesInStore store.old (calls.Call.File (FileCall.Import file.now))
+    ensures does { DoesInStore store.old (calls.Call.File (FileCall.Import file.now))
         (database_or_refused result) store.new }
+    ensures untouched { IfErr result (λ refusal.
+        refusal ≢ Refusal.NotEnoughSpace → store.new ≡ store.old) }
 {
     import_from(&alloc, store, file)
 }
@@ -43,6 +45,8 @@ pub fn import(alloc: Global, store: &mut Store, file: &[u8]) -> Result<Db, Refus
 pub fn import_from<A: Allowance>(memory: &A, store: &mut Store, file: &[u8]) -> Result<Db, Refusal>
     ensures does { DoesInStore store.old (calls.Call.File (FileCall.Import file.now))
         (database_or_refused result) store.new }
+    ensures untouched { IfErr result (λ refusal.
+        refusal ≢ Refusal.NotEnoughSpace → store.new ≡ store.old) }
     ensures no_memory { result ≡ Err Refusal.OutOfMemory → A.is_short memory.now }
 {
     check_import(store, file)?;
@@ -98,6 +102,8 @@ fn make(store: &mut Store, file: &[u8], plan: &Plan, names: &mut [Name]) -> Resu
     requires names { length names.old ≡ 2 + length plan.now.entries.items }
     ensures does { DoesInStore store.old (calls.Call.File (FileCall.Import file.now))
         (database_or_refused result) store.new }
+    ensures untouched { IfErr result (λ refusal.
+        refusal ≢ Refusal.NotEnoughSpace → store.new ≡ store.old) }
     ensures takes_no_memory { IfErr result (λ refusal. refusal ≢ Refusal.OutOfMemory) }
 {
     let db = store.create_whole(&plan.info, plan.sizes, &plan.entries, names)?;

@@ -2,6 +2,8 @@ pub mod FaultLaws
 pub mod GoodFiles
 pub mod NamedSizes
 pub mod PlacedBlocks
+pub mod ReadFiles
+pub mod ReadIds
 pub mod SortedStarts
 pub mod WrittenBlocks
 pub mod WrittenFiles

@@ -5,8 +5,16 @@ use Rattle.heap_model.specs.Bytes.{AreBytes}
 use Rattle.heap_model.specs.Maps.{callers_map}
 use Rattle.heap_model.specs.Database.{Database}
 use Rattle.heap_model.specs.Store.{StoredDatabase, content, databases, Accepted}
-use Rattle.heap_model.specs.Files.{Reads, idle, file_of}
+use Rattle.heap_model.specs.Files.{HasNoFault, Reads, idle, file_of}
 use Rattle.pdb_format.specs.Writable.{file_size, most_front, IsWritable}
+
+-- each file of bytes that has no fault is read as a database
+abbrev pub FilesAreRead : Type 0
+FilesAreRead = (file : List ℕ) → AreBytes file → HasNoFault file → (database : Database (Option (List ℕ))) × Reads file database
+
+-- no file is read as two databases
+abbrev pub FilesAreReadOnce : Type 0
+FilesAreReadOnce = (file : List ℕ) (one other : Database (Option (List ℕ))) → Reads file one → Reads file other → one ≡ other
 
 -- the file of a database that can be written is read as that database, of which no record is busy
 abbrev pub WrittenFilesAreRead : Type 0

@@ -1,7 +1,18 @@
 //! The laws, each as the promise of a function.
 
+ghost use Rattle.pdb_format.specs.Laws.{FilesAreRead, FilesAreReadOnce};
 ghost use Rattle.pdb_format.specs.Laws.{WrittenFilesAreRead, WrittenFilesHaveTheirSize};
 ghost use Rattle.pdb_format.specs.Laws.{ContentsAreWritable, ContentsAreShort};
+
+/// Each file of bytes without fault is read as a database.
+pub fn files_are_read()
+    ensures { FilesAreRead }
+{}
+
+/// No file is read as two databases.
+pub fn files_are_read_once()
+    ensures { FilesAreReadOnce }
+{}
 
 /// The file that is written of a database is read as that database.
 pub fn written_files_are_read()

@@ -18,6 +18,6 @@ mod starts;
 pub use blocks::{Block, find_blocks, find_blocks_from};
 pub use faults::check_file;
 pub use laws::{
-    contents_are_short, contents_are_writable, written_files_are_read,
-    written_files_have_their_size,
+    contents_are_short, contents_are_writable, files_are_read, files_are_read_once,
+    written_files_are_read, written_files_have_their_size,
 };

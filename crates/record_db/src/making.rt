@@ -1,6 +1,6 @@
 //! Records made and resized.
 
-ghost use Rattle.std.specs.Prelude.{◌≡◌, OnErr};
+ghost use Rattle.std.specs.Prelude.{◌≡◌, ◌≢◌, OnErr, IfErr};
 ghost use Rattle.heap_model.specs.Chunk.{need};
 ghost use Rattle.heap_model.specs.Space.{FitsInPlace, MovesNothing, MovesOneStretchAnd};
 ghost use Rattle.heap_model.specs.MemorySteps.{reply_of};
@@ -20,8 +20,10 @@ use palm_store::{Access, EntryKind, NewEntry, Store, open_entries};
 /// Refused: `NoSuchDatabase`, `NotRecordDatabase`, `ReadOnly`; `TooManyEntries`, where there are 65,535;
 /// `NotEnoughSpace`, where no slot is free, or room for the data and for one entry more can run out.
 pub fn new_record(store: &mut Store, db: Db, at: u32, size: u32) -> Result<(u32, Name), Refusal>
-    ensures { DoesRecord store.old (RecordCall.New db at size)
+    ensures does { DoesRecord store.old (RecordCall.New db at size)
         (reply_of made_reply result) store.new }
+    ensures untouched { IfErr result (λ refusal.
+        refusal ≢ Refusal.NotEnoughSpace → store.new ≡ store.old) }
 {
     let opened = open_entries(store, db, EntryKind::Records, Access::Write)?;
     let index = at.min(opened.entry_count);

@@ -1,6 +1,6 @@
 //! Resources made and resized.
 
-ghost use Rattle.std.specs.Prelude.{◌≡◌, OnErr};
+ghost use Rattle.std.specs.Prelude.{◌≡◌, ◌≢◌, OnErr, IfErr};
 ghost use Rattle.heap_model.specs.Chunk.{need};
 ghost use Rattle.heap_model.specs.Space.{FitsInPlace, MovesNothing, MovesOneStretchAnd};
 ghost use Rattle.heap_model.specs.MemorySteps.{reply_of};
@@ -24,8 +24,10 @@ pub fn new_resource(
     id: u16,
     size: u32,
 ) -> Result<(u32, Name), Refusal>
-    ensures { DoesResource store.old (ResourceCall.New db kind id size)
+    ensures does { DoesResource store.old (ResourceCall.New db kind id size)
         (reply_of made_reply result) store.new }
+    ensures untouched { IfErr result (λ refusal.
+        refusal ≢ Refusal.NotEnoughSpace → store.new ≡ store.old) }
 {
     let opened = open_entries(store, db, EntryKind::Resources, Access::Write)?;
     let name = store.entry_new(

@@ -1,5 +1,6 @@
 //! Calls on the databases of a store.
 
+ghost use Rattle.std.specs.Prelude.{◌≡◌, ◌≢◌, OnErr, IfErr};
 ghost use Rattle.heap_model.specs.MemorySteps.{reply_of};
 ghost use Rattle.heap_model.specs.declared.call.DatabaseCall.{DatabaseCall};
 ghost use Rattle.heap_model.specs.declared.call.Reply.{Reply};
@@ -30,9 +31,11 @@ impl Store {
         resources: bool,
         date: u32,
     ) -> Result<Db, Refusal>
-        ensures { DoesDatabase self.old
+        ensures does { DoesDatabase self.old
             (DatabaseCall.Create name.now kind creator resources date)
             (database_or_refused result) self.new }
+        ensures untouched { IfErr result (λ refusal.
+            refusal ≢ Refusal.NotEnoughSpace → self.new ≡ self.old) }
     {
         // the store is looked at, so that its invariant is known
         let _ = &self.heap;
@@ -57,7 +60,9 @@ impl Store {
     ///
     /// Refused: `NoSuchDatabase`; `ChunkLocked`, where one of these chunks is locked.
     pub fn delete_database(&mut self, db: Db) -> Result<(), Refusal>
-        ensures { DoesDatabase self.old (DatabaseCall.Delete db) (done_or_refused result) self.new }
+        ensures does { DoesDatabase self.old (DatabaseCall.Delete db)
+            (done_or_refused result) self.new }
+        ensures refused { OnErr result (self.new ≡ self.old) }
     {
         let chunk = find_chunk(&self.heap, db)?;
         if has_locked(&self.heap, db, chunk) {
@@ -117,8 +122,9 @@ impl Store {
     ///
     /// Refused: `NoSuchDatabase`, `InvalidName`; `AlreadyExists`, where another database has the name.
     pub fn set_database_info(&mut self, db: Db, info: &DbInfo) -> Result<(), Refusal>
-        ensures { DoesDatabase self.old (DatabaseCall.SetInfo db info.now)
+        ensures does { DoesDatabase self.old (DatabaseCall.SetInfo db info.now)
             (done_or_refused result) self.new }
+        ensures refused { OnErr result (self.new ≡ self.old) }
     {
         let chunk = find_chunk(&self.heap, db)?;
         let header = header_in(&self.heap, db, chunk);

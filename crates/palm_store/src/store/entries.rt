@@ -1,7 +1,7 @@
 //! Calls on the entries of databases, for the crates of records and of resources. They refuse only what they
 //! name: all else their callers show.
 
-ghost use Rattle.std.specs.Prelude.{◌≡◌, ◌<◌, ◌≤◌, None, length, false, IfSome, IfNone, IfOk, OnOk, OnErr, IfErr};
+ghost use Rattle.std.specs.Prelude.{◌≡◌, ◌≢◌, ◌<◌, ◌≤◌, None, length, false, IfSome, IfNone, IfOk, OnOk, OnErr, IfErr};
 ghost use Rattle.heap_model.specs.Chunk.{need};
 ghost use Rattle.heap_model.specs.Reading.{held};
 ghost use Rattle.heap_model.specs.Space.{FitsInPlace, MovesNothing, MovesOneStretchAnd};
@@ -126,6 +126,8 @@ impl Store {
         ensures why { IfErr result (FirstBrings (checks_of_making self.old.bytes db size)) }
         ensures refused { OnErr result (LeavesChanged self.old self.new (λ store. store)) }
         ensures as_before { OnErr result (StoreAsBefore self.old self.new) }
+        ensures untouched { IfErr result (λ refusal.
+            refusal ≢ Refusal.NotEnoughSpace → self.new ≡ self.old) }
         ensures rest { self.new ≡ record self.old { bytes = self.new.bytes; slid = self.new.slid } }
     {
         if count_entries(&self.heap, db, chunk) >= MOST_ENTRIES {

@@ -19,20 +19,20 @@ use Rattle.palm_store.proofs.MemoryCalls.{viewed, ask_viewed}
 use Rattle.palm_store.proofs.KnownIds.{nothing_known}
 use Rattle.palm_store.proofs.store.Store.create.Goals as goal
 
-pub returns-in_default : goal.returns-in_default
-returns-in_default c =
+pub returns-in_default-clause-does : goal.returns-in_default-clause-does
+returns-in_default-clause-does c =
     ask_viewed c.self.inside.heap c.args.self.now _ _ c.self.view_is
     (not_named c.self.inside.heap c.args.name.now c.args.kind c.args.creator c.args.resources c.args.date c.self.invariant.accepted (subst (λ (name : List ℕ). IsDatabaseName name → ⊥) c.as_slice.ensures.is c.in_default.ensures))
 
-pub returns-then-has_other_name : goal.returns-then-has_other_name
-returns-then-has_other_name c =
+pub returns-then-has_other_name-clause-does : goal.returns-then-has_other_name-clause-does
+returns-then-has_other_name-clause-does c =
     let named : IsDatabaseName c.args.name.now = subst (λ (name : List ℕ). IsDatabaseName name) c.as_slice.ensures.is c.in-Some.ensures.0 in
     ask_viewed c.self.inside.heap c.args.self.now _ _ c.self.view_is
     (name_taken c.self.inside.heap c.args.name.now c.args.kind c.args.creator c.args.resources c.args.date c.self.invariant.accepted named
     (subst (λ (name : List ℕ). IsTaken (store_of c.self.inside.heap.bytes) 0 name) c.as_slice-2.ensures.is (c.has_other_name.ensures.0 c.if-has_other_name.true)))
 
-pub returns-then-count_databases-ge-MOST_DATABASES : goal.returns-then-count_databases-ge-MOST_DATABASES
-returns-then-count_databases-ge-MOST_DATABASES c =
+pub returns-then-count_databases-ge-MOST_DATABASES-clause-does : goal.returns-then-count_databases-ge-MOST_DATABASES-clause-does
+returns-then-count_databases-ge-MOST_DATABASES-clause-does c =
     let named : IsDatabaseName c.args.name.now = subst (λ (name : List ℕ). IsDatabaseName name) c.as_slice.ensures.is c.in-Some.ensures.0 in
     let free : IsTaken (store_of c.self.inside.heap.bytes) 0 c.args.name.now → ⊥ = not_taken c.self.inside.heap.bytes _ c.args.name.now 0 _ c.has_other_name.ensures.1 c.if-has_other_name.false c.as_slice-2.ensures.is in
     let many : most_databases ≤ length (listed c.self.inside.heap.bytes) = subst (λ (n : ℕ). most_databases ≤ n) c.count_databases.ensures c.if-count_databases-ge-MOST_DATABASES.true in
@@ -47,8 +47,8 @@ invariant_of-self c =
     let does = not_created c.self.inside.heap c.list_new.new.heap c.args.name.now c.args.kind c.args.creator c.args.resources c.args.date c.in_err-slot.field-0.0 c.self.invariant.accepted named few free c.in_err-slot.ensures.no_room c.in_err-slot.ensures.refusal c.in_err-slot.ensures.refused c.list_new.ensures.rest in
     nothing_known _ does.accepted
 
-pub returns-in_err-slot : goal.returns-in_err-slot
-returns-in_err-slot c =
+pub returns-in_err-slot-clause-does : goal.returns-in_err-slot-clause-does
+returns-in_err-slot-clause-does c =
     let image : List ℕ = c.self.inside.heap.bytes in
     let named : IsDatabaseName c.args.name.now = subst (λ (name : List ℕ). IsDatabaseName name) c.as_slice.ensures.is c.in-Some.ensures.0 in
     let free : IsTaken (store_of image) 0 c.args.name.now → ⊥ = not_taken image _ c.args.name.now 0 _ c.has_other_name.ensures.1 c.if-has_other_name.false c.as_slice-2.ensures.is in
@@ -94,8 +94,8 @@ invariant_of-self-2 c =
     (then_written c.self.inside.heap c.list_new.new.heap c.sys_write.new.self c.list_new.ensures.rest c.sys_write.ensures.rest) in
     nothing_known _ does.accepted
 
-pub returns : goal.returns
-returns c =
+pub returns-clause-does : goal.returns-clause-does
+returns-clause-does c =
     let image : List ℕ = c.self.inside.heap.bytes in
     let mid : List ℕ = c.list_new.new.heap.bytes in
     let database : Database ℕ = empty_database c.args.name.now c.args.kind c.args.creator c.args.resources c.args.date in

@@ -5,8 +5,8 @@ use Rattle.palm_store.proofs.Deleted.{header_other, all_freed, lists_still, dele
 use Rattle.palm_store.proofs.KnownIds.{nothing_known}
 use Rattle.palm_store.proofs.store.Store.delete_database.Goals as goal
 
-pub returns-then-has_locked : goal.returns-then-has_locked
-returns-then-has_locked c =
+pub returns-then-has_locked-clause-does : goal.returns-then-has_locked-clause-does
+returns-then-has_locked-clause-does c =
     ask_viewed c.self.inside.heap c.args.self.now _ _ c.self.view_is (not_deleted c.self.inside.heap c.args.db c.self.invariant.accepted c.in_ok-chunk.ensures.known (c.has_locked.ensures.0 c.if-has_locked.true))
 
 pub sys_free-requires-clause-no_directory : goal.sys_free-requires-clause-no_directory
@@ -26,8 +26,8 @@ invariant_of-self c =
     (λ locked. both_ways _ c.if-has_locked.false (c.has_locked.ensures.1 locked)) freed c.unlist.ensures.unlists in
     nothing_known _ does.accepted
 
-pub returns : goal.returns
-returns c =
+pub returns-clause-does : goal.returns-clause-does
+returns-clause-does c =
     let freed = all_freed c.self.inside.heap.bytes c.free_data.new.heap.bytes c.sys_free.new.self.bytes c.args.db.0 c.free_data.ensures.leaves c.sys_free.ensures.leaves in
     let does = deleted c.self.inside.heap c.sys_free.new.self c.unlist.new.heap c.args.db c.index_of-index.result c.self.invariant.accepted c.in_ok-chunk.ensures.known c.index_of-index.ensures
     (λ locked. both_ways _ c.if-has_locked.false (c.has_locked.ensures.1 locked)) freed c.unlist.ensures.unlists in

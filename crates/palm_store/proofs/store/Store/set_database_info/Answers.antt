@@ -34,8 +34,8 @@ invariant_of-self c =
     }) c.sys_write.ensures.rest in
     nothing_known _ does.accepted
 
-pub returns : goal.returns
-returns c =
+pub returns-clause-does : goal.returns-clause-does
+returns-clause-does c =
     let image : List ℕ = c.self.inside.heap.bytes in
     let body = c.header_in-header.ensures.is in
     let given = c.as_slice.ensures.is in
@@ -53,8 +53,8 @@ returns c =
     }) c.sys_write.ensures.rest in
     viewed c.self.inside.heap c.args.self.now c.sys_write.new.self _ _ c.self.view_is does
 
-pub returns-then-has_other_name : goal.returns-then-has_other_name
-returns-then-has_other_name c =
+pub returns-then-has_other_name-clause-does : goal.returns-then-has_other_name-clause-does
+returns-then-has_other_name-clause-does c =
     let image : List ℕ = c.self.inside.heap.bytes in
     let named : IsDatabaseName c.args.info.now.name = subst (λ (name : List ℕ). IsDatabaseName name) c.as_slice.ensures.is c.in-Some.ensures.0 in
     let taken : IsTaken (store_of image) c.args.db.0 c.args.info.now.name = subst (λ (name : List ℕ). IsTaken (store_of image) c.args.db.0 name) c.as_slice-2.ensures.is (c.has_other_name.ensures.0 c.if-has_other_name.true) in

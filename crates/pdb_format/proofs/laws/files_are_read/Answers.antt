@@ -1,0 +1,5 @@
+use Rattle.pdb_format.proofs.ReadFiles.{file_read}
+use Rattle.pdb_format.proofs.laws.files_are_read.Goals as goal
+
+pub returns : goal.returns
+returns c = file_read

@@ -1,0 +1,5 @@
+use Rattle.pdb_format.proofs.ReadFiles.{read_once}
+use Rattle.pdb_format.proofs.laws.files_are_read_once.Goals as goal
+
+pub returns : goal.returns
+returns c = read_once
