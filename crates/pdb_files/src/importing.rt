@@ -12,11 +12,12 @@ ghost use Rattle.heap_model.specs.declared.call.FileCall.{FileCall};
 ghost use Rattle.palm_store.specs.Replies.{database_or_refused};
 ghost use Rattle.pdb_files.specs.Plans.{IsPlan};
 ghost use Rattle.pdb_files.specs.Imports.{checks_in_front};
+ghost use Rattle.allowance.specs.Refusals.{GrowthRefused};
 
 mod filling;
 mod plan;
 
-use allowance::Allowance;
+use allowance::{Allowance, filled};
 use db_format::{MOST_DATABASES, name_in};
 use filling::fill_blocks;
 use heap_model::{Db, DbName, Name, Refusal};
@@ -33,8 +34,9 @@ use std::alloc::{AllocError, Global};
 /// its blocks and entries; `NotEnoughSpace`, where slots or room can run out for its header, its blocks and the
 /// directory, one after the other. Then nothing is left of it.
 pub fn import(alloc: Global, store: &mut Store, file: &[u8]) -> Result<Db, Refusal>
-    ensures { DoesInStore store.old (calls.Call.File (FileCall.Import file.now))
+    ensures does { DoesInStore store.old (calls.Call.File (FileCall.Import file.now))
         (database_or_refused result) store.new }
+    ensures no_memory { result ≡ Err Refusal.OutOfMemory → GrowthRefused }
 {
     import_from(&alloc, store, file)
 }
@@ -110,5 +112,5 @@ fn no_names<A: Allowance>(memory: &A, blocks: &[Option<Block>]) -> Result<Vec<Na
     ensures len { IfOk result (λ names. length names.items ≡ length blocks.now) }
     ensures short { OnErr result (A.is_short memory.now) }
 {
-    memory.outcome(vec![in memory.grant()?; Name(0); blocks.len()])
+    filled(memory, Name(0), blocks.len())
 }
