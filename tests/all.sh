@@ -45,6 +45,7 @@ run() {
 }
 
 run 'rt python3' ./palmheap --version
+run 'grep' tests/growths.sh
 run 'rt' tests/program.sh
 run 'rt cmp' tests/hostile.sh
 run 'rt perl Palm::PDB txt2pdbdoc pgmtoimgv imgvtopnm' tests/peers.sh

@@ -3,6 +3,7 @@
 ghost use Rattle.std.specs.Prelude.{◌≡◌, ◌↔◌, IfOk, Err, replicate};
 ghost use Rattle.heap_model.specs.Store.{Accepted, store_of};
 ghost use Rattle.chunk_format.specs.Blank.{IsRegionSize, LeavesRoom, IsPlanned, IsBlank, IsEmpty};
+ghost use Rattle.allowance.specs.Refusals.{GrowthRefused};
 
 use crate::frame::{is_image_size, start_behind, write_frame};
 use crate::header::{HEADER_SIZE, Header};
@@ -34,6 +35,7 @@ pub fn blank(alloc: Global, size: u32, slots: u16) -> Result<Region, BlankFault>
     ensures size { (result ≡ Err BlankFault.BadSize) ↔ (IsRegionSize size → ⊥) }
     ensures slots { (result ≡ Err BlankFault.BadSlotCount)
         ↔ (IsRegionSize size × (LeavesRoom size slots → ⊥)) }
+    ensures no_memory { result ≡ Err BlankFault.OutOfMemory → GrowthRefused }
 {
     blank_from(&alloc, size, slots)
 }

@@ -8,10 +8,11 @@ ghost use Rattle.heap_model.specs.UniqueIds.{greatest_id, seed_in};
 ghost use Rattle.heap_model.specs.EntrySteps.{most_entries};
 ghost use Rattle.heap_model.specs.Files.{HasNoFault, HaveIds};
 ghost use Rattle.bit_sets.specs.Sets.{HasNone};
+ghost use Rattle.allowance.specs.Refusals.{GrowthRefused};
 
 use crate::fresh::give_fresh;
 use crate::kept::keep_ids;
-use allowance::{Allowance, zeros};
+use allowance::{Allowance, filled, zeros};
 use db_format::{GREATEST_ID, entry_count, has_resources};
 use std::alloc::{AllocError, Global};
 
@@ -34,6 +35,7 @@ pub fn give_ids(alloc: Global, file: &[u8]) -> Result<GivenIds, AllocError>
         All (λ id. (0 < id) × (id ≤ greatest_id)) given.ids.items) }
     ensures distinct { IfOk result (λ given. Distinct given.ids.items) }
     ensures seed { IfOk result (λ given. given.seed ≤ greatest_id) }
+    ensures short { OnErr result GrowthRefused }
 {
     give_ids_from(&alloc, file)
 }
@@ -104,5 +106,5 @@ fn zeros_for<A: Allowance>(memory: &A, count: u16) -> Result<Vec<u32>, AllocErro
     ensures zeros { IfOk result (λ ids. All (λ id. id ≡ 0) ids.items) }
     ensures short { OnErr result (A.is_short memory.now) }
 {
-    memory.outcome(vec![in memory.grant()?; 0u32; count as usize])
+    filled(memory, 0, count as usize)
 }

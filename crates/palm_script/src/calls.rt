@@ -10,6 +10,7 @@ ghost use Rattle.heap_model.specs.declared.call.Reply.{Reply};
 ghost use Rattle.heap_model.specs.declared.refusal.Refusal.{Refusal};
 ghost use Rattle.script_lines.specs.LineCounts.{bytes_given, bytes_written};
 ghost use Rattle.palm_script.specs.Lines.{Answers, OnWant};
+ghost use Rattle.allowance.specs.Refusals.{GrowthRefused};
 
 use crate::bindings::{Given, GivenBytes};
 use crate::calls::Outcome::{Reads, Replied};
@@ -25,7 +26,8 @@ use std::alloc::Global;
 /// Does one call and answers its reply. Memory is taken by `read`, `import` and `export` alone; where
 /// it is refused, so is the call.
 pub fn do_call(alloc: Global, store: &mut Store, call: &Call) -> Reply
-    ensures { DoesInStore store.old call.now result store.new }
+    ensures does { DoesInStore store.old call.now result store.new }
+    ensures no_memory { result ≡ Reply.Refused Refusal.OutOfMemory → GrowthRefused }
 {
     do_call_from(&alloc, store, call)
 }

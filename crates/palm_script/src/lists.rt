@@ -5,6 +5,7 @@ ghost use Rattle.heap_model.specs.Runs.{Run};
 ghost use Rattle.heap_model.specs.declared.call.Reply.{Reply};
 ghost use Rattle.heap_model.specs.declared.refusal.Refusal.{Refusal};
 ghost use Rattle.palm_script.specs.Headline.{AnswersAsRun, HandsBack, WantsMemory};
+ghost use Rattle.allowance.specs.Refusals.{GrowthRefused};
 
 use crate::calls::do_call_from;
 use allowance::{Allowance, room_for};
@@ -31,6 +32,9 @@ pub fn run_calls(
 ) -> Result<Vec<Reply>, OutOfMemory>
     ensures run { IfOk result (λ replies. Run store.old calls.now replies.items store.new) }
     ensures none_done { OnErr result (store.new ≡ store.old) }
+    ensures short { OnErr result GrowthRefused }
+    ensures no_memory { IfOk result (λ replies. All
+        (λ reply. reply ≡ Reply.Refused Refusal.OutOfMemory → GrowthRefused) replies.items) }
 {
     run_calls_from(&alloc, store, calls)
 }
@@ -85,6 +89,9 @@ pub fn check_and_run(
 ) -> Result<(Store, Vec<Reply>), NotRun>
     ensures run { IfOk result (λ done. AnswersAsRun region calls.now done.1.items done.0) }
     ensures not_run { IfErr result (HandsBack region) }
+    ensures short { IfErr result (λ error. WantsMemory error → GrowthRefused) }
+    ensures no_memory { IfOk result (λ done. All (λ reply.
+        reply ≡ Reply.Refused Refusal.OutOfMemory → GrowthRefused) done.1.items) }
 {
     check_and_run_from(&alloc, region, calls)
 }

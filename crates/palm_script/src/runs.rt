@@ -5,9 +5,10 @@ ghost use Rattle.std.specs.Prelude.{vec_capacity, vec_len};
 ghost use Rattle.std.specs.Option.{option_to_list};
 ghost use Rattle.palm_script.specs.Lines.{BreaksOff, BreaksOffShort, RunsThrough, RunsThroughShort};
 ghost use Rattle.palm_script.specs.Lines.{no_database, no_name};
+ghost use Rattle.allowance.specs.Refusals.{GrowthRefused};
 
 use crate::lines::do_line;
-use allowance::{Allowance, room_for, zeros};
+use allowance::{Allowance, filled, room_for, zeros};
 use heap_model::{Bytes, Db, Name};
 use palm_store::Store;
 use palm_text::Counted;
@@ -45,6 +46,11 @@ pub fn run<W: Write>(
         store.old out.old store.new out.new }
     ensures memory { result ≡ Err RunFault.OutOfMemory
         → (store.new ≡ store.old) × (out.new ≡ out.old) }
+    ensures no_memory { result ≡ Err RunFault.OutOfMemory → GrowthRefused }
+    ensures ok_short { IfOk result (λ files. RunsThroughShort GrowthRefused W.contents
+        inputs.now script.now store.old out.old store.new out.new files.items) }
+    ensures write_short { result ≡ Err RunFault.Write → BreaksOffShort GrowthRefused
+        W.contents inputs.now script.now store.old out.old store.new out.new }
 {
     run_from(&alloc, store, script, inputs, out)
 }
@@ -99,7 +105,7 @@ fn unbound_names<A: Allowance>(memory: &A, count: usize) -> Result<Vec<Name>, Al
     ensures names { IfOk result (λ names. names.items ≡ replicate count no_name) }
     ensures short { OnErr result (A.is_short memory.now) }
 {
-    memory.outcome(vec![in memory.grant()?; Name(0); count])
+    filled(memory, Name(0), count)
 }
 
 /// The same of labels of databases.
@@ -108,7 +114,7 @@ fn unbound_databases<A: Allowance>(memory: &A, count: usize) -> Result<Vec<Db>, 
         databases.items ≡ replicate count no_database) }
     ensures short { OnErr result (A.is_short memory.now) }
 {
-    memory.outcome(vec![in memory.grant()?; Db(0); count])
+    filled(memory, Db(0), count)
 }
 
 /// Puts a file behind the others, if there is one.

@@ -7,6 +7,7 @@ ghost use Rattle.std.specs.Prelude.{◌≡◌, ◌⊎◌, None, is_ok, IfOk, IfE
 ghost use Rattle.heap_model.specs.Store.{Accepted};
 ghost use Rattle.palm_text.specs.Counted.{Writes};
 ghost use Rattle.store_check.specs.Checks.{IsAnswered, Summarizes};
+ghost use Rattle.allowance.specs.Refusals.{GrowthRefused};
 
 mod asking;
 mod attributes;
@@ -81,6 +82,8 @@ impl Store {
         ensures refused { IfErr result (λ error.
             (error.fault ≡ StoreFault.OutOfMemory) ⊎ (Accepted region.bytes → ⊥)) }
         ensures handed_back { IfErr result (λ error. error.region ≡ region) }
+        ensures no_memory { IfErr result (λ error.
+            error.fault ≡ StoreFault.OutOfMemory → GrowthRefused) }
     {
         Store::check_from(&alloc, region)
     }

@@ -2,9 +2,10 @@
 
 ghost use Rattle.std.specs.Prelude.{◌≡◌, IfOk, OnErr, string_bytes};
 ghost use Rattle.palmheap_commands.specs.Commands.{EndsCheck, EndsNew, heap_line, summary_lines};
+ghost use Rattle.allowance.specs.Refusals.{GrowthRefused};
 
 use crate::images::put_image;
-use allowance::Allowance;
+use allowance::{Allowance, text_of};
 use chunk_format::{BlankFault, blank_from};
 use heap_check::Summary;
 use palm_text::Counted;
@@ -24,8 +25,9 @@ pub fn cmd_new<W: Write, V: Write>(
     image_out: &mut Counted<W>,
     out: &mut Counted<V>,
 ) -> Status
-    ensures { EndsNew size slots W.contents image_out.old image_out.new
+    ensures ends { EndsNew size slots W.contents image_out.old image_out.new
         V.contents out.old out.new result }
+    ensures short { result ≡ Status.NoMemory → GrowthRefused }
 {
     cmd_new_from(&alloc, size, slots, image_out, out)
 }
@@ -55,7 +57,8 @@ pub fn cmd_new_from<A: Allowance, W: Write, V: Write>(
 
 /// Checks an image, and prints its summary, or `bad` and the first fault.
 pub fn cmd_check<V: Write>(alloc: Global, image: &[u8], out: &mut Counted<V>) -> Status
-    ensures { EndsCheck image.now V.contents out.old out.new result }
+    ensures ends { EndsCheck image.now V.contents out.old out.new result }
+    ensures short { result ≡ Status.NoMemory → GrowthRefused }
 {
     cmd_check_from(&alloc, image, out)
 }
@@ -98,7 +101,7 @@ fn summary_text<A: Allowance>(memory: &A, summary: &StoreSummary) -> Result<Stri
 {
     let line = heap_text(memory, &summary.heap)?;
     let databases = summary.databases;
-    memory.outcome(format!(in memory.grant()?; "{line}databases {databases}\n"))
+    text_of(memory, format_args!("{line}databases {databases}\n"))
 }
 
 /// The line for an accepted heap.
@@ -113,8 +116,8 @@ fn heap_text<A: Allowance>(memory: &A, summary: &Summary) -> Result<String, Allo
         fixed,
         free,
     } = *summary;
-    let alloc = memory.grant()?;
-    memory.outcome(format!(in alloc;
-        "ok size {size} slots {slots} movable {movable} fixed {fixed} free {free}\n"
-    ))
+    text_of(
+        memory,
+        format_args!("ok size {size} slots {slots} movable {movable} fixed {fixed} free {free}\n"),
+    )
 }

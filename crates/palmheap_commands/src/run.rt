@@ -5,6 +5,7 @@ ghost use Rattle.heap_model.specs.Store.{Accepted};
 ghost use Rattle.script_lines.specs.Reading.{read_script};
 ghost use Rattle.palmheap_commands.specs.Runs.{EndsEarly, EndsRun, PrintingFails, PutsRefusal, RunBreaksOffShort};
 ghost use Rattle.palmheap_commands.specs.Runs.{RunsAndFlushes, RunsAndWrites, RunsScriptShort};
+ghost use Rattle.allowance.specs.Refusals.{GrowthRefused};
 
 use crate::images::put_store;
 use allowance::Allowance;
@@ -35,6 +36,13 @@ pub fn cmd_run<W: Write, V: Write>(
     ensures ends { EndsRun image.now script.now inputs.now V.contents out.old out.new
         W.contents image_out.old image_out.new files.new.items result }
     ensures files_kept { result ≢ Status.Done → files.new ≡ files.old }
+    ensures short { result ≡ Status.NoMemory → GrowthRefused }
+    ensures done_short { result ≡ Status.Done → RunsScriptShort GrowthRefused
+        image.now script.now inputs.now
+        V.contents out.old out.new W.contents image_out.old image_out.new files.new.items true }
+    ensures write_short { result ≡ Status.WriteFault → RunBreaksOffShort GrowthRefused
+        image.now script.now inputs.now
+        V.contents out.old out.new W.contents image_out.old image_out.new }
 {
     cmd_run_from(&alloc, image, script, inputs, image_out, files, out)
 }

@@ -1,6 +1,6 @@
 //! Writing the file of a database.
 
-ghost use Rattle.std.specs.Prelude.{◌≡◌, ◌↔◌, ℕ, None, Err, is_ok, length, IfOk, OnErr};
+ghost use Rattle.std.specs.Prelude.{◌≡◌, ◌↔◌, ◌<◌, ℕ, None, Err, is_ok, length, IfOk, OnErr};
 ghost use Rattle.palm_text.specs.Counted.{Writes};
 ghost use Rattle.heap_model.specs.Database.{Database};
 ghost use Rattle.heap_model.specs.Store.{store_of, content};
@@ -19,7 +19,7 @@ mod places;
 
 use crate::exporting::parts::put_file;
 use crate::exporting::places::file_size;
-use allowance::{Allowance, room_for};
+use allowance::{Allowance, failed, room_for};
 use heap_model::{Bytes, Db, Refusal};
 use palm_store::Store;
 use palm_text::Counted;
@@ -80,8 +80,7 @@ pub fn exported<A: Allowance>(memory: &A, store: &Store, db: Db) -> Result<Bytes
     }
 }
 
-/// The file of a database, given by its bytes. A vector takes each write, or it can't grow: so a write that failed is
-/// what a growth came to.
+/// The file of a database, given by its bytes.
 fn file_bytes<A: Allowance>(memory: &A, store: &Store, bytes: &[u8]) -> Result<Bytes, AllocError>
     requires { IsExportable store.now.bytes bytes.now }
     ensures file { IfOk result (λ file. file ≡ file_of (content_of store.now.bytes bytes.now)) }
@@ -90,6 +89,14 @@ fn file_bytes<A: Allowance>(memory: &A, store: &Store, bytes: &[u8]) -> Result<B
     let mut out = Counted::new(room_for(memory, file_size(store, bytes) as usize)?);
     match put_file(store, bytes, &mut out) {
         Ok(()) => Ok(Bytes::of(out.into_inner())),
-        Err(_) => memory.outcome(Err(AllocError)),
+        Err(_) => Err(refused_write(memory, &out)),
     }
+}
+
+/// Takes note of a write into a vector that failed. A vector takes each write, unless it can't grow.
+fn refused_write<A: Allowance>(memory: &A, _out: &Counted<Vec<u8>>) -> AllocError
+    requires { 0 < _out.now.faults }
+    ensures { A.is_short memory.now }
+{
+    unsafe { failed(memory) }
 }

@@ -12,11 +12,12 @@ ghost use Rattle.heap_model.specs.declared.call.FileCall.{FileCall};
 ghost use Rattle.palm_store.specs.Replies.{database_or_refused};
 ghost use Rattle.pdb_files.specs.Plans.{IsPlan};
 ghost use Rattle.pdb_files.specs.Imports.{checks_in_front};
+ghost use Rattle.allowance.specs.Refusals.{GrowthRefused};
 
 mod filling;
 mod plan;
 
-use allowance::Allowance;
+use allowance::{Allowance, filled};
 use db_format::{MOST_DATABASES, name_in};
 use filling::fill_blocks;
 use heap_model::{Db, DbName, Name, Refusal};
@@ -37,6 +38,7 @@ pub fn import(alloc: Global, store: &mut Store, file: &[u8]) -> Result<Db, Refus
         (database_or_refused result) store.new }
     ensures untouched { IfErr result (λ refusal.
         refusal ≢ Refusal.NotEnoughSpace → store.new ≡ store.old) }
+    ensures no_memory { result ≡ Err Refusal.OutOfMemory → GrowthRefused }
 {
     import_from(&alloc, store, file)
 }
@@ -116,5 +118,5 @@ fn no_names<A: Allowance>(memory: &A, blocks: &[Option<Block>]) -> Result<Vec<Na
     ensures len { IfOk result (λ names. length names.items ≡ length blocks.now) }
     ensures short { OnErr result (A.is_short memory.now) }
 {
-    memory.outcome(vec![in memory.grant()?; Name(0); blocks.len()])
+    filled(memory, Name(0), blocks.len())
 }

@@ -5,9 +5,10 @@ ghost use Rattle.std.specs.List.Sorted.{IsPermutation, IsNonDecreasingBy};
 ghost use Rattle.heap_model.specs.Files.{offsets_in, blocks_in, HasNoFault};
 ghost use Rattle.pdb_format.specs.Starts.{starts_in, order, begins};
 ghost use Rattle.pdb_format.specs.Blocks.{bytes_at, IsWithin};
+ghost use Rattle.allowance.specs.Refusals.{GrowthRefused};
 
 use crate::starts::{Start, rank_count, sorted_starts};
-use allowance::Allowance;
+use allowance::{Allowance, filled};
 use std::alloc::{AllocError, Global};
 
 /// Where a block of a file stands: from its offset up to where the next one begins, in bytes from the file's start.
@@ -56,6 +57,7 @@ pub fn find_blocks(alloc: Global, file: &[u8]) -> Result<Vec<Option<Block>>, All
     requires { HasNoFault file.now }
     ensures are { IfOk result (λ blocks. map (bytes_at file.now) blocks.items ≡ blocks_in file.now) }
     ensures inside { IfOk result (λ blocks. All (IsWithin (length file.now)) blocks.items) }
+    ensures short { OnErr result GrowthRefused }
 {
     find_blocks_from(&alloc, file)
 }
@@ -71,7 +73,7 @@ pub fn find_blocks_from<A: Allowance>(
     ensures short { OnErr result (A.is_short memory.now) }
 {
     let starts = sorted_starts(memory, file)?;
-    let mut blocks = memory.outcome(vec![in memory.grant()?; None; rank_count(file) as usize])?;
+    let mut blocks = filled(memory, None, rank_count(file) as usize)?;
     put_blocks(file, &starts, &mut blocks);
     Ok(blocks)
 }

@@ -5,7 +5,7 @@ ghost use Rattle.program_io.specs.FaultLines.{IsBadLine, IsFaultLine, PutsBad, P
 
 use crate::output::say_text;
 use crate::status::Status;
-use allowance::Allowance;
+use allowance::{Allowance, text_of};
 use palm_text::Counted;
 use script_lines::LineFault;
 use std::alloc::AllocError;
@@ -34,8 +34,8 @@ fn bad_text<A: Allowance, F: Display + Drop>(memory: &A, fault: F) -> Result<Str
     ensures line { IfOk result (λ line. IsBadLine (string_bytes line)) }
     ensures short { OnErr result (A.is_short memory.now) }
 {
-    let text = memory.outcome(format!(in memory.grant()?; "{fault}"))?;
-    memory.outcome(format!(in memory.grant()?; "bad {text}\n"))
+    let text = text_of(memory, format_args!("{fault}"))?;
+    text_of(memory, format_args!("bad {text}\n"))
 }
 
 /// Prints the line for a refused script.
@@ -59,6 +59,6 @@ fn line_fault_text<A: Allowance>(memory: &A, fault: LineFault) -> Result<String,
     ensures line { IfOk result (λ line. IsFaultLine fault (string_bytes line)) }
     ensures short { OnErr result (A.is_short memory.now) }
 {
-    let text = memory.outcome(format!(in memory.grant()?; "{}", fault.fault))?;
-    memory.outcome(format!(in memory.grant()?; "line {} {text}\n", fault.line))
+    let text = text_of(memory, format_args!("{}", fault.fault))?;
+    text_of(memory, format_args!("line {} {text}\n", fault.line))
 }

@@ -2,6 +2,7 @@
 
 ghost use Rattle.std.specs.Prelude.{◌≡◌, ◌+◌, ◌++◌, ◌≤◌, ◌<◌, IfOk, OnOk, OnErr, IfSome, vec_len, length};
 ghost use Rattle.std.specs.Io.KnownBytes.{IsAtEnd, Keeps, prepend_known};
+ghost use Rattle.allowance.specs.Refusals.{GrowthRefused};
 
 use allowance::{Allowance, zeros};
 use std::alloc::{AllocError, Global};
@@ -53,6 +54,7 @@ pub fn read_input<R: Read>(alloc: Global, reader: &mut R) -> Result<Vec<u8>, Inp
     ensures end { OnOk result (IsAtEnd (R.remaining reader.new)) }
     ensures too_long { result ≡ Err InputFault.TooLong
         → IfSome (R.remaining reader.old) (λ all. INPUT_LIMIT < length all) }
+    ensures no_memory { result ≡ Err InputFault.Memory → GrowthRefused }
 {
     read_input_from(&alloc, reader)
 }
@@ -127,6 +129,5 @@ fn extend<A: Allowance>(memory: &A, bytes: &mut Vec<u8>, more: &[u8]) -> Result<
     if more.is_empty() {
         return Ok(());
     }
-    memory.grant()?;
-    memory.outcome(bytes.extend_from_slice(more))
+    allowance::extend(memory, bytes, more)
 }

@@ -4,12 +4,13 @@ ghost use Rattle.std.specs.Prelude.{◌≡◌, ◌+◌, ◌<◌, ◌^◌, length
 ghost use Rattle.heap_model.specs.Memory.{IsWithin};
 ghost use Rattle.heap_model.specs.Bytes.{AreBytes, u16_at, u32_at, u16_bytes, u32_bytes, overwritten};
 ghost use Rattle.raw_region.specs.ByteChanges.{changed_every};
+ghost use Rattle.allowance.specs.Refusals.{GrowthRefused};
 
 use crate::byte_change::ByteChange;
 use crate::room::{Lease, Room};
 use crate::run::Run;
 use crate::words;
-use allowance::Allowance;
+use allowance::{Allowance, failed};
 use heap_model::Tally;
 use std::alloc::{AllocError, Global};
 use std::marker::Model;
@@ -48,6 +49,7 @@ impl Region {
     pub fn zeroed(alloc: Global, size: u32) -> Result<Region, AllocError>
         ensures bytes { IfOk result (λ region. region.bytes ≡ replicate size 0) }
         ensures len { IfOk result (λ region. length region.bytes ≡ size) }
+        ensures short { OnErr result GrowthRefused }
     {
         Region::zeroed_from(&alloc, size)
     }
@@ -63,7 +65,8 @@ impl Region {
 
     /// A region that is a copy of `bytes`. The only error is that memory was refused.
     pub fn from_bytes(alloc: Global, bytes: &[u8]) -> Result<Region, AllocError>
-        ensures { IfOk result (λ region. region.bytes ≡ bytes.now) }
+        ensures bytes { IfOk result (λ region. region.bytes ≡ bytes.now) }
+        ensures short { OnErr result GrowthRefused }
     {
         Region::copied_from(&alloc, bytes)
     }
@@ -94,7 +97,7 @@ impl Region {
         }
         let alloc = memory.grant()?;
         let Some((room, lease)) = Room::new(&alloc, size) else {
-            return memory.outcome(Err(AllocError));
+            return Err(unsafe { failed(memory) });
         };
         Ok(Region {
             run: room.zeroed(),

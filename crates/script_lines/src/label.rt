@@ -7,7 +7,7 @@ ghost use Rattle.script_lines.specs.Spellings as spellings;
 ghost use Rattle.script_lines.specs.Views.{numbering, numberings};
 
 use crate::spelling::is_label;
-use allowance::Allowance;
+use allowance::{Allowance, insert};
 use std::alloc::{AllocError, Global};
 use std::collections::BTreeMap;
 
@@ -38,11 +38,10 @@ impl<'a> Labels<'a> {
         if let Some(number) = self.numbers.get(&word) {
             return Ok(*number);
         }
-        memory.grant()?;
         let number = self.numbers.len();
-        match self.numbers.insert(word, number) {
+        match insert(memory, &mut self.numbers, word, number) {
             Ok(_) => Ok(number),
-            Err(_) => memory.outcome(Err(AllocError)),
+            Err(error) => Err(error),
         }
     }
 

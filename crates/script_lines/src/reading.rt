@@ -6,6 +6,7 @@ ghost use Rattle.script_lines.specs.Reading.{HasLine, line_behind, line_read, re
 ghost use Rattle.script_lines.specs.Reading.{read_script, words_in};
 ghost use Rattle.script_lines.specs.Views.{numberings, words_read};
 ghost use Rattle.script_lines.specs.Words.{words_of};
+ghost use Rattle.allowance.specs.Refusals.{GrowthRefused};
 
 use crate::fault::{LineFault, ScriptFault};
 use crate::label::LabelTables;
@@ -124,6 +125,7 @@ pub fn parse<'a>(alloc: Global, text: &'a [u8]) -> Result<Script<'a>, LineFault>
     ensures line { IfErr result (λ e. e.fault ≢ ScriptFault.OutOfMemory
         → HasLine text.now e.line) }
     ensures refused { IfErr result (λ e. e.fault ≡ ScriptFault.OutOfMemory → e.line ≡ 0) }
+    ensures no_memory { IfErr result (λ e. e.fault ≡ ScriptFault.OutOfMemory → GrowthRefused) }
 {
     parse_from(&alloc, text)
 }

@@ -14,6 +14,7 @@ ghost use Rattle.bit_sets.specs.Sets.{HasNone};
 ghost use Rattle.store_check.specs.Ids.{HasRoomForAll};
 ghost use Rattle.store_check.specs.Names.{name_numbers};
 ghost use Rattle.store_check.specs.Checks.{IsFirstOr, IsRefusal, Summarizes, IsAnswered, listed_faults, chunk_faults, marked_faults, own_faults};
+ghost use Rattle.allowance.specs.Refusals.{GrowthRefused};
 
 use crate::chunks::{find_shared, find_stray};
 use crate::entries::find_bad_entry;
@@ -42,6 +43,7 @@ pub fn check_store(alloc: Global, region: &Region) -> Result<StoreSummary, Store
     ensures summary { IfOk result (Summarizes region.now.bytes) }
     ensures fault { IfErr result (IsAnswered region.now.bytes) }
     ensures refused { IfErr result (IsRefusal region.now.bytes) }
+    ensures no_memory { result ≡ Err StoreFault.OutOfMemory → GrowthRefused }
 {
     check_store_from(&alloc, region)
 }

@@ -2,7 +2,7 @@
 
 ghost use Rattle.std.specs.Prelude.{⊤};
 
-use allowance::Allowance;
+use allowance::{Allowance, Failure};
 use std::alloc::{AllocError, Global};
 use std::cell::Cell;
 use std::io;
@@ -178,7 +178,5 @@ impl Allowance for RefusesOne {
         Ok(self.alloc)
     }
 
-    fn outcome<T>(&self, growth: Result<T, AllocError>) -> Result<T, AllocError> {
-        growth
-    }
+    fn note(&self, _failure: Failure) {}
 }

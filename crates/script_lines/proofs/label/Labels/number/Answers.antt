@@ -13,8 +13,8 @@ returns-in-Ok-clause-labels g c =
     let word = c.args.word.now in
     let next : c.len-number.result ≡ old.count = c.len-number.ensures.len in
     let none : c.in-Ok.field-0 ≡ None = c.in-Ok.ensures.old ∙ sym c.in_default.ensures.value in
-    let more : btree_map_len c.insert.new.self ≡ old.count + 1 = rw none at c.in-Ok.ensures.len in
-    same_numbering (numbering (record { numbers = c.insert.new.self })) (with_next old word)
-    (λ other. btree_map_updates_str word c.args.self.now.numbers c.insert.new.self _ c.in-Ok.ensures.updates other ∙ rw next refl)
+    let more : btree_map_len c.insert.new.map ≡ old.count + 1 = rw none at c.in-Ok.ensures.len in
+    same_numbering (numbering (record { numbers = c.insert.new.map })) (with_next old word)
+    (λ other. btree_map_updates_str word c.args.self.now.numbers c.insert.new.map _ c.in-Ok.ensures.updates other ∙ rw next refl)
     more
     ∙ sym (with_label_absent old word (sym c.in_default.ensures.value))

@@ -1,0 +1,48 @@
+#!/bin/bash
+# Looks in the source for what no proof shows of memory: that only allowance allocates, that only allowance cites the
+# lemma on which the allocator's refusal rests, and that `grant` and `failed` are called where they must be.
+#
+#   tests/growths.sh
+#
+# Each line that shouldn't be there is printed; the status is 1 then. The gate doesn't run this.
+cd -- "$(dirname -- "$0")/../crates" || exit 1
+status=0
+
+# absent WORDS PATTERN FILES..: prints the lines that match, and says so.
+absent() {
+    local words=$1 pattern=$2
+    shift 2
+    if grep -nE -- "$pattern" "$@"; then
+        printf '%s\n' "$words" >&2
+        status=1
+    fi
+}
+
+sources=()
+proofs=()
+while IFS= read -r file; do
+    case $file in
+        *.antt) proofs+=("$file") ;;
+        ./test_* | ./benchmarks/* | ./example_memos/*) ;;
+        ./command_line/* | ./palmheap_program/* | ./program_io/src/output_file.rt) ;;
+        *) sources+=("$file") ;;
+    esac
+done < <(find . -name out -prune -o -path ./allowance -prune -o '(' -name '*.rt' -o -name '*.antt' ')' -print)
+
+absent 'memory grows outside of allowance' \
+    'vec!\[in|format!\(in|with_capacity|Vec::from|String::from|Box::new|\.(extend_from_slice|reserve|collect|to_vec)\(' \
+    "${sources[@]}"
+absent 'a proof outside of allowance cites its lemma' 'told_of_failure' "${proofs[@]}"
+# only PATTERN FILES: these files alone match.
+only() {
+    local found
+    found=$(grep -lE -- "$1" "${sources[@]}" | sort | tr '\n' ' ')
+    if [ "$found" != "$2" ]; then
+        printf '%s is in: %s\n' "$1" "$found" >&2
+        status=1
+    fi
+}
+
+only 'memory\.(grant|note)\(' './raw_region/src/region.rt '
+only 'failed\(memory\)' './pdb_files/src/exporting.rt ./raw_region/src/region.rt '
+exit "$status"
