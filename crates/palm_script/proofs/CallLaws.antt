@@ -18,9 +18,9 @@ use Rattle.heap_model.specs.declared.call.Reply.{Reply}
 use Rattle.heap_model.specs.declared.call.Reply.TheVariants.{Refused}
 use Rattle.heap_model.specs.declared.refusal.Refusal.{Refusal}
 use Rattle.heap_model.specs.declared.refusal.Refusal.TheVariants.{OutOfMemory}
-use Rattle.palm_script.specs.declared.calls.Outcome.{Outcome}
-use Rattle.palm_script.specs.declared.calls.Outcome.TheVariants.{Replied, Reads}
-use Rattle.palm_script.specs.Lines.{Answers, OnWant, may_want_memory}
+use Rattle.script_calls.specs.declared.calls.Outcome.{Outcome}
+use Rattle.script_calls.specs.declared.calls.Outcome.TheVariants.{Replied, Reads}
+use Rattle.script_calls.specs.Lines.{Answers, OnWant, may_want_memory}
 
 memory_call-same : (call : MemoryCall) → memory_call (λ name. name) (λ bytes. bytes) call ≡ call
 memory_call-same FreeBytes = refl

@@ -1,4 +1,3 @@
 pub mod CallLaws
 pub mod LineLaws
 pub mod RunLaws
-pub mod WordLaws

@@ -13,7 +13,7 @@ use Rattle.palm_text.specs.declared.output.WriteFault.{WriteFault}
 use Rattle.script_lines.specs.LineCounts.{is_export}
 use Rattle.script_lines.specs.declared.line.Line.{Line}
 use Rattle.script_lines.specs.declared.line.Line.TheVariants.{Export}
-use Rattle.palm_script.specs.Lines.{Bindings, BreaksOff, BreaksOffShort, DoesLine, LineStep, Lines, RunsThrough, RunsThroughShort, bound_after, exported, reply_line, unbound}
+use Rattle.script_calls.specs.Lines.{Bindings, BreaksOff, BreaksOffShort, DoesLine, LineStep, Lines, RunsThrough, RunsThroughShort, bound_after, exported, reply_line, unbound}
 
 -- ---- the lines up to one of them
 

@@ -9,12 +9,11 @@ ghost use Rattle.heap_model.specs.declared.call.Reply.{Reply};
 ghost use Rattle.heap_model.specs.declared.refusal.Refusal.{Refusal};
 ghost use Rattle.script_lines.specs.LineCounts.{bytes_read};
 
-use crate::bindings::{Given, GivenBytes};
-use crate::replies::{data, database};
 use allowance::Allowance;
 use heap_model::{Db, FileCall, Reply};
 use palm_store::Store;
 use pdb_files::{exported, import_from};
+use script_calls::{Given, GivenBytes, data, database};
 
 /// Does a call on files, which may want memory; where it is refused, so is the call. Only a refused growth is
 /// answered by `OutOfMemory`.

@@ -3,7 +3,7 @@
 //! `do_call` does one call and answers its reply, and `run_calls` those of a list. `check_and_run` checks an
 //! image and runs a list of calls from it: its promise, `specs/Headline.antt`, is what the library is for.
 //! `run` does the calls of a script, line by line, and prints a reply line for each; `parse` reads the
-//! script. `specs/Lines.antt` says what lines do, bind, print and export.
+//! script. `specs/Lines.antt` of script_calls says what lines do, bind, print and export.
 //!
 //! | module | does |
 //! |---|---|
@@ -12,19 +12,15 @@
 //! | `resources` | one call on resources |
 //! | `files` | one call on files |
 //! | `lists` | the calls of a list |
-//! | `bindings` | what labels and lent bytes stand for, and how a call finds that |
 //! | `lines` | one line: its call, what it binds, its reply line |
-//! | `replies` | what a manager answers, as a reply; and reply lines |
 //! | `runs` | the lines of a script |
 #![tactic(auto)]
 
-mod bindings;
 mod calls;
 mod files;
 mod lines;
 mod lists;
 mod records;
-mod replies;
 mod resources;
 mod runs;
 

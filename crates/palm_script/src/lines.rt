@@ -5,17 +5,16 @@ ghost use Rattle.std.specs.Option.{option_to_list};
 ghost use Rattle.script_lines.specs.LineCounts.{byte_count, chunk_label_end, database_label_end};
 ghost use Rattle.heap_model.specs.declared.call.Call.TheVariants as calls;
 ghost use Rattle.heap_model.specs.declared.call.MemoryCall.{MemoryCall};
-ghost use Rattle.palm_script.specs.Lines.{Answers, DoesLine, OnWant, call_of, tables};
-ghost use Rattle.palm_script.specs.Lines as words;
+ghost use Rattle.script_calls.specs.Lines.{Answers, DoesLine, OnWant, call_of, tables};
+ghost use Rattle.script_calls.specs.Lines as words;
 
-use crate::bindings::{Given, bind_line};
-use crate::calls::{Outcome, do_given};
+use crate::calls::do_given;
 use crate::files::{export, import};
-use crate::replies::{number, put_data, put_refusal, put_reply};
 use allowance::Allowance;
 use heap_model::{Bytes, Db, Name, Reply};
 use palm_store::Store;
 use palm_text::{Counted, WriteFault};
+use script_calls::{Given, Outcome, bind_line, number, put_data, put_refusal, put_reply};
 use script_lines::Line;
 use std::io::Write;
 

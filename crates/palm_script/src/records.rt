@@ -7,8 +7,6 @@ ghost use Rattle.heap_model.specs.declared.call.Call as calls;
 ghost use Rattle.heap_model.specs.declared.call.Reply.{Reply};
 ghost use Rattle.heap_model.specs.declared.refusal.Refusal.{Refusal};
 
-use crate::bindings::Given;
-use crate::replies::{done, made, named, number, record};
 use heap_model::{Db, Name, RecordCall, Reply};
 use palm_store::Store;
 use record_db::{
@@ -16,6 +14,7 @@ use record_db::{
     move_category, move_record, new_record, next_in_category, num_in_category, num_records,
     position_in_category, query, record_info, release, remove, resize_record, set_record_info,
 };
+use script_calls::{Given, done, made, named, number, record};
 
 /// Does a call on records and answers its reply.
 pub(crate) fn do_record_call<C: Given<Name>, D: Given<Db>>(

@@ -7,14 +7,13 @@ ghost use Rattle.heap_model.specs.declared.call.Call as calls;
 ghost use Rattle.heap_model.specs.declared.call.Reply.{Reply};
 ghost use Rattle.heap_model.specs.declared.refusal.Refusal.{Refusal};
 
-use crate::bindings::Given;
-use crate::replies::{done, made, named, number, resource};
 use heap_model::{Db, Name, Reply, ResourceCall};
 use palm_store::Store;
 use resource_db::{
     attach_resource, detach_resource, find_resource, find_type, new_resource, num_resources,
     remove_resource, resize_resource, resource_info, set_resource_info,
 };
+use script_calls::{Given, done, made, named, number, resource};
 
 /// Does a call on resources and answers its reply.
 pub(crate) fn do_resource_call<C: Given<Name>, D: Given<Db>>(

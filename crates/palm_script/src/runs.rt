@@ -3,8 +3,8 @@
 ghost use Rattle.std.specs.Prelude.{◌≡◌, ◌≤◌, ◌+◌, ◌++◌, Err, IfOk, OnErr, length, replicate};
 ghost use Rattle.std.specs.Prelude.{vec_capacity, vec_len};
 ghost use Rattle.std.specs.Option.{option_to_list};
-ghost use Rattle.palm_script.specs.Lines.{BreaksOff, BreaksOffShort, RunsThrough, RunsThroughShort};
-ghost use Rattle.palm_script.specs.Lines.{no_database, no_name};
+ghost use Rattle.script_calls.specs.Lines.{BreaksOff, BreaksOffShort, RunsThrough, RunsThroughShort};
+ghost use Rattle.script_calls.specs.Lines.{no_database, no_name};
 ghost use Rattle.allowance.specs.Refusals.{GrowthRefused};
 
 use crate::lines::do_line;

@@ -7,7 +7,7 @@ use Rattle.heap_model.specs.Store.{Accepted}
 use Rattle.script_lines.specs.Reading.{read_script}
 use Rattle.script_lines.specs.declared.fault.LineFault.{LineFault}
 use Rattle.script_lines.specs.declared.line.Line.{Line}
-use Rattle.palm_script.specs.Lines.{BreaksOffShort, RunsThroughShort}
+use Rattle.script_calls.specs.Lines.{BreaksOffShort, RunsThroughShort}
 use Rattle.program_io.specs.FaultLines.{PutsBad, PutsFault}
 use Rattle.palm_text.specs.Output.{Puts}
 use Rattle.program_io.specs.declared.status.Status.{Status}

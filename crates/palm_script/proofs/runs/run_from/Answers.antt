@@ -1,7 +1,7 @@
 use Rattle.std.proofs.Common.{◌++◌, true, arith}
 use Rattle.std.specs.Option.{option_to_list}
 use Rattle.palm_text.proofs.Parts.{then}
-use Rattle.palm_script.specs.Lines.{reply_line, tables, unbound}
+use Rattle.script_calls.specs.Lines.{reply_line, tables, unbound}
 use Rattle.palm_script.proofs.LineLaws.{all_lines, breaks, breaks_alone, one_further, room_is_left, runs_alone}
 use Rattle.palm_script.proofs.runs.run_from.Goals as goal
 

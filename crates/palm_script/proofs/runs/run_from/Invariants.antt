@@ -2,7 +2,7 @@ use Rattle.std.proofs.Common.{◌≡◌, ◌≤◌, ℕ, List, length, take, tru
 use Rattle.std.specs.Prelude.{count_by, vec_capacity, vec_len}
 use Rattle.palm_text.specs.Counted.{Writes}
 use Rattle.script_lines.specs.LineCounts.{byte_count, chunk_label_end, database_label_end, greatest, is_export}
-use Rattle.palm_script.specs.Lines.{Lines, unbound, tables}
+use Rattle.script_calls.specs.Lines.{Lines, unbound, tables}
 use Rattle.palm_script.proofs.runs.run_from.Given as goal
 
 abbrev pub invariant-loop-line : goal.invariant-loop-line

@@ -3,8 +3,8 @@ use Rattle.std.specs.Prelude.{codes, decimal, is_ok}
 use Rattle.palm_text.specs.Counted.{Writes}
 use Rattle.heap_model.specs.Numbers.{number_of, name_of}
 use Rattle.palm_text.specs.Pieces.{piece_text}
-use Rattle.palm_script.specs.Lines.{details_text}
-use Rattle.palm_script.proofs.replies.put_refusal.Goals as goal
+use Rattle.script_calls.specs.Lines.{details_text}
+use Rattle.script_calls.proofs.replies.put_refusal.Goals as goal
 
 -- the pieces of the line, one behind another
 joined : (front number space name fault of end its_number its_name details : List ℕ) → number ≡ its_number → name ≡ its_name → fault ++ of ≡ details

@@ -30,10 +30,10 @@ use Rattle.script_lines.specs.Commands.{LineCall}
 use Rattle.script_lines.specs.declared.line.Line.{Line}
 use Rattle.script_lines.specs.declared.line.Line.TheVariants.{Bind, Print, Silent, BindChunk, BindDatabase, Import, Export}
 use Rattle.palm_text.specs.declared.output.WriteFault.{WriteFault}
-use Rattle.palm_script.specs.declared.calls.Outcome.{Outcome}
-use Rattle.palm_script.specs.declared.calls.Outcome.TheVariants.{Replied, Reads}
-use Rattle.palm_script.specs.declared.replies.Told.{Told}
-use Rattle.palm_script.specs.declared.replies.Told.TheVariants.{Nothing, Values, Length}
+use Rattle.script_calls.specs.declared.calls.Outcome.{Outcome}
+use Rattle.script_calls.specs.declared.calls.Outcome.TheVariants.{Replied, Reads}
+use Rattle.script_calls.specs.declared.replies.Told.{Told}
+use Rattle.script_calls.specs.declared.replies.Told.TheVariants.{Nothing, Values, Length}
 
 -- ---- what labels stand for
 

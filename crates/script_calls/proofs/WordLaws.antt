@@ -2,7 +2,7 @@
 use Rattle.std.proofs.Common.{◌≡◌, ℕ, List, [], ◌∷◌, ◌++◌, refl, sym, ap, ◌∙◌, append_assoc}
 use Rattle.std.specs.Prelude.{codes}
 use Rattle.heap_model.specs.declared.database.DbInfo.{DbInfo}
-use Rattle.palm_script.specs.Lines.{info_words, words_text}
+use Rattle.script_calls.specs.Lines.{info_words, words_text}
 
 -- words with a space in front of each, and an end
 unfoldable pub words_before : List (List ℕ) → List ℕ → List ℕ

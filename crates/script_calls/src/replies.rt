@@ -4,11 +4,11 @@ ghost use Rattle.std.specs.Prelude.{◌≡◌, ◌++◌, codes, decimal, is_ok, 
 ghost use Rattle.palm_text.specs.Counted.{Writes};
 ghost use Rattle.heap_model.specs.MemorySteps.{reply_of};
 ghost use Rattle.heap_model.specs.declared.call.Reply.{Reply};
-ghost use Rattle.palm_script.specs.Lines.{details_text, hex_text, info_words, record_words};
-ghost use Rattle.palm_script.specs.Lines.{refusal_line, reply_line, reply_text, resource_words};
-ghost use Rattle.palm_script.specs.Lines.{told_text, values_text};
-ghost use Rattle.palm_script.specs.Lines.{words_text};
-ghost use Rattle.palm_script.specs.Lines as words;
+ghost use Rattle.script_calls.specs.Lines.{details_text, hex_text, info_words, record_words};
+ghost use Rattle.script_calls.specs.Lines.{refusal_line, reply_line, reply_text, resource_words};
+ghost use Rattle.script_calls.specs.Lines.{told_text, values_text};
+ghost use Rattle.script_calls.specs.Lines.{words_text};
+ghost use Rattle.script_calls.specs.Lines as words;
 ghost use Rattle.palm_store.specs.Replies.{made_reply};
 ghost use Rattle.palm_text.specs.Pieces.{piece_text};
 
@@ -23,7 +23,7 @@ use std::io::Write;
 
 // ---- what a manager answers, as a reply
 
-pub(crate) fn done(answer: Result<(), Refusal>) -> Reply
+pub fn done(answer: Result<(), Refusal>) -> Reply
     ensures { result ≡ reply_of (λ done. Reply.Done) answer }
 {
     match answer {
@@ -32,7 +32,7 @@ pub(crate) fn done(answer: Result<(), Refusal>) -> Reply
     }
 }
 
-pub(crate) fn number(answer: Result<u32, Refusal>) -> Reply
+pub fn number(answer: Result<u32, Refusal>) -> Reply
     ensures { result ≡ reply_of (λ number. Reply.Number number) answer }
 {
     match answer {
@@ -41,7 +41,7 @@ pub(crate) fn number(answer: Result<u32, Refusal>) -> Reply
     }
 }
 
-pub(crate) fn small_number(answer: Result<u8, Refusal>) -> Reply
+pub fn small_number(answer: Result<u8, Refusal>) -> Reply
     ensures { result ≡ reply_of (λ number. Reply.Number number) answer }
 {
     match answer {
@@ -50,7 +50,7 @@ pub(crate) fn small_number(answer: Result<u8, Refusal>) -> Reply
     }
 }
 
-pub(crate) fn named(answer: Result<Name, Refusal>) -> Reply
+pub fn named(answer: Result<Name, Refusal>) -> Reply
     ensures { result ≡ reply_of (λ name. Reply.Named name) answer }
 {
     match answer {
@@ -59,7 +59,7 @@ pub(crate) fn named(answer: Result<Name, Refusal>) -> Reply
     }
 }
 
-pub(crate) fn locked(answer: Result<Locked, Refusal>) -> Reply
+pub fn locked(answer: Result<Locked, Refusal>) -> Reply
     ensures { result ≡ reply_of (λ locked. Reply.Locked locked.place locked.count) answer }
 {
     match answer {
@@ -68,7 +68,7 @@ pub(crate) fn locked(answer: Result<Locked, Refusal>) -> Reply
     }
 }
 
-pub(crate) fn database(answer: Result<Db, Refusal>) -> Reply
+pub fn database(answer: Result<Db, Refusal>) -> Reply
     ensures { result ≡ reply_of (λ db. Reply.Database db) answer }
 {
     match answer {
@@ -77,7 +77,7 @@ pub(crate) fn database(answer: Result<Db, Refusal>) -> Reply
     }
 }
 
-pub(crate) fn info(answer: Result<DbInfo, Refusal>) -> Reply
+pub fn info(answer: Result<DbInfo, Refusal>) -> Reply
     ensures { result ≡ reply_of (λ info. Reply.Info info) answer }
 {
     match answer {
@@ -86,7 +86,7 @@ pub(crate) fn info(answer: Result<DbInfo, Refusal>) -> Reply
     }
 }
 
-pub(crate) fn made(answer: Result<(u32, Name), Refusal>) -> Reply
+pub fn made(answer: Result<(u32, Name), Refusal>) -> Reply
     ensures { result ≡ reply_of made_reply answer }
 {
     match answer {
@@ -95,7 +95,7 @@ pub(crate) fn made(answer: Result<(u32, Name), Refusal>) -> Reply
     }
 }
 
-pub(crate) fn record(answer: Result<RecordInfo, Refusal>) -> Reply
+pub fn record(answer: Result<RecordInfo, Refusal>) -> Reply
     ensures { result ≡ reply_of (λ info. Reply.Record info) answer }
 {
     match answer {
@@ -104,7 +104,7 @@ pub(crate) fn record(answer: Result<RecordInfo, Refusal>) -> Reply
     }
 }
 
-pub(crate) fn resource(answer: Result<ResourceInfo, Refusal>) -> Reply
+pub fn resource(answer: Result<ResourceInfo, Refusal>) -> Reply
     ensures { result ≡ reply_of (λ info. Reply.Resource info) answer }
 {
     match answer {
@@ -113,7 +113,7 @@ pub(crate) fn resource(answer: Result<ResourceInfo, Refusal>) -> Reply
     }
 }
 
-pub(crate) fn data(answer: Result<Bytes, Refusal>) -> Reply
+pub fn data(answer: Result<Bytes, Refusal>) -> Reply
     ensures { result ≡ reply_of (λ bytes. Reply.Data bytes) answer }
 {
     match answer {
@@ -126,7 +126,7 @@ pub(crate) fn data(answer: Result<Bytes, Refusal>) -> Reply
 
 /// What is told of the answer to a line, where it is no refusal.
 #[derive(Clone, Copy)]
-pub(crate) enum Told {
+pub enum Told {
     Nothing,
     Values,
     /// How many bytes it has.
@@ -144,7 +144,7 @@ fn told_of(line: &Line<'_>) -> Told
 }
 
 /// Prints the reply line of a line.
-pub(crate) fn put_reply<W: Write>(
+pub fn put_reply<W: Write>(
     out: &mut Counted<W>,
     line: &Line<'_>,
     reply: &Reply,
@@ -162,7 +162,7 @@ pub(crate) fn put_reply<W: Write>(
 }
 
 /// Prints the reply line of a line whose call answers these bytes, without a copy of them.
-pub(crate) fn put_data<W: Write>(
+pub fn put_data<W: Write>(
     out: &mut Counted<W>,
     line: &Line<'_>,
     bytes: &[u8],
@@ -190,10 +190,7 @@ fn put_told_bytes<W: Write>(
 }
 
 /// Prints `refused` with the number and the name of a refusal, and behind them what is wrong with a file.
-pub(crate) fn put_refusal<W: Write>(
-    out: &mut Counted<W>,
-    refusal: Refusal,
-) -> Result<(), WriteFault>
+pub fn put_refusal<W: Write>(out: &mut Counted<W>, refusal: Refusal) -> Result<(), WriteFault>
     ensures { Writes W.contents out.old out.new (refusal_line refusal) (is_ok result) }
 {
     let (fault, of) = details(refusal);

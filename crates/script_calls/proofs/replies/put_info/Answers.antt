@@ -1,8 +1,8 @@
 use Rattle.std.proofs.Common.{ℕ, List, subst}
 use Rattle.std.specs.Prelude.{is_ok}
 use Rattle.palm_text.specs.Counted.{Writes}
-use Rattle.palm_script.proofs.WordLaws.{words_before, words_of_info}
-use Rattle.palm_script.proofs.replies.put_info.Goals as goal
+use Rattle.script_calls.proofs.WordLaws.{words_before, words_of_info}
+use Rattle.script_calls.proofs.replies.put_info.Goals as goal
 
 pub returns : goal.returns
 unfolding words_before

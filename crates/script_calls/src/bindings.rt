@@ -2,14 +2,14 @@
 
 ghost use Rattle.std.specs.Prelude.{◌≡◌, ◌≤◌, ◌<◌, ℕ, List, length};
 ghost use Rattle.script_lines.specs.LineCounts.{chunk_label_end, database_label_end};
-ghost use Rattle.palm_script.specs.Lines.{bind, bound_after, no_database, no_name, table, tables};
-ghost use Rattle.palm_script.specs.Lines as answers;
+ghost use Rattle.script_calls.specs.Lines.{bind, bound_after, no_database, no_name, table, tables};
+ghost use Rattle.script_calls.specs.Lines as answers;
 
 use heap_model::{Bytes, Db, Name, Reply};
 use script_lines::{ChunkLabel, DatabaseLabel, LentBytes, Line};
 
 /// What a call is given for a chunk or a database: that itself, or a label that stands for it.
-pub(crate) trait Given<Named>: Copy {
+pub trait Given<Named>: Copy {
     ghost meant: { Self → List Named → Named };
 
     /// What is meant, where the labels stand for these.
@@ -58,7 +58,7 @@ impl Given<Db> for DatabaseLabel {
 }
 
 /// What a call is given for bytes: those themselves, or what the text of a script lends, which is decoded first.
-pub(crate) trait GivenBytes {
+pub trait GivenBytes {
     ghost spelled: { Self → List ℕ };
 
     /// How many bytes the buffer has to have.
@@ -92,7 +92,7 @@ impl<'t> GivenBytes for LentBytes<'t> {
 
 /// Binds what a line binds that was answered so: an answer that names nothing of the kind, as a refusal, binds
 /// nothing.
-pub(crate) fn bind_line(names: &mut [Name], databases: &mut [Db], line: &Line<'_>, reply: &Reply)
+pub fn bind_line(names: &mut [Name], databases: &mut [Db], line: &Line<'_>, reply: &Reply)
     requires chunks { chunk_label_end line.now ≤ length names.old }
     requires databases { database_label_end line.now ≤ length databases.old }
     ensures { tables names.new databases.new
