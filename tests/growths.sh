@@ -24,7 +24,8 @@ while IFS= read -r file; do
     case $file in
         *.antt) proofs+=("$file") ;;
         ./test_* | ./benchmarks/* | ./example_memos/*) ;;
-        ./command_line/* | ./palmheap_program/* | ./program_io/src/output_file.rt) ;;
+        ./program_io/src/command_line.rt | ./program_io/src/output_file.rt) ;;
+        ./palmheap_program/src/files.rt | ./palmheap_program/src/words.rt) ;;
         *) sources+=("$file") ;;
     esac
 done < <(find . -name out -prune -o -path ./allowance -prune -o '(' -name '*.rt' -o -name '*.antt' ')' -print)

@@ -33,6 +33,8 @@ CHECK, JOB = 3 * GB, GB
 LARGE, MOST_JOBS, FEW_JOBS = 300, 4, 2
 # Chains of crates that are this near to the longest share the processors; all other crates give way to them.
 NEAR = 0.95
+# The seconds within which rt takes over what it proved before.
+TAKEN_OVER = 10
 # The seconds of a crate that crate_seconds.txt does not list.
 UNLISTED = 60
 FAILED = 125
@@ -287,8 +289,9 @@ class Work:
 
     def left(self):
         """Returns an estimate of the seconds that are left, from what the crates proved so far took here."""
-        listed = sum(it.seconds for it in self.took)
-        pace = sum(self.took.values()) / listed if listed else 1.0
+        # A crate that takes less was proved before, and rt took that over.
+        new = {it: took for it, took in self.took.items() if took > TAKEN_OVER}
+        pace = sum(new.values()) / sum(it.seconds for it in new) if new else 1.0
         now = time.monotonic()
         needs = {it: it.seconds * pace for it in [*self.waiting, self.crates[-1]]}
         for lane in self.at_work():
@@ -371,7 +374,8 @@ def version_of_rt():
 
 
 def stop_at_signal(number, _frame):
-    raise Stopped(f"interrupted by signal {number}; the next call goes on from here")
+    say("interrupted: keeping what is proved, and removing the lanes")
+    raise Stopped(f"ended by signal {number}; the next call goes on from here")
 
 
 SIGNALS = (signal.SIGHUP, signal.SIGINT, signal.SIGTERM)

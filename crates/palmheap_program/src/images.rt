@@ -2,10 +2,10 @@
 
 ghost use Rattle.std.specs.Prelude.{◌≢◌};
 
+use crate::commands::{check_region_from, cmd_new_from};
 use crate::faults::{STANDARD_OUTPUT, fail};
 use crate::files::read_image;
 use palm_text::Counted;
-use palmheap_commands::{check_region_from, cmd_new_from};
 use program_io::{Noted, OutputFile, Status, report_outcome};
 use std::io;
 use std::rt::Files;

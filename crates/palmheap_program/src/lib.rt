@@ -1,30 +1,38 @@
-//! The program `palmheap`, as a function over a runtime and the words of the command line.
+//! The program `palmheap`, as a function over a runtime and the words of the command line; and its commands.
 //!
-//! It alone meets the system: it reads the input files, prints, has the output files put in place, and
-//! says on standard error which file failed and why. What a command does stands in the crate
-//! `palmheap_commands`, whose contracts say which status comes when and what was written by then. The crate
-//! `command_line` reads the words, and has the texts of the help.
+//! Each command is a function over bytes and counted writers, whose contract says which status comes when,
+//! what was written by then, and where a write failed; and the form of it over any `Allowance`, that want of
+//! memory comes only of a refused growth. Start at `cmd_new`.
 //!
-//! What a file or a terminal holds no contract can say. So the clauses here say no more than with which
-//! statuses a part ends, and the stored runs of `test_program` show which file is read and written as what.
-//! Start at `run`.
+//! What stands around them alone meets the system: it reads the input files, prints, has the output files put
+//! in place, and says on standard error which file failed and why. What a file or a terminal holds no contract
+//! can say. So its clauses say no more than with which statuses a part ends, and the stored runs of
+//! `test_program` show which file is read and written as what. Start at `run`.
 //!
 //! | module | does |
 //! |---|---|
+//! | `commands` | the commands `new` and `check`, over bytes |
+//! | `run_command` | the command `run`: a script, run on an image |
+//! | `image_output` | images that are written |
 //! | `words` | takes the words of the command line |
 //! | `requests` | does what they ask for, and answers those that ask for no command |
-//! | `images` | the commands `new` and `check` |
-//! | `scripts` | the command `run` |
+//! | `images` | the commands `new` and `check`, over files |
+//! | `scripts` | the command `run`, over files |
 //! | `files` | reads and writes files |
 //! | `faults` | says what kept a command from its start |
 #![tactic(auto)]
 
+mod commands;
 mod faults;
 mod files;
+mod image_output;
 mod images;
 mod requests;
+mod run_command;
 mod scripts;
 mod words;
 
+pub use commands::{check_region_from, cmd_check, cmd_check_from, cmd_new, cmd_new_from};
 pub use requests::run;
+pub use run_command::{cmd_run, cmd_run_from, run_region_from};
 pub use words::read_words;

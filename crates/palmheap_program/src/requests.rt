@@ -6,7 +6,7 @@ use crate::faults::{STANDARD_OUTPUT, fail};
 use crate::images::{check, new};
 use crate::scripts::run_script;
 use clap::error::ErrorKind;
-use command_line::Request;
+use program_io::command_line::{self, Request};
 use program_io::{Status, report_write_fault};
 use std::rt::Files;
 

@@ -1,11 +1,12 @@
-//! What a program reads and writes: input files, lines on writers whose faults are counted, output
-//! files, and what all that came to.
+//! What a program reads and writes: the words of its command line, input files, lines on writers whose faults
+//! are counted, output files, and what all that came to.
 //!
-//! No file or terminal stands in a contract: each function works over readers and writers. Start at
+//! No file or terminal stands in a contract: each function works over words, readers and writers. Start at
 //! `say`, which prints a line, and at `Status`.
 //!
 //! | module | does |
 //! |---|---|
+//! | `command_line` | reads the words of the command line, and has the texts of the help |
 //! | `input` | reads a file to its end, within the limit |
 //! | `output` | prints a line, and answers the status that a run comes to |
 //! | `fault_lines` | the lines for a refused image and a refused script |
@@ -15,6 +16,7 @@
 //! | `fault_report` | what standard error gets where a run broke off |
 #![tactic(auto)]
 
+pub mod command_line;
 mod fault_lines;
 mod fault_report;
 mod input;

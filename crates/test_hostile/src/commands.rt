@@ -6,7 +6,7 @@ use chunk_format::BlankFault;
 use heap_model::Bytes;
 use palm_script::{LineFault, ScriptFault};
 use palm_text::Counted;
-use palmheap_commands::{cmd_check_from, cmd_new_from, cmd_run_from};
+use palmheap_program::{cmd_check_from, cmd_new_from, cmd_run_from};
 use program_io::{Status, say_bad, say_line_fault};
 use std::alloc::Global;
 use std::test::*;

@@ -4,7 +4,7 @@ use heap_model::{Call, MemoryCall, Name, Reply};
 use palm_script::{do_call, run_calls};
 use palm_store::{Store, StoreSummary};
 use palm_text::Counted;
-use palmheap_commands::{cmd_check, cmd_run};
+use palmheap_program::{cmd_check, cmd_run};
 use program_io::{INPUT_LIMIT, Status};
 use std::alloc::{AllocError, Global};
 use std::test::*;

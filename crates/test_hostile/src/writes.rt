@@ -8,7 +8,7 @@ use heap_model::{Bytes, Db};
 use palm_script::RunFault;
 use palm_store::Store;
 use palm_text::Counted;
-use palmheap_commands::{cmd_check, cmd_new, cmd_run};
+use palmheap_program::{cmd_check, cmd_new, cmd_run};
 use pdb_files::export;
 use program_io::Status;
 use std::alloc::Global;

@@ -2,7 +2,7 @@
 
 use crate::runs::check_told;
 use palm_text::Counted;
-use palmheap_commands::{cmd_check, cmd_new};
+use palmheap_program::{cmd_check, cmd_new};
 use program_io::Status;
 use std::alloc::Global;
 use std::io::{ErrorKind, Write};

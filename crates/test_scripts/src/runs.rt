@@ -3,7 +3,7 @@
 use crate::grammar::halves;
 use heap_model::Bytes;
 use palm_text::Counted;
-use palmheap_commands::cmd_run;
+use palmheap_program::cmd_run;
 use program_io::Status;
 use std::alloc::{AllocError, Global};
 use std::io::{BufWriter, ErrorKind, Write};

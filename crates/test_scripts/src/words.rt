@@ -1,6 +1,6 @@
 //! The words of the command line.
 
-use command_line::{Request, parse};
+use program_io::command_line::{Request, parse};
 use std::alloc::{AllocError, Global};
 use std::test::Fail;
 use test_support::holds;

@@ -1,10 +1,10 @@
 //! The commands `new` and `check`, over bytes and writers.
 
 ghost use Rattle.std.specs.Prelude.{◌≡◌, IfOk, OnErr, string_bytes};
-ghost use Rattle.palmheap_commands.specs.Commands.{EndsCheck, EndsNew, heap_line, summary_lines};
+ghost use Rattle.palmheap_program.specs.Commands.{EndsCheck, EndsNew, heap_line, summary_lines};
 ghost use Rattle.allowance.specs.Refusals.{GrowthRefused};
 
-use crate::images::put_image;
+use crate::image_output::put_image;
 use allowance::{Allowance, text_of};
 use chunk_format::{BlankFault, blank_from};
 use heap_check::Summary;

@@ -3,11 +3,11 @@
 ghost use Rattle.std.specs.Prelude.{◌≡◌, ◌≢◌, ◌⊎◌, Ok, Err, IfOk, IfErr, OnOk, true, false};
 ghost use Rattle.heap_model.specs.Store.{Accepted};
 ghost use Rattle.script_lines.specs.Reading.{read_script};
-ghost use Rattle.palmheap_commands.specs.Runs.{EndsEarly, EndsRun, PrintingFails, PutsRefusal, RunBreaksOffShort};
-ghost use Rattle.palmheap_commands.specs.Runs.{RunsAndFlushes, RunsAndWrites, RunsScriptShort};
+ghost use Rattle.palmheap_program.specs.Runs.{EndsEarly, EndsRun, PrintingFails, PutsRefusal, RunBreaksOffShort};
+ghost use Rattle.palmheap_program.specs.Runs.{RunsAndFlushes, RunsAndWrites, RunsScriptShort};
 ghost use Rattle.allowance.specs.Refusals.{GrowthRefused};
 
-use crate::images::put_store;
+use crate::image_output::put_store;
 use allowance::Allowance;
 use heap_model::Bytes;
 use palm_script::{RunFault, Script, ScriptFault, run_from};

@@ -1,7 +1,6 @@
 //! The words of the command line, and the texts of the help.
 //!
 //! `COMMANDS` has a row for each command: start there. `parse` answers what the words ask for.
-#![tactic(auto)]
 
 use clap::builder::ValueParser;
 use clap::error::{Error, ErrorKind};
