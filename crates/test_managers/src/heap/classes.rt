@@ -2,7 +2,7 @@
 
 use crate::heap::beside::Beside;
 use crate::heap::by_hand::{Example, check_all, check_on};
-use crate::heap::images::EIGHT_SLOTS;
+use crate::heap::images::{EIGHT_SLOTS, SIXTEEN_SLOTS};
 use heap_model::{MemoryCall, Name, Reply};
 use std::alloc::Global;
 use std::test::*;
@@ -187,6 +187,60 @@ const OPENED: &str = "handle_new 24 1 = named 16
     handle_new 24 1 = named 20
     free_bytes = 48";
 
+/// One of two stretches is packed for a new chunk. The next chunk is made in the other stretch. Then the rest of the
+/// free chunk that it was cut from and the last 16 bytes, which are of one class, are in one list.
+const PACKED_FOR_A_NEW_CHUNK: &str = "handle_new 24 1 = named 16
+    handle_new 24 1 = named 20
+    handle_new 24 1 = named 24
+    handle_new 24 1 = named 28
+    handle_new 24 1 = named 32
+    handle_new 24 1 = named 36
+    lock 28 = at 152 locks 1
+    free 16 = done
+    free 24 = done
+    free 32 = done
+    handle_new 56 1 = named 16
+    handle_new 0 1 = named 24
+    free_bytes = 40
+    free 36 = done
+    free_bytes = 72";
+
+/// The second of three stretches is packed for the chunk of the first one, which grows and goes there. Then the free
+/// chunk of the third stretch is in its list after the next chunk is made, and it is the next of one that is freed.
+const PACKED_FOR_A_CHUNK_THAT_GROWS: &str = "handle_new 24 1 = named 16
+    handle_new 24 1 = named 20
+    handle_new 24 1 = named 24
+    handle_new 24 1 = named 28
+    handle_new 24 1 = named 32
+    handle_new 24 1 = named 36
+    handle_new 24 1 = named 40
+    handle_new 24 1 = named 44
+    lock 20 = at 120 locks 1
+    lock 36 = at 248 locks 1
+    free 24 = done
+    free 32 = done
+    free 40 = done
+    resize 16 56 = done
+    handle_new 24 1 = named 24
+    free_bytes = 32
+    free 44 = done
+    free_bytes = 64";
+
+/// A chunk grows and goes to two neighbours that were freed and aren't joined. The third chunk that was freed is in
+/// its list after the next one is freed.
+const MOVED_TO_TWO: &str = "handle_new 24 1 = named 16
+    handle_new 24 1 = named 20
+    handle_new 24 1 = named 24
+    handle_new 24 1 = named 28
+    handle_new 24 1 = named 32
+    handle_new 24 1 = named 36
+    free 20 = done
+    free 24 = done
+    free 32 = done
+    resize 36 56 = done
+    free 28 = done
+    free_bytes = 112";
+
 const GROWN_OVER_THE_LAST: &str = "resize 16 8 = done
     free 24 = done
     free_bytes = 576
@@ -212,9 +266,20 @@ fn check_far(alloc: Global, beside: &mut Beside) -> Result<(), Fail> {
     )
 }
 
-static EXAMPLES: [Example; 2] = [
+static EXAMPLES: [Example; 5] = [
     ("a chunk grows over two", EIGHT_SLOTS, GROWN_OVER_TWO),
+    ("a chunk goes to two", EIGHT_SLOTS, MOVED_TO_TWO),
     ("room is opened behind a chunk", EIGHT_SLOTS, OPENED),
+    (
+        "a stretch is packed for a new chunk",
+        EIGHT_SLOTS,
+        PACKED_FOR_A_NEW_CHUNK,
+    ),
+    (
+        "a stretch is packed for a chunk that grows",
+        SIXTEEN_SLOTS,
+        PACKED_FOR_A_CHUNK_THAT_GROWS,
+    ),
 ];
 
 #[test]

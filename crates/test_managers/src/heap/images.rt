@@ -6,6 +6,9 @@ pub(crate) const ONE_SLOT: &str = "50484931 00000080 0001 0000 00*12 80000068 00
 /// 256 bytes with 8 slots and one free chunk.
 pub(crate) const EIGHT_SLOTS: &str = "50484931 00000100 0008 0000 00*36 800000D0 00*204";
 
+/// 336 bytes with 16 slots and one free chunk of 256 bytes.
+pub(crate) const SIXTEEN_SLOTS: &str = "50484931 00000150 0010 0000 00*68 80000100 00*252";
+
 /// 2,048 bytes with 4 slots and one free chunk.
 pub(crate) const SPACIOUS: &str = "50484931 00000800 0004 0000 00*20 800007E0 00*2012";
 
