@@ -10,6 +10,7 @@ ghost use Rattle.heap_model.specs.declared.call.Reply.{Reply};
 ghost use Rattle.heap_model.specs.declared.refusal.Refusal.{Refusal};
 ghost use Rattle.script_lines.specs.LineCounts.{bytes_given, bytes_written};
 ghost use Rattle.palm_script.specs.Lines.{Answers, OnWant};
+ghost use Rattle.palm_script.specs.Movement.{Moves, MovesInHeap};
 
 use crate::bindings::{Given, GivenBytes};
 use crate::calls::Outcome::{Reads, Replied};
@@ -25,7 +26,8 @@ use std::alloc::Global;
 /// Does one call and answers its reply. Memory is taken by `read`, `import` and `export` alone; where
 /// it is refused, so is the call.
 pub fn do_call(alloc: Global, store: &mut Store, call: &Call) -> Reply
-    ensures { DoesInStore store.old call.now result store.new }
+    ensures does { DoesInStore store.old call.now result store.new }
+    ensures moves { Moves store.old call.now store.new }
 {
     do_call_from(&alloc, store, call)
 }
@@ -33,6 +35,7 @@ pub fn do_call(alloc: Global, store: &mut Store, call: &Call) -> Reply
 /// `do_call`, where each growth asks for a grant. Only a refused growth is answered by `OutOfMemory`.
 pub fn do_call_from<A: Allowance>(memory: &A, store: &mut Store, call: &Call) -> Reply
     ensures does { DoesInStore store.old call.now result store.new }
+    ensures moves { Moves store.old call.now store.new }
     ensures no_memory { result ≡ Reply.Refused Refusal.OutOfMemory → A.is_short memory.now }
 {
     match do_given(memory, store, &[], &[], &mut [], call) {
@@ -78,6 +81,8 @@ pub(crate) fn do_given<A: Allowance, C: Given<Name>, D: Given<Db>, B: GivenBytes
     requires room { bytes_given B.room call.now ≤ length buffer.old }
     ensures answers { Answers store.old (call_by (λ chunk. C.meant chunk names.now)
         (λ db. D.meant db databases.now) B.spelled call.now) result store.new }
+    ensures moves { Moves store.old (call_by (λ chunk. C.meant chunk names.now)
+        (λ db. D.meant db databases.now) B.spelled call.now) store.new }
     ensures no_memory { OnWant result (A.is_short memory.now) }
 {
     match call {
@@ -135,8 +140,10 @@ fn do_memory_call<C: Given<Name>, B: GivenBytes>(
     call: &MemoryCall<C, B>,
 ) -> Outcome
     requires { bytes_written B.room call.now ≤ length buffer.old }
-    ensures { Answers store.old (calls.Call.Memory
+    ensures answers { Answers store.old (calls.Call.Memory
         (memory_call (λ chunk. C.meant chunk names.now) B.spelled call.now)) result store.new }
+    ensures moves { MovesInHeap store.old
+        (memory_call (λ chunk. C.meant chunk names.now) B.spelled call.now) store.new }
 {
     match call {
         MemoryCall::Read { name, at, count } => Reads(name.among(names), *at, *count),
