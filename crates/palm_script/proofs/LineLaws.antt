@@ -108,7 +108,7 @@ all_lines {W} {short} contents inputs lines old first i text files new bound aft
 -- ---- where nothing is known of memory
 
 step_alone : {short : Type 0} (inputs : List (List ℕ)) (old : Memory) (bound : Bindings) (line : Line) (reply : Reply) (new : Memory) → LineStep short inputs old bound line reply new → LineStep (Unit {0}) inputs old bound line reply new
-step_alone inputs old bound line reply new step = record { does = step.does; takes_no_memory = step.takes_no_memory; no_memory = λ _. tt }
+step_alone inputs old bound line reply new step = record { does = step.does; moves = step.moves; takes_no_memory = step.takes_no_memory; no_memory = λ _. tt }
 
 lines_alone : (short : Type 0) (inputs : List (List ℕ)) (old : Memory) (bound : Bindings) (lines : List Line) (text : List ℕ) (files : List (List ℕ)) (new : Memory) (after : Bindings) → Lines short inputs old bound lines text files new after → Lines (Unit {0}) inputs old bound lines text files new after
 lines_alone short inputs old bound [] text files new after ran = ran

@@ -5,7 +5,7 @@ use Rattle.std.specs.Prelude.{Some, slice_get}
 use Rattle.heap_model.specs.Memory.{Memory}
 use Rattle.heap_model.specs.Space.{Still}
 use Rattle.heap_model.specs.Store.{Accepted}
-use Rattle.heap_model.specs.StoreSteps.{Call, DoesInStore, StoreStep}
+use Rattle.heap_model.specs.StoreSteps.{Call, DoesInStore}
 use Rattle.heap_model.specs.Runs.{Run}
 use Rattle.heap_model.specs.declared.call.Reply.{Reply}
 use Rattle.laws_store.proofs.MeantStore.{read_is_meant}
@@ -56,12 +56,12 @@ one_in_front image call calls reply replies mid last accepted does later = recor
     accepted_at zero within = accepted
     accepted_at (suc count) within = later.accepted count (omega arith)
 
-    step_at : (count : ℕ) (one : Call) (answer : Reply) → slice_get (call ∷ calls) count ≡ Some one → slice_get (reply ∷ replies) count ≡ Some answer → StoreStep (behind image later.region count) one answer (behind image later.region (suc count))
+    step_at : (count : ℕ) (one : Call) (answer : Reply) → slice_get (call ∷ calls) count ≡ Some one → slice_get (reply ∷ replies) count ≡ Some answer → DoesInStore (behind image later.region count) one answer (behind image later.region (suc count))
     step_at zero one answer found answered =
         let called : call ≡ one = cc in
         let replied : reply ≡ answer = cc in
-        rw (later.first, ← called, ← replied) does.step
-    step_at (suc count) one answer found answered = subst (λ (k : ℕ). StoreStep (later.region count) one answer (later.region k)) (add-one count) (later.step count one answer found answered)
+        rw (later.first, ← called, ← replied) does
+    step_at (suc count) one answer found answered = subst (λ (k : ℕ). DoesInStore (later.region count) one answer (later.region k)) (add-one count) (later.step count one answer found answered)
 
     still_at : (count : ℕ) → count < length (call ∷ calls) → Still (behind image later.region count).bytes (behind image later.region (suc count)).bytes
     still_at zero below = rw later.first does.still

@@ -3,7 +3,7 @@ use Rattle.std.specs.Prelude.{◌≡◌, ◌<◌, ◌≤◌, ◌+◌, ◌⊎◌,
 use Rattle.heap_model.specs.Memory.{Memory}
 use Rattle.heap_model.specs.Space.{Still}
 use Rattle.heap_model.specs.Store.{Accepted, Means, store_of}
-use Rattle.heap_model.specs.StoreSteps.{Call, StoreStep}
+use Rattle.heap_model.specs.StoreSteps.{Call, DoesInStore}
 use Rattle.heap_model.specs.declared.call.Reply.{Reply}
 use Rattle.store_check.specs.declared.fault.StoreFault.TheVariants.{OutOfMemory as CheckOutOfMemory}
 use Rattle.palm_script.specs.declared.lists.NotRun.{NotRun}
@@ -21,7 +21,7 @@ pub record AnswersAsRun (image : Memory) (calls : List Call) (replies : List Rep
   pub accepted : (count : ℕ) → count ≤ length calls → Accepted (region count).bytes
   pub means : (count : ℕ) → count ≤ length calls → Means (region count).bytes (store_of (region count).bytes)
   pub replied : length replies ≡ length calls
-  pub step : (count : ℕ) (call : Call) (reply : Reply) → slice_get calls count ≡ Some call → slice_get replies count ≡ Some reply → StoreStep (region count) call reply (region (count + 1))
+  pub step : (count : ℕ) (call : Call) (reply : Reply) → slice_get calls count ≡ Some call → slice_get replies count ≡ Some reply → DoesInStore (region count) call reply (region (count + 1))
   pub still : (count : ℕ) → count < length calls → Still (region count).bytes (region (count + 1)).bytes
 
 -- No call was done, and the region is handed back as it was: it is no accepted image, or memory was refused.

@@ -9,6 +9,7 @@ ghost use Rattle.heap_model.specs.declared.refusal.Refusal.{Refusal};
 ghost use Rattle.script_lines.specs.LineCounts.{bytes_given};
 ghost use Rattle.script_calls.specs.Lines.{Answers, OnWant};
 ghost use Rattle.allowance.specs.Refusals.{GrowthRefused};
+ghost use Rattle.script_calls.specs.Movement.{Moves};
 
 use crate::files::do_file_call;
 use crate::records::do_record_call;
@@ -25,6 +26,7 @@ use std::alloc::Global;
 pub fn do_call(alloc: Global, store: &mut Store, call: &Call) -> Reply
     ensures does { DoesInStore store.old call.now result store.new }
     ensures no_memory { result ≡ Reply.Refused Refusal.OutOfMemory → GrowthRefused }
+    ensures moves { Moves store.old call.now store.new }
 {
     do_call_from(&alloc, store, call)
 }
@@ -32,6 +34,7 @@ pub fn do_call(alloc: Global, store: &mut Store, call: &Call) -> Reply
 /// `do_call`, where each growth asks for a grant. Only a refused growth is answered by `OutOfMemory`.
 pub fn do_call_from<A: Allowance>(memory: &A, store: &mut Store, call: &Call) -> Reply
     ensures does { DoesInStore store.old call.now result store.new }
+    ensures moves { Moves store.old call.now store.new }
     ensures no_memory { result ≡ Reply.Refused Refusal.OutOfMemory → A.is_short memory.now }
 {
     match do_given(memory, store, &[], &[], &mut [], call) {
@@ -68,6 +71,8 @@ pub(crate) fn do_given<A: Allowance, C: Given<Name>, D: Given<Db>, B: GivenBytes
     requires room { bytes_given B.room call.now ≤ length buffer.old }
     ensures answers { Answers store.old (call_by (λ chunk. C.meant chunk names.now)
         (λ db. D.meant db databases.now) B.spelled call.now) result store.new }
+    ensures moves { Moves store.old (call_by (λ chunk. C.meant chunk names.now)
+        (λ db. D.meant db databases.now) B.spelled call.now) store.new }
     ensures no_memory { OnWant result (A.is_short memory.now) }
 {
     match call {

@@ -7,6 +7,7 @@ ghost use Rattle.heap_model.specs.declared.call.Call.TheVariants as calls;
 ghost use Rattle.heap_model.specs.declared.call.MemoryCall.{MemoryCall};
 ghost use Rattle.script_calls.specs.Lines.{Answers, DoesLine, OnWant, call_of, tables};
 ghost use Rattle.script_calls.specs.Lines as words;
+ghost use Rattle.script_calls.specs.Movement.{Moves};
 
 use crate::calls::do_given;
 use crate::files::{export, import};
@@ -81,6 +82,8 @@ fn outcome_of<A: Allowance>(
     requires { byte_count line.now ≤ length buffer.old }
     ensures answers { Answers store.old (call_of inputs.now (tables names.now databases.now) line.now)
         result store.new }
+    ensures moves { Moves store.old (call_of inputs.now (tables names.now databases.now) line.now)
+        store.new }
     ensures no_memory { OnWant result (A.is_short memory.now) }
 {
     match line {

@@ -30,6 +30,7 @@ use Rattle.script_lines.specs.Commands.{LineCall}
 use Rattle.script_lines.specs.declared.line.Line.{Line}
 use Rattle.script_lines.specs.declared.line.Line.TheVariants.{Bind, Print, Silent, BindChunk, BindDatabase, Import, Export}
 use Rattle.palm_text.specs.declared.output.WriteFault.{WriteFault}
+use Rattle.script_calls.specs.Movement.{Moves}
 use Rattle.script_calls.specs.declared.calls.Outcome.{Outcome}
 use Rattle.script_calls.specs.declared.calls.Outcome.TheVariants.{Replied, Reads}
 use Rattle.script_calls.specs.declared.replies.Told.{Told}
@@ -301,10 +302,11 @@ exported (Export label) reply = file_in reply
 
 -- ---- the run of lines
 
--- The call of a line does its step. Only where the call may want memory it is refused for want of it, and then
--- memory was short.
+-- The call of a line does its step, and moves no more chunks than it may. Only where the call may want memory it is
+-- refused for want of it, and then memory was short.
 pub record LineStep (short : Type 0) (inputs : List (List ℕ)) (old : Region) (bound : Bindings) (line : Line) (reply : Reply) (new : Region) : Type 0 where
   pub does : DoesInStore old (call_of inputs bound line) reply new
+  pub moves : Moves old (call_of inputs bound line) new
   pub takes_no_memory : may_want_memory (call_of inputs bound line) ≡ false → reply ≢ Refused OutOfMemory
   pub no_memory : reply ≡ Refused OutOfMemory → short
 

@@ -9,6 +9,7 @@ ghost use Rattle.heap_model.specs.declared.call.Reply.{Reply};
 ghost use Rattle.heap_model.specs.declared.refusal.Refusal.{Refusal};
 ghost use Rattle.script_lines.specs.LineCounts.{bytes_written};
 ghost use Rattle.script_calls.specs.Lines.{Answers};
+ghost use Rattle.script_calls.specs.Movement.{MovesInHeap};
 
 use crate::bindings::{Given, GivenBytes};
 use crate::calls::Outcome::{Reads, Replied};
@@ -73,8 +74,10 @@ pub fn do_memory_call<C: Given<Name>, B: GivenBytes>(
     call: &MemoryCall<C, B>,
 ) -> Outcome
     requires { bytes_written B.room call.now ≤ length buffer.old }
-    ensures { Answers store.old (calls.Call.Memory
+    ensures answers { Answers store.old (calls.Call.Memory
         (memory_call (λ chunk. C.meant chunk names.now) B.spelled call.now)) result store.new }
+    ensures moves { MovesInHeap store.old
+        (memory_call (λ chunk. C.meant chunk names.now) B.spelled call.now) store.new }
 {
     match call {
         MemoryCall::Read { name, at, count } => Reads(name.among(names), *at, *count),
