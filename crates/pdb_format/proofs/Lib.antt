@@ -1,7 +1,13 @@
 pub mod FaultLaws
+pub mod FileBlocks
+pub mod FileIds
+pub mod FileNames
+pub mod FileParts
 pub mod GoodFiles
 pub mod NamedSizes
 pub mod PlacedBlocks
+pub mod ReadFiles
+pub mod ReadHeaders
 pub mod SortedStarts
 pub mod WrittenBlocks
 pub mod WrittenFiles
@@ -9,3 +15,4 @@ pub mod WrittenHeads
 pub mod WrittenIds
 pub mod WrittenOffsets
 pub mod WrittenStores
+pub mod Zips
