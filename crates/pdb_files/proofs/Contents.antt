@@ -11,6 +11,7 @@ use Rattle.heap_model.specs.Store.{bytes_named, content}
 use Rattle.heap_model.specs.Files.{idle_entry, idle, block_size, block_offset, entries_with_offsets, with_offsets, first_block}
 use Rattle.db_format.specs.declared.header.DbHeader.{DbHeader}
 use Rattle.db_format.specs.Headers.{HasHeader}
+use Rattle.pdb_format.proofs.FileParts.{length-with_offsets}
 use Rattle.pdb_files.specs.declared.exporting.places.Places.{Places}
 use Rattle.pdb_files.specs.FileParts.{ArePlaces}
 
@@ -62,10 +63,6 @@ same_offset at other block same e f = ap (λ (n : ℕ). block_offset n block) e 
 pub first_block_is : (chunks : ChunkMap) (bytes : List ℕ) → first_block (content chunks (database_in bytes)) ≡ entry_offset (resources_in bytes) (entry_count_in bytes) + 2
 unfolding database_in header_in
 first_block_is chunks bytes = ap (λ (n : ℕ). entry_offset (resources_in bytes) n + 2) (length-entries chunks bytes)
-
-length-with_offsets : (at : ℕ) (es : List (Entry (Option (List ℕ)))) → length (entries_with_offsets at es) ≡ length es
-length-with_offsets at [] = refl
-length-with_offsets at (e ∷ es) = let ih = length-with_offsets (at + block_size (entry_data e)) es in omega arith
 
 -- the header of a database, with these offsets, is that of its file
 pub header_placed : (chunks : ChunkMap) (d : Database ℕ) (header : DbHeader) (places : Places) → HasHeader d header → ArePlaces (content chunks d) places

@@ -3,7 +3,6 @@ use Rattle.std.proofs.Common.{◌≡◌, ℕ, ◌+◌, ◌*◌, Bool, true, fals
 use Rattle.std.specs.Prelude.{All}
 use Rattle.std.proofs.lemmas.List.{length-map}
 use Rattle.std.proofs.lemmas.List.Elements.{All-head, All-tail}
-use Rattle.heap_model.specs.Bytes.{u16_bytes, u24_bytes, u32_bytes}
 use Rattle.heap_model.specs.DatabaseFields.{entry_size}
 use Rattle.heap_model.specs.Meaning.{ChunkMap}
 use Rattle.heap_model.specs.Database.{Database, Entry, a_record, a_resource, entry_with, has_resources, entry_bytes, EntryFits, DatabaseFits}
@@ -11,16 +10,9 @@ use Rattle.heap_model.specs.Store.{bytes_named, content}
 use Rattle.heap_model.specs.Files.{idle_attributes, idle, block_size, block_offset, with_offsets, first_block, file_of}
 use Rattle.laws_store.proofs.Spellings.{length-header_bytes}
 use Rattle.pdb_format.specs.Writable.{file_size}
-use Rattle.pdb_files.specs.FileParts.{header_text, entries_text}
-use Rattle.pdb_files.proofs.FileTexts.{data_at, blocks_text, file_parts}
-
-record_long : (attributes id at : ℕ) → length (entry_bytes (a_record attributes id at)) ≡ 8
-unfolding entry_bytes u24_bytes u32_bytes
-record_long attributes id at = refl
-
-resource_long : (kind id at : ℕ) → length (entry_bytes (a_resource kind id at)) ≡ 10
-unfolding entry_bytes u16_bytes u32_bytes
-resource_long kind id at = refl
+use Rattle.pdb_format.specs.FileTexts.{header_text, entries_text}
+use Rattle.pdb_format.proofs.FileParts.{data_at, file_parts, record_long, resource_long}
+use Rattle.pdb_format.specs.FileTexts.{blocks_text}
 
 entries_long : (r : Bool) (chunks : ChunkMap) (at : ℕ) (es : List (Entry ℕ)) → All (EntryFits r) es → length (entries_text at (map (entry_with (bytes_named chunks)) es)) ≡ entry_size r * length es
 entries_long r chunks at [] all = omega arith

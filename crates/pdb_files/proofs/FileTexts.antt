@@ -10,28 +10,11 @@ use Rattle.heap_model.specs.Store.{bytes_named}
 use Rattle.heap_model.specs.Files.{block_bytes, block_size, first_block, file_of}
 use Rattle.palm_text.proofs.Parts.{then, stops, nothing}
 use Rattle.pdb_format.specs.Writable.{file_size}
-use Rattle.pdb_files.specs.FileParts.{file_entry, header_text, entries_text, data_text}
+use Rattle.pdb_format.specs.FileTexts.{header_text, entries_text, data_text}
+use Rattle.pdb_files.specs.FileParts.{file_entry}
+use Rattle.pdb_format.specs.FileTexts.{blocks_text}
+use Rattle.pdb_format.proofs.FileParts.{file_parts, data_at}
 use Rattle.pdb_files.proofs.Contents.{entries_of, length-entries, entry_here}
-
--- ---- the parts
-
--- where the data of the entries begins
-abbrev pub data_at : Database (Option (List ℕ)) → ℕ
-data_at database = first_block database + block_size database.app_info + block_size database.sort_info
-
--- the blocks
-abbrev pub blocks_text : Database (Option (List ℕ)) → List ℕ
-blocks_text database = flat_map block_bytes (data_in database)
-
-pub file_parts : (d : Database (Option (List ℕ))) → file_of d ≡ header_text d ++ (entries_text (data_at d) d.entries ++ (0 ∷ 0 ∷ [] ++ blocks_text d))
-unfolding file_of spelled
-file_parts d = append_assoc (header_text d) (entries_text (data_at d) d.entries) (0 ∷ 0 ∷ blocks_text d)
-
-pub size_parts : (d : Database (Option (List ℕ))) → file_size d ≡ data_at d + length (data_text d.entries)
-size_parts d =
-    let one = length-append (block_bytes d.app_info) (block_bytes d.sort_info ++ data_text d.entries) in
-    let other = length-append (block_bytes d.sort_info) (data_text d.entries) in
-    omega arith
 
 -- ---- the entries
 

@@ -3,10 +3,6 @@ pub mod FileLengths
 pub mod Contents
 pub mod OwnBlocks
 pub mod Databases
-pub mod Zips
-pub mod FileNames
-pub mod Headers
-pub mod FileBlocks
 pub mod Planned
 pub mod Plans
 pub mod FilledChunks

@@ -22,8 +22,9 @@ use Rattle.laws_heap.proofs.Fits.{short_beyond}
 use Rattle.laws_store.proofs.CallSteps.{refused}
 use Rattle.pdb_format.specs.Blocks.{bytes_at, IsWithin}
 use Rattle.pdb_format.specs.declared.blocks.Block.{Block}
-use Rattle.pdb_files.specs.Plans.{size_within, IsShort}
-use Rattle.pdb_files.proofs.FileBlocks.{size_at}
+use Rattle.pdb_format.specs.Blocks.{size_within}
+use Rattle.pdb_files.specs.Plans.{IsShort}
+use Rattle.pdb_format.proofs.FileBlocks.{size_at}
 use Rattle.pdb_files.proofs.Refusals.{good_brings}
 
 -- ---- rooms

@@ -9,8 +9,9 @@ use Rattle.heap_model.specs.FileSteps.{size_of_block}
 use Rattle.palm_store.specs.declared.databases.whole.WholeEntry.{WholeEntry}
 use Rattle.palm_store.specs.declared.databases.whole.WholeEntry.TheVariants as whole
 use Rattle.pdb_format.proofs.WrittenFiles.{still_deleted}
-use Rattle.pdb_files.specs.Plans.{IsPlannedAs, HasIdsFor, id_planned, IsPlannedOf, ArePlannedOf}
-use Rattle.pdb_files.proofs.FileBlocks.{none_planned, record_block, resource_block}
+use Rattle.pdb_format.specs.ReadFiles.{HasIdsFor}
+use Rattle.pdb_files.specs.Plans.{IsPlannedAs, id_planned, IsPlannedOf, ArePlannedOf}
+use Rattle.pdb_format.proofs.FileBlocks.{none_planned, record_block, resource_block}
 
 pub record_planned : (file ids : List ℕ) (index attributes id at given idle : ℕ) (size : Option ℕ) → HasNoFault file → index < entry_count_in file → HasIdsFor file ids → a_record attributes id at ≡ entry_in file index → false ≡ resources_in file
     → size ≡ size_of_block (get_or (blocks_in file) (2 + index) None) → idle ≡ idle_attributes attributes → given ≡ get_or ids index 0 → IsPlannedOf file ids index (whole.Record idle given size)

@@ -33,8 +33,8 @@ use Rattle.palm_store.proofs.WholeSteps.{whole_data}
 use Rattle.pdb_files.specs.declared.importing.plan.Plan.{Plan}
 use Rattle.pdb_files.specs.Plans.{IsPlannedAs, IsPlan}
 use Rattle.pdb_files.specs.Filling.{HasBlock, zeros_for, AreFilled, Refills}
-use Rattle.pdb_files.proofs.Zips.{zip_long, zip_at}
-use Rattle.pdb_files.proofs.FileBlocks.{length-blocks}
+use Rattle.pdb_format.proofs.Zips.{zip_long, zip_at}
+use Rattle.pdb_format.proofs.FileBlocks.{length-blocks}
 use Rattle.pdb_files.proofs.Plans.{kind_planned}
 use Rattle.pdb_files.proofs.Refusals.{behind_front, good_brings, good_none}
 

@@ -37,15 +37,3 @@ pub record ArePlaces (database : Database (Option (List ℕ))) (places : Places)
 -- an entry as a file has it, whose data stands at an offset
 abbrev pub file_entry : ChunkMap → ℕ → Entry ℕ → Entry ℕ
 file_entry chunks at entry = entry_with (block_offset at) (idle_entry (entry_with (bytes_named chunks) entry))
-
--- the header
-abbrev pub header_text : Database (Option (List ℕ)) → List ℕ
-header_text database = header_bytes (with_offsets (first_block database) (idle database))
-
--- the entries, whose data stands from an offset on
-abbrev pub entries_text : ℕ → List (Entry (Option (List ℕ))) → List ℕ
-entries_text first entries = flat_map entry_bytes (entries_with_offsets first (map idle_entry entries))
-
--- their data
-abbrev pub data_text : List (Entry (Option (List ℕ))) → List ℕ
-data_text entries = flat_map block_bytes (map entry_data entries)

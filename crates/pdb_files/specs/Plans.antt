@@ -7,20 +7,12 @@ use Rattle.heap_model.specs.Store.{unique_ids}
 use Rattle.heap_model.specs.Files.{HaveIds, idle_attributes, blocks_in}
 use Rattle.heap_model.specs.FileSteps.{size_of_block, block_sizes}
 use Rattle.pdb_format.specs.Blocks.{bytes_at, IsWithin}
+use Rattle.pdb_format.specs.ReadFiles.{header_read, HasIdsFor}
 use Rattle.pdb_format.specs.declared.blocks.Block.{Block}
 use Rattle.palm_store.specs.declared.databases.whole.WholeEntry.{WholeEntry}
 use Rattle.palm_store.specs.declared.databases.whole.WholeEntry.TheVariants as whole
 use Rattle.palm_store.specs.WholeDatabases.{size_of_data, data_sizes, CanCome, id_asked, CanBeWhole, header_asked}
 use Rattle.pdb_files.specs.declared.importing.plan.Plan.{Plan}
-
--- the header of the database of a file, with the last seed that was given
-abbrev pub header_read : List ℕ → ℕ → DatabaseHeader
-header_read file seed = record (header_in file) { seed = with_seed (header_in file).seed seed }
-
--- how many bytes a block has, if it is there
-abbrev pub size_within : Option Block → Option ℕ
-size_within None = None
-size_within (Some block) = Some (block.end - block.start)
 
 -- it has less than 4 GiB, if it is there
 abbrev pub IsShort : Option Block → Type 0
@@ -35,11 +27,6 @@ IsPlannedAs (a_record attributes id at) (whole.Record other_attributes other_id 
 IsPlannedAs (a_record attributes id at) (whole.Resource other_kind other_id size) = ⊥
 IsPlannedAs (a_resource kind id at) (whole.Record other_attributes other_id size) = ⊥
 IsPlannedAs (a_resource kind id at) (whole.Resource other_kind other_id size) = (other_kind ≡ kind) × (other_id ≡ id)
-
--- these can be the IDs of the records of a file: there is one for each, and none is 0
-pub record HasIdsFor (file ids : List ℕ) : Type 0 where
-  pub count : resources_in file ≡ false → length ids ≡ entry_count_in file
-  pub fit : All (λ id. (0 < id) × (id ≤ greatest_id)) ids
 
 -- the ID of the entry of an index, which a resource doesn't have
 abbrev pub id_planned : Bool → List ℕ → ℕ → Option ℕ

@@ -1,9 +1,15 @@
 pub mod FaultLaws
+pub mod FileBlocks
+pub mod FileIds
+pub mod FileNames
+pub mod FileParts
 pub mod GoodFiles
 pub mod NamedSizes
 pub mod PlacedBlocks
 pub mod ReadFiles
+pub mod ReadHeaders
 pub mod ReadIds
+pub mod ReadOnce
 pub mod SortedStarts
 pub mod WrittenBlocks
 pub mod WrittenFiles
@@ -11,3 +17,4 @@ pub mod WrittenHeads
 pub mod WrittenIds
 pub mod WrittenOffsets
 pub mod WrittenStores
+pub mod Zips

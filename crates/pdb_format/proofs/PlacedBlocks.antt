@@ -1,16 +1,17 @@
 -- Blocks that are put down at their ranks, one start after the other.
 use Rattle.std.proofs.Common.{◌≡◌, ℕ, ◌+◌, ◌<◌, ◌≤◌, List, length, get_or, set, map, Option, Some, None, sym, ap, subst, ◌∙◌, arith, inl, inr}
 use Rattle.std.specs.Prelude.{◌^◌, min, slice_range, slice_index}
-use Rattle.std.specs.List.{All, fold}
+use Rattle.std.specs.List.{All, fold, sum_by}
 use Rattle.std.specs.List.Sorted.{IsPermutation, IsNonDecreasingBy}
 use Rattle.std.proofs.lemmas.Bool.{cases_eq, cases_lt}
 use Rattle.std.proofs.lemmas.List.{length-map, length-set, get_or-map, get_or_past, get_or_default, get_or-set_same, get_or-set_other}
 use Rattle.std.proofs.lemmas.List.FromFn.{fill_by_all}
+use Rattle.std.proofs.lemmas.List.Sums.{sum_by-set, sum_by-le}
 use Rattle.heap_model.specs.Files.{starts_behind, offsets_in, block_end, block_at, blocks_in, HasNoFault}
 use Rattle.pdb_format.specs.declared.starts.Start.{Start}
 use Rattle.pdb_format.specs.declared.blocks.Block.{Block}
 use Rattle.pdb_format.specs.Starts.{starts_in, order, begins}
-use Rattle.pdb_format.specs.Blocks.{bytes_at, IsWithin}
+use Rattle.pdb_format.specs.Blocks.{bytes_at, IsWithin, length_within}
 use Rattle.pdb_format.proofs.GoodFiles.{offset_inside_file}
 use Rattle.pdb_format.proofs.SortedStarts.{none, AreSorted, items_are, ranks_apart, start_found, begins_inside, sorted_end}
 use Rattle.pdb_format.proofs.WrittenBlocks.{block_there}
@@ -24,6 +25,17 @@ pub record ArePut (offsets : List ℕ) (last : ℕ) (items : List Start) (blocks
   pub room : length blocks ≡ length offsets
   pub put : (j : ℕ) → j < index → get_or blocks (get_or items j none).rank None ≡ Some (placed last items j)
   pub rest : (rank : ℕ) → ((j : ℕ) → j < index → (get_or items j none).rank ≡ rank → ⊥) → get_or blocks rank None ≡ None
+
+-- at first nothing is put down
+pub nothing_put : (offsets : List ℕ) (last : ℕ) (items : List Start) (blocks : List (Option Block)) → length blocks ≡ length offsets → All (λ block. block ≡ None) blocks → ArePut offsets last items blocks 0
+nothing_put offsets last items blocks room empty = record {
+  room = room;
+  put = λ j less. absurd (omega arith);
+  rest = λ rank none_has. elim (cases_lt rank (length blocks)) [
+    | inl inside ↦ empty rank None inside
+    | inr past ↦ get_or_past blocks rank None past
+  ];
+}
 
 pub put_more : (offsets : List ℕ) (last : ℕ) (items : List Start) (blocks : List (Option Block)) (index : ℕ) → AreSorted offsets last items → index < length items → ArePut offsets last items blocks index
     → ArePut offsets last items (set blocks (get_or items index none).rank (Some (placed last items index))) (index + 1)
@@ -120,6 +132,38 @@ all_within offsets last items blocks sorted are = λ rank d inside.
           let block = ap (λ (r : ℕ). get_or blocks r None) (sym found.2) ∙ are.put found.0 found.1 in
           subst (IsWithin last) (sym block) (placed_within offsets last items sorted found.0 found.1)
     ])
+
+-- ---- they take no more than the file
+
+-- where nothing is put down yet, no bytes are taken
+pub none_taken : (blocks : List (Option Block)) → All (λ block. block ≡ None) blocks → sum_by length_within blocks ≡ 0
+none_taken blocks empty =
+    let none_long : (block : Option Block) → block ≡ None → length_within block ≤ 0 = λ block e. omega (arith, ap length_within e) in
+    let most = sum_by-le length_within 0 blocks (λ k d inside. none_long (get_or blocks k d) (empty k d inside)) in
+    omega arith
+
+-- the blocks that are put down take all from the first start up to where the next one begins
+pub taken_more : (offsets : List ℕ) (last : ℕ) (items : List Start) (blocks : List (Option Block)) (index : ℕ) → AreSorted offsets last items → index < length items → ArePut offsets last items blocks index
+    → sum_by length_within blocks + begins last items 0 ≡ begins last items index
+    → sum_by length_within (set blocks (get_or items index none).rank (Some (placed last items index))) + begins last items 0 ≡ begins last items (index + 1)
+taken_more offsets last items blocks index sorted inside are so_far =
+    let rank : ℕ = (get_or items index none).rank in
+    let own = (items_are offsets last items sorted index inside).0.0 in
+    let room = are.room in
+    let empty = are.rest rank (λ j less e. ranks_apart offsets last items sorted j index less inside e) in
+    let more = sum_by-set length_within blocks rank (Some (placed last items index)) None (omega arith) in
+    let was : length_within (get_or blocks rank None) ≡ 0 = ap length_within empty in
+    let within = placed_within offsets last items sorted index inside in
+    let first = within.0 in
+    let here = begins_inside last items index inside in
+    omega arith
+
+-- where all are put down, they take no more than there is
+pub taken_most : (last : ℕ) (items : List Start) (blocks : List (Option Block)) (index : ℕ) → length items ≤ index → sum_by length_within blocks + begins last items 0 ≡ begins last items index → sum_by length_within blocks ≤ last
+taken_most last items blocks index all so_far =
+    let long = length-map items (λ (start : Start). start.at) in
+    let is : begins last items index ≡ last = get_or_past (map (λ (start : Start). start.at) items) index last (omega arith) in
+    omega arith
 
 -- the sorted starts of a file without fault
 pub file_sorted : (file : List ℕ) (items : List Start) → HasNoFault file → length (offsets_in file) ≤ 2 ^ 32 → IsPermutation (starts_in (offsets_in file)) items → IsNonDecreasingBy order items → AreSorted (offsets_in file) (length file) items

@@ -1,164 +1,103 @@
--- A file without fault is read as a database, and as no other.
-use Rattle.std.proofs.Common.{◌≡◌, ℕ, ◌+◌, ◌<◌, ◌≤◌, ◌^◌, Option, List, [], ◌∷◌, length, map, refl, sym, ap, subst, ◌∙◌, arith}
-use Rattle.std.specs.Prelude.{slice_index}
+-- What a file says of its header, its entries and its blocks, with the IDs that its records have, is the database that is
+-- read from it.
+use Rattle.std.proofs.Common.{◌≡◌, ℕ, zero, suc, ◌+◌, ◌<◌, ◌≤◌, Bool, true, false, Option, Some, None, List, [], length, get_or, map, refl, sym, ap, subst, ◌∙◌, arith, inl, inr}
 use Rattle.std.specs.List.{AllZip, filter_map}
-use Rattle.std.proofs.lemmas.List.FromFn.{length-map-range_with_len}
-use Rattle.byteorder.specs.Numbers.{big_from-lt}
-use Rattle.heap_model.specs.Bytes.{u16_at, AreBytes}
-use Rattle.heap_model.specs.UniqueIds.{seed_in, with_seed}
-use Rattle.heap_model.specs.Database.{Database, DatabaseHeader, Entry, a_record, a_resource, entry_data, data_in, header_in, entry_count_in, entry_in, database_in}
+use Rattle.std.proofs.lemmas.List.{length-map, get_or-map, ext_get_or, nil_from_length}
+use Rattle.std.proofs.lemmas.List.FromFn.{length-map-range_with_len, get_or-map-range_with_len}
+use Rattle.heap_model.specs.UniqueIds.{seed_in}
+use Rattle.heap_model.specs.Database.{Entry, a_record, a_resource, entry_data, data_in, header_in, resources_in, entry_count_in, entry_at, entry_in, entry_offset, database_in}
 use Rattle.heap_model.specs.Store.{unique_id, unique_ids}
-use Rattle.heap_model.specs.Files.{offsets_in, block_at, blocks_in, idle_attributes, HasNoFault, HaveIds, IsReadAs, Reads}
-use Rattle.pdb_format.proofs.GoodFiles.{offset_count}
-use Rattle.pdb_format.proofs.ReadIds.{given_same, ids_exist}
+use Rattle.heap_model.specs.Files.{kept_ids, blocks_in, IsReadAs, HasNoFault, HaveIds, Reads}
+use Rattle.laws_heap.proofs.Tests.{true_or_false}
+use Rattle.pdb_format.specs.ReadFiles.{entry_read, entry_read_at, entries_read, database_read}
+use Rattle.pdb_format.proofs.Zips.{numbered_zip, all_given, none_given}
+use Rattle.pdb_format.proofs.FileIds.{given_long, ids_of_records, ids_of_resources}
+use Rattle.pdb_format.proofs.FileBlocks.{block_count}
 
--- ---- it is read as one
+pub length-entries_read : (file ids : List ℕ) → length (entries_read file ids) ≡ entry_count_in file
+length-entries_read file ids = length-map-range_with_len (entry_read_at file ids) 0 (entry_count_in file)
 
--- entries of a file can be read with these IDs and blocks
-record ReadWith (es : List (Entry ℕ)) (ids : List ℕ) (blocks : List (Option (List ℕ))) : Type 0 where
-  pub entries : List (Entry (Option (List ℕ)))
-  pub are : AllZip IsReadAs es entries
-  pub ids_are : filter_map unique_id entries ≡ ids
-  pub blocks_are : map entry_data entries ≡ blocks
+-- the entry of an index
+pub entry_read_is : (file ids : List ℕ) (k : ℕ) (d : Entry (Option (List ℕ))) → k < entry_count_in file → get_or (entries_read file ids) k d ≡ entry_read_at file ids k
+entry_read_is file ids k d inside = get_or-map-range_with_len (entry_read_at file ids) 0 (entry_count_in file) k k d inside (omega arith)
 
-read_with : (es : List (Entry ℕ)) (ids : List ℕ) (blocks : List (Option (List ℕ))) → length ids ≡ length (filter_map unique_id es) → length blocks ≡ length es → ReadWith es ids blocks
-read_with [] [] [] ids_long long = record { entries = []; are = tt; ids_are = refl; blocks_are = refl }
-read_with [] [] (block ∷ blocks) ids_long long = absurd (omega arith)
-read_with [] (id ∷ ids) blocks ids_long long = absurd (omega arith)
-read_with (e ∷ es) ids [] ids_long long = absurd (omega arith)
-read_with (a_record attributes old at ∷ es) [] (block ∷ blocks) ids_long long = absurd (omega arith)
-read_with (a_record attributes old at ∷ es) (id ∷ ids) (block ∷ blocks) ids_long long =
-    let rest = read_with es ids blocks (omega arith) (omega arith) in
-    record {
-      entries = a_record (idle_attributes attributes) id block ∷ rest.entries;
-      are = (refl, rest.are);
-      ids_are = ap (λ (ns : List ℕ). id ∷ ns) rest.ids_are;
-      blocks_are = ap (λ (bs : List (Option (List ℕ))). block ∷ bs) rest.blocks_are;
-    }
-read_with (a_resource kind old at ∷ es) ids (block ∷ blocks) ids_long long =
-    let rest = read_with es ids blocks ids_long (omega arith) in
-    record {
-      entries = a_resource kind old block ∷ rest.entries;
-      are = ((refl, refl), rest.are);
-      ids_are = rest.ids_are;
-      blocks_are = ap (λ (bs : List (Option (List ℕ))). block ∷ bs) rest.blocks_are;
-    }
+-- ---- the IDs
 
--- so can a database with this header
-record DatabaseWith (header : DatabaseHeader) (es : List (Entry ℕ)) (ids : List ℕ) (blocks : List (Option (List ℕ))) : Type 0 where
-  pub database : Database (Option (List ℕ))
-  pub header_is : database.header ≡ header
-  pub are : AllZip IsReadAs es database.entries
-  pub ids_are : unique_ids database ≡ ids
-  pub blocks_are : data_in database ≡ blocks
+record_id : (resources : Bool) (file : List ℕ) (at given : ℕ) (block : Option (List ℕ)) → resources ≡ false → unique_id (entry_read (entry_at resources file at) given block) ≡ Some given
+record_id false file at given block e = refl
+record_id true file at given block e = absurd cc
 
-database_with : (header : DatabaseHeader) (es : List (Entry ℕ)) (ids : List ℕ) (blocks : List (Option (List ℕ))) → length ids ≡ length (filter_map unique_id es) → length blocks ≡ 2 + length es → DatabaseWith header es ids blocks
-database_with header es ids [] ids_long long = absurd (omega arith)
-database_with header es ids (app ∷ []) ids_long long = absurd (omega arith)
-database_with header es ids (app ∷ sort ∷ blocks) ids_long long =
-    let rest = read_with es ids blocks ids_long (omega arith) in
-    record {
-      database = record { header = header; app_info = app; sort_info = sort; entries = rest.entries };
-      header_is = refl;
-      are = rest.are;
-      ids_are = rest.ids_are;
-      blocks_are = ap (λ (bs : List (Option (List ℕ))). app ∷ sort ∷ bs) rest.blocks_are;
-    }
+resource_id : (resources : Bool) (file : List ℕ) (at given : ℕ) (block : Option (List ℕ)) → resources ≡ true → unique_id (entry_read (entry_at resources file at) given block) ≡ None
+resource_id true file at given block e = refl
+resource_id false file at given block e = absurd cc
 
-few_entries : (file : List ℕ) → AreBytes file → entry_count_in file < 2 ^ 16
-unfolding u16_at
-few_entries file bytes = big_from-lt 76 2 file bytes
+-- they are those that are given
+ids_read : (file ids : List ℕ) (seed last : ℕ) → HaveIds seed (unique_ids (database_in file)) ids last → filter_map unique_id (entries_read file ids) ≡ ids
+ids_read file ids seed last have =
+    let long = given_long (kept_ids [] (unique_ids (database_in file))) [] seed (unique_ids (database_in file)) ids last have in
+    let many = length-entries_read file ids in
+    let at : ℕ → ℕ = λ k. entry_offset (resources_in file) k in
+    let block : ℕ → Option (List ℕ) = λ k. get_or (blocks_in file) (2 + k) None in
+    elim (true_or_false (resources_in file)) [
+      | inl resources ↦
+          let zero_long = ap length (ids_of_resources file resources) in
+          none_given unique_id (entries_read file ids) (λ k d inside. ap unique_id (entry_read_is file ids k d (omega arith)) ∙ resource_id (resources_in file) file (at k) (get_or ids k 0) (block k) resources)
+          ∙ sym (nil_from_length ids (omega arith))
+      | inr records ↦
+          let count = ids_of_records file records in
+          all_given unique_id (entries_read file ids) ids (omega arith) (λ k d inside. ap unique_id (entry_read_is file ids k d (omega arith)) ∙ record_id (resources_in file) file (at k) (get_or ids k 0) (block k) records)
+    ]
 
-entries_count : (file : List ℕ) → length (database_in file).entries ≡ entry_count_in file
+-- ---- the entries and the blocks
+
+one_read : (entry : Entry ℕ) (given : ℕ) (block : Option (List ℕ)) → IsReadAs entry (entry_read entry given block)
+one_read (a_record attributes id at) given block = refl
+one_read (a_resource kind id at) given block = (refl, refl)
+
+pub data_read : (entry : Entry ℕ) (given : ℕ) (block : Option (List ℕ)) → entry_data (entry_read entry given block) ≡ block
+data_read (a_record attributes id at) given block = refl
+data_read (a_resource kind id at) given block = refl
+
+all_read : (file ids : List ℕ) → AllZip IsReadAs (database_in file).entries (entries_read file ids)
 unfolding database_in
-entries_count file = length-map-range_with_len (entry_in file) 0 (entry_count_in file)
+all_read file ids =
+    numbered_zip IsReadAs (entry_in file) (entries_read file ids) 0 (entry_count_in file) (length-entries_read file ids)
+    (λ k e inside.
+    let same : 0 + k ≡ k = omega arith in
+    subst (λ (n : ℕ). IsReadAs (entry_in file n) (get_or (entries_read file ids) k e)) (sym same)
+    (subst (IsReadAs (entry_in file k)) (sym (entry_read_is file ids k e inside)) (one_read (entry_in file k) (get_or ids k 0) (get_or (blocks_in file) (2 + k) None))))
 
-block_count : (file : List ℕ) → length (blocks_in file) ≡ 2 + entry_count_in file
-block_count file = length-map-range_with_len (λ rank. block_at file rank (slice_index (offsets_in file) rank)) 0 (length (offsets_in file)) ∙ offset_count file
+block_read : (file ids : List ℕ) (seed rank : ℕ) → rank < length (blocks_in file) → get_or (data_in (database_read file ids seed)) rank None ≡ get_or (blocks_in file) rank None
+unfolding database_read
+block_read file ids seed zero inside = refl
+block_read file ids seed (suc zero) inside = refl
+block_read file ids seed (suc (suc k)) inside =
+    let count = block_count file in
+    let long = length-entries_read file ids in
+    let next : 2 + k ≡ suc (suc k) = omega arith in
+    let some : Entry (Option (List ℕ)) = a_record 0 0 None in
+    get_or-map (entry_data {Data = Option (List ℕ)}) (entries_read file ids) k some None (omega arith)
+    ∙ ap (entry_data {Data = Option (List ℕ)}) (entry_read_is file ids k some (omega arith))
+    ∙ data_read (entry_in file k) (get_or ids k 0) (get_or (blocks_in file) (2 + k) None)
+    ∙ ap (λ (rank : ℕ). get_or (blocks_in file) rank None) next
 
-ids_few : {D : Type 0} (es : List (Entry D)) → length (filter_map unique_id es) ≤ length es
-ids_few [] = omega arith
-ids_few (a_record attributes id at ∷ es) = let rest = ids_few es in omega arith
-ids_few (a_resource kind id at ∷ es) = let rest = ids_few es in omega arith
+pub blocks_read_are : (file ids : List ℕ) (seed : ℕ) → data_in (database_read file ids seed) ≡ blocks_in file
+unfolding database_read
+blocks_read_are file ids seed =
+    let count = block_count file in
+    let long = length-entries_read file ids in
+    let data_long = length-map (entries_read file ids) (entry_data {Data = Option (List ℕ)}) in
+    ext_get_or None (data_in (database_read file ids seed)) (blocks_in file) (omega arith) (λ rank inside. block_read file ids seed rank (omega arith))
 
-ids_with : (seed : ℕ) (ids given found : List ℕ) (last : ℕ) → found ≡ given → HaveIds seed ids given last → HaveIds seed ids found last
-ids_with seed ids given found last e have = subst (λ (ns : List ℕ). HaveIds seed ids ns last) (sym e) have
+-- ---- all of it
 
-pub file_read : (file : List ℕ) → AreBytes file → HasNoFault file → (database : Database (Option (List ℕ))) × Reads file database
-file_read file bytes good =
-    let es : List (Entry ℕ) = (database_in file).entries in
-    let header : DatabaseHeader = header_in file in
-    let few = few_entries file bytes in
-    let count = entries_count file in
-    let blocks = block_count file in
-    let most = ids_few es in
-    let ids = ids_exist (seed_in header.seed) (unique_ids (database_in file)) (omega arith) (omega arith) in
-    let found = database_with (record header { seed = with_seed header.seed ids.last_seed }) es ids.given (blocks_in file) ids.many (omega arith) in (
-      found.database,
-      record {
-        good = good;
-        last_seed = ids.last_seed;
-        ids = ids_with (seed_in header.seed) (unique_ids (database_in file)) ids.given (unique_ids found.database) ids.last_seed found.ids_are ids.are;
-        header = found.header_is;
-        entries = found.are;
-        blocks = found.blocks_are;
-      },
-    )
-
--- ---- and as no other
-
-same_record : (a b i j : ℕ) (d e : Option (List ℕ)) → a ≡ b → i ≡ j → d ≡ e → a_record a i d ≡ a_record b j e
-same_record a b i j d e p q r = cc
-
-same_resource : (a b i j : ℕ) (d e : Option (List ℕ)) → a ≡ b → i ≡ j → d ≡ e → a_resource a i d ≡ a_resource b j e
-same_resource a b i j d e p q r = cc
-
-same_list : {X : Type 0} (x y : X) (xs ys : List X) → x ≡ y → xs ≡ ys → x ∷ xs ≡ y ∷ ys
-same_list x y xs ys p q = cc
-
-same_head : {X : Type 0} (x y : X) (xs ys : List X) → x ∷ xs ≡ y ∷ ys → (x ≡ y) × (xs ≡ ys)
-same_head x y xs ys e = (cc, cc)
-
-entries_same : (es : List (Entry ℕ)) (one other : List (Entry (Option (List ℕ)))) → AllZip IsReadAs es one → AllZip IsReadAs es other → filter_map unique_id one ≡ filter_map unique_id other → map entry_data one ≡ map entry_data other → one ≡ other
-entries_same [] [] [] a b ids blocks = refl
-entries_same [] [] (y ∷ other) a b ids blocks = absurd b
-entries_same [] (x ∷ one) other a b ids blocks = absurd a
-entries_same (e ∷ es) [] other a b ids blocks = absurd a
-entries_same (e ∷ es) (x ∷ one) [] a b ids blocks = absurd b
-entries_same (a_record attributes id at ∷ es) (a_resource kind x_id x ∷ one) (y ∷ other) a b ids blocks = absurd a.0
-entries_same (a_record attributes id at ∷ es) (a_record x_attributes x_id x ∷ one) (a_resource kind y_id y ∷ other) a b ids blocks = absurd b.0
-entries_same (a_record attributes id at ∷ es) (a_record x_attributes x_id x ∷ one) (a_record y_attributes y_id y ∷ other) a b ids blocks =
-    let here = same_head x_id y_id (filter_map unique_id one) (filter_map unique_id other) ids in
-    let block = same_head x y (map entry_data one) (map entry_data other) blocks in
-    same_list _ _ one other (same_record x_attributes y_attributes x_id y_id x y (a.0 ∙ sym b.0) here.0 block.0) (entries_same es one other a.1 b.1 here.1 block.1)
-entries_same (a_resource kind id at ∷ es) (a_record x_attributes x_id x ∷ one) (y ∷ other) a b ids blocks = absurd a.0
-entries_same (a_resource kind id at ∷ es) (a_resource x_kind x_id x ∷ one) (a_record y_attributes y_id y ∷ other) a b ids blocks = absurd b.0
-entries_same (a_resource kind id at ∷ es) (a_resource x_kind x_id x ∷ one) (a_resource y_kind y_id y ∷ other) a b ids blocks =
-    let block = same_head x y (map entry_data one) (map entry_data other) blocks in
-    same_list _ _ one other (same_resource x_kind y_kind x_id y_id x y (a.0.0 ∙ sym b.0.0) (a.0.1 ∙ sym b.0.1) block.0) (entries_same es one other a.1 b.1 ids block.1)
-
-whole : DatabaseHeader → Option (List ℕ) → Option (List ℕ) → List (Entry (Option (List ℕ))) → Database (Option (List ℕ))
-whole header app sort entries = record { header = header; app_info = app; sort_info = sort; entries = entries }
-
-same_whole : (h g : DatabaseHeader) (a b c d : Option (List ℕ)) (es fs : List (Entry (Option (List ℕ)))) → h ≡ g → a ≡ b → c ≡ d → es ≡ fs → whole h a c es ≡ whole g b d fs
-same_whole h g a b c d es fs p q r s = cc
-
-databases_same : (one other : Database (Option (List ℕ))) → one.header ≡ other.header → one.app_info ≡ other.app_info → one.sort_info ≡ other.sort_info → one.entries ≡ other.entries → one ≡ other
-unfolding whole
-databases_same one other p q r s = same_whole one.header other.header one.app_info other.app_info one.sort_info other.sort_info one.entries other.entries p q r s
-
-header_with : DatabaseHeader → ℕ → DatabaseHeader
-header_with header seed = record header { seed = with_seed header.seed seed }
-
-headers_same : (header one other : DatabaseHeader) (last other_last : ℕ) → last ≡ other_last → one ≡ record header { seed = with_seed header.seed last } → other ≡ record header { seed = with_seed header.seed other_last } → one ≡ other
-unfolding header_with
-headers_same header one other last other_last e p q = p ∙ ap (header_with header) e ∙ sym q
-
-pub read_once : (file : List ℕ) (one other : Database (Option (List ℕ))) → Reads file one → Reads file other → one ≡ other
-read_once file one other a b =
-    let given = given_same _ _ _ _ (unique_ids one) (unique_ids other) a.last_seed b.last_seed a.ids b.ids in
-    let all : data_in one ≡ data_in other = a.blocks ∙ sym b.blocks in
-    let app = same_head one.app_info other.app_info (one.sort_info ∷ map entry_data one.entries) (other.sort_info ∷ map entry_data other.entries) all in
-    let sort = same_head one.sort_info other.sort_info (map entry_data one.entries) (map entry_data other.entries) app.1 in
-    databases_same one other (headers_same (header_in file) one.header other.header a.last_seed b.last_seed given.1 a.header b.header) app.0 sort.0
-    (entries_same (database_in file).entries one.entries other.entries a.entries b.entries given.0 sort.1)
+pub reads : (file ids : List ℕ) (last : ℕ) → HasNoFault file → HaveIds (seed_in (header_in file).seed) (unique_ids (database_in file)) ids last → Reads file (database_read file ids last)
+unfolding database_read
+reads file ids last good have = record {
+  good = good;
+  last_seed = last;
+  ids = subst (λ (given : List ℕ). HaveIds (seed_in (header_in file).seed) (unique_ids (database_in file)) given last) (sym (ids_read file ids (seed_in (header_in file).seed) last have)) have;
+  header = refl;
+  entries = all_read file ids;
+  blocks = blocks_read_are file ids last;
+}

@@ -25,7 +25,7 @@ use Rattle.pdb_format.proofs.WrittenIds.{ids_stay, header_stays}
 
 -- ---- entries that aren't busy
 
-idle_twice : (attributes : ℕ) → idle_attributes attributes ≡ idle_attributes (idle_attributes attributes)
+pub idle_twice : (attributes : ℕ) → idle_attributes attributes ≡ idle_attributes (idle_attributes attributes)
 idle_twice attributes = sym (and_assoc 0xDF attributes 0xDF ∙ ap (bit_and attributes) (and_self 0xDF))
 
 same_bit : (attributes : ℕ) → bit_at (idle_attributes attributes) 7 ≡ bit_at attributes 7

@@ -1,5 +1,5 @@
 -- Where the blocks of a file stand.
-use Rattle.std.specs.Prelude.{◌≤◌, ℕ, List, slice_range, Option, Some, None}
+use Rattle.std.specs.Prelude.{◌≤◌, ◌-◌, ℕ, List, slice_range, Option, Some, None}
 use Rattle.pdb_format.specs.declared.blocks.Block.{Block}
 
 -- the bytes of a block of a file, if it is there
@@ -11,3 +11,13 @@ bytes_at file (Some block) = Some (slice_range file block.start block.end)
 abbrev pub IsWithin : ℕ → Option Block → Type 0
 IsWithin length None = Unit {0}
 IsWithin length (Some block) = (block.start ≤ block.end) × (block.end ≤ length)
+
+-- how many bytes the block has, if it is there
+abbrev pub size_within : Option Block → Option ℕ
+size_within None = None
+size_within (Some block) = Some (block.end - block.start)
+
+-- how many bytes the block takes: none where it isn't there
+abbrev pub length_within : Option Block → ℕ
+length_within None = 0
+length_within (Some block) = block.end - block.start

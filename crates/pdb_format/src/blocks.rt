@@ -4,7 +4,8 @@ ghost use Rattle.std.specs.Prelude.{◌≡◌, ◌<◌, ◌≤◌, ◌+◌, leng
 ghost use Rattle.std.specs.List.Sorted.{IsPermutation, IsNonDecreasingBy};
 ghost use Rattle.heap_model.specs.Files.{offsets_in, blocks_in, HasNoFault};
 ghost use Rattle.pdb_format.specs.Starts.{starts_in, order, begins};
-ghost use Rattle.pdb_format.specs.Blocks.{bytes_at, IsWithin};
+ghost use Rattle.std.specs.List.{sum_by};
+ghost use Rattle.pdb_format.specs.Blocks.{bytes_at, IsWithin, length_within};
 ghost use Rattle.allowance.specs.Refusals.{GrowthRefused};
 
 use crate::starts::{Start, rank_count, sorted_starts};
@@ -41,6 +42,7 @@ fn put_blocks(file: &[u8], starts: &[Start], blocks: &mut [Option<Block>])
     requires empty { All (λ block. block ≡ None) blocks.old }
     ensures are { map (bytes_at file.now) blocks.new ≡ blocks_in file.now }
     ensures inside { All (IsWithin (length file.now)) blocks.new }
+    ensures total { sum_by length_within blocks.new ≤ length file.now }
 {
     for index in 0..starts.len() {
         let start = starts[index];
@@ -57,6 +59,8 @@ pub fn find_blocks(alloc: Global, file: &[u8]) -> Result<Vec<Option<Block>>, All
     requires { HasNoFault file.now }
     ensures are { IfOk result (λ blocks. map (bytes_at file.now) blocks.items ≡ blocks_in file.now) }
     ensures inside { IfOk result (λ blocks. All (IsWithin (length file.now)) blocks.items) }
+    ensures total { IfOk result (λ blocks.
+        sum_by length_within blocks.items ≤ length file.now) }
     ensures short { OnErr result GrowthRefused }
 {
     find_blocks_from(&alloc, file)
@@ -70,6 +74,8 @@ pub fn find_blocks_from<A: Allowance>(
     requires { HasNoFault file.now }
     ensures are { IfOk result (λ blocks. map (bytes_at file.now) blocks.items ≡ blocks_in file.now) }
     ensures inside { IfOk result (λ blocks. All (IsWithin (length file.now)) blocks.items) }
+    ensures total { IfOk result (λ blocks.
+        sum_by length_within blocks.items ≤ length file.now) }
     ensures short { OnErr result (A.is_short memory.now) }
 {
     let starts = sorted_starts(memory, file)?;

@@ -7,7 +7,8 @@ ghost use Rattle.heap_model.specs.Meaning.{ChunkMap};
 ghost use Rattle.heap_model.specs.Database.{HasShape, data_in};
 ghost use Rattle.heap_model.specs.Files.{block_bytes, file_of};
 ghost use Rattle.db_format.specs.EitherEntry.{entry_of, HasFittingId};
-ghost use Rattle.pdb_files.specs.FileParts.{content_of, NamesData, IsExportable, ArePlaces, file_entry, header_text, entries_text, data_text};
+ghost use Rattle.pdb_format.specs.FileTexts.{header_text, entries_text, data_text};
+ghost use Rattle.pdb_files.specs.FileParts.{content_of, NamesData, IsExportable, ArePlaces, file_entry};
 
 use crate::exporting::places::{Places, block, block_offset, block_size, find_places};
 use bitflags::Flags;

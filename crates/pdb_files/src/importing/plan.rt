@@ -8,7 +8,10 @@ ghost use Rattle.heap_model.specs.Files.{HasNoFault, blocks_in, idle_attributes}
 ghost use Rattle.heap_model.specs.FileSteps.{size_of_block};
 ghost use Rattle.pdb_format.specs.Blocks.{bytes_at, IsWithin};
 ghost use Rattle.palm_store.specs.WholeDatabases.{header_asked};
-ghost use Rattle.pdb_files.specs.Plans.{IsShort, HasIdsFor, size_within, IsPlannedOf, ArePlannedOf, IsPlan, header_read};
+ghost use Rattle.pdb_format.specs.Blocks.{size_within};
+ghost use Rattle.pdb_format.specs.ReadFiles.{header_read};
+ghost use Rattle.pdb_format.specs.ReadFiles.{HasIdsFor};
+ghost use Rattle.pdb_files.specs.Plans.{IsShort, IsPlannedOf, ArePlannedOf, IsPlan};
 
 use allowance::{Allowance, push};
 use bitflags::Flags;

@@ -1,7 +1,7 @@
 use Rattle.std.proofs.Common.{◌≤◌, ℕ, List, length, refl, sym, subst, ◌∙◌, arith, inl, inr}
 use Rattle.heap_model.specs.Store.{most_databases, store_of}
 use Rattle.heap_model.specs.DatabaseSteps.{IsTaken}
-use Rattle.pdb_files.proofs.FileNames.{name_kept}
+use Rattle.pdb_format.proofs.FileNames.{name_kept}
 use Rattle.pdb_files.proofs.Refusals.{fault_brings, good_brings, taken_found, free_found, count_is}
 use Rattle.pdb_files.proofs.importing.check_import.Goals as goal
 

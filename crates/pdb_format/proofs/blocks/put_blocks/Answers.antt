@@ -1,8 +1,19 @@
-use Rattle.std.proofs.Common.{◌≡◌, ◌+◌, ◌<◌, ℕ, length, set, slice_index_or, Some, subst, sym, arith, rules}
+use Rattle.std.proofs.Common.{◌≡◌, ◌+◌, ◌<◌, ◌≤◌, ℕ, length, set, slice_index_or, Some, None, subst, sym, arith, rules}
+use Rattle.std.specs.List.{sum_by}
 use Rattle.heap_model.specs.Files.{offsets_in}
+use Rattle.pdb_format.specs.Blocks.{length_within}
+use Rattle.pdb_format.specs.Starts.{begins}
 use Rattle.pdb_format.proofs.SortedStarts.{none, items_are}
-use Rattle.pdb_format.proofs.PlacedBlocks.{ArePut, put_more, all_put, all_within, file_sorted}
+use Rattle.pdb_format.proofs.PlacedBlocks.{ArePut, nothing_put, put_more, all_put, all_within, none_taken, taken_more, taken_most, file_sorted}
 use Rattle.pdb_format.proofs.blocks.put_blocks.Goals as goal
+
+pub loop-index-init : goal.loop-index-init
+loop-index-init c =
+    let taken = none_taken c.args.blocks.now c.requires.empty in
+    record {
+      placed = nothing_put (offsets_in c.args.file.now) (length c.args.file.now) c.args.starts.now c.args.blocks.now c.requires.room c.requires.empty;
+      taken = omega arith;
+    }
 
 pub bounds-blocks-start : goal.bounds-blocks-start
 bounds-blocks-start c =
@@ -10,17 +21,26 @@ bounds-blocks-start c =
     let sorted = file_sorted c.args.file.now c.args.starts.now c.requires.good (omega arith) c.requires.all c.requires.rising in
     let inside : c.loop-index.index < length c.args.starts.now = search rules in
     let own = (items_are (offsets_in c.args.file.now) (length c.args.file.now) c.args.starts.now sorted c.loop-index.index inside).0.0 in
-    let room = c.loop-index.invariant.room in
+    let room = c.loop-index.invariant.placed.room in
     omega arith
 
 pub loop-index-preserved : goal.loop-index-preserved
 loop-index-preserved c =
     let few = c.requires.few in
-    let sorted = file_sorted c.args.file.now c.args.starts.now c.requires.good (omega arith) c.requires.all c.requires.rising in
-    let inside : c.loop-index.index < length c.args.starts.now = search rules in
-    subst (λ (e : ℕ). ArePut (offsets_in c.args.file.now) (length c.args.file.now) c.args.starts.now (set c.loop-index.blocks (slice_index_or c.args.starts.now c.loop-index.index none).rank (Some (record { start = (slice_index_or c.args.starts.now c.loop-index.index none).at; end = e }))) (c.loop-index.index + 1))
-    (sym c.end_of.ensures)
-    (put_more (offsets_in c.args.file.now) (length c.args.file.now) c.args.starts.now c.loop-index.blocks c.loop-index.index sorted inside c.loop-index.invariant)
+    let file = c.args.file.now in
+    let starts = c.args.starts.now in
+    let blocks = c.loop-index.blocks in
+    let index = c.loop-index.index in
+    let sorted = file_sorted file starts c.requires.good (omega arith) c.requires.all c.requires.rising in
+    let inside : index < length starts = search rules in
+    record {
+      placed = subst (λ (e : ℕ). ArePut (offsets_in file) (length file) starts (set blocks (slice_index_or starts index none).rank (Some (record { start = (slice_index_or starts index none).at; end = e }))) (index + 1))
+          (sym c.end_of.ensures)
+          (put_more (offsets_in file) (length file) starts blocks index sorted inside c.loop-index.invariant.placed);
+      taken = subst (λ (e : ℕ). sum_by length_within (set blocks (slice_index_or starts index none).rank (Some (record { start = (slice_index_or starts index none).at; end = e }))) + begins (length file) starts 0 ≡ begins (length file) starts (index + 1))
+          (sym c.end_of.ensures)
+          (taken_more (offsets_in file) (length file) starts blocks index sorted inside c.loop-index.invariant.placed c.loop-index.invariant.taken);
+    }
 
 pub returns-clause-are : goal.returns-clause-are
 returns-clause-are c =
@@ -28,7 +48,7 @@ returns-clause-are c =
     let sorted = file_sorted c.args.file.now c.args.starts.now c.requires.good (omega arith) c.requires.all c.requires.rising in
     let all : c.loop-index.index ≡ length c.args.starts.now = search rules in
     all_put c.args.file.now c.args.starts.now c.loop-index.blocks sorted
-    (subst (ArePut (offsets_in c.args.file.now) (length c.args.file.now) c.args.starts.now c.loop-index.blocks) all c.loop-index.invariant)
+    (subst (ArePut (offsets_in c.args.file.now) (length c.args.file.now) c.args.starts.now c.loop-index.blocks) all c.loop-index.invariant.placed)
 
 pub returns-clause-inside : goal.returns-clause-inside
 returns-clause-inside c =
@@ -36,4 +56,9 @@ returns-clause-inside c =
     let sorted = file_sorted c.args.file.now c.args.starts.now c.requires.good (omega arith) c.requires.all c.requires.rising in
     let all : c.loop-index.index ≡ length c.args.starts.now = search rules in
     all_within (offsets_in c.args.file.now) (length c.args.file.now) c.args.starts.now c.loop-index.blocks sorted
-    (subst (ArePut (offsets_in c.args.file.now) (length c.args.file.now) c.args.starts.now c.loop-index.blocks) all c.loop-index.invariant)
+    (subst (ArePut (offsets_in c.args.file.now) (length c.args.file.now) c.args.starts.now c.loop-index.blocks) all c.loop-index.invariant.placed)
+
+pub returns-clause-total : goal.returns-clause-total
+returns-clause-total c =
+    let past : length c.args.starts.now ≤ c.loop-index.index = omega arith in
+    taken_most (length c.args.file.now) c.args.starts.now c.loop-index.blocks c.loop-index.index past c.loop-index.invariant.taken

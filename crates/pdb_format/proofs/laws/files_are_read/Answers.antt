@@ -1,4 +1,4 @@
-use Rattle.pdb_format.proofs.ReadFiles.{file_read}
+use Rattle.pdb_format.proofs.ReadOnce.{file_read}
 use Rattle.pdb_format.proofs.laws.files_are_read.Goals as goal
 
 pub returns : goal.returns

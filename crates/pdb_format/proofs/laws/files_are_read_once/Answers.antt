@@ -1,4 +1,4 @@
-use Rattle.pdb_format.proofs.ReadFiles.{read_once}
+use Rattle.pdb_format.proofs.ReadOnce.{read_once}
 use Rattle.pdb_format.proofs.laws.files_are_read_once.Goals as goal
 
 pub returns : goal.returns

@@ -5,9 +5,11 @@ use Rattle.heap_model.specs.Meaning.{ChunkMap}
 use Rattle.heap_model.specs.Store.{store_of}
 use Rattle.heap_model.specs.Files.{block_bytes}
 use Rattle.palm_text.proofs.Parts.{then, stops}
-use Rattle.pdb_files.specs.FileParts.{content_of, data_text}
+use Rattle.pdb_format.specs.FileTexts.{data_text}
+use Rattle.pdb_files.specs.FileParts.{content_of}
 use Rattle.pdb_files.proofs.Contents.{app_block, sort_block}
-use Rattle.pdb_files.proofs.FileTexts.{blocks_text, failed, as_blocks}
+use Rattle.pdb_format.specs.FileTexts.{blocks_text}
+use Rattle.pdb_files.proofs.FileTexts.{failed, as_blocks}
 use Rattle.pdb_files.proofs.OwnBlocks.{app_own, sort_own}
 use Rattle.pdb_files.proofs.exporting.parts.put_blocks.Goals as goal
 

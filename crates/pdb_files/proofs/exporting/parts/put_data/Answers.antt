@@ -1,7 +1,8 @@
 use Rattle.std.proofs.Common.{◌<◌, ◌≤◌, arith, true, false}
 use Rattle.heap_model.specs.Database.{entry_count_in}
 use Rattle.heap_model.specs.Store.{store_of}
-use Rattle.pdb_files.specs.FileParts.{content_of, data_text}
+use Rattle.pdb_format.specs.FileTexts.{data_text}
+use Rattle.pdb_files.specs.FileParts.{content_of}
 use Rattle.pdb_files.proofs.FileTexts.{failed, then_data, stops_data, no_data}
 use Rattle.pdb_files.proofs.OwnBlocks.{entry_own}
 use Rattle.pdb_files.proofs.exporting.parts.put_data.Goals as goal

@@ -1,6 +1,7 @@
 use Rattle.std.proofs.Common.{◌≡◌, Bool, None, drop}
 use Rattle.palm_text.specs.Counted.{Writing, Writes}
-use Rattle.pdb_files.specs.FileParts.{content_of, data_text}
+use Rattle.pdb_format.specs.FileTexts.{data_text}
+use Rattle.pdb_files.specs.FileParts.{content_of}
 use Rattle.pdb_files.proofs.exporting.parts.put_data.Given as goal
 
 -- whatever is written from here on completes the data, and nothing was flushed

@@ -1,6 +1,7 @@
 use Rattle.std.proofs.Common.{◌≡◌, ◌+◌, Bool, None, length, drop}
 use Rattle.palm_text.specs.Counted.{Writing, Writes}
-use Rattle.pdb_files.specs.FileParts.{content_of, entries_text, data_text}
+use Rattle.pdb_format.specs.FileTexts.{entries_text, data_text}
+use Rattle.pdb_files.specs.FileParts.{content_of}
 use Rattle.pdb_files.proofs.exporting.parts.put_entries.Given as goal
 
 -- the data of the entries that are left has room, whatever is written from here on completes the entries, and nothing

@@ -5,7 +5,7 @@ use Rattle.heap_model.specs.Store.{store_of}
 use Rattle.heap_model.specs.Files.{block_size, first_block}
 use Rattle.pdb_files.specs.FileParts.{block_under, content_of}
 use Rattle.pdb_files.proofs.Contents.{app_block, sort_block, same_offset}
-use Rattle.pdb_files.proofs.FileTexts.{size_parts}
+use Rattle.pdb_format.proofs.FileParts.{size_parts}
 use Rattle.pdb_files.proofs.OwnBlocks.{app_own, sort_own}
 use Rattle.pdb_files.proofs.exporting.places.find_places.Goals as goal
 

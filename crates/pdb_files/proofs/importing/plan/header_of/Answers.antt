@@ -2,8 +2,8 @@ use Rattle.std.proofs.Common.{◌+◌, ◌*◌, ◌/◌, sym, ap, subst, ◌∙�
 use Rattle.heap_model.specs.Database.{IsDatabaseName}
 use Rattle.heap_model.specs.declared.database.DbInfo.{DbInfo}
 use Rattle.palm_store.specs.WholeDatabases.{header_asked}
-use Rattle.pdb_files.proofs.FileNames.{file_named}
-use Rattle.pdb_files.proofs.Headers.{header_is, name_is, count_is}
+use Rattle.pdb_format.proofs.FileNames.{file_named}
+use Rattle.pdb_format.proofs.ReadHeaders.{header_is, name_is, count_is}
 use Rattle.pdb_files.proofs.importing.plan.header_of.Goals as goal
 
 pub read-requires-clause-name : goal.read-requires-clause-name

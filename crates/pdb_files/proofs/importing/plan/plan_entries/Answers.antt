@@ -1,7 +1,7 @@
 use Rattle.std.proofs.Common.{◌+◌, List, sym, subst, arith}
 use Rattle.palm_store.specs.declared.databases.whole.WholeEntry.{WholeEntry}
 use Rattle.pdb_files.specs.Plans.{ArePlannedOf}
-use Rattle.pdb_files.proofs.FileBlocks.{length-blocks, size_at}
+use Rattle.pdb_format.proofs.FileBlocks.{length-blocks, size_at}
 use Rattle.pdb_files.proofs.Planned.{one_more}
 use Rattle.pdb_files.proofs.importing.plan.plan_entries.Goals as goal
 

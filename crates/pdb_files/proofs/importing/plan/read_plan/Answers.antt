@@ -1,8 +1,11 @@
 use Rattle.std.proofs.Common.{ℕ, List, None, get_or, sym, subst, ◌∙◌, ap, Option}
 use Rattle.heap_model.specs.Database.{entry_count_in}
 use Rattle.pdb_format.specs.declared.blocks.Block.{Block}
-use Rattle.pdb_files.specs.Plans.{size_within, HasIdsFor, ArePlannedOf}
-use Rattle.pdb_files.proofs.Plans.{ids_for, planned}
+use Rattle.pdb_format.specs.Blocks.{size_within}
+use Rattle.pdb_format.specs.ReadFiles.{HasIdsFor}
+use Rattle.pdb_files.specs.Plans.{ArePlannedOf}
+use Rattle.pdb_format.proofs.FileIds.{ids_for}
+use Rattle.pdb_files.proofs.Plans.{planned}
 use Rattle.pdb_files.proofs.importing.plan.read_plan.Goals as goal
 
 pub plan_entries-requires-clause-ids : goal.plan_entries-requires-clause-ids

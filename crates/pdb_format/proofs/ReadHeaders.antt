@@ -5,7 +5,7 @@ use Rattle.heap_model.specs.UniqueIds.{with_seed}
 use Rattle.heap_model.specs.Database.{DatabaseHeader, name_in, header_in, entry_count_in, entry_in, database_in}
 use Rattle.db_format.specs.declared.header.DbHeader.{DbHeader}
 use Rattle.db_format.specs.Headers.{header_of, HasHeader}
-use Rattle.pdb_files.specs.Plans.{header_read}
+use Rattle.pdb_format.specs.ReadFiles.{header_read}
 
 values_are : (file : List ℕ) (header : DbHeader) → HasHeader (database_in file) header → header_of header ≡ header_in file
 unfolding database_in

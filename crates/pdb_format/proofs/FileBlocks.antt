@@ -11,7 +11,7 @@ use Rattle.laws_heap.proofs.Tests.{true_or_false}
 use Rattle.pdb_format.specs.Blocks.{bytes_at, IsWithin}
 use Rattle.pdb_format.specs.declared.blocks.Block.{Block}
 use Rattle.pdb_format.proofs.GoodFiles.{offset_count, entry_offset_is}
-use Rattle.pdb_files.specs.Plans.{size_within}
+use Rattle.pdb_format.specs.Blocks.{size_within}
 
 -- how many there are
 pub block_count : (file : List ℕ) → length (blocks_in file) ≡ 2 + entry_count_in file
