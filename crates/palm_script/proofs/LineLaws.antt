@@ -92,6 +92,7 @@ breaks contents inputs lines old first i line text files mid bound before new bo
       within = short;
       front = Appends-trans _ _ _ text (take n (reply_line line does.reply)) all.0 appended;
       fault = subst (λ (k : ℕ). k < after.faults) all.1 does.written.1;
+      unflushed = does.written.2 ∙ all.2;
     }
 
 -- ---- all lines
@@ -139,4 +140,5 @@ breaks_alone {W} {short} contents inputs lines old first new after off = record 
   within = off.within;
   front = off.front;
   fault = off.fault;
+  unflushed = off.unflushed;
 }

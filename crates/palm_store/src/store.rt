@@ -3,7 +3,7 @@
 //! on entries, for the crates of records and resources; and those that make a whole database, fill its data and
 //! read it, for the crate of files.
 
-ghost use Rattle.std.specs.Prelude.{◌≡◌, ◌⊎◌, None, is_ok, IfOk, IfErr, OnOk, OnErr};
+ghost use Rattle.std.specs.Prelude.{◌≡◌, ◌⊎◌, is_ok, IfOk, IfErr, OnOk};
 ghost use Rattle.heap_model.specs.Store.{Accepted};
 ghost use Rattle.palm_text.specs.Counted.{Writes};
 ghost use Rattle.store_check.specs.Checks.{IsAnswered, Summarizes};
@@ -126,10 +126,10 @@ impl Store {
         }
     }
 
-    /// Writes the image. Where a write fails or takes 0 bytes, a front of it was written.
+    /// Writes the image, and flushes nothing. Where a write fails or takes 0 bytes, a front of it was
+    /// written.
     pub fn write_image<W: Write>(&self, writer: &mut Counted<W>) -> Result<(), WriteFault>
-        ensures image { Writes W.contents writer.old writer.new self.now.bytes (is_ok result) }
-        ensures unflushed { OnErr result (writer.new.flushed ≡ None) }
+        ensures { Writes W.contents writer.old writer.new self.now.bytes (is_ok result) }
     {
         put_all(writer, self.heap.image())
     }

@@ -1,21 +1,22 @@
 -- What contracts see of a writer whose faults are counted.
-use Rattle.std.specs.Prelude.{◌≡◌, ℕ, ◌≤◌, ◌<◌, ◌==◌, Bool, true, false, ◌&&◌, not, cond, List, length, take, refl, Option, Result, Ok, Err}
+use Rattle.std.specs.Prelude.{◌≡◌, ℕ, ◌≤◌, ◌<◌, ◌+◌, ◌==◌, Bool, true, false, ◌&&◌, not, cond, List, length, take, refl, Option, Some, Result, Ok, Err}
 use Rattle.std.specs.Coded.{Coded, code_by, coded×, coded_ℕ, coded_bool, coded_option}
-use Rattle.std.specs.Io.KnownBytes.{Appends}
+use Rattle.std.specs.Io.KnownBytes.{Appends, Keeps}
 
--- A writer; how many of its writes of one byte or more failed or took 0 bytes; and, where the last call
--- of it was a flush, whether that got through.
+-- A writer; how many of its writes of one byte or more failed or took 0 bytes; how often it was flushed; and, if its
+-- last call was a flush, whether that succeeded.
 pub record Writing (W : Type 0) : Type 0 where
   pub writer : W
   pub faults : ℕ
+  pub flushes : ℕ
   pub flushed : Option Bool
 
 module _ {W : Type 0} where
-  abbrev pub writing : W → ℕ → Option Bool → Writing W
-  writing writer faults flushed = record { writer = writer; faults = faults; flushed = flushed }
+  abbrev pub writing : W → ℕ → ℕ → Option Bool → Writing W
+  writing writer faults flushes flushed = record { writer = writer; faults = faults; flushes = flushes; flushed = flushed }
 
   abbrev pub writing_code : Coded W → Coded (Writing W)
-  writing_code code = code_by (W × (ℕ × Option Bool)) (coded× code (coded× coded_ℕ (coded_option coded_bool))) (λ w. (w.writer, (w.faults, w.flushed))) (λ parts. writing parts.0 parts.1.0 parts.1.1) (λ _. refl)
+  writing_code code = code_by (W × (ℕ × (ℕ × Option Bool))) (coded× code (coded× coded_ℕ (coded× coded_ℕ (coded_option coded_bool)))) (λ w. (w.writer, (w.faults, (w.flushes, w.flushed)))) (λ parts. writing parts.0 parts.1.0 parts.1.1.0 parts.1.1.1) (λ _. refl)
 
 -- a write of one byte or more failed, or took 0 bytes
 abbrev pub is_write_fault : {E : Type 0} → Result ℕ E → List ℕ → Bool
@@ -30,8 +31,15 @@ faults_of result bytes = cond (is_write_fault result bytes) 1 0
 abbrev pub AppendsFront : Option (List ℕ) → Option (List ℕ) → List ℕ → Type 0
 AppendsFront old new bytes = (n : ℕ) × (n ≤ length bytes) × Appends old new (take n bytes)
 
--- A text goes to a writer. All of it was written and no write failed; or a front of it was, and a
+-- A text is written, and nothing is flushed. All of it was written and no write failed; or a prefix was written, and a
 -- write failed.
 abbrev pub Writes : {W : Type 0} → (W → Option (List ℕ)) → Writing W → Writing W → List ℕ → Bool → Type 0
-Writes contents old new text true = Appends (contents old.writer) (contents new.writer) text × (new.faults ≡ old.faults)
-Writes contents old new text false = AppendsFront (contents old.writer) (contents new.writer) text × (old.faults < new.faults)
+Writes contents old new text true = Appends (contents old.writer) (contents new.writer) text × (new.faults ≡ old.faults) × (new.flushes ≡ old.flushes)
+Writes contents old new text false = AppendsFront (contents old.writer) (contents new.writer) text × (old.faults < new.faults) × (new.flushes ≡ old.flushes)
+
+-- A writer is flushed once, and nothing is written. The flush succeeded or failed.
+pub record Flushes {W : Type 0} (contents : W → Option (List ℕ)) (old new : Writing W) (ok : Bool) : Type 0 where
+  pub bytes : Keeps (contents old.writer) (contents new.writer)
+  pub faults : new.faults ≡ old.faults
+  pub flushes : new.flushes ≡ old.flushes + 1
+  pub flushed : new.flushed ≡ Some ok

@@ -1,15 +1,15 @@
--- What a writer gets that a text is written to and that is flushed behind it.
-use Rattle.std.specs.Prelude.{◌≡◌, ◌⊎◌, ℕ, Bool, true, false, List, Option, None, Some}
-use Rattle.palm_text.specs.Counted.{Writing, Writes}
+-- Texts that are written and then flushed.
+use Rattle.std.specs.Prelude.{◌⊎◌, ℕ, Bool, true, false, List, Option}
+use Rattle.palm_text.specs.Counted.{Flushes, Writing, Writes}
 
--- All of a text was written and no write failed, and then the writer was flushed, which got through or
--- didn't.
-abbrev pub WritesAndFlushes : {W : Type 0} → (W → Option (List ℕ)) → Writing W → Writing W → List ℕ → Bool → Type 0
-WritesAndFlushes contents old new text ok = Writes contents old new text true × (new.flushed ≡ Some ok)
+-- All of a text was written and no write failed. Then the writer was flushed once, which succeeded or failed.
+pub record WritesAndFlushes {W : Type 0} (contents : W → Option (List ℕ)) (old new : Writing W) (text : List ℕ) (ok : Bool) : Type 0 where
+  pub between : Writing W
+  pub writes : Writes contents old between text true
+  pub flushes : Flushes contents between new ok
 
--- The text got through: all of it was written, no write failed, and the flush behind it got through. Or
--- it didn't: a front of it was written, a write failed, and nothing was flushed behind that; or all of it
--- was written, no write failed, and the flush did.
+-- Success: all of the text was written, no write failed, and the flush after it succeeded. Failure: a prefix was
+-- written, a write failed and nothing was flushed; or all of the text was written, and the flush failed.
 abbrev pub Puts : {W : Type 0} → (W → Option (List ℕ)) → Writing W → Writing W → List ℕ → Bool → Type 0
 Puts contents old new text true = WritesAndFlushes contents old new text true
-Puts contents old new text false = (Writes contents old new text false × (new.flushed ≡ None)) ⊎ WritesAndFlushes contents old new text false
+Puts contents old new text false = Writes contents old new text false ⊎ WritesAndFlushes contents old new text false

@@ -1,21 +1,23 @@
 //! A writer whose faults are counted.
 
-ghost use Rattle.std.specs.Prelude.{◌≡◌, ◌+◌, None, Some, is_ok};
+ghost use Rattle.std.specs.Prelude.{◌≡◌, ◌+◌, None, is_ok};
 ghost use Rattle.std.specs.Io.{WritesAtMost};
-ghost use Rattle.std.specs.Io.KnownBytes.{Keeps, WriteAppends};
-ghost use Rattle.palm_text.specs.Counted.{writing, faults_of};
+ghost use Rattle.std.specs.Io.KnownBytes.{WriteAppends};
+ghost use Rattle.palm_text.specs.Counted.{Flushes, faults_of, writing};
 
 use heap_model::Tally;
 use std::io;
 use std::io::Write;
 use std::marker::Model;
 
-/// A writer with a count, seen by contracts alone, of its writes of one byte or more that failed or
-/// took 0 bytes, and whether it was flushed last. Its bytes are those of the writer inside.
+/// A writer with two counts that contracts alone see: its faults, which are writes of one byte or more
+/// that failed or took 0 bytes, and its flushes. Contracts also see how the last call ended, if that was a
+/// flush. Its bytes are those of the writer inside.
 #[derive(Drop)]
 pub struct Counted<W: Write> {
     inner: W,
     faults: Tally,
+    flushes: Tally,
     /// Where the last call was a flush, whether that got through.
     flushed: Option<bool>,
 }
@@ -27,17 +29,19 @@ impl<W: Write> Model for Counted<W> {
 
     ghost coded = { writing_code W.code };
 
-    ghost view = { λ counted. writing counted.inner counted.faults.total counted.flushed };
+    ghost view = { λ counted. writing
+        counted.inner counted.faults.total counted.flushes.total counted.flushed };
 }
 
 impl<W: Write> Counted<W> {
     /// Counts from 0 on.
     pub fn new(inner: W) -> Counted<W>
-        ensures { result ≡ writing inner 0 None }
+        ensures { result ≡ writing inner 0 0 None }
     {
         Counted {
             inner,
             faults: Tally::new(),
+            flushes: Tally::new(),
             flushed: None,
         }
     }
@@ -46,8 +50,14 @@ impl<W: Write> Counted<W> {
     pub fn into_inner(self) -> W
         ensures { result ≡ self.writer }
     {
-        let Counted { inner, faults, .. } = self;
+        let Counted {
+            inner,
+            faults,
+            flushes,
+            ..
+        } = self;
         drop(faults);
+        drop(flushes);
         inner
     }
 
@@ -57,6 +67,7 @@ impl<W: Write> Counted<W> {
         ensures bytes { WriteAppends (W.contents self.old.writer) (W.contents self.new.writer)
             result bytes.now }
         ensures faults { self.new.faults ≡ self.old.faults + faults_of result bytes.now }
+        ensures flushes { self.new.flushes ≡ self.old.flushes }
         ensures flushed { self.new.flushed ≡ None }
     {
         self.flushed = None;
@@ -71,12 +82,11 @@ impl<W: Write> Counted<W> {
         result
     }
 
-    /// Flushes the writer. A flush that fails isn't counted.
+    /// Flushes the writer. A flush that fails counts as a flush, and not as a fault.
     pub fn flush(&mut self) -> io::Result<()>
-        ensures bytes { Keeps (W.contents self.old.writer) (W.contents self.new.writer) }
-        ensures faults { self.new.faults ≡ self.old.faults }
-        ensures flushed { self.new.flushed ≡ Some (is_ok result) }
+        ensures { Flushes W.contents self.old self.new (is_ok result) }
     {
+        self.flushes.add(1);
         let result = self.inner.flush();
         self.flushed = Some(result.is_ok());
         result

@@ -1,6 +1,6 @@
 //! Writing all of some bytes, and flushing behind them.
 
-ghost use Rattle.std.specs.Prelude.{◌≡◌, is_ok, None, OnErr};
+ghost use Rattle.std.specs.Prelude.{is_ok};
 ghost use Rattle.palm_text.specs.Counted.{Writes};
 ghost use Rattle.palm_text.specs.Output.{Puts};
 
@@ -13,11 +13,10 @@ use thiserror::Error;
 #[error("a write failed")]
 pub struct WriteFault;
 
-/// Writes all of `bytes`. After a write that fails or takes 0 bytes nothing more is written.
+/// Writes all of `bytes`, and flushes nothing. After a write that fails or takes 0 bytes nothing more is
+/// written.
 pub fn put_all<W: Write>(out: &mut Counted<W>, bytes: &[u8]) -> Result<(), WriteFault>
-    ensures text { Writes W.contents out.old out.new bytes.now (is_ok result) }
-    ensures unflushed { OnErr result (out.new.flushed ≡ None) }
-    ensures no_flush { out.old.flushed ≡ None → out.new.flushed ≡ None }
+    ensures { Writes W.contents out.old out.new bytes.now (is_ok result) }
 {
     let mut rest = bytes;
     while !rest.is_empty() {
@@ -29,8 +28,9 @@ pub fn put_all<W: Write>(out: &mut Counted<W>, bytes: &[u8]) -> Result<(), Write
     Ok(())
 }
 
-/// Writes all of `bytes`, and flushes. After a write that fails or takes 0 bytes nothing more is
+/// Writes all of `bytes`, and flushes once. After a write that fails or takes 0 bytes nothing more is
 /// written, and nothing flushed.
+#[tactic(auto, using(crate::proofs::Parts::then_flush))]
 pub fn put<W: Write>(out: &mut Counted<W>, bytes: &[u8]) -> Result<(), WriteFault>
     ensures { Puts W.contents out.old out.new bytes.now (is_ok result) }
 {

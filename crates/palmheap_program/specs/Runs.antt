@@ -1,8 +1,8 @@
 -- What `run` prints and writes. Where a definition ends in a `Bool`, it says whether all got through. Where one begins
 -- with `short`, a line was refused for want of memory only where that holds.
-use Rattle.std.specs.Prelude.{◌≡◌, ◌≢◌, ◌⊎◌, ℕ, Bool, true, false, List, Option, Some, Ok, Err}
+use Rattle.std.specs.Prelude.{◌≡◌, ◌≢◌, ◌⊎◌, ℕ, Bool, true, false, List, Option, Ok, Err}
 use Rattle.heap_model.specs.Memory.{Memory}
-use Rattle.palm_text.specs.Counted.{Writing}
+use Rattle.palm_text.specs.Counted.{Flushes, Writing}
 use Rattle.heap_model.specs.Store.{Accepted}
 use Rattle.script_lines.specs.Reading.{read_script}
 use Rattle.script_lines.specs.declared.fault.LineFault.{LineFault}
@@ -21,10 +21,11 @@ PutsRefusal image script contents old new ok =
     ⊎ (Accepted image × ((fault : LineFault) × (read_script script ≡ Err fault) × PutsFault fault contents old new ok))
 
 -- The lines of a script were run, all of their text was written and no write failed, and then the writer
--- was flushed, which got through or didn't. These are the files that the lines export.
+-- was flushed once, which got through or didn't. These are the files that the lines export.
 pub record RunsAndFlushes {V : Type 0} (short : Type 0) (contents : V → Option (List ℕ)) (inputs : List (List ℕ)) (lines : List Line) (region : Memory) (old : Writing V) (region_after : Memory) (new : Writing V) (files : List (List ℕ)) (ok : Bool) : Type 0 where
-  pub ran : RunsThroughShort short contents inputs lines region old region_after new files
-  pub flushed : new.flushed ≡ Some ok
+  pub between : Writing V
+  pub ran : RunsThroughShort short contents inputs lines region old region_after between files
+  pub flushes : Flushes contents between new ok
 
 -- A write failed in the reply line of some line of a script, which leaves this region; or the lines were
 -- run, all of their text was written, no write failed, and the flush behind it did.

@@ -1,6 +1,6 @@
 //! The files that a command reads and writes. What keeps one from that is on standard error then.
 
-ghost use Rattle.std.specs.Prelude.{◌≡◌, ◌≤◌, ◌⊎◌, IfOk, IfErr, length, vec_len};
+ghost use Rattle.std.specs.Prelude.{◌≡◌, ◌≤◌, ◌⊎◌, ◌++◌, IfOk, IfErr, codes, decimal, length, string_bytes, vec_len};
 
 use crate::faults::{fail, fail_to_read};
 use heap_model::Bytes;
@@ -9,6 +9,7 @@ use program_io::{
     INPUT_LIMIT, InputFault, Noted, OutputFile, Status, read_input_from, report_outcome,
 };
 use raw_region::Region;
+use std::alloc::{AllocError, Global};
 use std::fs::File;
 use std::rt::Files;
 
@@ -73,8 +74,7 @@ pub(crate) fn write_files<R: Files + Eprint + AllocGlobal>(
     ensures { (result ≡ Status.Done) ⊎ (result ≡ Status.WriteFault) ⊎ (result ≡ Status.NoMemory) }
 {
     for (index, file) in files.iter().enumerate() {
-        let number = index + 1;
-        let Ok(path) = format!(in rt.alloc(); "{path}.{number}") else {
+        let Ok(path) = export_path(rt.alloc(), path, index + 1) else {
             return fail(rt, Status::NoMemory);
         };
         let status = write_file(rt, path.as_str(), file.as_slice());
@@ -83,6 +83,14 @@ pub(crate) fn write_files<R: Files + Eprint + AllocGlobal>(
         }
     }
     Status::Done
+}
+
+/// Returns the path of an exported file: the path of the image, a point and the file's number, from 1 on.
+fn export_path(alloc: Global, image: &str, number: usize) -> Result<String, AllocError>
+    ensures { IfOk result (λ path.
+        string_bytes path ≡ image.now ++ (codes "." ++ decimal number)) }
+{
+    format!(in alloc; "{image}.{number}")
 }
 
 /// Writes a file as a whole or not at all.

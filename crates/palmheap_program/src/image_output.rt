@@ -19,6 +19,7 @@ pub(crate) fn put_image<W: Write>(
 }
 
 /// Writes the whole image of a store, and flushes.
+#[tactic(auto, using(palm_text::proofs::Parts::then_flush))]
 pub(crate) fn put_store<W: Write>(
     image_out: &mut Counted<W>,
     store: &Store,

@@ -1,6 +1,7 @@
 //! What the words of the command line ask for.
 
-ghost use Rattle.std.specs.Prelude.{◌≡◌, ◌⊎◌};
+ghost use Rattle.std.specs.Prelude.{◌≡◌, ◌≢◌, ◌⊎◌};
+ghost use Rattle.clap.specs.Values.{kind_of};
 
 use crate::faults::{STANDARD_OUTPUT, fail};
 use crate::images::{check, new};
@@ -33,8 +34,15 @@ pub fn run<R: Files + Print + Eprint + AllocGlobal>(rt: &R, words: &[String]) ->
 /// Prints the text for words that ask for no command: what is wrong with them, or the help or the
 /// version that they ask for.
 fn answer<R: Print + Eprint>(rt: &R, error: &clap::Error) -> Status
-    ensures { (result ≡ Status.Done) ⊎ (result ≡ Status.BadWords)
+    ensures statuses { (result ≡ Status.Done) ⊎ (result ≡ Status.BadWords)
         ⊎ (result ≡ Status.WriteFault) ⊎ (result ≡ Status.NoMemory) }
+    ensures no_memory { kind_of error.now ≡ ErrorKind.OutOfMemory → result ≡ Status.NoMemory }
+    ensures shown { (kind_of error.now ≡ ErrorKind.DisplayHelp)
+        ⊎ (kind_of error.now ≡ ErrorKind.DisplayVersion)
+        → (result ≡ Status.Done) ⊎ (result ≡ Status.WriteFault) }
+    ensures bad_words { (kind_of error.now ≢ ErrorKind.OutOfMemory)
+        → (kind_of error.now ≢ ErrorKind.DisplayHelp)
+        → (kind_of error.now ≢ ErrorKind.DisplayVersion) → result ≡ Status.BadWords }
 {
     if error.kind() == ErrorKind::OutOfMemory {
         return fail(rt, Status::NoMemory);

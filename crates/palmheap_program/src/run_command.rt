@@ -180,6 +180,7 @@ fn run_script<A: Allowance, W: Write, V: Write>(
 }
 
 /// Runs a script, and prints its reply lines.
+#[tactic(auto, using(crate::proofs::Printing::flushed, crate::proofs::Printing::flush_fails))]
 fn print_replies<A: Allowance, V: Write>(
     memory: &A,
     store: &mut Store,

@@ -1,9 +1,11 @@
 //! The words of the command line.
 
-ghost use Rattle.std.specs.Prelude.{◌≡◌, ◌⊎◌, IfErr};
+ghost use Rattle.std.specs.Prelude.{◌≡◌, ◌≢◌, ◌⊎◌, IfErr};
+ghost use Rattle.std.specs.IoError.{error_kind};
 
 use crate::faults::fail;
 use program_io::Status;
+use std::io::ErrorKind;
 use std::rt::Env;
 use std::{env, io};
 
@@ -17,12 +19,19 @@ pub fn read_words<R: Env + Eprint + AllocGlobal>(rt: &R) -> Result<Vec<String>, 
             Ok(words) => Ok(words),
             Err(_) => Err(fail(rt, Status::NoMemory)),
         },
-        Err(error) if error.kind() == io::ErrorKind::OutOfMemory => {
-            Err(fail(rt, Status::NoMemory))
-        }
-        Err(error) => {
-            let _ = eprintln!(rt; "error: the words could not be read: {error}");
-            Err(Status::BadWords)
-        }
+        Err(error) => Err(fail_to_read_words(rt, error)),
     }
+}
+
+/// Reports on standard error why the words of the command line can't be read, and returns the status.
+fn fail_to_read_words<R: Eprint>(rt: &R, error: io::Error) -> Status
+    ensures statuses { (result ≡ Status.BadWords) ⊎ (result ≡ Status.NoMemory) }
+    ensures no_memory { error_kind error ≡ ErrorKind.OutOfMemory → result ≡ Status.NoMemory }
+    ensures bad_words { error_kind error ≢ ErrorKind.OutOfMemory → result ≡ Status.BadWords }
+{
+    if error.kind() == ErrorKind::OutOfMemory {
+        return fail(rt, Status::NoMemory);
+    }
+    let _ = eprintln!(rt; "error: the words could not be read: {error}");
+    Status::BadWords
 }

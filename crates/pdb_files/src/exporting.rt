@@ -47,8 +47,6 @@ pub fn export<W: Write>(store: &Store, db: Db, out: &mut Counted<W>) -> Result<u
     ensures written { (database : Database ℕ) → HasDatabase store.now.bytes db.0 database
         → Writes W.contents out.old out.new
         (file_of (content (store_of store.now.bytes).map database)) (is_ok result) }
-    ensures unflushed { result ≡ Err ExportFault.Write → out.new.flushed ≡ None }
-    ensures no_flush { out.old.flushed ≡ None → out.new.flushed ≡ None }
     ensures size { IfOk result (λ count.
         (database : Database ℕ) → HasDatabase store.now.bytes db.0 database
         → count ≡ length (file_of (content (store_of store.now.bytes).map database))) }

@@ -331,8 +331,8 @@ pub record DoesLine {W : Type 0} (short : Type 0) (contents : W → Option (List
   pub written : Writes contents out out_after (reply_line line reply) (is_ok answer)
   pub file : IfOk answer (λ file. exported line reply ≡ option_to_list file)
 
--- All lines were run, all of their text was written, and these are the files that they export. A line was refused
--- for want of memory only where memory was short.
+-- All lines were run, all of their text was written to a writer that wasn't flushed, and these are the files that
+-- they export. A line was refused for want of memory only where memory was short.
 pub record RunsThroughShort {W : Type 0} (short : Type 0) (contents : W → Option (List ℕ)) (inputs : List (List ℕ)) (lines : List Line) (old : Region) (out : Writing W) (new : Region) (out_after : Writing W) (files : List (List ℕ)) : Type 0 where
   pub text : List ℕ
   pub after : Bindings
@@ -340,8 +340,8 @@ pub record RunsThroughShort {W : Type 0} (short : Type 0) (contents : W → Opti
   pub written : Writes contents out out_after text true
 
 -- A write failed in the reply line of some line: the text of the lines before it was written, and a
--- front of that reply line. The line's call was done, and no other behind it. A line was refused for want of memory
--- only where memory was short.
+-- front of that reply line; the writer wasn't flushed. The line's call was done, and no other behind it. A line was
+-- refused for want of memory only where memory was short.
 pub record BreaksOffShort {W : Type 0} (short : Type 0) (contents : W → Option (List ℕ)) (inputs : List (List ℕ)) (lines : List Line) (old : Region) (out : Writing W) (new : Region) (out_after : Writing W) : Type 0 where
   pub count : ℕ
   pub text : List ℕ
@@ -357,6 +357,7 @@ pub record BreaksOffShort {W : Type 0} (short : Type 0) (contents : W → Option
   pub within : written ≤ length (reply_line line reply)
   pub front : Appends (contents out.writer) (contents out_after.writer) (text ++ take written (reply_line line reply))
   pub fault : out.faults < out_after.faults
+  pub unflushed : out_after.flushes ≡ out.flushes
 
 -- the same, where nothing is known of memory
 abbrev pub RunsThrough : {W : Type 0} → (W → Option (List ℕ)) → List (List ℕ) → List Line → Region → Writing W → Region → Writing W → List (List ℕ) → Type 0

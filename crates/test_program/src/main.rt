@@ -14,6 +14,7 @@
 
 mod cases;
 mod changes;
+mod exports;
 mod folder;
 mod images;
 mod inputs;

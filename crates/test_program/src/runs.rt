@@ -1,6 +1,7 @@
 //! Runs of the program `palmheap`.
 
 use crate::cases::{CASES, Output};
+use crate::exports::show_exports;
 use crate::folder::{enter, fill, leave, show_changes};
 use crate::recorder::{Kept, Recorder};
 use palmheap_program::run;
@@ -17,6 +18,7 @@ pub(crate) fn show_runs<R: Files + Env + Print + AllocGlobal + Clone + Drop>(
     for (line, output) in &CASES {
         show(rt, line, *output)?;
     }
+    show_exports(rt)?;
     leave(rt)
 }
 
@@ -43,6 +45,18 @@ fn show_answer<R: Files + Print + AllocGlobal>(
     let (printed, complained) = (Kept::new(rt.alloc()), Kept::new(rt.alloc()));
     let status = run_recorded(rt, line, output, &printed, &complained)?;
     rt.write_all(printed.into_bytes().as_slice())?;
+    println!(rt; "status {}", status.code())?;
+    show_complaint(rt, complained.into_bytes().as_slice())
+}
+
+/// Does a run that prints a lot, and shows its status and its standard error alone.
+pub(crate) fn show_status<R: Files + Print + AllocGlobal>(
+    rt: &R,
+    line: &str,
+    output: Output,
+) -> Result<(), Fail> {
+    let (printed, complained) = (Kept::new(rt.alloc()), Kept::new(rt.alloc()));
+    let status = run_recorded(rt, line, output, &printed, &complained)?;
     println!(rt; "status {}", status.code())?;
     show_complaint(rt, complained.into_bytes().as_slice())
 }

@@ -1,6 +1,6 @@
 //! The parts of a file, in their order.
 
-ghost use Rattle.std.specs.Prelude.{◌≡◌, ◌+◌, ◌<◌, ◌^◌, None, OnErr, is_ok, length};
+ghost use Rattle.std.specs.Prelude.{◌≡◌, ◌+◌, ◌<◌, ◌^◌, is_ok, length};
 ghost use Rattle.std.specs.List.{flat_map};
 ghost use Rattle.palm_text.specs.Counted.{Writes};
 ghost use Rattle.heap_model.specs.Meaning.{ChunkMap};
@@ -26,10 +26,8 @@ pub(crate) fn put_file<W: Write>(
     out: &mut Counted<W>,
 ) -> Result<(), WriteFault>
     requires { IsExportable store.now.bytes bytes.now }
-    ensures text { Writes W.contents out.old out.new
+    ensures { Writes W.contents out.old out.new
         (file_of (content_of store.now.bytes bytes.now)) (is_ok result) }
-    ensures unflushed { OnErr result (out.new.flushed ≡ None) }
-    ensures no_flush { out.old.flushed ≡ None → out.new.flushed ≡ None }
 {
     let places = find_places(store, bytes);
     put_header(store, bytes, places, out)?;
@@ -47,10 +45,8 @@ fn put_header<W: Write>(
 ) -> Result<(), WriteFault>
     requires shape { HasShape bytes.now }
     requires places { ArePlaces (content_of store.now.bytes bytes.now) places }
-    ensures text { Writes W.contents out.old out.new
+    ensures { Writes W.contents out.old out.new
         (header_text (content_of store.now.bytes bytes.now)) (is_ok result) }
-    ensures unflushed { OnErr result (out.new.flushed ≡ None) }
-    ensures no_flush { out.old.flushed ≡ None → out.new.flushed ≡ None }
 {
     let mut header = DbHeader::read(bytes);
     header.app_info = places.app_info;
@@ -69,10 +65,8 @@ fn put_entries<W: Write>(
     requires names { NamesData store.now.bytes bytes.now }
     requires short { first + length (data_text (content_of store.now.bytes bytes.now).entries)
         < 2 ^ 32 }
-    ensures text { Writes W.contents out.old out.new
+    ensures { Writes W.contents out.old out.new
         (entries_text first (content_of store.now.bytes bytes.now).entries) (is_ok result) }
-    ensures unflushed { OnErr result (out.new.flushed ≡ None) }
-    ensures no_flush { out.old.flushed ≡ None → out.new.flushed ≡ None }
 {
     let mut at = first;
     for index in 0..entry_count(bytes) {
@@ -107,10 +101,8 @@ fn in_file(entry: DbEntry, at: u32) -> DbEntry
 fn put_blocks<W: Write>(store: &Store, bytes: &[u8], out: &mut Counted<W>) -> Result<(), WriteFault>
     requires shape { HasShape bytes.now }
     requires names { NamesData store.now.bytes bytes.now }
-    ensures text { Writes W.contents out.old out.new
+    ensures { Writes W.contents out.old out.new
         (flat_map block_bytes (data_in (content_of store.now.bytes bytes.now))) (is_ok result) }
-    ensures unflushed { OnErr result (out.new.flushed ≡ None) }
-    ensures no_flush { out.old.flushed ≡ None → out.new.flushed ≡ None }
 {
     put_all(out, block(store, app_info(bytes)))?;
     put_all(out, block(store, sort_info(bytes)))?;
@@ -121,10 +113,8 @@ fn put_blocks<W: Write>(store: &Store, bytes: &[u8], out: &mut Counted<W>) -> Re
 fn put_data<W: Write>(store: &Store, bytes: &[u8], out: &mut Counted<W>) -> Result<(), WriteFault>
     requires shape { HasShape bytes.now }
     requires names { NamesData store.now.bytes bytes.now }
-    ensures text { Writes W.contents out.old out.new
+    ensures { Writes W.contents out.old out.new
         (data_text (content_of store.now.bytes bytes.now).entries) (is_ok result) }
-    ensures unflushed { OnErr result (out.new.flushed ≡ None) }
-    ensures no_flush { out.old.flushed ≡ None → out.new.flushed ≡ None }
 {
     let resources = has_resources(bytes);
     for index in 0..entry_count(bytes) {

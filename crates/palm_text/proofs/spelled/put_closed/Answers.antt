@@ -4,8 +4,8 @@ use Rattle.palm_text.proofs.spelled.put_closed.Goals as goal
 
 pub returns-in-Ok : goal.returns-in-Ok
 returns-in-Ok g c =
-    then g.W.Write.contents c.args.out.now c.put_all.new.out c.put_all-in-Ok.new.out c.args.bytes.now (codes "\"") (is_ok c.put_all-in-Ok.result) c.in-Ok.ensures.text c.put_all-in-Ok.ensures.text
+    then g.W.Write.contents c.args.out.now c.put_all.new.out c.put_all-in-Ok.new.out c.args.bytes.now (codes "\"") (is_ok c.put_all-in-Ok.result) c.in-Ok.ensures c.put_all-in-Ok.ensures
 
 pub returns-in-Err : goal.returns-in-Err
 returns-in-Err g c =
-    stops g.W.Write.contents c.args.out.now c.put_all.new.out c.args.bytes.now (codes "\"") c.in-Err.ensures.text
+    stops g.W.Write.contents c.args.out.now c.put_all.new.out c.args.bytes.now (codes "\"") c.in-Err.ensures

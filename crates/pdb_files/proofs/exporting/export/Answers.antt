@@ -19,7 +19,7 @@ returns-in-Ok-clause-unknown g c = (λ e. absurd cc, λ none. absurd (not_none c
 pub returns-in-Ok-clause-written : goal.returns-in-Ok-clause-written
 returns-in-Ok-clause-written g c = λ database has.
     subst (λ (d : Database ℕ). Writes g.W.Write.contents c.args.out.now c.put_file.new.out (file_of (content (store_of c.args.store.now.bytes).map d)) true)
-    (same_database c.args.store.now.bytes c.args.db.0 (database_in c.in-Some.bytes.now) database c.in-Some.ensures.is has) c.in-Ok.ensures.text
+    (same_database c.args.store.now.bytes c.args.db.0 (database_in c.in-Some.bytes.now) database c.in-Some.ensures.is has) c.in-Ok.ensures
 
 pub returns-in-Ok-clause-size : goal.returns-in-Ok-clause-size
 returns-in-Ok-clause-size g c = λ database has.
@@ -32,7 +32,7 @@ returns-in-Err-clause-unknown g c = (λ e. absurd cc, λ none. absurd (not_none 
 pub returns-in-Err-clause-written : goal.returns-in-Err-clause-written
 returns-in-Err-clause-written g c = λ database has.
     subst (λ (d : Database ℕ). Writes g.W.Write.contents c.args.out.now c.put_file.new.out (file_of (content (store_of c.args.store.now.bytes).map d)) false)
-    (same_database c.args.store.now.bytes c.args.db.0 (database_in c.in-Some.bytes.now) database c.in-Some.ensures.is has) c.in-Err.ensures.text
+    (same_database c.args.store.now.bytes c.args.db.0 (database_in c.in-Some.bytes.now) database c.in-Some.ensures.is has) c.in-Err.ensures
 
 pub returns-in_default-clause-written : goal.returns-in_default-clause-written
 returns-in_default-clause-written g c = λ database has. absurd (not_none c.args.store.now.bytes c.args.db.0 database has c.in_default.ensures.none)

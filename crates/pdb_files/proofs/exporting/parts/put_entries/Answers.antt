@@ -26,8 +26,8 @@ overflow_add-at g c =
     let left = size_from (store_of c.args.store.now.bytes).map c.args.bytes.now c.loop-index.index c.slot.result below (c.slot.ensures ∙ ap entry_data c.read-entry.ensures.is) in
     omega (arith, left, c.loop-index.invariant.left)
 
-pub returns-in_err-put_all-clause-text : goal.returns-in_err-put_all-clause-text
-returns-in_err-put_all-clause-text g c =
+pub returns-in_err-put_all : goal.returns-in_err-put_all
+returns-in_err-put_all g c =
     let bytes = c.args.bytes.now in
     let chunks : ChunkMap = (store_of c.args.store.now.bytes).map in
     let i = c.loop-index.index in
@@ -35,7 +35,7 @@ returns-in_err-put_all-clause-text g c =
     let is = c.as_slice.ensures ∙ c.to_bytes.ensures.is ∙ ap entry_bytes (c.in_file.ensures.is chunks ∙ ap (file_entry chunks c.loop-index.at) c.read-entry.ensures.is) in
     failed g.W.Write.contents c.args.out.now c.put_all.new.out (entries_text c.args.first (content_of c.args.store.now.bytes bytes).entries) c.from_residual.result c.from_residual.ensures.0
     (c.loop-index.invariant.completed c.put_all.new.out false
-    (stops_entry g.W.Write.contents c.loop-index.out c.put_all.new.out chunks bytes c.loop-index.at i c.as_slice.result.now below is c.in_err-put_all.ensures.text))
+    (stops_entry g.W.Write.contents c.loop-index.out c.put_all.new.out chunks bytes c.loop-index.at i c.as_slice.result.now below is c.in_err-put_all.ensures))
 
 pub loop-index-preserved : goal.loop-index-preserved
 loop-index-preserved g c =
@@ -51,11 +51,10 @@ loop-index-preserved g c =
       left = omega (arith, left, c.loop-index.invariant.left, c.block_size-size.ensures);
       completed = λ new ok behind.
           c.loop-index.invariant.completed new ok
-          (then_entry g.W.Write.contents c.loop-index.out c.put_all.new.out new chunks bytes c.loop-index.at i c.block_size-size.result c.as_slice.result.now ok below is long c.in_ok-put_all.ensures.text behind);
-      no_flush = λ none. c.in_ok-put_all.ensures.no_flush (c.loop-index.invariant.no_flush none);
+          (then_entry g.W.Write.contents c.loop-index.out c.put_all.new.out new chunks bytes c.loop-index.at i c.block_size-size.result c.as_slice.result.now ok below is long c.in_ok-put_all.ensures behind);
     }
 
-pub returns-clause-text : goal.returns-clause-text
-returns-clause-text g c =
+pub returns : goal.returns
+returns g c =
     let past : entry_count_in c.args.bytes.now ≤ c.loop-index.index = omega arith in
     c.loop-index.invariant.completed c.loop-index.out true (no_entry g.W.Write.contents c.loop-index.out (store_of c.args.store.now.bytes).map c.args.bytes.now c.loop-index.at c.loop-index.index past)
