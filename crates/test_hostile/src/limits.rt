@@ -5,11 +5,12 @@ use palm_script::{do_call, run_calls};
 use palm_store::{Store, StoreSummary};
 use palm_text::Counted;
 use palmheap_program::{cmd_check, cmd_run};
+use pdb_files::{export, import};
 use program_io::{INPUT_LIMIT, Status};
 use std::alloc::{AllocError, Global};
 use std::test::*;
 use test_beside::{blank_image, store_of};
-use test_support::{changed_words, equal, holds};
+use test_support::{EMPTY_FILE, bytes_of, changed_words, equal, holds};
 
 /// The most bytes of an image.
 const MOST: u32 = 16_777_208;
@@ -148,6 +149,39 @@ fn length_of(reply: &Reply) -> Option<usize> {
         Reply::Data(bytes) => Some(bytes.as_slice().len()),
         _ => None,
     }
+}
+
+/// A list of 100,000 calls is run, and each is answered.
+#[test]
+fn a_hundred_thousand_calls_are_done(rt: HostRuntime) -> Result<(), Fail> {
+    let mut store = store_of(rt.alloc(), &blank_image(rt.alloc(), 128, 4)?)?;
+    let mut calls: Vec<Call> = Vec::with_capacity(rt.alloc(), 100_000)?;
+    for _ in 0..100_000 {
+        calls.push(Call::Memory(MemoryCall::FreeBytes))?;
+    }
+    let replies = run_calls(rt.alloc(), &mut store, &calls)?;
+    let is_right = replies.iter().all(|reply| *reply == Reply::Number(96));
+    holds("replies", replies.len() == 100_000 && is_right)
+}
+
+/// A file with one record, which has so many bytes.
+fn file_of_one(alloc: Global, size: usize) -> Result<Vec<u8>, Fail> {
+    let mut file = bytes_of(alloc, EMPTY_FILE)?;
+    file.truncate(76);
+    file.extend_from_slice(&[0, 1, 0, 0, 0, 88, 0, 0, 0, 1, 0, 0])?;
+    file.resize(88usize.saturating_add(size), 7)?;
+    Ok(file)
+}
+
+/// A file of 10 MB is imported, and exported as it was.
+#[test]
+fn ten_million_bytes_are_imported(rt: HostRuntime) -> Result<(), Fail> {
+    let file = file_of_one(rt.alloc(), 10_000_000)?;
+    let mut store = store_of(rt.alloc(), &blank_image(rt.alloc(), MOST, 16)?)?;
+    let db = import(rt.alloc(), &mut store, &file)?;
+    let mut out = Counted::new(Vec::new(rt.alloc()));
+    equal("bytes", export(&store, db, &mut out).ok(), Some(10_000_088))?;
+    holds("file", out.into_inner().as_slice() == file.as_slice())
 }
 
 /// A script as long as an input file may be: lines of 4,096 bytes that are passed over, and one behind them.
