@@ -1,4 +1,4 @@
-use Rattle.std.proofs.Common.{◌≡◌, ◌+◌, ◌<◌, ◌≤◌, ℕ, length, set, slice_index_or, Some, None, subst, sym, arith, rules}
+use Rattle.std.proofs.Common.{◌≡◌, ◌+◌, ◌<◌, ◌≤◌, ℕ, length, set, slice_index_or, Some, subst, sym, arith, rules}
 use Rattle.std.specs.List.{sum_by}
 use Rattle.heap_model.specs.Files.{offsets_in}
 use Rattle.pdb_format.specs.Blocks.{length_within}

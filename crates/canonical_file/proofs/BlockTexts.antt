@@ -1,0 +1,52 @@
+-- The blocks of a file, one after the other.
+use Rattle.std.proofs.Common.{◌≡◌, ℕ, ◌+◌, ◌-◌, ◌<◌, ◌≤◌, Option, Some, None, List, [], ◌∷◌, ◌++◌, length, get_or, drop, map, refl, sym, ap, ◌∙◌, arith, add-one, drop-cons, length-append, length-drop}
+use Rattle.std.specs.Prelude.{All, slice_range}
+use Rattle.std.specs.List.{sum_by}
+use Rattle.std.proofs.lemmas.List.{length-map, length-take}
+use Rattle.std.proofs.lemmas.List.Elements.{All-head, All-tail}
+use Rattle.std.proofs.lemmas.List.Sums.{sum_by-cons}
+use Rattle.heap_model.specs.Files.{block_bytes, block_size, blocks_in}
+use Rattle.pdb_format.specs.Blocks.{bytes_at, IsWithin, length_within}
+use Rattle.pdb_format.specs.declared.blocks.Block.{Block}
+use Rattle.pdb_format.proofs.FileBlocks.{block_count, length-blocks, block_of}
+use Rattle.pdb_format.proofs.WrittenOffsets.{all_bytes}
+use Rattle.canonical_file.specs.Canonical.{HasBlocks}
+
+blocks_from : (blocks : List (Option (List ℕ))) (i : ℕ) → i < length blocks → all_bytes (drop i blocks) ≡ block_bytes (get_or blocks i None) ++ all_bytes (drop (i + 1) blocks)
+blocks_from blocks i inside = rw (add-one, drop-cons blocks i None) refl
+
+pub same_count : (file : List ℕ) (blocks : List (Option Block)) → HasBlocks file blocks → length blocks ≡ length (blocks_in file)
+same_count file blocks has = length-blocks file blocks has.are ∙ sym (block_count file)
+
+-- the block of an index, and those behind it
+pub block_here : (file : List ℕ) (blocks : List (Option Block)) (i : ℕ) (bytes : List ℕ) → HasBlocks file blocks → i < length blocks → bytes ≡ block_bytes (bytes_at file (get_or blocks i None))
+    → all_bytes (drop i (blocks_in file)) ≡ bytes ++ all_bytes (drop (i + 1) (blocks_in file))
+block_here file blocks i bytes has inside is =
+    let count = same_count file blocks has in
+    blocks_from (blocks_in file) i (omega arith)
+    ∙ ap (λ (block : Option (List ℕ)). block_bytes block ++ all_bytes (drop (i + 1) (blocks_in file))) (sym (block_of file blocks i has.are inside))
+    ∙ ap (λ (xs : List ℕ). xs ++ all_bytes (drop (i + 1) (blocks_in file))) (sym is)
+
+-- how many bytes a block has
+pub block_long : (file : List ℕ) (block : Option Block) → IsWithin (length file) block → block_size (bytes_at file block) ≡ length_within block
+block_long file None within = refl
+block_long file (Some block) within =
+    let first = within.0 in
+    let last = within.1 in
+    let rest = length-drop block.start file in
+    let long = length-take (block.end - block.start) (drop block.start file) in
+    let is : length (slice_range file block.start block.end) ≡ block.end - block.start = omega arith in
+    is
+
+all_long : (file : List ℕ) (blocks : List (Option Block)) → All (IsWithin (length file)) blocks → length (all_bytes (map (bytes_at file) blocks)) ≡ sum_by length_within blocks
+all_long file [] within = refl
+all_long file (block ∷ blocks) within =
+    let both = length-append (block_bytes (bytes_at file block)) (all_bytes (map (bytes_at file) blocks)) in
+    let one = block_long file block (All-head (IsWithin (length file)) block blocks within) in
+    let rest = all_long file blocks (All-tail (IsWithin (length file)) block blocks within) in
+    let sum = sum_by-cons length_within block blocks in
+    omega arith
+
+-- and all of them
+pub blocks_long : (file : List ℕ) (blocks : List (Option Block)) → HasBlocks file blocks → length (all_bytes (blocks_in file)) ≡ sum_by length_within blocks
+blocks_long file blocks has = ap (λ (bs : List (Option (List ℕ))). length (all_bytes bs)) (sym has.are) ∙ all_long file blocks has.within

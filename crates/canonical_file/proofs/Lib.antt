@@ -1,0 +1,5 @@
+pub mod Appended
+pub mod BlockTexts
+pub mod EntryTexts
+pub mod Headers
+pub mod Lengths

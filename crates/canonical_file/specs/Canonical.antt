@@ -1,0 +1,67 @@
+-- The canonical form of a file.
+use Rattle.std.specs.Prelude.{◌≡◌, ◌≤◌, ◌+◌, ◌^◌, ℕ, Bool, true, List, length, map, slice_index_or, Option, None, All}
+use Rattle.std.specs.List.{sum_by}
+use Rattle.palm_text.specs.Counted.{Writing, Writes}
+use Rattle.heap_model.specs.UniqueIds.{greatest_id, seed_in}
+use Rattle.heap_model.specs.Database.{Database, Entry, entry_with, header_in, database_in}
+use Rattle.heap_model.specs.Store.{unique_ids}
+use Rattle.heap_model.specs.Files.{HasNoFault, HaveIds, IsFirstFault, Reads, blocks_in, entries_end, idle_entry, block_offset, file_of}
+use Rattle.pdb_format.specs.Blocks.{bytes_at, IsWithin, length_within}
+use Rattle.pdb_format.specs.ReadFiles.{HasIdsFor, database_read}
+use Rattle.pdb_format.specs.declared.blocks.Block.{Block}
+use Rattle.file_ids.specs.declared.give.GivenIds.{GivenIds}
+use Rattle.canonical_file.specs.declared.canonical.CanonicalFault.{CanonicalFault}
+use Rattle.canonical_file.specs.declared.canonical.CanonicalFault.TheVariants.{BadFile, OutOfMemory, Write}
+
+-- ---- what is promised
+
+-- these bytes are the file that is written of the database that a file is read as
+pub record IsCanonical (file bytes : List ℕ) : Type 0 where
+  pub database : Database (Option (List ℕ))
+  pub reads : Reads file database
+  pub written : bytes ≡ file_of database
+
+-- the most bytes that a file may have here: 16 MiB
+abbrev pub most_bytes : ℕ
+most_bytes = 2 ^ 24
+
+-- the canonical form of a file goes to a writer, all of it or a front
+abbrev pub WritesCanonical : {W : Type 0} → List ℕ → (W → Option (List ℕ)) → Writing W → Writing W → Bool → Type 0
+WritesCanonical file contents old new ok = (bytes : List ℕ) × IsCanonical file bytes × Writes contents old new bytes ok
+
+-- all of it went to a writer, and it has so many bytes
+abbrev pub WroteCanonical : {W : Type 0} → List ℕ → (W → Option (List ℕ)) → Writing W → Writing W → ℕ → Type 0
+WroteCanonical file contents old new count = (bytes : List ℕ) × IsCanonical file bytes × (count ≡ length bytes) × Writes contents old new bytes true
+
+-- why a file has no canonical form
+abbrev pub IsFaultOf : List ℕ → CanonicalFault → Type 0
+IsFaultOf file (BadFile fault) = IsFirstFault file fault
+IsFaultOf file OutOfMemory = HasNoFault file
+IsFaultOf file Write = HasNoFault file
+
+-- ---- its parts
+
+-- The file has no fault, and no more bytes than that. Its blocks stand here, and take no more than it has.
+pub record HasBlocks (file : List ℕ) (blocks : List (Option Block)) : Type 0 where
+  pub good : HasNoFault file
+  pub short : length file ≤ most_bytes
+  pub are : map (bytes_at file) blocks ≡ blocks_in file
+  pub within : All (IsWithin (length file)) blocks
+  pub total : sum_by length_within blocks ≤ length file
+
+-- its records get these IDs
+pub record HasIds (file : List ℕ) (given : GivenIds) : Type 0 where
+  pub have : HaveIds (seed_in (header_in file).seed) (unique_ids (database_in file)) given.ids.items given.seed
+  pub fit : HasIdsFor file given.ids.items
+  pub seed : given.seed ≤ greatest_id
+
+-- where the first block stands in the canonical form, and where the data of the entries begins
+abbrev pub first_place : List ℕ → ℕ
+first_place file = entries_end file + 2
+
+abbrev pub data_place : List ℕ → List (Option Block) → ℕ
+data_place file blocks = first_place file + length_within (slice_index_or blocks 0 None) + length_within (slice_index_or blocks 1 None)
+
+-- an entry as a file has it: not busy, with its data at an offset
+abbrev pub placed_entry : ℕ → Entry (Option (List ℕ)) → Entry ℕ
+placed_entry at entry = entry_with (block_offset at) (idle_entry entry)

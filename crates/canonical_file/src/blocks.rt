@@ -1,0 +1,80 @@
+//! The blocks of a file, as its canonical form has them.
+
+ghost use Rattle.std.specs.Prelude.{◌≡◌, ◌≤◌, ◌<◌, ◌+◌, ◌++◌, ◌^◌, ℕ, List, length, vec_len, vec_capacity, All};
+ghost use Rattle.std.specs.List.{flat_map, sum_by};
+ghost use Rattle.heap_model.specs.Files as files;
+ghost use Rattle.heap_model.specs.Files.{blocks_in};
+ghost use Rattle.pdb_format.specs.Blocks.{bytes_at, IsWithin, length_within};
+ghost use Rattle.canonical_file.specs.Canonical.{HasBlocks};
+
+use pdb_format::Block;
+
+/// How many bytes a block takes: none where it isn't there.
+pub(crate) fn block_length(block: Option<Block>) -> usize
+    requires { IsWithin usize.MAX block }
+    ensures { result ≡ length_within block }
+{
+    match block {
+        Some(block) => block.end - block.start,
+        None => 0,
+    }
+}
+
+/// How many bytes all blocks take.
+pub(crate) fn total_length(blocks: &[Option<Block>]) -> usize
+    requires within { All (IsWithin usize.MAX) blocks.now }
+    requires few { sum_by length_within blocks.now < 2 ^ 64 }
+    ensures { result ≡ sum_by length_within blocks.now }
+{
+    let mut total = 0;
+    for index in 0..blocks.len() {
+        total += block_length(blocks[index]);
+    }
+    total
+}
+
+/// The offset of a block that stands at one, or 0 where it isn't there.
+pub(crate) fn block_offset(at: u32, block: Option<Block>) -> u32
+    ensures { (file : List ℕ) → result ≡ files.block_offset at (bytes_at file block) }
+{
+    match block {
+        Some(_) => at,
+        None => 0,
+    }
+}
+
+/// The bytes of a block: none where it isn't there.
+fn block_bytes(file: &[u8], block: Option<Block>) -> &[u8]
+    requires { IsWithin (length file.now) block }
+    ensures { result.now ≡ files.block_bytes (bytes_at file.now block) }
+{
+    match block {
+        Some(block) => &file[block.start..block.end],
+        None => &[],
+    }
+}
+
+/// Puts bytes after others, which have room for them.
+pub(crate) fn append(bytes: &mut Vec<u8>, more: &[u8])
+    requires { vec_len bytes.old + length more.now ≤ vec_capacity bytes.old }
+    ensures items { bytes.new.items ≡ bytes.old.items ++ more.now }
+    ensures len { vec_len bytes.new ≡ vec_len bytes.old + length more.now }
+    ensures capacity { vec_capacity bytes.old ≤ vec_capacity bytes.new }
+{
+    let Ok(()) = bytes.extend_from_slice(more) else {
+        unreachable!()
+    };
+}
+
+/// Puts the blocks after other bytes, which have room for them.
+pub(crate) fn append_blocks(file: &[u8], blocks: &[Option<Block>], bytes: &mut Vec<u8>)
+    requires blocks { HasBlocks file.now blocks.now }
+    requires room { vec_len bytes.old + length (flat_map files.block_bytes (blocks_in file.now))
+        ≤ vec_capacity bytes.old }
+    ensures { bytes.new.items ≡ bytes.old.items
+        ++ flat_map files.block_bytes (blocks_in file.now) }
+{
+    for index in 0..blocks.len() {
+        append(bytes, block_bytes(file, blocks[index]));
+    }
+}

@@ -1,0 +1,78 @@
+//! The entries of a canonical form.
+
+ghost use Rattle.std.specs.Prelude.{◌≡◌, ◌≤◌, ◌<◌, ◌+◌, ◌++◌, ◌^◌, length, vec_len, vec_capacity, slice_index_or, None};
+ghost use Rattle.std.specs.List.{sum_by};
+ghost use Rattle.heap_model.specs.Database.{entry_count_in};
+ghost use Rattle.heap_model.specs.Files.{HasNoFault, blocks_in, idle_attributes};
+ghost use Rattle.db_format.specs.EitherEntry.{entry_of, HasFittingId};
+ghost use Rattle.pdb_format.specs.Blocks.{bytes_at, length_within};
+ghost use Rattle.pdb_format.specs.FileTexts.{entries_text};
+ghost use Rattle.pdb_format.specs.ReadFiles.{HasIdsFor, entries_read, entry_read_at};
+ghost use Rattle.canonical_file.specs.Canonical.{HasBlocks, placed_entry};
+
+use crate::blocks::{append, block_length, block_offset};
+use bitflags::Flags;
+use db_format::{DbEntry, INFO_BLOCKS, RecordAttrs, RecordEntry, entry_count};
+use pdb_format::Block;
+
+/// The attributes of a record that isn't busy.
+fn idle(attributes: RecordAttrs) -> RecordAttrs
+    ensures { result.0 ≡ idle_attributes attributes.0 }
+{
+    attributes.difference(RecordAttrs::BUSY)
+}
+
+/// The entry of an index, where these are the IDs of the records, with its data at an offset.
+fn entry_at(file: &[u8], ids: &[u32], index: u16, at: u32, block: Option<Block>) -> DbEntry
+    requires good { HasNoFault file.now }
+    requires inside { index < entry_count_in file.now }
+    requires ids { HasIdsFor file.now ids.now }
+    requires block { bytes_at file.now block
+        ≡ slice_index_or (blocks_in file.now) (2 + index) None }
+    ensures is { entry_of result ≡ placed_entry at (entry_read_at file.now ids.now index) }
+    ensures id { HasFittingId result }
+{
+    match DbEntry::read(file, index) {
+        DbEntry::Record(record) => {
+            DbEntry::Record(RecordEntry {
+                attributes: idle(record.attributes),
+                id: ids[index as usize],
+                slot: block_offset(at, block),
+            })
+        }
+        DbEntry::Resource(mut resource) => {
+            resource.slot = block_offset(at, block);
+            DbEntry::Resource(resource)
+        }
+    }
+}
+
+/// Puts the entries, whose data stands from `first` on, after other bytes, which have room for them.
+pub(crate) fn append_entries(
+    file: &[u8],
+    blocks: &[Option<Block>],
+    ids: &[u32],
+    first: u32,
+    bytes: &mut Vec<u8>,
+)
+    requires blocks { HasBlocks file.now blocks.now }
+    requires ids { HasIdsFor file.now ids.now }
+    requires short { first + sum_by length_within blocks.now < 2 ^ 32 }
+    requires room { vec_len bytes.old + length (entries_text first (entries_read file.now ids.now))
+        ≤ vec_capacity bytes.old }
+    ensures items { bytes.new.items ≡ bytes.old.items
+        ++ entries_text first (entries_read file.now ids.now) }
+    ensures len { vec_len bytes.new ≡ vec_len bytes.old
+        + length (entries_text first (entries_read file.now ids.now)) }
+    ensures capacity { vec_capacity bytes.old ≤ vec_capacity bytes.new }
+{
+    let mut at = first;
+    for index in 0..entry_count(file) {
+        let block = blocks[INFO_BLOCKS + index as usize];
+        append(
+            bytes,
+            entry_at(file, ids, index, at, block).to_bytes().as_slice(),
+        );
+        at += block_length(block) as u32;
+    }
+}

@@ -1,0 +1,18 @@
+//! The canonical form of a PDB or PRC file: the file that is written of the database that it is read as.
+//!
+//! ```text
+//! header           the name with zeros after it, and the offsets below
+//! entries          no busy bit; each record with the ID that it gets when it is read
+//! 00 00
+//! blocks           AppInfo, SortInfo and the data in the order of the list, without gaps
+//! ```
+//!
+//! No heap is needed for it: the blocks are copied from the file.
+#![tactic(auto)]
+
+mod blocks;
+mod canonical;
+mod entries;
+mod header;
+
+pub use canonical::{CanonicalFault, canonical_bytes, put_canonical};
