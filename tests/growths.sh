@@ -26,6 +26,8 @@ while IFS= read -r file; do
         ./test_* | ./benchmarks/* | ./example_memos/*) ;;
         ./program_io/src/command_line.rt | ./program_io/src/output_file.rt) ;;
         ./palmheap_program/src/files.rt | ./palmheap_program/src/words.rt) ;;
+        # it fills room that allowance took
+        ./canonical_file/src/blocks.rt) ;;
         *) sources+=("$file") ;;
     esac
 done < <(find . -name out -prune -o -path ./allowance -prune -o '(' -name '*.rt' -o -name '*.antt' ')' -print)
@@ -33,7 +35,8 @@ done < <(find . -name out -prune -o -path ./allowance -prune -o '(' -name '*.rt'
 absent 'memory grows outside of allowance' \
     'vec!\[in|format!\(in|with_capacity|Vec::from|String::from|Box::new|\.(extend_from_slice|reserve|collect|to_vec)\(' \
     "${sources[@]}"
-absent 'a proof outside of allowance cites its lemma' 'told_of_failure' "${proofs[@]}"
+absent 'allowance alone may cite its lemma' 'told_of_failure' "${proofs[@]}" "${sources[@]}"
+
 # only PATTERN FILES: these files alone match.
 only() {
     local found

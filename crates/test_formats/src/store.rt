@@ -6,6 +6,7 @@
 
 mod attributes;
 mod blocks;
+mod canonical;
 mod checks;
 mod definitions;
 mod faults;

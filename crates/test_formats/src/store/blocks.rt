@@ -6,7 +6,7 @@ use std::test::*;
 use test_support::{ORDER_FILE, TINY_FILE, bytes_of, equal};
 
 /// A file of two records with both info blocks, which stand against their order, and none of which is empty.
-const BACKWARD: &str = "4261636b 00*28 \
+pub(super) const BACKWARD: &str = "4261636b 00*28 \
     0000 0000 00*16 00000064 00000062 44415441 54657374 00000000 00000000 0002 \
     00000060 00 000001 0000005e 00 000002 01020304050607";
 
